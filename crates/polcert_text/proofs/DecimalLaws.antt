@@ -1,0 +1,42 @@
+-- The decimals of a number, digit by digit.
+use Rattle.std.proofs.Common.{◌≡◌, ◌∙◌, ℕ, suc, zero, ◌+◌, ◌-◌, ◌*◌, ◌/◌, ◌%◌, ◌^◌, ◌<◌, false, List, [], ◌∷◌, ◌++◌, refl, ap, subst, arith, append_assoc}
+use Rattle.std.specs.Prelude.{◌==◌}
+use Rattle.std.proofs.lemmas.Bool.Decides.{nat_tests}
+use Rattle.std.proofs.Math.Nat.{pow-suc, one-le-pow, div-lt_iff_lt-mul}
+use Rattle.polcert_text.specs.Millionths.{decimals}
+
+pub ten_pos : (k : ℕ) → 0 < 10 ^ k
+ten_pos k = one-le-pow k 10 (omega arith)
+
+not_zero : (r : ℕ) → 0 < r → (r == 0) ≡ false
+not_zero r h = grind (arith, nat_tests)
+
+pub decimals-zero : (k : ℕ) → decimals k 0 ≡ []
+unfolding decimals
+decimals-zero zero = refl
+decimals-zero (suc k) = refl
+
+decimals-suc : (k r : ℕ) → 0 < r → decimals (suc k) r ≡ (48 + r / 10 ^ k) ∷ decimals k (r % 10 ^ k)
+unfolding decimals
+decimals-suc k r h = simp (not_zero r h)
+
+pub some_places : (k r : ℕ) → 0 < r → r < 10 ^ k → 0 < k
+some_places zero r h l = omega arith
+some_places (suc k) r h l = omega arith
+
+pub decimals-step : (k r : ℕ) → 0 < r → 0 < k → decimals k r ≡ (48 + r / 10 ^ (k - 1)) ∷ decimals (k - 1) (r % 10 ^ (k - 1))
+decimals-step k r h pos = let e : k ≡ suc (k - 1) = omega arith in ap (λ n. decimals n r) e ∙ decimals-suc (k - 1) r h
+
+below_ten : (r u : ℕ) → 0 < u → r < u * 10 → r / u < 10
+below_ten r u pos l = (div-lt_iff_lt-mul {x = r} {y = 10} pos).1 (omega arith)
+
+pub digit_below_suc : (k r : ℕ) → r < 10 ^ suc k → r / 10 ^ k < 10
+digit_below_suc k r l = below_ten r (10 ^ k) (ten_pos k) (omega (arith, pow-suc 10 k))
+
+pub digit_below : (k r : ℕ) → 0 < k → r < 10 ^ k → r / 10 ^ (k - 1) < 10
+digit_below k r pos l =
+    let e : k ≡ suc (k - 1) = omega arith in
+    digit_below_suc (k - 1) r (subst (λ n. r < 10 ^ n) e l)
+
+pub one_digit : (front : List ℕ) (d : ℕ) (more : List ℕ) → (front ++ d ∷ []) ++ more ≡ front ++ d ∷ more
+one_digit front d more = append_assoc front (d ∷ []) more

@@ -1,0 +1,78 @@
+-- What is read and taken, where the bytes are known.
+use Rattle.std.proofs.Common.{Bool, true, false, ◌≡◌, ◌++◌, ◌∙◌, ap, sym, refl, append_assoc, ℕ, List, [], Option, IfSome, take}
+use Rattle.std.specs.Io.KnownBytes.{Consumes, Appends}
+use Rattle.std.proofs.KnownBytes.{Consumes-nil, Consumes-trans, Appends-nil, Appends-trans, Appends-kept, Consumes-whole}
+use Rattle.std.proofs.lemmas.List.{append-nil}
+use Rattle.polcert_text.specs.Known.{ReadsKnown, WritesKnown}
+use Rattle.polcert_text.specs.Memory.{ReadsSlice, WritesSlice}
+use Rattle.polcert_text.specs.Source.{Gives, IsText, Reads, Fits, nothing, more}
+use Rattle.polcert_text.specs.Sink.{Takes}
+use Rattle.polcert_text.specs.Sink as sink
+
+module _ {S : Type 0} (remaining : S → Option (List ℕ)) where
+  -- the relation of one read of a source over a reader of std
+  abbrev pub known_reads : S → ℕ → Option (List ℕ) → S → Type 0
+  known_reads s room answer t = ReadsKnown (remaining s) room answer (remaining t)
+
+  -- what such a source gave is what its reader lost
+  pub gave_known : {s t : S} {bytes : List ℕ} → Gives known_reads s bytes t → Consumes (remaining s) (remaining t) bytes
+  gave_known {s} nothing = Consumes-nil (remaining s)
+  gave_known {s} (more gave call) = Consumes-trans _ _ _ _ _ (gave_known gave) call.0
+
+  -- the text of such a source is all that its reader had
+  pub text_known : {s t : S} {text : List ℕ} → IsText known_reads s text t → IfSome (remaining s) (λ xs. text ≡ xs)
+  text_known {s} {t} {text} is_text =
+      let gave = gave_known is_text.gave in
+      let last = is_text.ended in
+      let all : Consumes (remaining s) (remaining t) (text ++ []) = Consumes-trans _ _ _ _ _ gave last.0 in
+      Consumes-whole (remaining s) (remaining t) text (λ xs. text ≡ xs) (rw (append-nil text) at all) (last.1 refl is_text.has_room) refl
+
+module _ {S : Type 0} (contents : S → Option (List ℕ)) where
+  -- the relation of one write of a sink over a writer of std
+  abbrev pub known_writes : S → Option (List ℕ) → S → Type 0
+  known_writes s answer t = WritesKnown (contents s) answer (contents t)
+
+  -- what such a sink took is what its writer holds more
+  pub took_known : {s t : S} {bytes : List ℕ} → Takes known_writes s bytes t → Appends (contents s) (contents t) bytes
+  took_known {s} sink.nothing = Appends-nil (contents s)
+  took_known {s} (sink.more took call) = Appends-trans _ _ _ _ _ (took_known took) call
+  took_known {s} (sink.failed took call) = Appends-kept _ _ _ _ (took_known took) call
+
+module _ {S : Type 0} (rest : S → List ℕ) where
+  -- the relation of one read of a slice
+  abbrev pub slice_reads : S → ℕ → Option (List ℕ) → S → Type 0
+  slice_reads s room answer t = ReadsSlice (rest s) room answer (rest t)
+
+  pub gave_slice : {s t : S} {bytes : List ℕ} → Gives slice_reads s bytes t → rest s ≡ bytes ++ rest t
+  gave_slice {s} nothing = refl
+  gave_slice {s} {t} (more {bytes} {front} gave call) =
+      gave_slice gave ∙ ap (λ xs. bytes ++ xs) call.0 ∙ sym (append_assoc bytes front (rest t))
+
+  -- the text of a slice is what it had left
+  pub text_slice : {s t : S} {text : List ℕ} → IsText slice_reads s text t → text ≡ rest s
+  text_slice {s} {t} {text} is_text =
+      let last = is_text.ended in
+      let all : rest is_text.before ≡ [] = last.0 ∙ last.1 refl is_text.has_room in
+      sym (gave_slice is_text.gave ∙ ap (λ xs. text ++ xs) all ∙ append-nil text)
+
+  -- what a slice had left fits what was read of it
+  pub fits_slice : (s t : S) (bytes : List ℕ) (is_whole : Bool) → Reads slice_reads s bytes is_whole t → Fits bytes is_whole (rest s)
+  fits_slice s t bytes true was_read = sym (text_slice was_read)
+  fits_slice s t bytes false was_read = (rest t, gave_slice was_read)
+
+module _ {S N : Type 0} (buffer : S → List ℕ) (len : S → ℕ) (name : S → N) where
+  -- the relation of one write to a slice
+  abbrev pub slice_writes : S → Option (List ℕ) → S → Type 0
+  slice_writes s answer t = WritesSlice (buffer s) (len s) answer (buffer t) (len t) × (name t ≡ name s)
+
+  -- what a slice took stands behind what it held, and it is the same slice
+  pub took_slice : {s t : S} {bytes : List ℕ} → Takes slice_writes s bytes t
+      → (take (len t) (buffer t) ≡ take (len s) (buffer s) ++ bytes) × (name t ≡ name s)
+  took_slice {s} sink.nothing = (sym (append-nil (take (len s) (buffer s))), refl)
+  took_slice {s} (sink.more {bytes} {front} took call) =
+      let before = took_slice took in
+      (call.0.0 ∙ ap (λ xs. xs ++ front) before.0 ∙ append_assoc (take (len s) (buffer s)) bytes front, call.1 ∙ before.1)
+  took_slice {s} (sink.failed {bytes} {s = u} {t} took call) =
+      let before = took_slice took in
+      let same : take (len t) (buffer t) ≡ take (len u) (buffer u) = rw (call.0.0, call.0.1) refl in
+      (same ∙ before.0, call.1 ∙ before.1)

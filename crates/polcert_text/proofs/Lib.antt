@@ -1,0 +1,14 @@
+pub mod BeforeFirst
+pub mod GapLaws
+pub mod LexemeLaws
+pub mod CutLaws
+pub mod NumberLaws
+pub mod MeasureLaws
+pub mod SizeLaws
+pub mod SignedLaws
+pub mod DecimalLaws
+pub mod PrintLaws
+pub mod Taking
+pub mod Giving
+pub mod Known
+pub mod TextLaws

@@ -1,0 +1,17 @@
+use Rattle.std.proofs.Common.{◌∙◌, ◌<◌, length, sym, ap, arith}
+use Rattle.std.proofs.lemmas.List.{take_all}
+use Rattle.polcert_text.specs.Scan.{state_through}
+use Rattle.polcert_text.specs.declared.lexeme.State.TheVariants.{Start}
+use Rattle.polcert_text.proofs.LexemeLaws.{state_step}
+use Rattle.polcert_text.proofs.NumberLaws.{numeral_at_state}
+use Rattle.polcert_text.proofs.number.is_numeral.Goals as goal
+
+pub loop-byte-preserved : goal.loop-byte-preserved
+loop-byte-preserved c =
+    let inside : c.loop-byte.byte-index < length c.args.bytes.now = omega arith in
+    state_step _ _ _ _ _ inside c.loop-byte.invariant c.class_of.ensures c.after-state.ensures
+
+pub returns : goal.returns
+returns c =
+    let all = take_all c.loop-byte.byte-index c.args.bytes.now (omega arith) in
+    c.is_numeral.ensures ∙ numeral_at_state _ _ (ap (state_through Start) (sym all) ∙ c.loop-byte.invariant)

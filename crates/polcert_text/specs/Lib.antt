@@ -1,0 +1,16 @@
+pub mod Bytes
+pub mod Lexemes
+pub mod Gaps
+pub mod Fronts
+pub mod Cut
+pub mod Reading
+pub mod Numbers
+pub mod Millionths
+pub mod Device
+pub mod Source
+pub mod Sink
+pub mod Memory
+pub mod Known
+pub mod Scan
+pub mod ScanOf
+pub mod Scaling

@@ -1,0 +1,108 @@
+-- The value of a numeral, in millionths.
+use Rattle.std.specs.Prelude.{◌≡◌, ℕ, ◌+◌, ◌-◌, ◌*◌, ◌^◌, ◌<◌, ◌≤◌, Bool, true, false, ◌⊎◌, List, [], ◌∷◌, ◌++◌, length, if◌then◌else◌, ℤ, pos, neg_ℤ, ◌*ℤ◌, ◌≤ℤ◌}
+use Rattle.std.specs.Str.Parse.{digits_value}
+use Rattle.polcert_text.specs.Bytes.{class_of, is_point, is_sign, is_exponent_mark}
+use Rattle.polcert_text.specs.Lexemes.{before, after, is_numeral}
+use Rattle.polcert_text.specs.declared.bytes.ByteClass.{ByteClass}
+use Rattle.polcert_text.specs.declared.bytes.ByteClass.TheVariants.{Minus}
+use Rattle.polcert_text.specs.declared.number.NumberFault.{NumberFault}
+use Rattle.polcert_text.specs.declared.number.NumberFault.TheVariants.{NotANumeral, TooLong, TooLarge, TooFine}
+
+-- the digits before the point, and those behind it
+abbrev pub whole_of : List ℕ → List ℕ
+whole_of bs = before is_point (before is_exponent_mark bs)
+
+abbrev pub fraction_of : List ℕ → List ℕ
+fraction_of bs = after is_point (before is_exponent_mark bs)
+
+-- what stands behind `e` or `E`, or nothing
+abbrev pub exponent_of : List ℕ → List ℕ
+exponent_of bs = after is_exponent_mark bs
+
+-- the digits of a numeral without the point, as one whole number
+unfoldable pub number_of : List ℕ → ℕ
+number_of bs = digits_value 10 (whole_of bs ++ fraction_of bs)
+
+abbrev pub minus_class : ByteClass → Bool
+minus_class Minus = true
+minus_class _ = false
+
+abbrev pub is_lowering : List ℕ → Bool
+is_lowering [] = false
+is_lowering (b ∷ bs) = minus_class (class_of b)
+
+abbrev pub without_sign : List ℕ → List ℕ
+without_sign [] = []
+without_sign (b ∷ bs) = if is_sign b then bs else b ∷ bs
+
+-- the size of the written exponent
+unfoldable pub exponent_size : List ℕ → ℕ
+exponent_size bs = digits_value 10 (without_sign (exponent_of bs))
+
+-- the written exponent less the number of digits behind the point, and 1000
+unfoldable pub power_of : List ℕ → ℕ
+power_of bs =
+    if is_lowering (exponent_of bs) then 1000 - exponent_size bs - length (fraction_of bs)
+    else 1000 + exponent_size bs - length (fraction_of bs)
+
+-- the value without a sign, times 10 ^ 1000
+unfoldable pub size_of : List ℕ → ℕ
+size_of bs = number_of bs * 10 ^ power_of bs
+
+-- a millionth, times 10 ^ 1000
+unfoldable pub millionth : ℕ
+millionth = 10 ^ 994
+
+-- 10,000,000 in millionths
+abbrev pub largest : ℕ
+largest = 10_000_000_000_000
+
+abbrev pub signed : Bool → ℕ → ℤ
+signed negative n = if negative then neg_ℤ (pos n) else pos n
+
+-- the value is h millionths
+abbrev pub IsExact : Bool → List ℕ → ℤ → Type 0
+IsExact negative bs h = h *ℤ pos millionth ≡ signed negative (size_of bs)
+
+-- the text is a numeral of just h millionths, or a `-` (45) and such a numeral
+abbrev pub Denotes : List ℕ → ℤ → Type 0
+Denotes text h = (negative : Bool) × ((numeral : List ℕ)
+    × (text ≡ (if negative then 45 ∷ numeral else numeral))
+    × (is_numeral numeral ≡ true)
+    × IsExact negative numeral h)
+
+-- h is the greatest whole number of millionths that isn't above the value
+pub record IsFloor (negative : Bool) (bs : List ℕ) (h : ℤ) : Type 0 where
+  pub not_above : (h *ℤ pos millionth) ≤ℤ signed negative (size_of bs)
+  pub greatest : (k : ℤ) → (k *ℤ pos millionth) ≤ℤ signed negative (size_of bs) → k ≤ℤ h
+
+-- a numeral within the limits of length and size
+pub record IsReadable (bs : List ℕ) : Type 0 where
+  pub numeral : is_numeral bs ≡ true
+  pub short : length bs ≤ 400
+  pub exponent : exponent_size bs ≤ 400
+  pub size : size_of bs ≤ largest * millionth
+
+-- why the bytes have no value, the first reason that holds
+abbrev pub IsRefused : List ℕ → NumberFault → Type 0
+IsRefused bs NotANumeral = is_numeral bs ≡ false
+IsRefused bs TooLong = (is_numeral bs ≡ true) × ((400 < length bs) ⊎ (400 < exponent_size bs))
+IsRefused bs TooLarge = (is_numeral bs ≡ true) × (length bs ≤ 400) × (exponent_size bs ≤ 400) × (largest * millionth < size_of bs)
+IsRefused bs TooFine = ⊥
+
+-- the same where an exact value is asked for
+abbrev pub IsRefusedExactly : Bool → List ℕ → NumberFault → Type 0
+IsRefusedExactly negative bs TooFine = IsReadable bs × ((h : ℤ) → IsExact negative bs h → ⊥)
+IsRefusedExactly negative bs fault = IsRefused bs fault
+
+-- the size is so many whole millionths, and perhaps a part of one more
+pub record Measures (bs : List ℕ) (floor : ℕ) (is_inexact : Bool) : Type 0 where
+  pub part : ℕ
+  pub size : size_of bs ≡ floor * millionth + part
+  pub below : part < millionth
+  pub exact : is_inexact ≡ false → part ≡ 0
+  pub inexact : is_inexact ≡ true → 0 < part
+
+-- a size rounded up
+abbrev pub ceiling : ℕ → Bool → ℕ
+ceiling floor is_inexact = if is_inexact then floor + 1 else floor

@@ -1,0 +1,59 @@
+//! Laws of the definitions, each the contract of a function with nothing to do.
+ghost use Rattle.std.specs.Prelude.{◌≡◌, ℕ, Bool, Option, Some, None, Result, Err, List, ℤ};
+ghost use Rattle.polcert_text.specs.Cut.{Lexeme, Rest, TakesToken, Ends, IsCut};
+ghost use Rattle.polcert_text.specs.Reading.{GivesNext};
+ghost use Rattle.polcert_text.specs.Numbers.{IsReadable, IsExact, IsFloor, IsRefused, IsRefusedExactly};
+
+use crate::{NumberFault, Token, TokenFault};
+
+/// A text has one cut: one list of tokens, and one end.
+pub fn one_cut()
+    ensures { (rest : Rest) (ss ts : List Lexeme) (x y : Option TokenFault) →
+        IsCut rest ss x → IsCut rest ts y → (ss ≡ ts) × (x ≡ y) }
+{
+}
+
+/// At most one token comes next, and it leaves one rest.
+pub fn one_next_token()
+    ensures { (rest : Rest) (s t : Lexeme) (x y : Rest) →
+        TakesToken rest s x → TakesToken rest t y → (s ≡ t) × (x ≡ y) }
+{
+}
+
+/// What is still to be cut ends in one way where no token comes next, and does not end where one does.
+pub fn one_end()
+    ensures end { (rest : Rest) (x y : Option TokenFault) → Ends rest x → Ends rest y → x ≡ y }
+    ensures no_token { (rest : Rest) (t : Lexeme) (behind : Rest) (x : Option TokenFault) →
+        TakesToken rest t behind → Ends rest x → ⊥ }
+{
+}
+
+/// After a refusal or the clean end every further call of `Tokens::next_token` answers the same.
+pub fn same_answer_again()
+    ensures refusal { (old new later : Rest) (fault : TokenFault) (answer : Option (Result Token TokenFault)) →
+        GivesNext old (Some (Err fault)) new → GivesNext new answer later →
+        (answer ≡ Some (Err fault)) × (later ≡ new) }
+    ensures clean_end { (old new later : Rest) (answer : Option (Result Token TokenFault)) →
+        GivesNext old None new → GivesNext new answer later → (answer ≡ None) × (later ≡ new) }
+{
+}
+
+/// A sign and a numeral denote at most one whole number of millionths exactly, and one rounded down.
+pub fn one_value()
+    ensures exact { (negative : Bool) (bs : List ℕ) (h k : ℤ) →
+        IsExact negative bs h → IsExact negative bs k → h ≡ k }
+    ensures floor { (negative : Bool) (bs : List ℕ) (h k : ℤ) →
+        IsFloor negative bs h → IsFloor negative bs k → h ≡ k }
+{
+}
+
+/// Bytes are refused for one reason, and only where they are not readable, or have no exact value.
+pub fn one_refusal()
+    ensures exact { (negative : Bool) (bs : List ℕ) (f g : NumberFault) →
+        IsRefusedExactly negative bs f → IsRefusedExactly negative bs g → f ≡ g }
+    ensures floor { (bs : List ℕ) (f g : NumberFault) → IsRefused bs f → IsRefused bs g → f ≡ g }
+    ensures no_value { (negative : Bool) (bs : List ℕ) (f : NumberFault) (h : ℤ) →
+        IsReadable bs → IsExact negative bs h → IsRefusedExactly negative bs f → ⊥ }
+    ensures unreadable { (bs : List ℕ) (f : NumberFault) → IsReadable bs → IsRefused bs f → ⊥ }
+{
+}

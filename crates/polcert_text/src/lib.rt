@@ -1,0 +1,25 @@
+//! Numerals, tokens and devices of the text files that polcert reads and writes.
+#![tactic(auto)]
+
+mod bytes;
+mod laws;
+mod lexeme;
+mod memory;
+mod millionths;
+mod number;
+mod sink;
+mod source;
+mod std_io;
+mod tokens;
+mod whole;
+
+pub use laws::{one_cut, one_end, one_next_token, one_refusal, one_value, same_answer_again};
+pub use lexeme::TokenKind;
+pub use memory::{SliceSink, SliceSource};
+pub use millionths::write_scaled;
+pub use number::{NumberFault, floor_of, scaled_of};
+pub use sink::{Sink, SinkFailed, write_all};
+pub use source::{ReadFault, Source, SourceFailed, read_all};
+pub use std_io::{ReaderSource, WriterSink};
+pub use tokens::{TEXT_LIMIT, Token, TokenFault, Tokens};
+pub use whole::whole_number;

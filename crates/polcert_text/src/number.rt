@@ -1,0 +1,302 @@
+//! The value of a numeral.
+ghost use Rattle.std.specs.Prelude.{◌≡◌, ◌+◌, ◌-◌, ◌*◌, ◌^◌, length, take, drop, if◌then◌else◌, ◌≤◌, ◌++◌, ◌∷◌, [], ℕ, List, MatchResult, IfOk, IfErr, min, true};
+ghost use Rattle.std.specs.List.{list_all, list_any};
+ghost use Rattle.std.specs.Str.Parse.{digits_value};
+ghost use Rattle.polcert_text.specs.Bytes.{is_digit, is_point, is_exponent_mark};
+ghost use Rattle.polcert_text.specs.Lexemes.{before, after, is_numeral};
+ghost use Rattle.polcert_text.specs.Numbers.{whole_of, fraction_of, exponent_of, is_lowering, without_sign, largest, signed, IsExact, IsFloor, IsReadable, IsRefused, IsRefusedExactly, Measures, ceiling};
+ghost use Rattle.polcert_text.specs.Scaling.{separates, cap, is_nonzero, IsScaled};
+
+use crate::bytes::{ByteClass, class_of};
+use crate::lexeme::State;
+use thiserror::Error;
+
+/// Why a numeral has no value here: the first of these that holds.
+#[derive(Clone, Copy, Debug, PartialEq, Eq, Error)]
+pub enum NumberFault {
+    /// N1: the bytes are no numeral.
+    #[error("not a numeral")]
+    NotANumeral,
+    /// N2: it is longer than 400 bytes, or its written exponent is beyond 400 in size.
+    #[error("a numeral of over 400 bytes, or an exponent beyond 400")]
+    TooLong,
+    /// N3: its value is beyond 10,000,000 in size.
+    #[error("a number beyond 10,000,000")]
+    TooLarge,
+    /// N4: a digit past the sixth decimal isn't 0, where the exact value is asked for.
+    #[error("a number with more than six decimals")]
+    TooFine,
+}
+
+const LONGEST: usize = 400;
+
+const LARGEST_EXPONENT: usize = 400;
+
+const LARGEST: u64 = 10_000_000_000_000;
+
+/// A size in millionths, rounded down, and whether that left something out.
+#[derive(Clone, Copy)]
+struct Size {
+    floor: u64,
+    is_inexact: bool,
+}
+
+impl Size {
+    /// The size rounded up.
+    fn ceiling(self) -> u64
+        requires { self.floor ≤ cap }
+        ensures { result ≡ ceiling self.floor self.is_inexact }
+    {
+        if self.is_inexact {
+            self.floor + 1
+        } else {
+            self.floor
+        }
+    }
+}
+
+/// The exact value of a numeral with the sign before it, in millionths.
+pub fn scaled_of(negative: bool, numeral: &[u8]) -> Result<i64, NumberFault>
+    ensures value { IfOk result (λ h. IsReadable numeral.now × IsExact negative numeral.now h) }
+    ensures fault { IfErr result (IsRefusedExactly negative numeral.now) }
+{
+    let size = size_of(numeral)?;
+    if size.is_inexact {
+        return Err(NumberFault::TooFine);
+    }
+    Ok(signed(negative, size.floor))
+}
+
+/// The value of a numeral with the sign before it, in millionths and rounded down (a negative one away from 0).
+pub fn floor_of(negative: bool, numeral: &[u8]) -> Result<i64, NumberFault>
+    ensures value { IfOk result (λ h. IsReadable numeral.now × IsFloor negative numeral.now h) }
+    ensures fault { IfErr result (IsRefused numeral.now) }
+{
+    let size = size_of(numeral)?;
+    if negative {
+        Ok(signed(true, size.ceiling()))
+    } else {
+        Ok(signed(false, size.floor))
+    }
+}
+
+fn signed(negative: bool, size: u64) -> i64
+    requires { size ≤ largest }
+    ensures { result ≡ signed negative size }
+{
+    if negative {
+        -(size as i64)
+    } else {
+        size as i64
+    }
+}
+
+/// Whether the bytes are a numeral.
+fn is_numeral(bytes: &[u8]) -> bool
+    ensures { result ≡ is_numeral bytes.now }
+{
+    let mut state = State::Start;
+    for byte in bytes {
+        state = state.after(class_of(*byte));
+    }
+    state.is_numeral()
+}
+
+#[derive(Clone, Copy)]
+enum Separator {
+    Point,
+    ExponentMark,
+}
+
+fn separates(separator: Separator, byte: u8) -> bool
+    ensures { result ≡ separates separator byte }
+{
+    match separator {
+        Separator::Point => matches!(class_of(byte), ByteClass::Point),
+        Separator::ExponentMark => matches!(class_of(byte), ByteClass::ExponentMark),
+    }
+}
+
+/// What stands before the first such byte, and what stands behind it.
+fn split_at_first(bytes: &[u8], separator: Separator) -> (&[u8], &[u8])
+    ensures before { result.0.now ≡ before (separates separator) bytes.now }
+    ensures after { result.1.now ≡ after (separates separator) bytes.now }
+{
+    for (i, byte) in bytes.iter().enumerate() {
+        if separates(separator, *byte) {
+            return (&bytes[..i], &bytes[i + 1..]);
+        }
+    }
+    (bytes, &[])
+}
+
+/// The number that the digits spell, or 401 where it is greater.
+fn capped_number(digits: &[u8]) -> usize
+    requires { list_all is_digit digits.now ≡ true }
+    ensures { result ≡ min 401 (digits_value 10 digits.now) }
+{
+    let mut number: usize = 0;
+    for digit in digits {
+        number = (number * 10 + (*digit - b'0') as usize).min(401);
+    }
+    number
+}
+
+/// A number that is cut off behind so many digits, read digit by digit.
+#[derive(Clone, Copy)]
+struct Scaling {
+    floor: u64,
+    left: usize,
+    is_inexact: bool,
+}
+
+const CAP: u64 = LARGEST + 1;
+
+impl Scaling {
+    fn after(self, digit: u8) -> Scaling
+        requires digit { is_digit digit ≡ true }
+        requires small { self.floor ≤ cap }
+        ensures scaled { (kept : ℕ) (front : List ℕ) → IsScaled kept front self → IsScaled kept (front ++ digit ∷ []) result }
+        ensures small { result.floor ≤ cap }
+    {
+        if self.left == 0 {
+            Scaling {
+                is_inexact: self.is_inexact || digit != b'0',
+                ..self
+            }
+        } else {
+            Scaling {
+                floor: (self.floor * 10 + u64::from(digit - b'0')).min(CAP),
+                left: self.left - 1,
+                is_inexact: self.is_inexact,
+            }
+        }
+    }
+
+    /// After all these digits.
+    fn through(self, digits: &[u8]) -> Scaling
+        requires digits { list_all is_digit digits.now ≡ true }
+        requires small { self.floor ≤ cap }
+        ensures scaled { (kept : ℕ) (front : List ℕ) → IsScaled kept front self → IsScaled kept (front ++ digits.now) result }
+        ensures small { result.floor ≤ cap }
+    {
+        let mut scaling = self;
+        for digit in digits {
+            scaling = scaling.after(*digit);
+        }
+        scaling
+    }
+}
+
+/// The number with so many zeros at its end, or one above the largest.
+fn with_zeros(number: u64, zeros: usize) -> u64
+    requires { number ≤ cap }
+    ensures { (n : ℕ) → number ≡ min cap n → result ≡ min cap (n * 10 ^ zeros) }
+{
+    let mut number = number;
+    for _ in 0..zeros {
+        number = (number * 10).min(CAP);
+    }
+    number
+}
+
+/// The parts of a numeral: the digits before the point and those behind it, and the exponent.
+#[derive(Clone, Copy)]
+struct Parts<'a> {
+    whole: &'a [u8],
+    fraction: &'a [u8],
+    is_lowering: bool,
+    exponent: &'a [u8],
+}
+
+fn parts_of(numeral: &[u8]) -> Parts<'_>
+    ensures whole { result.whole.now ≡ whole_of numeral.now }
+    ensures fraction { result.fraction.now ≡ fraction_of numeral.now }
+    ensures is_lowering { result.is_lowering ≡ is_lowering (exponent_of numeral.now) }
+    ensures exponent { result.exponent.now ≡ without_sign (exponent_of numeral.now) }
+{
+    let (mantissa, exponent) = split_at_first(numeral, Separator::ExponentMark);
+    let (whole, fraction) = split_at_first(mantissa, Separator::Point);
+    let (is_lowering, exponent) = split_sign(exponent);
+    Parts {
+        whole,
+        fraction,
+        is_lowering,
+        exponent,
+    }
+}
+
+/// Whether a minus stands first, and what stands behind a sign.
+fn split_sign(exponent: &[u8]) -> (bool, &[u8])
+    ensures is_lowering { result.0 ≡ is_lowering exponent.now }
+    ensures digits { result.1.now ≡ without_sign exponent.now }
+{
+    match exponent {
+        [sign, digits @ ..] => match class_of(*sign) {
+            ByteClass::Minus => (true, digits),
+            ByteClass::Plus => (false, digits),
+            _ => (false, exponent),
+        },
+        [] => (false, exponent),
+    }
+}
+
+/// The first `kept` digits as a number, with zeros where there are fewer, or one above the largest.
+fn measured(whole: &[u8], fraction: &[u8], kept: usize) -> Size
+    requires whole { list_all is_digit whole.now ≡ true }
+    requires fraction { list_all is_digit fraction.now ≡ true }
+    ensures floor { let digits = whole.now ++ fraction.now in
+        result.floor ≡ min cap (digits_value 10 (take kept digits) * 10 ^ (kept - length digits)) }
+    ensures is_inexact { result.is_inexact ≡ list_any is_nonzero (drop kept (whole.now ++ fraction.now)) }
+    ensures small { result.floor ≤ cap }
+{
+    let none = Scaling {
+        floor: 0,
+        left: kept,
+        is_inexact: false,
+    };
+    let scaling = none.through(whole).through(fraction);
+    Size {
+        floor: with_zeros(scaling.floor, scaling.left),
+        is_inexact: scaling.is_inexact,
+    }
+}
+
+/// The size of a numeral in millionths, rounded down.
+fn size_of(numeral: &[u8]) -> Result<Size, NumberFault>
+    ensures value { MatchResult result
+        (λ size. IsReadable numeral.now × Measures numeral.now size.floor size.is_inexact)
+        (IsRefused numeral.now) }
+    ensures small { IfOk result (λ size. ceiling size.floor size.is_inexact ≤ largest) }
+{
+    if !is_numeral(numeral) {
+        return Err(NumberFault::NotANumeral);
+    }
+    if numeral.len() > LONGEST {
+        return Err(NumberFault::TooLong);
+    }
+    let parts = parts_of(numeral);
+    let exponent = capped_number(parts.exponent);
+    if exponent > LARGEST_EXPONENT {
+        return Err(NumberFault::TooLong);
+    }
+    let kept = kept_digits(parts.whole.len(), parts.is_lowering, exponent);
+    let size = measured(parts.whole, parts.fraction, kept);
+    if size.ceiling() > LARGEST {
+        return Err(NumberFault::TooLarge);
+    }
+    Ok(size)
+}
+
+/// How many digits count: those before the point and six behind it, moved by the exponent.
+fn kept_digits(whole: usize, is_lowering: bool, exponent: usize) -> usize
+    requires whole { whole ≤ 400 }
+    requires exponent { exponent ≤ 400 }
+    ensures { result ≡ (if is_lowering then whole + 6 - exponent else whole + 6 + exponent) }
+{
+    if is_lowering {
+        (whole + 6).saturating_sub(exponent)
+    } else {
+        whole + 6 + exponent
+    }
+}
