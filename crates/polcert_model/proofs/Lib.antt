@@ -1,0 +1,14 @@
+pub mod Basics
+pub mod ItemLaws
+pub mod NumberLaws
+pub mod EntryLaws
+pub mod CellLaws
+pub mod StartLaws
+pub mod TextLaws
+pub mod Dividing
+pub mod NarrowLaws
+pub mod ReadLaws
+pub mod GoOnLaws
+pub mod SmallestText
+pub mod StartLimits
+pub mod LimitLaws

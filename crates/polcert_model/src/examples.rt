@@ -1,0 +1,50 @@
+//! Rows and tables computed from small models.
+
+ghost use Rattle.std.specs.Prelude.{◌≡◌, ◌≢◌, ◌∷◌, [], sum, true};
+ghost use Rattle.polcert_model.specs.Meaning.{t_scale, HasProperRows, sum_below};
+ghost use Rattle.polcert_model.specs.Examples.{first_row, thirds, decimal_thirds, sixths, patterns, reward_table, whole};
+ghost use Rattle.polcert_model.specs.Start.{shares_of, all_states};
+ghost use Rattle.polcert_model.specs.Elements.{Count};
+
+/// `uniform` over three states is exactly a third each.
+pub fn uniform_thirds()
+    ensures row { first_row thirds 3 ≡ 1_000_000 ∷ 1_000_000 ∷ 1_000_000 ∷ [] }
+    ensures scale { t_scale thirds ≡ 3_000_000 }
+    ensures sum { sum_below (thirds.t 0 0) 3 ≡ t_scale thirds }
+{}
+
+/// 0.333333 three times isn't one; with 0.333334 last it is.
+pub fn decimals_of_thirds()
+    ensures short { sum_below ((decimal_thirds 333_333).t 0 0) 3 ≡ 2_999_997 }
+    ensures improper { HasProperRows (decimal_thirds 333_333) → ⊥ }
+    ensures exact { sum_below ((decimal_thirds 333_334).t 0 0) 3 ≡ t_scale (decimal_thirds 333_334) }
+{}
+
+/// Single cells behind a uniform row hold in its place.
+pub fn single_cells_behind_uniform()
+    ensures row { first_row sixths 6 ≡ 3_000_000 ∷ 0 ∷ 0 ∷ 1_000_000 ∷ 1_000_000 ∷ 1_000_000 ∷ [] }
+    ensures sum { sum_below (sixths.t 0 0) 6 ≡ t_scale sixths }
+{}
+
+/// Of four reward entries with places left open the last that covers a cell holds.
+pub fn reward_patterns()
+    ensures { reward_table patterns ≡
+        whole 7 ∷ whole 2 ∷ whole 7 ∷ whole 8 ∷ whole 7 ∷ whole 0 ∷ whole 7 ∷ whole 6 ∷ [] }
+{}
+
+/// A start of 0.5 and 0.5 is the uniform one; 0.25 and 0.75 stay millionths.
+pub fn starts()
+    ensures halves { shares_of (500_000 ∷ 500_000 ∷ []) ≡ all_states (Count 2) }
+    ensures halves_weights { (all_states (Count 2)).weights ≡ 1 ∷ 1 ∷ [] }
+    ensures halves_total { (all_states (Count 2)).total ≡ 2 }
+    ensures quarters { (shares_of (250_000 ∷ 750_000 ∷ [])).weights ≡ 250_000 ∷ 750_000 ∷ [] }
+    ensures quarters_total { (shares_of (250_000 ∷ 750_000 ∷ [])).total ≡ 1_000_000 }
+{}
+
+ghost use Rattle.polcert_model.specs.Text.{Denotes};
+ghost use Rattle.polcert_model.specs.Examples.{smallest, plain};
+
+/// The lexemes of the smallest model are right, and denote it.
+pub fn smallest_model()
+    ensures { Denotes smallest (plain 1 []) }
+{}

@@ -1,0 +1,118 @@
+//! Laws of the definitions: each function has an empty body, and its contract is the law.
+
+ghost use Rattle.std.specs.Prelude.{◌≡◌, ℕ, List, ℤ};
+ghost use Rattle.polcert_text.specs.Cut.{Lexeme};
+ghost use Rattle.polcert_model.specs.declared.entry.Table.{Table};
+ghost use Rattle.polcert_model.specs.Numbers.{AreNumbers};
+ghost use Rattle.polcert_model.specs.Elements.{Elements, StandsFor};
+ghost use Rattle.polcert_model.specs.Preamble.{Preamble};
+ghost use Rattle.polcert_model.specs.Entry.{IsEntry};
+ghost use Rattle.polcert_model.specs.declared.entry.Entry.{Entry};
+ghost use Rattle.polcert_model.specs.Start.{Shares, IsStart};
+ghost use Rattle.polcert_model.specs.Meaning.{Meaning, IsSame};
+ghost use Rattle.polcert_model.specs.Text.{Denotes, IsModelText};
+ghost use Rattle.polcert_model.specs.Laws.{HasDivision, HasOneDivision, GivesLastCovering, OneMoreEntry, UniformRowSums};
+
+/// Each list of lexemes is divided into items in just one way.
+pub fn one_division()
+    ensures some { (lexemes : List Lexeme) → HasDivision lexemes }
+    ensures one { (lexemes : List Lexeme) → HasOneDivision lexemes }
+{}
+
+/// A lexeme stands for at most one element.
+pub fn one_element()
+    ensures { (elements : Elements) (l : Lexeme) (i j : ℕ) → StandsFor elements l i → StandsFor elements l j → i ≡ j }
+{}
+
+/// Lexemes are at most one list of numbers.
+pub fn one_list_of_numbers()
+    ensures { (lexemes : List Lexeme) (x y : List ℤ) → AreNumbers lexemes x → AreNumbers lexemes y → x ≡ y }
+{}
+
+/// The lexemes behind the word of a table are at most one entry.
+pub fn one_entry()
+    ensures { (p : Preamble) (table : Table) (lexemes : List Lexeme) (x y : Entry) →
+        IsEntry p table lexemes x → IsEntry p table lexemes y → x ≡ y }
+{}
+
+/// The lexemes behind `start` give at most one start.
+pub fn one_start()
+    ensures { (states : Elements) (lexemes : List Lexeme) (x y : Shares) →
+        IsStart states lexemes x → IsStart states lexemes y → x ≡ y }
+{}
+
+/// A cell has one value: that of the last entry that covers it.
+pub fn one_value()
+    ensures { (entries : List Entry) (table : Table) (indices : List ℕ) → GivesLastCovering entries table indices }
+{}
+
+/// A further entry gives its value to the cells that it covers, and to no others.
+pub fn one_more_entry()
+    ensures { (entries : List Entry) (entry : Entry) (table : Table) (indices : List ℕ) → OneMoreEntry entries entry table indices }
+{}
+
+/// A row that one `uniform` covers sums to its scale.
+pub fn uniform_sums_to_scale()
+    ensures { (p : Preamble) (entries : List Entry) (entry : Entry) (table : Table) (row : List ℕ) → UniformRowSums p entries entry table row }
+{}
+
+/// Lexemes denote at most one model, and so does a text.
+pub fn one_model()
+    ensures lexemes { (lexemes : List Lexeme) (m n : Meaning) → Denotes lexemes m → Denotes lexemes n → IsSame m n }
+    ensures text { (text : List ℕ) (m n : Meaning) → IsModelText text m → IsModelText text n → IsSame m n }
+{}
+
+ghost use Rattle.polcert_model.specs.Meaning.{IsWithinLimits};
+
+/// What lexemes denote is within its limits.
+pub fn within_limits()
+    ensures { (lexemes : List Lexeme) (m : Meaning) → Denotes lexemes m → IsWithinLimits m }
+{}
+
+ghost use Rattle.std.specs.Prelude.{Option, Some, None, ◌+◌, ◌++◌, ◌∷◌, [], true, false, length};
+ghost use Rattle.polcert_text.specs.declared.tokens.TokenFault.{TokenFault};
+ghost use Rattle.polcert_model.specs.Words.{Topic, begins_item};
+ghost use Rattle.polcert_model.specs.Text.{Known, IsComplete};
+ghost use Rattle.polcert_model.specs.Narrow.{IsTaken, IsTakenText};
+ghost use Rattle.polcert_model.specs.Reading.{AreRightItems, IsWithinItem, CannotGoOn, IsWrong};
+ghost use Rattle.polcert_model.specs.FirstWrong.{TextTokens, tokens_of, IsFirstWrong};
+
+/// An item that is right with its lexemes so far makes them right items.
+pub fn right_item_ends()
+    ensures { (seen body : List Lexeme) (k after : Known) (t : Topic) →
+        IsWithinItem seen k t body → IsTaken k t body after → AreRightItems seen after }
+{}
+
+/// Behind right items, the item that is the first wrong one is settled by the lexemes taken so far, however the text
+/// goes on: an item that cannot go on, one that isn't right where the next begins or the text ends, and one in which
+/// the tokens end in a fault.
+pub fn first_wrong_stays()
+    ensures within { (seen body : List Lexeme) (k : Known) (t : Topic) (w : IsWithinItem seen k t body) →
+        CannotGoOn k t body → (more : List Lexeme) (ending : Option TokenFault) (stop : ℕ) →
+        IsFirstWrong (tokens_of (seen ++ more) ending stop) (length w.items.items + 1) }
+    ensures at_word { (seen body : List Lexeme) (k : Known) (t : Topic) (next : Lexeme) (w : IsWithinItem seen k t body) →
+        IsWrong k t body → begins_item next ≡ true → (more : List Lexeme) (ending : Option TokenFault) (stop : ℕ) →
+        IsFirstWrong (tokens_of (seen ++ next ∷ more) ending stop) (length w.items.items + 1) }
+    ensures at_end { (seen body : List Lexeme) (k : Known) (t : Topic) (w : IsWithinItem seen k t body) →
+        IsWrong k t body → (ending : Option TokenFault) (stop : ℕ) →
+        IsFirstWrong (tokens_of seen ending stop) (length w.items.items + 1) }
+    ensures at_fault { (seen body : List Lexeme) (k : Known) (t : Topic) (w : IsWithinItem seen k t body)
+        (fault : TokenFault) (stop : ℕ) →
+        IsFirstWrong (tokens_of seen (Some fault) stop) (length w.items.items + 1) }
+{}
+
+/// What stands before the first item word is item 0, and the end is one more than the last item.
+pub fn first_wrong_outside_items()
+    ensures before { (l : Lexeme) → begins_item l ≡ false →
+        (more : List Lexeme) (ending : Option TokenFault) (stop : ℕ) → IsFirstWrong (tokens_of (l ∷ more) ending stop) 0 }
+    ensures at_once { (fault : TokenFault) (stop : ℕ) → IsFirstWrong (tokens_of [] (Some fault) stop) 0 }
+    ensures behind { (seen : List Lexeme) (k : Known) (r : AreRightItems seen k) →
+        ((p : Preamble) → IsComplete k p → ⊥) → (stop : ℕ) →
+        IsFirstWrong (tokens_of seen None stop) (length r.items + 1) }
+{}
+
+/// A text with a first wrong item isn't right.
+pub fn first_wrong_is_not_right()
+    ensures { (ts : TextTokens) (n : ℕ) (p : Preamble) (k : Known) →
+        IsFirstWrong ts n → ts.ending ≡ None → IsTakenText ts.lexemes p k → ⊥ }
+{}
