@@ -8,16 +8,8 @@ use Rattle.polcert_text.specs.declared.lexeme.TokenKind.{TokenKind}
 use Rattle.polcert_text.specs.declared.lexeme.TokenKind.TheVariants.{Name}
 use Rattle.polcert_model.specs.declared.entry.Table.{Table}
 use Rattle.polcert_model.specs.declared.entry.Table.TheVariants.{Transition, Observation, Reward}
-
--- what an item is about
-pub data Topic : Type 0 where
-  Discount : Topic
-  Values : Topic
-  States : Topic
-  Actions : Topic
-  Observations : Topic
-  Start : Topic
-  Cells : Table → Topic
+pub use Rattle.polcert_model.specs.declared.words.Topic.{Topic}
+pub use Rattle.polcert_model.specs.declared.words.Topic.TheVariants.{Discount, Values, States, Actions, Observations, Start, Cells}
 
 -- the topic of an item that begins with this word
 unfoldable pub topic_of : List ℕ → Option Topic

@@ -4,9 +4,16 @@
 mod entry;
 mod examples;
 mod fault;
+mod item;
+mod known;
 mod laws;
+mod model;
+mod reader;
+#[cfg(test)]
+mod tests;
+mod words;
 
-pub use entry::{Body, Entry, Place, Sequence, Table};
+pub use entry::{Body, Entries, Entry, Place, Sequence, Table};
 pub use examples::{
     decimals_of_thirds, reward_patterns, single_cells_behind_uniform, smallest_model, starts,
     uniform_thirds,
@@ -17,3 +24,6 @@ pub use laws::{
     one_element, one_entry, one_list_of_numbers, one_model, one_more_entry, one_start, one_value,
     right_item_ends, uniform_sums_to_scale, within_limits,
 };
+pub use model::Model;
+pub use reader::read_model;
+pub use words::Topic;

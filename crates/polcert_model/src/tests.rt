@@ -1,0 +1,3 @@
+//! Tests of what no clause says. The expected answers come from the format's worked rows.
+mod model_rows;
+mod refusals;
