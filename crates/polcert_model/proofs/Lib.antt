@@ -12,3 +12,5 @@ pub mod GoOnLaws
 pub mod SmallestText
 pub mod StartLimits
 pub mod LimitLaws
+pub mod StepLaws
+pub mod LineLaws

@@ -17,3 +17,7 @@ pub mod FirstWrong
 pub mod Reasons
 pub mod Refusals
 pub mod Examples
+pub mod NumberSteps
+pub mod LineSteps
+pub mod EntrySteps
+pub mod KnownView

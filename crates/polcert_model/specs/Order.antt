@@ -48,11 +48,14 @@ cells_are_too_many states actions observations =
     nat_lt most_cells (actions * states * states) || nat_lt most_cells (actions * states * observations)
     || nat_lt most_cells (actions * states * states * observations)
 
+abbrev pub if_too_many : Bool → Option ItemFault
+if_too_many true = Some TooManyCells
+if_too_many false = None
+
 -- why the preamble isn't complete: a line is missing, or else a table has too many cells
 abbrev pub preamble_fault : Known → Option ItemFault
 preamble_fault k =
-    if has_all_lines k then
-    (if cells_are_too_many (count_in k.states) (count_in k.actions) (count_in k.observations) then Some TooManyCells else None)
+    if has_all_lines k then if_too_many (cells_are_too_many (count_in k.states) (count_in k.actions) (count_in k.observations))
     else Some MissingLine
 
 -- why an item of this topic cannot stand behind what is known, whatever its body: the first of these reasons

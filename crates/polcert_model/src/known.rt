@@ -1,23 +1,49 @@
 //! What the items of a text have said so far.
+ghost use Rattle.std.specs.Prelude.{◌≡◌, ◌<◌, ◌≤◌, length, drop, get_or, OnOk, OnErr};
+ghost use Rattle.polcert_model.specs.Elements.{Count};
+ghost use Rattle.polcert_model.specs.Entry.{cells_in};
+ghost use Rattle.polcert_model.specs.EntrySteps.{indices_in};
+ghost use Rattle.polcert_model.specs.KnownView.{least_written, learned, IsSaidWithin};
+ghost use Rattle.polcert_model.specs.Narrow.{narrow_word_fault};
+ghost use Rattle.polcert_model.specs.Order.{preamble_fault, is_late, came_before, cells_are_too_many, if_too_many};
+ghost use Rattle.polcert_model.specs.Text.{nothing_known};
+
+use crate::item::Said;
+use crate::model;
 use crate::words::Topic;
 use crate::{Entries, ItemFault, Table};
-use std::alloc::Global;
+use std::alloc::{AllocError, Global};
+use std::marker::Model;
 
-const MOST_CELLS: u64 = 16_777_216;
+const MOST_CELLS: usize = 16_777_216;
 
-/// What the items so far say: the lines of the preamble that came, and the entries.
+/// What the items so far say: the lines of the preamble that came, and the entries. Counts are from 1 to 1,000.
 #[derive(Debug, Drop)]
 pub struct Known {
-    pub discount: Option<u32>,
-    pub costs: Option<bool>,
-    pub states: Option<usize>,
-    pub actions: Option<usize>,
-    pub observations: Option<usize>,
-    pub entries: Entries,
+    discount: Option<u32>,
+    costs: Option<bool>,
+    states: Option<usize>,
+    actions: Option<usize>,
+    observations: Option<usize>,
+    entries: Entries,
+}
+
+impl Model for Known {
+    ghost use Rattle.polcert_model.specs.Text as text;
+    ghost use Rattle.polcert_model.specs.KnownView.{known_of, IsCountIn};
+
+    ghost Value = { text.Known };
+
+    ghost view = { λ k. known_of k.discount k.costs k.states k.actions k.observations k.entries };
+
+    ghost invariant = { λ k. IsCountIn k.states × IsCountIn k.actions × IsCountIn k.observations };
 }
 
 impl Known {
-    pub fn new(alloc: Global) -> Known {
+    /// Before the first item.
+    pub fn new(alloc: Global) -> Known
+        ensures { result ≡ nothing_known }
+    {
         Known {
             discount: None,
             costs: None,
@@ -28,33 +54,75 @@ impl Known {
         }
     }
 
-    /// How many elements the index of this number has in a table's cells.
-    pub fn dimension(&self, table: Table, number: usize) -> usize {
-        if number == 0 {
-            return self.actions.unwrap_or(0);
+    /// Adds what a whole item says. Where memory is wanting all stays as it was.
+    pub fn learn(&mut self, said: Said) -> Result<(), AllocError>
+        requires { IsSaidWithin said }
+        ensures ok { OnOk result (self.new ≡ learned self.old said) }
+        ensures err { OnErr result (self.new ≡ self.old) }
+    {
+        match said {
+            Said::Discount(discount) => self.discount = Some(discount),
+            Said::Costs(costs) => self.costs = Some(costs),
+            Said::States(count) => self.states = Some(count),
+            Said::Actions(count) => self.actions = Some(count),
+            Said::Observations(count) => self.observations = Some(count),
+            Said::Entry(entry) => self.entries.push(entry)?,
         }
-        match table {
-            Table::Observation if number == 2 => self.observations.unwrap_or(0),
-            Table::Reward if number == 3 => self.observations.unwrap_or(0),
+        Ok(())
+    }
+
+    /// The model that a complete preamble and entries denote.
+    pub fn into_model(self) -> model::Model {
+        let Known {
+            discount,
+            costs,
+            states,
+            actions,
+            observations,
+            entries,
+        } = self;
+        model::Model::of(
+            discount.unwrap_or(0),
+            costs.unwrap_or(false),
+            states.unwrap_or(1),
+            actions.unwrap_or(1),
+            observations.unwrap_or(1),
+            entries,
+        )
+    }
+
+    /// How many elements the index of this number has in a table's cells.
+    pub fn dimension(&self, table: Table, number: usize) -> usize
+        requires { number < length (indices_in self.now table) }
+        ensures { get_or (indices_in self.now table) number (Count 0) ≡ Count result }
+    {
+        match (table, number) {
+            (_, 0) => self.actions.unwrap_or(0),
+            (Table::Observation, 2) | (Table::Reward, 3) => self.observations.unwrap_or(0),
             _ => self.states.unwrap_or(0),
         }
     }
 
     /// How many cells so many places leave open.
-    pub fn cells_behind(&self, table: Table, written: usize) -> usize {
-        let dimensions = match table {
-            Table::Transition | Table::Observation => 3,
-            Table::Reward => 4,
-        };
-        let mut cells = 1usize;
-        for number in written..dimensions {
-            cells = cells.saturating_mul(self.dimension(table, number));
+    pub fn cells_behind(&self, table: Table, written: usize) -> usize
+        requires { least_written table ≤ written }
+        ensures { result ≡ cells_in (drop written (indices_in self.now table)) }
+    {
+        let states = self.states.unwrap_or(0);
+        let observations = self.observations.unwrap_or(0);
+        match (table, written) {
+            (Table::Transition, 1) => states * states,
+            (Table::Transition, 2) => states,
+            (Table::Observation, 1) | (Table::Reward, 2) => states * observations,
+            (Table::Observation, 2) | (Table::Reward, 3) => observations,
+            _ => 1,
         }
-        cells
     }
 
     /// Why an item of this topic cannot stand here, whatever its body.
-    pub fn word_fault(&self, topic: Topic) -> Option<ItemFault> {
+    pub fn word_fault(&self, topic: Topic) -> Option<ItemFault>
+        ensures { result ≡ narrow_word_fault self.now topic }
+    {
         if self.is_late(topic) {
             return Some(ItemFault::LateLine);
         }
@@ -62,23 +130,24 @@ impl Known {
             return Some(ItemFault::DuplicateLine);
         }
         match topic {
-            Topic::Start => match self.preamble_fault() {
-                Some(fault) => Some(fault),
-                None => Some(ItemFault::BadShape),
-            },
+            Topic::Start => Some(self.preamble_fault().unwrap_or(ItemFault::BadShape)),
             Topic::Cells(_) => self.preamble_fault(),
             _ => None,
         }
     }
 
-    fn is_late(&self, topic: Topic) -> bool {
+    fn is_late(&self, topic: Topic) -> bool
+        ensures { result ≡ is_late self.now topic }
+    {
         match topic {
             Topic::Cells(_) => false,
             _ => self.entries.len() > 0,
         }
     }
 
-    fn came_before(&self, topic: Topic) -> bool {
+    fn came_before(&self, topic: Topic) -> bool
+        ensures { result ≡ came_before self.now topic }
+    {
         match topic {
             Topic::Discount => self.discount.is_some(),
             Topic::Values => self.costs.is_some(),
@@ -90,23 +159,26 @@ impl Known {
     }
 
     /// Why the preamble isn't complete: a line is missing, or else a table has too many cells.
-    pub fn preamble_fault(&self) -> Option<ItemFault> {
+    pub fn preamble_fault(&self) -> Option<ItemFault>
+        ensures { result ≡ preamble_fault self.now }
+    {
         if self.discount.is_none() || self.costs.is_none() {
             return Some(ItemFault::MissingLine);
         }
         match (self.states, self.actions, self.observations) {
             (Some(states), Some(actions), Some(observations)) => {
-                cells_fault(states as u64, actions as u64, observations as u64)
+                cells_fault(states, actions, observations)
             }
             _ => Some(ItemFault::MissingLine),
         }
     }
 }
 
-fn cells_fault(states: u64, actions: u64, observations: u64) -> Option<ItemFault>
+fn cells_fault(states: usize, actions: usize, observations: usize) -> Option<ItemFault>
     requires states { states ≤ 1000 }
     requires actions { actions ≤ 1000 }
     requires observations { observations ≤ 1000 }
+    ensures { result ≡ if_too_many (cells_are_too_many states actions observations) }
 {
     let pairs = actions * states;
     let transitions = pairs * states;

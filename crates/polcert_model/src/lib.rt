@@ -2,12 +2,15 @@
 #![tactic(auto)]
 
 mod entry;
+mod entry_reader;
 mod examples;
 mod fault;
 mod item;
 mod known;
 mod laws;
+mod lines;
 mod model;
+mod number;
 mod reader;
 #[cfg(test)]
 mod tests;

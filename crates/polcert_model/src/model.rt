@@ -1,5 +1,4 @@
 //! A model, as it was read.
-use crate::known::Known;
 use crate::{Body, Entries, Entry, ModelFault, Place, Table};
 
 /// A model of a partially observable Markov decision process.
@@ -16,23 +15,8 @@ pub struct Model {
 const ONE: u64 = 1_000_000;
 
 impl Model {
-    pub(crate) fn of(known: Known) -> Model {
-        let Known {
-            discount,
-            costs,
-            states,
-            actions,
-            observations,
-            entries,
-        } = known;
-        Model {
-            discount: discount.unwrap_or(0),
-            costs: costs.unwrap_or(false),
-            states: states.unwrap_or(1),
-            actions: actions.unwrap_or(1),
-            observations: observations.unwrap_or(1),
-            entries,
-        }
+    pub(crate) fn of(discount: u32, costs: bool, states: usize, actions: usize, observations: usize, entries: Entries) -> Model {
+        Model { discount, costs, states, actions, observations, entries }
     }
 
     /// How many states there are.

@@ -1,8 +1,9 @@
 //! A model's text, read item by item.
-use crate::item::{ItemReader, Stop, Want};
+use crate::entry_reader::Stop;
+use crate::item::ItemReader;
 use crate::known::Known;
 use crate::model::Model;
-use crate::words::{Topic, topic};
+use crate::words::{Topic, begun_topic};
 use crate::{ItemFault, ModelFault};
 use polcert_text::{TEXT_LIMIT, Token, TokenFault, Tokens};
 use std::alloc::Global;
@@ -34,31 +35,23 @@ impl TextReader {
 
     /// Goes on with the next token.
     fn take(&mut self, alloc: Global, token: Token<'_>) -> Result<(), ModelFault> {
-        match topic(&token) {
+        match begun_topic(&token) {
             Some(topic) => {
                 self.close(token.place)?;
                 self.open(alloc, topic, token.place)
             }
-            None => self.feed(token),
+            None => self.feed(alloc, token),
         }
     }
 
-    fn feed(&mut self, token: Token<'_>) -> Result<(), ModelFault> {
-        match &mut self.item {
-            None => Err(ModelFault::Item {
-                kind: ItemFault::BeforeFirstItem,
-                item: 0,
-                place: token.place,
-            }),
-            Some(item) => match item.feed(token, &self.known) {
-                Ok(()) => Ok(()),
-                Err(Stop::Memory) => Err(ModelFault::Memory),
-                Err(Stop::Refused { kind, place }) => Err(ModelFault::Item {
-                    kind,
-                    item: self.number,
-                    place,
-                }),
-            },
+    fn feed(&mut self, alloc: Global, token: Token<'_>) -> Result<(), ModelFault> {
+        let Some(item) = &mut self.item else {
+            return Err(self.fault(ItemFault::BeforeFirstItem, token.place));
+        };
+        match item.feed(alloc, &self.known, token) {
+            Ok(()) => Ok(()),
+            Err(Stop::Refused(refusal)) => Err(self.fault(refusal.kind, refusal.place)),
+            Err(Stop::Memory) => Err(ModelFault::Memory),
         }
     }
 
@@ -67,19 +60,10 @@ impl TextReader {
         let Some(item) = self.item.take() else {
             return Ok(());
         };
-        if let Some(kind) = item.end_fault() {
-            return Err(self.fault(kind, place));
+        match item.end() {
+            Ok(said) => Ok(self.known.learn(said)?),
+            Err(kind) => Err(self.fault(kind, place)),
         }
-        match item.topic {
-            Topic::Discount => self.known.discount = Some(item.discount()),
-            Topic::Values => self.known.costs = Some(item.costs),
-            Topic::States => self.known.states = Some(item.count),
-            Topic::Actions => self.known.actions = Some(item.count),
-            Topic::Observations => self.known.observations = Some(item.count),
-            Topic::Cells(_) => self.known.entries.push(item.into_entry())?,
-            Topic::Start => {}
-        }
-        Ok(())
     }
 
     /// Begins an item at its word.
@@ -88,7 +72,7 @@ impl TextReader {
         if let Some(kind) = self.known.word_fault(topic) {
             return Err(self.fault(kind, place));
         }
-        self.item = Some(ItemReader::new(alloc, topic));
+        self.item = ItemReader::new(alloc, topic);
         Ok(())
     }
 
@@ -122,7 +106,7 @@ pub fn read_model(alloc: Global, text: &[u8]) -> Result<Model, ModelFault> {
             Err(fault) => return Err(reader.token_fault(fault)),
         }
     }
-    let model = Model::of(reader.finish(tokens.end())?);
+    let model = reader.finish(tokens.end())?.into_model();
     model.test_rows()?;
     Ok(model)
 }

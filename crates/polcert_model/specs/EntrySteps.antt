@@ -1,0 +1,137 @@
+-- An entry, token by token: what is still to come of an entry that was read so far.
+-- Nobody has to believe this: only contracts of private functions cite it.
+use Rattle.std.specs.Prelude.{◌≡◌, ◌≢◌, ℕ, ◌+◌, ◌<◌, ◌≤◌, ◌==◌, Bool, true, false, Option, Some, None, List, [], ◌∷◌, ◌++◌, length, drop, map, All, ℤ, pos, unwrap_or}
+use Rattle.std.specs.List.{list_any}
+use Rattle.polcert_text.specs.Cut.{Lexeme}
+use Rattle.polcert_model.specs.declared.fault.ItemFault.{ItemFault}
+use Rattle.polcert_model.specs.declared.fault.ItemFault.TheVariants.{UnknownName, IndexOutOfRange}
+use Rattle.polcert_model.specs.declared.entry.Table.{Table}
+use Rattle.polcert_model.specs.declared.entry.Table.TheVariants.{Transition, Observation, Reward}
+use Rattle.polcert_model.specs.declared.entry.Place.{Place}
+use Rattle.polcert_model.specs.declared.entry.Body.{Body}
+use Rattle.polcert_model.specs.declared.entry.Body.TheVariants as bodies
+use Rattle.polcert_model.specs.declared.entry.Entry.{Entry}
+use Rattle.polcert_model.specs.declared.entry_reader.Stop.{Stop}
+use Rattle.polcert_model.specs.declared.entry_reader.Stop.TheVariants.{Refused, Memory}
+use Rattle.polcert_model.specs.declared.entry_reader.Word.{Word}
+use Rattle.polcert_model.specs.declared.entry_reader.Word.TheVariants as words
+use Rattle.polcert_model.specs.declared.entry_reader.EntryState.{EntryState}
+use Rattle.polcert_model.specs.declared.entry_reader.EntryState.TheVariants as states
+use Rattle.polcert_model.specs.declared.entry_reader.EntryReader.{EntryReader}
+use Rattle.polcert_model.specs.declared.entry_reader.Numbers.{Numbers}
+use Rattle.polcert_model.specs.declared.number.Refusal.{Refusal}
+use Rattle.polcert_model.specs.declared.number.Range.TheVariants as ranges
+use Rattle.polcert_model.specs.declared.number.Sign.{Sign}
+use Rattle.polcert_model.specs.Words.{IsName}
+use Rattle.polcert_model.specs.Numbers.{one}
+use Rattle.polcert_model.specs.Elements.{Elements, Count}
+use Rattle.polcert_model.specs.Preamble.{Preamble, dimensions}
+use Rattle.polcert_model.specs.Entry.{forms, cells_in, IsPlace, ArePlaces, IsBody}
+use Rattle.polcert_model.specs.Text.{Known}
+use Rattle.polcert_model.specs.Reasons.{IsDigits}
+use Rattle.polcert_model.specs.NumberSteps.{AreNumbersBehind, IsNumberReason, IsMisplaced, IsBehindNumbers}
+use Rattle.polcert_model.specs.LineSteps.{BehindColon}
+
+-- the preamble that is known, as if a missing line said nothing
+abbrev pub preamble_in : Known → Preamble
+preamble_in k = record {
+  discount = unwrap_or k.discount 0;
+  costs = unwrap_or k.costs false;
+  states = unwrap_or k.states (Count 0);
+  actions = unwrap_or k.actions (Count 0);
+  observations = unwrap_or k.observations (Count 0);
+}
+
+-- what the indices of a table's cells number
+abbrev pub indices_in : Known → Table → List Elements
+indices_in k table = dimensions (preamble_in k) table
+
+-- behind these places the lexemes go on as this entry
+pub record IsEntryBehind (ds : List Elements) (table : Table) (before : List Place) (ls : List Lexeme) (entry : Entry) : Type 0 where
+  pub further : List Place
+  pub pattern : List Lexeme
+  pub rest : List Lexeme
+  pub whole : ls ≡ pattern ++ rest
+  pub places_are : entry.places ≡ before ++ further
+  pub table_is : entry.table ≡ table
+  pub form : list_any (λ n. n == length entry.places) (forms table entry.body) ≡ true
+  pub places : ArePlaces (drop (length before) ds) pattern further
+  pub body : IsBody (cells_in (drop (length entry.places) ds)) rest entry.body
+
+-- a place of the first of these indices
+abbrev pub IsFirstPlace : List Elements → Lexeme → Place → Type 0
+IsFirstPlace [] l p = ⊥
+IsFirstPlace (d ∷ ds) l p = IsPlace d l p
+
+-- a place, and then the rest of the entry
+abbrev pub PlaceRest : List Elements → Table → List Place → List Lexeme → Entry → Type 0
+PlaceRest ds table before [] entry = ⊥
+PlaceRest ds table before (l ∷ ls) entry =
+    (p : Place) × (IsFirstPlace (drop (length before) ds) l p × IsEntryBehind ds table (before ++ p ∷ []) ls entry)
+
+abbrev pub entry_with : Table → List Place → Body → Entry
+entry_with table places body = record { table = table; places = places; body = body }
+
+-- further probabilities, until there are enough
+pub record ProbabilitiesGo (n : Numbers ℕ) (ls : List Lexeme) (body : Body) : Type 0 where
+  pub further : List ℕ
+  pub numbers : AreNumbersBehind n.sign ls (map pos further)
+  pub small : All (λ p. p ≤ one) further
+  pub enough : length (n.read ++ further) ≡ n.needed
+  pub body_is : body ≡ bodies.Probabilities (n.read ++ further)
+
+-- further rewards, until there are enough
+pub record RewardsGo (n : Numbers ℤ) (ls : List Lexeme) (body : Body) : Type 0 where
+  pub further : List ℤ
+  pub numbers : AreNumbersBehind n.sign ls further
+  pub enough : length (n.read ++ further) ≡ n.needed
+  pub body_is : body ≡ bodies.Rewards (n.read ++ further)
+
+abbrev pub body_of : Word → Body
+body_of words.Uniform = bodies.Uniform
+body_of words.Identity = bodies.Identity
+
+abbrev pub BodyIs : Table → List Place → (List Lexeme → Body → Type 0) → List Lexeme → Entry → Type 0
+BodyIs table places Goes ls entry = (body : Body) × (Goes ls body × (entry ≡ entry_with table places body))
+
+abbrev pub StateGoes : List Elements → Table → List Place → EntryState → List Lexeme → Entry → Type 0
+StateGoes ds table places states.Colon ls entry = BehindColon (PlaceRest ds table places) ls entry
+StateGoes ds table places states.Place ls entry = PlaceRest ds table places ls entry
+StateGoes ds table places states.Body ls entry = IsEntryBehind ds table places ls entry
+StateGoes ds table places (states.Probabilities n) ls entry = BodyIs table places (ProbabilitiesGo n) ls entry
+StateGoes ds table places (states.Rewards n) ls entry = BodyIs table places (RewardsGo n) ls entry
+StateGoes ds table places (states.Word w) ls entry = (ls ≡ []) × (entry ≡ entry_with table places (body_of w))
+
+abbrev pub EntryGoes : List Elements → EntryReader → List Lexeme → Entry → Type 0
+EntryGoes ds r ls entry = StateGoes ds r.table r.places r.state ls entry
+
+-- the places so far are within the table's indices
+abbrev pub IsStateWithin : List Elements → List Place → EntryState → Type 0
+IsStateWithin ds places states.Place = length places < length ds
+IsStateWithin ds places _ = Unit {0}
+
+abbrev pub IsWithinIndices : List Elements → EntryReader → Type 0
+IsWithinIndices ds r = IsStateWithin ds r.places r.state
+
+abbrev pub entry_sign : EntryState → Option Sign
+entry_sign (states.Probabilities n) = n.sign
+entry_sign (states.Rewards n) = n.sign
+entry_sign _ = None
+
+-- why a token is refused in a place's stead
+abbrev pub IsPlaceReason : Lexeme → ItemFault → ℕ → Type 0
+IsPlaceReason l UnknownName place = (place ≡ l.place) × IsName l
+IsPlaceReason l IndexOutOfRange place = (place ≡ l.place) × IsDigits l
+IsPlaceReason l kind place = IsMisplaced l kind place
+
+-- why a token is refused in an entry: as no place, as no number of the range behind its sign, or behind all numbers
+pub data IsEntryReason (r : EntryReader) (l : Lexeme) (kind : ItemFault) (place : ℕ) : Type 0 where
+  no_place : IsPlaceReason l kind place → IsEntryReason r l kind place
+  no_probability : (r.table ≢ Reward) → IsNumberReason ranges.Probability (entry_sign r.state) l kind place → IsEntryReason r l kind place
+  no_reward : IsNumberReason ranges.Reward (entry_sign r.state) l kind place → IsEntryReason r l kind place
+  no_more : IsBehindNumbers l kind place → IsEntryReason r l kind place
+
+-- a refusal for which this holds, or want of memory
+abbrev pub IfRefused : Stop → (Refusal → Type 0) → Type 0
+IfRefused (Refused r) P = P r
+IfRefused Memory P = Unit {0}

@@ -1,0 +1,185 @@
+//! The lines of the preamble, read token by token behind their word.
+ghost use Rattle.std.specs.Prelude.{◌≡◌, OnOk, OnErr, IfOk, IfErr, [], ◌∷◌, ◌≢◌};
+ghost use Rattle.polcert_text.specs.Reading.{lexeme_of};
+ghost use Rattle.polcert_model.specs.NumberSteps.{IsMisplaced};
+ghost use Rattle.polcert_model.specs.LineSteps.{Takes, CannotTake, CannotEnd, DiscountGoes, DiscountReason, ValuesGoes, WordRest, CountGoes, IsCountOf, CountReason};
+
+use crate::ItemFault;
+use crate::number::{Range, Refusal, Sign, Step, behind_numbers, misplaced, number_step};
+use crate::words::is_word;
+use polcert_text::{Token, TokenKind, whole_number};
+
+const MOST_ELEMENTS: usize = 1000;
+
+/// `discount:` and a number, in millionths.
+#[derive(Clone, Copy, Debug, PartialEq, Eq)]
+pub enum DiscountReader {
+    Colon,
+    Number(Option<Sign>),
+    Said(u32),
+}
+
+impl DiscountReader {
+    /// Goes on with a token of the line.
+    pub fn feed(&mut self, token: Token<'_>) -> Result<(), Refusal>
+        ensures takes { OnOk result (Takes DiscountGoes self.old (lexeme_of token.entry) self.new) }
+        ensures refused { OnErr result (CannotTake DiscountGoes self.old (lexeme_of token.entry)) }
+        ensures reason { IfErr result (λ r. DiscountReason self.old (lexeme_of token.entry) r.kind r.place) }
+    {
+        match *self {
+            DiscountReader::Colon => {
+                colon(token)?;
+                *self = DiscountReader::Number(None);
+                Ok(())
+            }
+            DiscountReader::Number(sign) => {
+                *self = match number_step(sign, token, Range::Discount)? {
+                    Step::Sign(sign) => DiscountReader::Number(Some(sign)),
+                    Step::Value(value) => DiscountReader::Said(value as u32),
+                };
+                Ok(())
+            }
+            DiscountReader::Said(_) => Err(behind_numbers(token)),
+        }
+    }
+
+    /// What the line says, or why it cannot end here.
+    pub fn end(self) -> Result<u32, ItemFault>
+        ensures said { IfOk result (DiscountGoes self []) }
+        ensures refused { OnErr result (CannotEnd DiscountGoes self) }
+    {
+        match self {
+            DiscountReader::Number(None) => Err(ItemFault::WrongNumberCount),
+            DiscountReader::Said(discount) => Ok(discount),
+            _ => Err(ItemFault::BadShape),
+        }
+    }
+}
+
+/// `values:` and `reward` or `cost`. It says whether rewards are written as costs.
+#[derive(Clone, Copy, Debug, PartialEq, Eq)]
+pub enum ValuesReader {
+    Colon,
+    Word,
+    Said(bool),
+}
+
+impl ValuesReader {
+    /// Goes on with a token of the line.
+    pub fn feed(&mut self, token: Token<'_>) -> Result<(), Refusal>
+        ensures takes { OnOk result (Takes ValuesGoes self.old (lexeme_of token.entry) self.new) }
+        ensures refused { OnErr result (CannotTake ValuesGoes self.old (lexeme_of token.entry)) }
+        ensures reason { IfErr result (λ r. IsMisplaced (lexeme_of token.entry) r.kind r.place) }
+    {
+        match *self {
+            ValuesReader::Colon => {
+                colon(token)?;
+                *self = ValuesReader::Word;
+                Ok(())
+            }
+            ValuesReader::Word => {
+                *self = ValuesReader::Said(costs_of(token)?);
+                Ok(())
+            }
+            ValuesReader::Said(_) => Err(misplaced(token)),
+        }
+    }
+
+    /// What the line says, or why it cannot end here.
+    pub fn end(self) -> Result<bool, ItemFault>
+        ensures said { IfOk result (ValuesGoes self []) }
+        ensures refused { OnErr result (CannotEnd ValuesGoes self) }
+    {
+        match self {
+            ValuesReader::Said(costs) => Ok(costs),
+            _ => Err(ItemFault::BadShape),
+        }
+    }
+}
+
+/// Whether the word says that costs are written.
+fn costs_of(token: Token<'_>) -> Result<bool, Refusal>
+    ensures word { IfOk result (WordRest (lexeme_of token.entry ∷ [])) }
+    ensures refused { OnErr result (CannotTake ValuesGoes ValuesReader.Word (lexeme_of token.entry)) }
+    ensures reason { IfErr result (λ r. IsMisplaced (lexeme_of token.entry) r.kind r.place) }
+{
+    if is_word(&token, b"reward") {
+        return Ok(false);
+    }
+    if is_word(&token, b"cost") {
+        return Ok(true);
+    }
+    Err(misplaced(token))
+}
+
+/// `states:`, `actions:` or `observations:` and a count.
+#[derive(Clone, Copy, Debug, PartialEq, Eq)]
+pub enum CountReader {
+    Colon,
+    Count,
+    Said(usize),
+}
+
+impl CountReader {
+    /// Goes on with a token of the line.
+    pub fn feed(&mut self, token: Token<'_>) -> Result<(), Refusal>
+        ensures takes { OnOk result (Takes CountGoes self.old (lexeme_of token.entry) self.new) }
+        ensures refused { OnErr result (CannotTake CountGoes self.old (lexeme_of token.entry)) }
+        ensures reason { IfErr result (λ r. CountReason (lexeme_of token.entry) r.kind r.place) }
+    {
+        match *self {
+            CountReader::Colon => {
+                colon(token)?;
+                *self = CountReader::Count;
+                Ok(())
+            }
+            CountReader::Count => {
+                *self = CountReader::Said(count_of(token)?);
+                Ok(())
+            }
+            CountReader::Said(_) => Err(misplaced(token)),
+        }
+    }
+
+    /// What the line says, or why it cannot end here.
+    pub fn end(self) -> Result<usize, ItemFault>
+        ensures said { IfOk result (CountGoes self []) }
+        ensures refused { OnErr result (CannotEnd CountGoes self) }
+    {
+        match self {
+            CountReader::Said(count) => Ok(count),
+            CountReader::Count => Err(ItemFault::BadCount),
+            CountReader::Colon => Err(ItemFault::BadShape),
+        }
+    }
+}
+
+/// The count that the token is.
+fn count_of(token: Token<'_>) -> Result<usize, Refusal>
+    ensures count { IfOk result (IsCountOf (lexeme_of token.entry)) }
+    ensures refused { OnErr result (CannotTake CountGoes CountReader.Count (lexeme_of token.entry)) }
+    ensures reason { IfErr result (λ r. CountReason (lexeme_of token.entry) r.kind r.place) }
+{
+    match token.kind {
+        TokenKind::Numeral => match whole_number(MOST_ELEMENTS + 1, token.bytes) {
+            Some(count) if 1 <= count && count <= MOST_ELEMENTS => Ok(count),
+            _ => Err(Refusal {
+                kind: ItemFault::BadCount,
+                place: token.place,
+            }),
+        },
+        _ => Err(misplaced(token)),
+    }
+}
+
+/// The colon behind an item's word.
+pub fn colon(token: Token<'_>) -> Result<(), Refusal>
+    ensures ok { OnOk result ((lexeme_of token.entry).kind ≡ TokenKind.Colon) }
+    ensures refused { OnErr result ((lexeme_of token.entry).kind ≢ TokenKind.Colon) }
+    ensures reason { IfErr result (λ r. IsMisplaced (lexeme_of token.entry) r.kind r.place) }
+{
+    match token.kind {
+        TokenKind::Colon => Ok(()),
+        _ => Err(misplaced(token)),
+    }
+}
