@@ -89,7 +89,7 @@ one_pattern {ds = d ∷ ds} u v (more {l = l} {p = p} c place rest) (more {l = m
 numeral_not_word : (w : List ℕ) (l : Lexeme) (hs : List ℤ) → IsWord w l → AreNumbers (l ∷ []) hs → ⊥
 numeral_not_word w l hs word (numbers.unsigned a rest) = numeral_not_name _ a.kind word.kind
 
-uniform_not_identity : (l : Lexeme) → IsWord (codes "uniform") l → IsWord (codes "identity") l → ⊥
+pub uniform_not_identity : (l : Lexeme) → IsWord (codes "uniform") l → IsWord (codes "identity") l → ⊥
 uniform_not_identity l a b = absurd (cons≢cons (sym a.bytes ∙ b.bytes))
   where
     cons≢cons : codes "uniform" ≡ codes "identity" → ⊥

@@ -14,3 +14,5 @@ pub mod StartLimits
 pub mod LimitLaws
 pub mod StepLaws
 pub mod LineLaws
+pub mod ListLaws
+pub mod PatternLaws

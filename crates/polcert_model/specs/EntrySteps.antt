@@ -1,6 +1,6 @@
 -- An entry, token by token: what is still to come of an entry that was read so far.
 -- Nobody has to believe this: only contracts of private functions cite it.
-use Rattle.std.specs.Prelude.{◌≡◌, ◌≢◌, ℕ, ◌+◌, ◌<◌, ◌≤◌, ◌==◌, Bool, true, false, Option, Some, None, List, [], ◌∷◌, ◌++◌, length, drop, map, All, ℤ, pos, unwrap_or}
+use Rattle.std.specs.Prelude.{◌≡◌, ◌≢◌, ℕ, ◌+◌, ◌<◌, ◌≤◌, ◌==◌, Bool, true, false, Option, Some, None, List, [], ◌∷◌, ◌++◌, length, drop, map, All, ℤ, pos, unwrap_or, codes}
 use Rattle.std.specs.List.{list_any}
 use Rattle.polcert_text.specs.Cut.{Lexeme}
 use Rattle.polcert_model.specs.declared.fault.ItemFault.{ItemFault}
@@ -20,17 +20,18 @@ use Rattle.polcert_model.specs.declared.entry_reader.EntryState.TheVariants as s
 use Rattle.polcert_model.specs.declared.entry_reader.EntryReader.{EntryReader}
 use Rattle.polcert_model.specs.declared.entry_reader.Numbers.{Numbers}
 use Rattle.polcert_model.specs.declared.number.Refusal.{Refusal}
+use Rattle.polcert_model.specs.declared.number.Range.{Range}
 use Rattle.polcert_model.specs.declared.number.Range.TheVariants as ranges
 use Rattle.polcert_model.specs.declared.number.Sign.{Sign}
-use Rattle.polcert_model.specs.Words.{IsName}
+use Rattle.polcert_model.specs.Words.{IsName, IsWord}
 use Rattle.polcert_model.specs.Numbers.{one}
-use Rattle.polcert_model.specs.Elements.{Elements, Count}
+use Rattle.polcert_model.specs.Elements.{Elements, Count, count_of}
 use Rattle.polcert_model.specs.Preamble.{Preamble, dimensions}
 use Rattle.polcert_model.specs.Entry.{forms, cells_in, IsPlace, ArePlaces, IsBody}
 use Rattle.polcert_model.specs.Text.{Known}
 use Rattle.polcert_model.specs.Reasons.{IsDigits}
 use Rattle.polcert_model.specs.NumberSteps.{AreNumbersBehind, IsNumberReason, IsMisplaced, IsBehindNumbers}
-use Rattle.polcert_model.specs.LineSteps.{BehindColon}
+use Rattle.polcert_model.specs.LineSteps.{BehindColon, Takes, CannotTake}
 
 -- the preamble that is known, as if a missing line said nothing
 abbrev pub preamble_in : Known → Preamble
@@ -105,13 +106,17 @@ StateGoes ds table places (states.Word w) ls entry = (ls ≡ []) × (entry ≡ e
 abbrev pub EntryGoes : List Elements → EntryReader → List Lexeme → Entry → Type 0
 EntryGoes ds r ls entry = StateGoes ds r.table r.places r.state ls entry
 
--- the places so far are within the table's indices
-abbrev pub IsStateWithin : List Elements → List Place → EntryState → Type 0
-IsStateWithin ds places states.Place = length places < length ds
-IsStateWithin ds places _ = Unit {0}
+-- the places so far are within the table's indices, and rewards are read as rewards alone
+abbrev pub IsStateWithin : List Elements → Table → List Place → EntryState → Type 0
+IsStateWithin ds table places states.Colon = places ≡ []
+IsStateWithin ds table places states.Place = length places < length ds
+IsStateWithin ds table places states.Body = length places ≤ length ds
+IsStateWithin ds table places (states.Probabilities n) = table ≢ Reward
+IsStateWithin ds table places (states.Rewards n) = table ≡ Reward
+IsStateWithin ds table places (states.Word w) = Unit {0}
 
 abbrev pub IsWithinIndices : List Elements → EntryReader → Type 0
-IsWithinIndices ds r = IsStateWithin ds r.places r.state
+IsWithinIndices ds r = IsStateWithin ds r.table r.places r.state
 
 abbrev pub entry_sign : EntryState → Option Sign
 entry_sign (states.Probabilities n) = n.sign
@@ -124,14 +129,61 @@ IsPlaceReason l UnknownName place = (place ≡ l.place) × IsName l
 IsPlaceReason l IndexOutOfRange place = (place ≡ l.place) × IsDigits l
 IsPlaceReason l kind place = IsMisplaced l kind place
 
--- why a token is refused in an entry: as no place, as no number of the range behind its sign, or behind all numbers
+-- all numbers are there
+pub record IsFull {T : Type 0} (n : Numbers T) : Type 0 where
+  pub sign : n.sign ≡ None
+  pub count : length n.read ≡ n.needed
+
+-- why a token is refused in a list of numbers
+pub data IsListReason (range : Range) (sign : Option Sign) (l : Lexeme) (kind : ItemFault) (place : ℕ) : Type 0 where
+  no_number : IsNumberReason range sign l kind place → IsListReason range sign l kind place
+  no_further : IsBehindNumbers l kind place → IsListReason range sign l kind place
+
+-- why a token is refused in an entry: as no place, or as no number behind the sign before it
 pub data IsEntryReason (r : EntryReader) (l : Lexeme) (kind : ItemFault) (place : ℕ) : Type 0 where
   no_place : IsPlaceReason l kind place → IsEntryReason r l kind place
-  no_probability : (r.table ≢ Reward) → IsNumberReason ranges.Probability (entry_sign r.state) l kind place → IsEntryReason r l kind place
-  no_reward : IsNumberReason ranges.Reward (entry_sign r.state) l kind place → IsEntryReason r l kind place
-  no_more : IsBehindNumbers l kind place → IsEntryReason r l kind place
+  no_probability : (r.table ≢ Reward) → IsListReason ranges.Probability (entry_sign r.state) l kind place → IsEntryReason r l kind place
+  no_reward : IsListReason ranges.Reward (entry_sign r.state) l kind place → IsEntryReason r l kind place
 
 -- a refusal for which this holds, or want of memory
 abbrev pub IfRefused : Stop → (Refusal → Type 0) → Type 0
 IfRefused (Refused r) P = P r
 IfRefused Memory P = Unit {0}
+
+-- the bytes of a word in place of numbers
+abbrev pub word_text : Word → List ℕ
+word_text words.Uniform = codes "uniform"
+word_text words.Identity = codes "identity"
+
+-- so many places may be written before this body
+abbrev pub MayStand : Table → Body → ℕ → Type 0
+MayStand table body written = list_any (λ n. n == written) (forms table body) ≡ true
+
+-- the lexeme is this word, and it may stand behind so many places
+abbrev pub IsWordBehind : Table → ℕ → Lexeme → Word → Type 0
+IsWordBehind table written l w = IsWord (word_text w) l × MayStand table (body_of w) written
+
+-- before the first number
+abbrev pub no_numbers : {T : Type 0} → ℕ → Numbers T
+no_numbers needed = record { read = []; needed = needed; sign = None }
+
+-- the body's numbers were begun with this lexeme
+abbrev pub AreBegun : Table → ℕ → Lexeme → EntryState → Type 0
+AreBegun Reward needed l (states.Rewards n) = Takes RewardsGo (no_numbers needed) l n
+AreBegun Transition needed l (states.Probabilities n) = Takes ProbabilitiesGo (no_numbers needed) l n
+AreBegun Observation needed l (states.Probabilities n) = Takes ProbabilitiesGo (no_numbers needed) l n
+AreBegun _ needed l _ = ⊥
+
+-- no numbers of the table begin with this lexeme
+abbrev pub CannotBegin : Table → ℕ → Lexeme → Type 0
+CannotBegin Reward needed l = CannotTake RewardsGo (no_numbers needed) l
+CannotBegin _ needed l = CannotTake ProbabilitiesGo (no_numbers needed) l
+
+-- the range of the numbers of a table
+abbrev pub range_of : Table → Range
+range_of Reward = ranges.Reward
+range_of _ = ranges.Probability
+
+-- each index has some element
+abbrev pub AreSome : List Elements → Type 0
+AreSome ds = All (λ d. 1 ≤ count_of d) ds

@@ -1,4 +1,15 @@
 //! An entry, read token by token behind the word of its table.
+ghost use Rattle.std.specs.Prelude.{◌≡◌, ◌<◌, ◌≤◌, ◌↔◌, [], List, length, IsTrue, IfOk, OnOk, IfErr, OnErr, IfSome, IfNone, MatchOption, None};
+ghost use Rattle.polcert_text.specs.Reading.{lexeme_of};
+ghost use Rattle.polcert_model.specs.Elements.{Elements, Count};
+ghost use Rattle.polcert_model.specs.Entry.{IsPlace};
+ghost use Rattle.polcert_model.specs.KnownView.{least_written};
+ghost use Rattle.polcert_model.specs.LineSteps.{Takes, CannotTake, CannotEnd};
+ghost use Rattle.polcert_model.specs.EntrySteps.{indices_in, ProbabilitiesGo, RewardsGo, EntryGoes, IsWithinIndices, IsEntryReason, IsPlaceReason, IfRefused, IsFull, IsListReason, MayStand, IsWordBehind, AreBegun, CannotBegin, range_of, no_numbers, body_of, AreSome};
+ghost use Rattle.polcert_model.specs.Text.{Known};
+ghost use Rattle.polcert_model.specs.declared.entry.Place.{Place};
+ghost use Rattle.polcert_model.specs.declared.entry_reader.Word.{Word};
+
 use crate::known::Known;
 use crate::lines::colon;
 use crate::number::{Range, Refusal, Sign, Step, behind_numbers, misplaced, number_step};
@@ -15,12 +26,20 @@ pub enum Stop {
 }
 
 impl From<AllocError> for Stop {
+    ghost use Rattle.polcert_model.specs.declared.entry_reader.Stop.TheVariants.{Memory};
+
+    ghost from_gives = { λ _ stop. stop ≡ Memory };
+
     fn from(_e: AllocError) -> Stop {
         Stop::Memory
     }
 }
 
 impl From<Refusal> for Stop {
+    ghost use Rattle.polcert_model.specs.declared.entry_reader.Stop.TheVariants as stops;
+
+    ghost from_gives = { λ refusal stop. stop ≡ stops.Refused refusal };
+
     fn from(refusal: Refusal) -> Stop {
         Stop::Refused(refusal)
     }
@@ -35,7 +54,9 @@ pub struct Numbers<T: Copy> {
 }
 
 impl<T: Copy> Numbers<T> {
-    fn new(alloc: Global, needed: usize) -> Numbers<T> {
+    fn new(alloc: Global, needed: usize) -> Numbers<T>
+        ensures { result ≡ no_numbers needed }
+    {
         Numbers {
             read: Sequence::new(alloc),
             needed,
@@ -43,12 +64,16 @@ impl<T: Copy> Numbers<T> {
         }
     }
 
-    fn is_full(&self) -> bool {
+    fn is_full(&self) -> bool
+        ensures { IsTrue result ↔ IsFull self.now }
+    {
         self.sign.is_none() && self.read.len() == self.needed
     }
 
     /// Why the list cannot end here, if it cannot.
-    fn end_fault(&self) -> Option<ItemFault> {
+    fn end_fault(&self) -> Option<ItemFault>
+        ensures { MatchOption result (IsFull self.now) (λ _. IsFull self.now → ⊥) }
+    {
         match self.sign {
             Some(_) => Some(ItemFault::BadShape),
             None if self.read.len() == self.needed => None,
@@ -59,7 +84,12 @@ impl<T: Copy> Numbers<T> {
 
 impl Numbers<u32> {
     /// Goes on with a token of a list of probabilities.
-    fn feed_probability(&mut self, token: Token<'_>) -> Result<(), Stop> {
+    fn feed_probability(&mut self, token: Token<'_>) -> Result<(), Stop>
+        ensures takes { OnOk result (Takes ProbabilitiesGo self.old (lexeme_of token.entry) self.new) }
+        ensures refused { IfErr result (λ stop. IfRefused stop (λ r. CannotTake ProbabilitiesGo self.old (lexeme_of token.entry))) }
+        ensures reason { IfErr result (λ stop. IfRefused stop (λ r.
+            IsListReason Range.Probability self.old.sign (lexeme_of token.entry) r.kind r.place)) }
+    {
         if self.is_full() {
             return Err(Stop::Refused(behind_numbers(token)));
         }
@@ -76,7 +106,12 @@ impl Numbers<u32> {
 
 impl Numbers<i64> {
     /// Goes on with a token of a list of rewards.
-    fn feed_reward(&mut self, token: Token<'_>) -> Result<(), Stop> {
+    fn feed_reward(&mut self, token: Token<'_>) -> Result<(), Stop>
+        ensures takes { OnOk result (Takes RewardsGo self.old (lexeme_of token.entry) self.new) }
+        ensures refused { IfErr result (λ stop. IfRefused stop (λ r. CannotTake RewardsGo self.old (lexeme_of token.entry))) }
+        ensures reason { IfErr result (λ stop. IfRefused stop (λ r.
+            IsListReason Range.Reward self.old.sign (lexeme_of token.entry) r.kind r.place)) }
+    {
         if self.is_full() {
             return Err(Stop::Refused(behind_numbers(token)));
         }
@@ -122,7 +157,10 @@ pub struct EntryReader {
 }
 
 impl EntryReader {
-    pub fn new(alloc: Global, table: Table) -> EntryReader {
+    /// Before the first token.
+    pub fn new(alloc: Global, table: Table) -> EntryReader
+        ensures { result ≡ record { table = table; places = []; state = EntryState.Colon } }
+    {
         EntryReader {
             table,
             places: Sequence::new(alloc),
@@ -131,19 +169,24 @@ impl EntryReader {
     }
 
     /// Goes on with a token that begins no item.
-    pub fn feed(&mut self, alloc: Global, known: &Known, token: Token<'_>) -> Result<(), Stop> {
+    pub fn feed(&mut self, alloc: Global, known: &Known, token: Token<'_>) -> Result<(), Stop>
+        requires { IsWithinIndices (indices_in known.now self.old.table) self.old }
+        ensures table { self.new.table ≡ self.old.table }
+        ensures within { OnOk result (IsWithinIndices (indices_in known.now self.old.table) self.new) }
+        ensures takes { OnOk result (Takes (EntryGoes (indices_in known.now self.old.table))
+            self.old (lexeme_of token.entry) self.new) }
+        ensures refused { IfErr result (λ stop. IfRefused stop (λ r.
+            CannotTake (EntryGoes (indices_in known.now self.old.table)) self.old (lexeme_of token.entry))) }
+        ensures reason { IfErr result (λ stop. IfRefused stop (λ r.
+            IsEntryReason self.old (lexeme_of token.entry) r.kind r.place)) }
+    {
         match &mut self.state {
             EntryState::Colon => {
                 colon(token)?;
                 self.state = EntryState::Place;
                 Ok(())
             }
-            EntryState::Place => {
-                let count = known.dimension(self.table, self.places.len());
-                self.places.push(place_of(token, count)?)?;
-                self.state = EntryState::Body;
-                Ok(())
-            }
+            EntryState::Place => self.feed_place(known, token),
             EntryState::Body => self.feed_body(alloc, known, token),
             EntryState::Probabilities(numbers) => numbers.feed_probability(token),
             EntryState::Rewards(numbers) => numbers.feed_reward(token),
@@ -151,8 +194,39 @@ impl EntryReader {
         }
     }
 
+    /// Goes on behind a colon.
+    fn feed_place(&mut self, known: &Known, token: Token<'_>) -> Result<(), Stop>
+        requires state { self.old.state ≡ EntryState.Place }
+        requires within { length self.old.places < length (indices_in known.now self.old.table) }
+        ensures table { self.new.table ≡ self.old.table }
+        ensures within { OnOk result (IsWithinIndices (indices_in known.now self.old.table) self.new) }
+        ensures takes { OnOk result (Takes (EntryGoes (indices_in known.now self.old.table))
+            self.old (lexeme_of token.entry) self.new) }
+        ensures refused { IfErr result (λ stop. IfRefused stop (λ r.
+            CannotTake (EntryGoes (indices_in known.now self.old.table)) self.old (lexeme_of token.entry))) }
+        ensures reason { IfErr result (λ stop. IfRefused stop (λ r.
+            IsPlaceReason (lexeme_of token.entry) r.kind r.place)) }
+    {
+        let count = known.dimension(self.table, self.places.len());
+        let place = place_of(token, count)?;
+        self.places.push(place)?;
+        self.state = EntryState::Body;
+        Ok(())
+    }
+
     /// Goes on behind a place.
-    fn feed_body(&mut self, alloc: Global, known: &Known, token: Token<'_>) -> Result<(), Stop> {
+    fn feed_body(&mut self, alloc: Global, known: &Known, token: Token<'_>) -> Result<(), Stop>
+        requires state { self.old.state ≡ EntryState.Body }
+        requires within { length self.old.places ≤ length (indices_in known.now self.old.table) }
+        ensures table { self.new.table ≡ self.old.table }
+        ensures within { OnOk result (IsWithinIndices (indices_in known.now self.old.table) self.new) }
+        ensures takes { OnOk result (Takes (EntryGoes (indices_in known.now self.old.table))
+            self.old (lexeme_of token.entry) self.new) }
+        ensures refused { IfErr result (λ stop. IfRefused stop (λ r.
+            CannotTake (EntryGoes (indices_in known.now self.old.table)) self.old (lexeme_of token.entry))) }
+        ensures reason { IfErr result (λ stop. IfRefused stop (λ r.
+            IsEntryReason self.old (lexeme_of token.entry) r.kind r.place)) }
+    {
         let written = self.places.len();
         match token.kind {
             TokenKind::Colon if written < indices_of(self.table) => {
@@ -161,7 +235,9 @@ impl EntryReader {
             }
             TokenKind::Numeral | TokenKind::Plus | TokenKind::Minus
                 if takes_numbers(self.table, written) => {
-                self.begin_numbers(alloc, known.cells_behind(self.table, written), token)
+                let needed = known.cells_behind(self.table, written);
+                self.state = begin_numbers(alloc, self.table, needed, token)?;
+                Ok(())
             }
             _ => match word_of(self.table, written, token) {
                 Some(word) => {
@@ -173,30 +249,11 @@ impl EntryReader {
         }
     }
 
-    /// Begins the body's numbers with their first token.
-    fn begin_numbers(
-        &mut self,
-        alloc: Global,
-        needed: usize,
-        token: Token<'_>,
-    ) -> Result<(), Stop> {
-        match self.table {
-            Table::Reward => {
-                let mut numbers = Numbers::new(alloc, needed);
-                numbers.feed_reward(token)?;
-                self.state = EntryState::Rewards(numbers);
-            }
-            Table::Transition | Table::Observation => {
-                let mut numbers = Numbers::new(alloc, needed);
-                numbers.feed_probability(token)?;
-                self.state = EntryState::Probabilities(numbers);
-            }
-        }
-        Ok(())
-    }
-
     /// The entry, or why it cannot end here.
-    pub fn end(self) -> Result<Entry, ItemFault> {
+    pub fn end(self) -> Result<Entry, ItemFault>
+        ensures said { (ds : List Elements) → IfOk result (EntryGoes ds self []) }
+        ensures refused { (ds : List Elements) → AreSome ds → OnErr result (CannotEnd (EntryGoes ds) self) }
+    {
         let EntryReader {
             table,
             places,
@@ -211,8 +268,7 @@ impl EntryReader {
                 Some(fault) => return Err(fault),
                 None => Body::Rewards(numbers.read),
             },
-            EntryState::Word(Word::Uniform) => Body::Uniform,
-            EntryState::Word(Word::Identity) => Body::Identity,
+            EntryState::Word(word) => body_of(word),
             EntryState::Body if takes_numbers(table, places.len()) => {
                 return Err(ItemFault::WrongNumberCount);
             }
@@ -226,20 +282,98 @@ impl EntryReader {
     }
 }
 
+fn body_of(word: Word) -> Body
+    ensures { result ≡ body_of word }
+{
+    match word {
+        Word::Uniform => Body::Uniform,
+        Word::Identity => Body::Identity,
+    }
+}
+
+/// The body's numbers behind their first token.
+fn begin_numbers(
+    alloc: Global,
+    table: Table,
+    needed: usize,
+    token: Token<'_>,
+) -> Result<EntryState, Stop>
+    ensures begun { IfOk result (AreBegun table needed (lexeme_of token.entry)) }
+    ensures refused { IfErr result (λ stop. IfRefused stop (λ r. CannotBegin table needed (lexeme_of token.entry))) }
+    ensures reason { IfErr result (λ stop. IfRefused stop (λ r.
+        IsListReason (range_of table) None (lexeme_of token.entry) r.kind r.place)) }
+{
+    match table {
+        Table::Reward => Ok(EntryState::Rewards(begin_rewards(alloc, needed, token)?)),
+        Table::Transition | Table::Observation => Ok(EntryState::Probabilities(begin_probabilities(
+            alloc, needed, token,
+        )?)),
+    }
+}
+
+/// Rewards behind their first token.
+fn begin_rewards(alloc: Global, needed: usize, token: Token<'_>) -> Result<Numbers<i64>, Stop>
+    ensures begun { IfOk result (Takes RewardsGo (no_numbers needed) (lexeme_of token.entry)) }
+    ensures refused { IfErr result (λ stop. IfRefused stop (λ r.
+        CannotTake RewardsGo (no_numbers needed) (lexeme_of token.entry))) }
+    ensures reason { IfErr result (λ stop. IfRefused stop (λ r.
+        IsListReason Range.Reward None (lexeme_of token.entry) r.kind r.place)) }
+{
+    let mut numbers = Numbers::new(alloc, needed);
+    numbers.feed_reward(token)?;
+    Ok(numbers)
+}
+
+/// Probabilities behind their first token.
+fn begin_probabilities(alloc: Global, needed: usize, token: Token<'_>) -> Result<Numbers<u32>, Stop>
+    ensures begun { IfOk result (Takes ProbabilitiesGo (no_numbers needed) (lexeme_of token.entry)) }
+    ensures refused { IfErr result (λ stop. IfRefused stop (λ r.
+        CannotTake ProbabilitiesGo (no_numbers needed) (lexeme_of token.entry))) }
+    ensures reason { IfErr result (λ stop. IfRefused stop (λ r.
+        IsListReason Range.Probability None (lexeme_of token.entry) r.kind r.place)) }
+{
+    let mut numbers = Numbers::new(alloc, needed);
+    numbers.feed_probability(token)?;
+    Ok(numbers)
+}
+
 /// The place that the token is, where there are so many elements.
-fn place_of(token: Token<'_>, count: usize) -> Result<Place, Refusal> {
+fn place_of(token: Token<'_>, count: usize) -> Result<Place, Refusal>
+    requires { count ≤ 1000 }
+    ensures place { IfOk result (IsPlace (Count count) (lexeme_of token.entry)) }
+    ensures refused { OnErr result ((p : Place) → IsPlace (Count count) (lexeme_of token.entry) p → ⊥) }
+    ensures reason { IfErr result (λ r. IsPlaceReason (lexeme_of token.entry) r.kind r.place) }
+{
     match token.kind {
         TokenKind::Star => Ok(Place::Every),
         TokenKind::Numeral => index_of(token, count),
-        TokenKind::Name if !is_reserved(token.bytes) => Err(Refusal {
-            kind: ItemFault::UnknownName,
-            place: token.place,
-        }),
+        TokenKind::Name => Err(name_refused(token)),
         _ => Err(misplaced(token)),
     }
 }
 
-fn index_of(token: Token<'_>, count: usize) -> Result<Place, Refusal> {
+/// A name where no element has one.
+fn name_refused(token: Token<'_>) -> Refusal
+    requires { token.kind ≡ TokenKind.Name }
+    ensures { IsPlaceReason (lexeme_of token.entry) result.kind result.place }
+{
+    if is_reserved(token.bytes) {
+        return misplaced(token);
+    }
+    Refusal {
+        kind: ItemFault::UnknownName,
+        place: token.place,
+    }
+}
+
+/// The element of this number, where there are so many.
+fn index_of(token: Token<'_>, count: usize) -> Result<Place, Refusal>
+    requires few { count ≤ 1000 }
+    requires numeral { token.kind ≡ TokenKind.Numeral }
+    ensures place { IfOk result (IsPlace (Count count) (lexeme_of token.entry)) }
+    ensures refused { OnErr result ((p : Place) → IsPlace (Count count) (lexeme_of token.entry) p → ⊥) }
+    ensures reason { IfErr result (λ r. IsPlaceReason (lexeme_of token.entry) r.kind r.place) }
+{
     match whole_number(count + 1, token.bytes) {
         Some(index) if index < count => Ok(Place::Only(index)),
         Some(_) => Err(Refusal {
@@ -251,7 +385,9 @@ fn index_of(token: Token<'_>, count: usize) -> Result<Place, Refusal> {
 }
 
 /// How many indices the cells of a table have.
-pub fn indices_of(table: Table) -> usize {
+fn indices_of(table: Table) -> usize
+    ensures { (k : Known) → length (indices_in k table) ≡ result }
+{
     match table {
         Table::Transition | Table::Observation => 3,
         Table::Reward => 4,
@@ -259,7 +395,9 @@ pub fn indices_of(table: Table) -> usize {
 }
 
 /// Whether numbers may stand behind so many places.
-fn takes_numbers(table: Table, written: usize) -> bool {
+fn takes_numbers(table: Table, written: usize) -> bool
+    ensures { IsTrue result ↔ (least_written table ≤ written) }
+{
     match table {
         Table::Transition | Table::Observation => 1 <= written,
         Table::Reward => 2 <= written,
@@ -267,7 +405,10 @@ fn takes_numbers(table: Table, written: usize) -> bool {
 }
 
 /// The word that the token is in place of numbers behind so many places, if it may stand there.
-fn word_of(table: Table, written: usize, token: Token<'_>) -> Option<Word> {
+fn word_of(table: Table, written: usize, token: Token<'_>) -> Option<Word>
+    ensures word { IfSome result (IsWordBehind table written (lexeme_of token.entry)) }
+    ensures none { IfNone result ((w : Word) → IsWordBehind table written (lexeme_of token.entry) w → ⊥) }
+{
     if is_word(&token, b"uniform") && takes_uniform(table, written) {
         return Some(Word::Uniform);
     }
@@ -277,14 +418,18 @@ fn word_of(table: Table, written: usize, token: Token<'_>) -> Option<Word> {
     None
 }
 
-fn takes_uniform(table: Table, written: usize) -> bool {
+fn takes_uniform(table: Table, written: usize) -> bool
+    ensures { IsTrue result ↔ MayStand table Body.Uniform written }
+{
     match table {
         Table::Transition | Table::Observation => 1 <= written && written <= 2,
         Table::Reward => false,
     }
 }
 
-fn takes_identity(table: Table, written: usize) -> bool {
+fn takes_identity(table: Table, written: usize) -> bool
+    ensures { IsTrue result ↔ MayStand table Body.Identity written }
+{
     match table {
         Table::Transition => written == 1,
         Table::Observation | Table::Reward => false,

@@ -9,9 +9,8 @@ ghost use Rattle.polcert_model.specs.Order.{preamble_fault, is_late, came_before
 ghost use Rattle.polcert_model.specs.Text.{nothing_known};
 
 use crate::item::Said;
-use crate::model;
 use crate::words::Topic;
-use crate::{Entries, ItemFault, Table};
+use crate::{Entries, ItemFault, Table, model};
 use std::alloc::{AllocError, Global};
 use std::marker::Model;
 
@@ -94,7 +93,8 @@ impl Known {
     /// How many elements the index of this number has in a table's cells.
     pub fn dimension(&self, table: Table, number: usize) -> usize
         requires { number < length (indices_in self.now table) }
-        ensures { get_or (indices_in self.now table) number (Count 0) ≡ Count result }
+        ensures elements { get_or (indices_in self.now table) number (Count 0) ≡ Count result }
+        ensures few { result ≤ 1000 }
     {
         match (table, number) {
             (_, 0) => self.actions.unwrap_or(0),

@@ -15,8 +15,22 @@ pub struct Model {
 const ONE: u64 = 1_000_000;
 
 impl Model {
-    pub(crate) fn of(discount: u32, costs: bool, states: usize, actions: usize, observations: usize, entries: Entries) -> Model {
-        Model { discount, costs, states, actions, observations, entries }
+    pub(crate) fn of(
+        discount: u32,
+        costs: bool,
+        states: usize,
+        actions: usize,
+        observations: usize,
+        entries: Entries,
+    ) -> Model {
+        Model {
+            discount,
+            costs,
+            states,
+            actions,
+            observations,
+            entries,
+        }
     }
 
     /// How many states there are.
