@@ -8,6 +8,7 @@ pub mod TextLaws
 pub mod Dividing
 pub mod NarrowLaws
 pub mod ReadLaws
+pub mod OrderLaws
 pub mod GoOnLaws
 pub mod SmallestText
 pub mod StartLimits

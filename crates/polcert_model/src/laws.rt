@@ -11,7 +11,11 @@ ghost use Rattle.polcert_model.specs.declared.entry.Entry.{Entry};
 ghost use Rattle.polcert_model.specs.Start.{Shares, IsStart};
 ghost use Rattle.polcert_model.specs.Meaning.{Meaning, IsSame};
 ghost use Rattle.polcert_model.specs.Text.{Denotes, IsModelText};
-ghost use Rattle.polcert_model.specs.Laws.{HasDivision, HasOneDivision, GivesLastCovering, OneMoreEntry, UniformRowSums};
+ghost use Rattle.std.specs.List.{list_any};
+ghost use Rattle.std.specs.Prelude.{pos};
+ghost use Rattle.polcert_model.specs.declared.entry.Table.TheVariants.{Reward};
+ghost use Rattle.polcert_model.specs.Cells.{covers, weight, reward};
+ghost use Rattle.polcert_model.specs.Laws.{HasDivision, HasOneDivision, GivesLastCovering, OneMoreWeight, OneMoreReward, UniformRowSums};
 
 /// Each list of lexemes is divided into items in just one way.
 pub fn one_division()
@@ -46,9 +50,20 @@ pub fn one_value()
     ensures { (entries : List Entry) (table : Table) (indices : List ℕ) → GivesLastCovering entries table indices }
 {}
 
-/// A further entry gives its value to the cells that it covers, and to no others.
+/// A cell that no entry covers is 0.
+pub fn uncovered_is_zero()
+    ensures weight { (p : Preamble) (entries : List Entry) (table : Table) (indices : List ℕ) →
+        list_any (covers table indices) entries ≡ false → weight p entries table indices ≡ 0 }
+    ensures reward { (p : Preamble) (entries : List Entry) (indices : List ℕ) →
+        list_any (covers Reward indices) entries ≡ false → reward p entries indices ≡ pos 0 }
+{}
+
+/// A further entry gives its value to the cells that it covers, and the others keep theirs.
 pub fn one_more_entry()
-    ensures { (entries : List Entry) (entry : Entry) (table : Table) (indices : List ℕ) → OneMoreEntry entries entry table indices }
+    ensures weight { (p : Preamble) (entries : List Entry) (entry : Entry) (table : Table) (indices : List ℕ) →
+        OneMoreWeight p entries entry table indices }
+    ensures reward { (p : Preamble) (entries : List Entry) (entry : Entry) (indices : List ℕ) →
+        OneMoreReward p entries entry indices }
 {}
 
 /// A row that one `uniform` covers sums to its scale.
@@ -115,4 +130,22 @@ pub fn first_wrong_outside_items()
 pub fn first_wrong_is_not_right()
     ensures { (ts : TextTokens) (n : ℕ) (p : Preamble) (k : Known) →
         IsFirstWrong ts n → ts.ending ≡ None → IsTakenText ts.lexemes p k → ⊥ }
+{}
+
+/// At most one item is the first that isn't right.
+pub fn one_first_wrong()
+    ensures { (ts : TextTokens) (m n : ℕ) → IsFirstWrong ts m → IsFirstWrong ts n → m ≡ n }
+{}
+
+ghost use Rattle.polcert_model.specs.declared.fault.ItemFault.{ItemFault};
+ghost use Rattle.polcert_model.specs.Order.{preamble_fault};
+ghost use Rattle.polcert_model.specs.Narrow.{IsNarrow, narrow_word_fault};
+
+/// What is decided at an item's word is so: with such a fault no body makes the item right, and at the end the
+/// preamble isn't complete; without one the preamble is complete.
+pub fn order_is_decided()
+    ensures at_word { (k : Known) (t : Topic) (fault : ItemFault) (body : List Lexeme) →
+        narrow_word_fault k t ≡ Some fault → IsWrong k t body }
+    ensures incomplete { (k : Known) (p : Preamble) (fault : ItemFault) → preamble_fault k ≡ Some fault → IsComplete k p → ⊥ }
+    ensures complete { (k : Known) → preamble_fault k ≡ None → ((p : Preamble) × IsComplete k p) }
 {}
