@@ -10,6 +10,6 @@ pub mod NarrowLaws
 pub mod ReadLaws
 pub mod OrderLaws
 pub mod GoOnLaws
-pub mod SmallestText
 pub mod StartLimits
 pub mod LimitLaws
+pub mod Tiger

@@ -17,3 +17,4 @@ pub mod FirstWrong
 pub mod Reasons
 pub mod Refusals
 pub mod Examples
+pub mod Tiger

@@ -41,10 +41,31 @@ pub fn starts()
     ensures quarters_total { (shares_of (250_000 ∷ 750_000 ∷ [])).total ≡ 1_000_000 }
 {}
 
+ghost use Rattle.std.specs.Prelude.{ℕ, pos, neg_ℤ};
 ghost use Rattle.polcert_model.specs.Text.{Denotes};
-ghost use Rattle.polcert_model.specs.Examples.{smallest, plain};
+ghost use Rattle.polcert_model.specs.Meaning.{states_of, actions_of, observations_of, start_total};
+ghost use Rattle.polcert_model.specs.Examples.{reward_cells, general_first, general_last};
+ghost use Rattle.polcert_model.specs.Tiger.{tiger, tiger_model, tiger_states, tiger_actions};
 
-/// The lexemes of the smallest model are right, and denote it.
-pub fn smallest_model()
-    ensures { Denotes smallest (plain 1 []) }
+/// Of two reward entries that cover a cell the last holds, in either order.
+pub fn reward_order()
+    ensures general_first { reward_cells general_first ≡
+        pos 5_000_000 ∷ neg_ℤ (pos 1_000_000) ∷ neg_ℤ (pos 1_000_000) ∷ neg_ℤ (pos 1_000_000) ∷ [] }
+    ensures general_last { reward_cells general_last ≡
+        neg_ℤ (pos 1_000_000) ∷ neg_ℤ (pos 1_000_000) ∷ neg_ℤ (pos 1_000_000) ∷ neg_ℤ (pos 1_000_000) ∷ [] }
+{}
+
+/// The lexemes of the tiger problem are right, and denote its model.
+pub fn tiger_problem()
+    ensures denotes { Denotes tiger tiger_model }
+    ensures states { states_of tiger_model ≡ 2 }
+    ensures actions { actions_of tiger_model ≡ 3 }
+    ensures observations { observations_of tiger_model ≡ 2 }
+    ensures discount { tiger_model.preamble.discount ≡ 950_000 }
+    ensures scale { t_scale tiger_model ≡ 2_000_000 }
+    ensures opened { tiger_model.t 1 0 1 ≡ 1_000_000 }
+    ensures heard { tiger_model.o 0 1 1 ≡ 1_700_000 }
+    ensures gold { tiger_model.r 1 1 0 0 ≡ pos 10_000_000 }
+    ensures start { tiger_model.start.weights ≡ 1 ∷ 1 ∷ [] }
+    ensures total { start_total tiger_model ≡ 2 }
 {}
