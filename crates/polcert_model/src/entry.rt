@@ -102,3 +102,32 @@ pub struct Entry {
     pub places: Sequence<Place>,
     pub body: Body,
 }
+
+#[cfg(test)]
+mod tests {
+    use super::*;
+    use std::test::Fail;
+
+    #[test]
+    fn tables_print_their_letter(rt: HostRuntime) -> Result<(), Fail> {
+        let alloc = rt.alloc();
+        for (table, letter) in [
+            (Table::Transition, "T"),
+            (Table::Observation, "O"),
+            (Table::Reward, "R"),
+        ] {
+            assert_eq!(rt; format!(in alloc; "{table}")?.as_str(), letter);
+        }
+        Ok(())
+    }
+
+    #[test]
+    fn sequence_keeps_its_items(rt: HostRuntime) -> Result<(), Fail> {
+        let mut places = Sequence::new(rt.alloc());
+        places.push(Place::Every)?;
+        places.push(Place::Only(7))?;
+        assert!(rt; places.len() == 2);
+        assert_eq!(rt; places.at(1), Place::Only(7));
+        Ok(())
+    }
+}
