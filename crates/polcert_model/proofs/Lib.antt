@@ -9,6 +9,7 @@ pub mod Dividing
 pub mod NarrowLaws
 pub mod ReadLaws
 pub mod OrderLaws
+pub mod RefusalLaws
 pub mod GoOnLaws
 pub mod StartLimits
 pub mod LimitLaws

@@ -119,8 +119,14 @@ mod tests {
             action: 0,
             row: 1,
         };
-        assert_eq!(rt; format!(in alloc; "{item}")?.as_str(), "this line comes too late, in item 8 at byte 91");
-        assert_eq!(rt; format!(in alloc; "{row}")?.as_str(), "row 1 of O under action 0 does not sum to one");
+        assert_eq!(rt;
+            format!(in alloc; "{item}")?.as_str(),
+            "this line comes too late, in item 8 at byte 91"
+        );
+        assert_eq!(rt;
+            format!(in alloc; "{row}")?.as_str(),
+            "row 1 of O under action 0 does not sum to one"
+        );
         Ok(())
     }
 }

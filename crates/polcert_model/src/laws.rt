@@ -149,3 +149,14 @@ pub fn order_is_decided()
     ensures incomplete { (k : Known) (p : Preamble) (fault : ItemFault) → preamble_fault k ≡ Some fault → IsComplete k p → ⊥ }
     ensures complete { (k : Known) → preamble_fault k ≡ None → ((p : Preamble) × IsComplete k p) }
 {}
+
+ghost use Rattle.polcert_model.specs.declared.fault.ModelFault.{ModelFault};
+ghost use Rattle.polcert_model.specs.Narrow.{IsAccepted};
+ghost use Rattle.polcert_model.specs.FirstWrong.{AreTokensOf};
+ghost use Rattle.polcert_model.specs.Refusals.{IsRefusal, SaysOfText};
+
+/// A text that is refused, but for want of memory, isn't the text of a model.
+pub fn refused_is_not_accepted()
+    ensures { (text : List ℕ) (ts : TextTokens) (fault : ModelFault) (m : Meaning) →
+        AreTokensOf text ts → IsRefusal ts fault → SaysOfText fault → IsAccepted text m → ⊥ }
+{}
