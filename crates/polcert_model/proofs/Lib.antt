@@ -11,6 +11,7 @@ pub mod ReadLaws
 pub mod OrderLaws
 pub mod RefusalLaws
 pub mod GoOnLaws
+pub mod EntryGoesOn
 pub mod StartLimits
 pub mod LimitLaws
 pub mod Tiger
