@@ -10,6 +10,7 @@ pub mod NarrowLaws
 pub mod ReadLaws
 pub mod OrderLaws
 pub mod RefusalLaws
+pub mod PlaceLaws
 pub mod GoOnLaws
 pub mod EntryGoesOn
 pub mod StartLimits

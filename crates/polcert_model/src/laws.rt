@@ -160,3 +160,22 @@ pub fn refused_is_not_accepted()
     ensures { (text : List ℕ) (ts : TextTokens) (fault : ModelFault) (m : Meaning) →
         AreTokensOf text ts → IsRefusal ts fault → SaysOfText fault → IsAccepted text m → ⊥ }
 {}
+
+ghost use Rattle.polcert_model.specs.Items.{Item, IsDivided};
+ghost use Rattle.polcert_model.specs.FirstWrong.{word_place, LiesIn};
+ghost use Rattle.polcert_model.specs.Refusals.{place_or};
+
+/// The places of a text's tokens rise. So the place where a part of an item's body was taken lies in the item, and so
+/// does that of its word, of what stands before all items, and of the end.
+pub fn places_lie_in_items()
+    ensures in_body { (text : List ℕ) (ts : TextTokens) (before : List Item) (item : Item) (after : List Item)
+        (taken rest : List Lexeme) → AreTokensOf text ts → IsDivided ts.lexemes [] (before ++ item ∷ after) →
+        item.body ≡ taken ++ rest → LiesIn ts (length before + 1) (place_or rest (word_place after ts.end 0)) }
+    ensures at_word { (text : List ℕ) (ts : TextTokens) (before : List Item) (item : Item) (after : List Item) →
+        AreTokensOf text ts → IsDivided ts.lexemes [] (before ++ item ∷ after) →
+        LiesIn ts (length before + 1) item.word.place }
+    ensures before_items { (text : List ℕ) (ts : TextTokens) (l : Lexeme) (ls : List Lexeme) (items : List Item) →
+        AreTokensOf text ts → IsDivided ts.lexemes (l ∷ ls) items → LiesIn ts 0 l.place }
+    ensures at_end { (ts : TextTokens) (items : List Item) →
+        IsDivided ts.lexemes [] items → LiesIn ts (length items + 1) ts.end }
+{}
