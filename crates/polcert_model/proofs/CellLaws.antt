@@ -1,5 +1,5 @@
 -- A cell has the value of the last entry that covers it.
-use Rattle.std.proofs.Common.{◌≡◌, ◌∙◌, ℕ, ℤ, pos, zero, suc, ◌+◌, ◌*◌, ◌<◌, Bool, true, false, cond, ◌&&◌, ⊎_elim, length, drop, Option, Some, None, List, [], ◌∷◌, ◌++◌, reverse, mul-suc, refl, sym, ap, subst, arith}
+use Rattle.std.proofs.Common.{◌≡◌, ◌∙◌, ℕ, pos, zero, suc, ◌+◌, ◌*◌, ◌<◌, Bool, true, false, cond, ◌&&◌, ⊎_elim, length, drop, Option, Some, None, List, [], ◌∷◌, ◌++◌, reverse, mul-suc, refl, sym, ap, subst, arith}
 use Rattle.std.proofs.lemmas.List.{reverse-append, append_assoc}
 use Rattle.std.specs.List.{list_any, find}
 use Rattle.polcert_model.specs.declared.entry.Table.{Table}

@@ -1,20 +1,18 @@
 -- How an entry goes on behind the places and numbers that were read, and where it cannot.
-use Rattle.std.proofs.Common.{◌≡◌, ◌∙◌, ℕ, zero, suc, ◌+◌, ◌<◌, ◌≤◌, ◌==◌, Bool, true, false, List, [], ◌∷◌, ◌++◌, length, drop, map, All, ℤ, pos, codes, refl, sym, ap, subst, arith, length-append}
+use Rattle.std.proofs.Common.{◌≡◌, ◌∙◌, ℕ, ◌+◌, ◌<◌, ◌==◌, true, false, List, [], ◌∷◌, ◌++◌, length, drop, map, ℤ, pos, refl, sym, ap, subst, arith, length-append}
 use Rattle.std.proofs.lemmas.List.{append_assoc, length-map}
 use Rattle.std.specs.List.{list_any}
 use Rattle.polcert_text.specs.Cut.{Lexeme}
 use Rattle.polcert_text.specs.Numbers.{IsRefusedExactly}
 use Rattle.polcert_text.specs.declared.number.NumberFault.{NumberFault}
-use Rattle.polcert_text.specs.declared.lexeme.TokenKind.{TokenKind}
 use Rattle.polcert_text.specs.declared.lexeme.TokenKind.TheVariants.{Name, Numeral, Colon, Plus, Minus}
 use Rattle.polcert_text.proofs.TextLaws.{exact_not_refused}
 use Rattle.polcert_model.specs.declared.entry.Table.{Table}
 use Rattle.polcert_model.specs.declared.entry.Place.{Place}
 use Rattle.polcert_model.specs.declared.entry.Body.{Body}
-use Rattle.polcert_model.specs.declared.entry.Body.TheVariants.{Probabilities, Rewards, Uniform, Identity}
 use Rattle.polcert_model.specs.declared.entry.Entry.{Entry}
-use Rattle.polcert_model.specs.Words.{Cells, IsWord}
-use Rattle.polcert_model.specs.Numbers.{IsMillionths, AreNumbers, none, unsigned, plus, minus, one}
+use Rattle.polcert_model.specs.Words.{Cells}
+use Rattle.polcert_model.specs.Numbers.{AreNumbers, none, unsigned, plus, minus}
 use Rattle.polcert_model.specs.Elements.{Elements}
 use Rattle.polcert_model.specs.Preamble.{Preamble, dimensions}
 use Rattle.polcert_model.specs.Entry as entries
@@ -23,10 +21,10 @@ use Rattle.polcert_model.specs.Text as texts
 use Rattle.polcert_model.specs.Text.{Known, IsComplete, IsRight}
 use Rattle.polcert_model.specs.Narrow.{IsTaken}
 use Rattle.polcert_model.specs.Reading.{IsWrong, CannotGoOn}
-use Rattle.polcert_model.proofs.Basics.{true≢false, cons≢nil, same_head, same_tail}
+use Rattle.polcert_model.proofs.Basics.{cons≢nil}
 use Rattle.polcert_model.proofs.EntryLaws.{NoColonFirst, one_pattern, body_no_colon}
 use Rattle.polcert_model.proofs.TextLaws.{one_preamble}
-use Rattle.polcert_model.proofs.GoOnLaws.{RestOfNumbers, numbers_go_on}
+use Rattle.polcert_model.proofs.GoOnLaws.{numbers_go_on}
 
 -- ---- lists put together
 

@@ -1,20 +1,20 @@
 -- What is decided at an item's word is so: the items of such a topic aren't right there, or the preamble is complete.
-use Rattle.std.proofs.Common.{◌≡◌, ◌∙◌, ℕ, ◌*◌, ◌≤◌, Bool, true, false, cond, ◌||◌, ◌&&◌, Option, Some, None, is_some, List, [], ◌∷◌, nat_lt, refl, sym, ap, subst, arith}
+use Rattle.std.proofs.Common.{◌≡◌, ◌∙◌, ℕ, ◌≤◌, Bool, true, false, cond, ◌||◌, ◌&&◌, Option, Some, None, is_some, List, [], ◌∷◌, nat_lt, refl, sym, ap, arith}
 use Rattle.std.proofs.lemmas.Bool.Decides.{nat_tests}
 use Rattle.polcert_text.specs.Cut.{Lexeme}
 use Rattle.polcert_model.specs.declared.fault.ItemFault.{ItemFault}
-use Rattle.polcert_model.specs.declared.fault.ItemFault.TheVariants.{BadShape, DuplicateLine, LateLine, MissingLine, TooManyCells}
+use Rattle.polcert_model.specs.declared.fault.ItemFault.TheVariants.{DuplicateLine, LateLine, MissingLine, TooManyCells}
 use Rattle.polcert_model.specs.declared.entry.Entry.{Entry}
 use Rattle.polcert_model.specs.declared.entry.Table.{Table}
-use Rattle.polcert_model.specs.Words.{Topic, Discount, Values, States, Actions, Observations, Start, Cells}
+use Rattle.polcert_model.specs.Words.{Topic, Discount, Values, States, Actions, Observations, Cells}
 use Rattle.polcert_model.specs.Elements.{Elements, count_of}
 use Rattle.polcert_model.specs.Preamble.{Preamble, observed}
 use Rattle.polcert_model.specs.Text as texts
 use Rattle.polcert_model.specs.Text.{Known, IsInPreamble, HasLines, IsWithinCells, IsComplete, IsRight, most_cells}
-use Rattle.polcert_model.specs.Order.{has_entries, is_late, came_before, ends_preamble, has_all_lines, count_in, cells_are_too_many, preamble_fault, word_fault}
-use Rattle.polcert_model.specs.Narrow.{IsNarrow, IsTaken, at_start, narrow_word_fault}
+use Rattle.polcert_model.specs.Order.{has_entries, has_all_lines, count_in, cells_are_too_many, preamble_fault}
+use Rattle.polcert_model.specs.Narrow.{IsTaken, at_start, narrow_word_fault}
 use Rattle.polcert_model.specs.Reading.{IsWrong}
-use Rattle.polcert_model.proofs.Basics.{true≢false, or_false}
+use Rattle.polcert_model.proofs.Basics.{or_false}
 
 -- ---- a complete preamble has no fault
 

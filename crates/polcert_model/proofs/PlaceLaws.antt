@@ -1,8 +1,8 @@
 -- The places of a text's lexemes rise, so that a refusal lies in its item.
-use Rattle.std.proofs.Common.{◌≡◌, ◌∙◌, ℕ, zero, suc, ◌+◌, ◌-◌, ◌<◌, ◌≤◌, ◌⊎◌, inl, inr, ⊎_elim, Bool, true, false, cond, Option, Some, None, List, [], ◌∷◌, ◌++◌, length, take, drop, nat_lt, flat_map, refl, sym, ap, subst, arith, length-drop, length-take-le, add-one}
+use Rattle.std.proofs.Common.{◌≡◌, ◌∙◌, ℕ, suc, ◌+◌, ◌-◌, ◌<◌, ◌≤◌, ◌⊎◌, inl, inr, ⊎_elim, Bool, true, false, cond, Option, Some, None, List, [], ◌∷◌, ◌++◌, length, take, drop, nat_lt, flat_map, refl, sym, ap, subst, arith, length-drop, length-take-le, add-one}
 use Rattle.std.proofs.lemmas.List.{append_assoc}
 use Rattle.std.proofs.lemmas.Bool.Decides.{nat_tests}
-use Rattle.polcert_text.specs.Cut.{Lexeme, Rest, IsTokenAt, TakesToken, EndsAt, IsCut, text_rest, end_place}
+use Rattle.polcert_text.specs.Cut.{Lexeme, Rest, TakesToken, EndsAt, IsCut, text_rest, end_place}
 use Rattle.polcert_text.specs.Reading.{fault_place}
 use Rattle.polcert_text.specs.declared.tokens.TokenFault.TheVariants.{BadByte, TokenTooLong, Glued, TextTooLong}
 use Rattle.polcert_model.specs.Items.{Item, lexemes_of, IsDivided}

@@ -1,20 +1,19 @@
 -- The first wrong item, from the lexemes taken so far and however the text goes on.
-use Rattle.std.proofs.Common.{◌≡◌, ◌∙◌, ℕ, suc, ◌+◌, arith, length-append, true, false, Option, Some, None, List, [], ◌∷◌, ◌++◌, length, flat_map, refl, sym, ap, subst}
+use Rattle.std.proofs.Common.{◌≡◌, ◌∙◌, ℕ, suc, ◌+◌, arith, length-append, true, false, Option, Some, None, List, [], ◌∷◌, ◌++◌, length, refl, sym, ap, subst}
 use Rattle.std.proofs.lemmas.List.{append_assoc}
-use Rattle.std.specs.List.{list_any}
 use Rattle.polcert_text.specs.Cut.{Lexeme}
 use Rattle.polcert_text.specs.declared.tokens.TokenFault.{TokenFault}
 use Rattle.polcert_model.specs.Words.{Topic, topic, begins_item}
-use Rattle.polcert_model.specs.Items.{Item, lexemes_of, IsItem, IsDivided}
+use Rattle.polcert_model.specs.Items.{Item, IsDivided}
 use Rattle.polcert_model.specs.Preamble.{Preamble}
 use Rattle.polcert_model.specs.Text.{Known, nothing_known, IsComplete, IsRight, AreRight, none, more}
-use Rattle.polcert_model.specs.Narrow.{IsNarrow, IsTaken, AreTaken, IsTakenText}
+use Rattle.polcert_model.specs.Narrow.{IsTaken, AreTaken, IsTakenText}
 use Rattle.polcert_model.specs.Reading.{AreRightItems, IsWithinItem, CannotGoOn, IsWrong}
 use Rattle.polcert_model.specs.FirstWrong.{TextTokens, tokens_of, IsFirstWrong, wrong_front, wrong_fault, wrong_item, wrong_last, wrong_end}
 use Rattle.polcert_model.proofs.Basics.{one_some, or_false_from, cons≢nil, same_head, same_tail}
 use Rattle.polcert_model.proofs.ItemLaws.{one_division, has_division}
 use Rattle.polcert_model.proofs.TextLaws.{one_right, one_known}
-use Rattle.polcert_model.proofs.Dividing.{begins, append_division, next_division, empty_division, append-nil, whole_body}
+use Rattle.polcert_model.proofs.Dividing.{begins, append_division, next_division, empty_division, append-nil}
 use Rattle.polcert_model.proofs.NarrowLaws.{append_right, nothing_narrow, no_wrong_next, no_wrong_item}
 
 pub starts_right : AreRightItems [] nothing_known

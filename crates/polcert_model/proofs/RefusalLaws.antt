@@ -1,19 +1,18 @@
 -- What is refused isn't accepted.
-use Rattle.std.proofs.Common.{◌≡◌, ◌∙◌, ℕ, zero, suc, ◌+◌, ◌<◌, Some, None, List, refl, sym, ap, subst, arith}
-use Rattle.polcert_text.specs.Cut.{Lexeme, text_rest}
+use Rattle.std.proofs.Common.{◌≡◌, ◌∙◌, ℕ, zero, suc, ◌<◌, None, List, refl, sym, subst, arith}
+use Rattle.polcert_text.specs.Cut.{text_rest}
 use Rattle.polcert_text.proofs.TextLaws.{one_cut}
 use Rattle.polcert_model.specs.declared.entry.Table.{Table}
 use Rattle.polcert_model.specs.declared.entry.Table.TheVariants.{Transition, Observation, Reward}
-use Rattle.polcert_model.specs.declared.fault.ItemFault.{ItemFault}
 use Rattle.polcert_model.specs.declared.fault.ModelFault.{ModelFault}
 use Rattle.polcert_model.specs.declared.fault.ModelFault.TheVariants.{Item, RowSum, Memory}
 use Rattle.polcert_model.specs.Preamble.{Preamble}
 use Rattle.polcert_model.specs.Meaning.{Meaning, meaning_of, sum_below, states_of, actions_of, observations_of, t_scale, o_scale, IsSame, HasProperRows}
 use Rattle.polcert_model.specs.Rows.{IsProperRow, IsFirstWrongRow}
-use Rattle.polcert_model.specs.Text.{Known, most_bytes}
+use Rattle.polcert_model.specs.Text.{most_bytes}
 use Rattle.polcert_model.specs.Narrow.{IsTakenText, IsAccepted}
 use Rattle.polcert_model.specs.FirstWrong.{TextTokens, AreTokensOf}
-use Rattle.polcert_model.specs.Refusals.{IsItemRefusal, IsRefusal, SaysOfText}
+use Rattle.polcert_model.specs.Refusals.{IsRefusal, SaysOfText}
 use Rattle.polcert_model.proofs.TextLaws.{one_right_text}
 use Rattle.polcert_model.proofs.ReadLaws.{not_taken}
 

@@ -1,23 +1,23 @@
 -- The lexemes of the tiger problem are right, and denote its model.
-use Rattle.std.proofs.Common.{◌≡◌, ◌∙◌, ◌≢◌, ◌==◌, ℕ, length, take, drop, bytes_eq, ap, zero, suc, ◌<◌, ◌≤◌, Bool, true, false, Some, None, List, [], ◌∷◌, ◌++◌, All, AllPairs, map, ℤ, pos, neg_ℤ, codes, refl, arith, lit≤, lit<}
+use Rattle.std.proofs.Common.{◌≡◌, ◌∙◌, ◌≢◌, ◌==◌, ℕ, length, take, drop, bytes_eq, ap, zero, suc, ◌<◌, ◌≤◌, Bool, true, false, Some, None, List, [], ◌∷◌, ◌++◌, AllPairs, ℤ, pos, codes, refl, arith, lit≤}
 use Rattle.std.proofs.lemmas.List.Elements.{All-from_recursion, All-nil}
 use Rattle.std.proofs.lemmas.List.Kept.{AllPairs-cons}
 use Rattle.std.specs.List.{list_any}
 use Rattle.polcert_text.specs.Bytes.{class_of}
-use Rattle.polcert_text.specs.Numbers.{IsReadable, IsExact, number_of, exponent_size, power_of, size_of, millionth}
+use Rattle.polcert_text.specs.Numbers.{IsExact, number_of, exponent_size, power_of, size_of, millionth}
 use Rattle.polcert_text.specs.Cut.{Lexeme}
 use Rattle.polcert_model.specs.declared.entry.Table.{Table}
 use Rattle.polcert_model.specs.declared.entry.Table.TheVariants.{Transition, Observation, Reward}
 use Rattle.polcert_model.specs.declared.entry.Place.{Place}
 use Rattle.polcert_model.specs.declared.entry.Place.TheVariants.{Every, Only}
 use Rattle.polcert_model.specs.declared.entry.Body.{Body}
-use Rattle.polcert_model.specs.declared.entry.Body.TheVariants.{Probabilities, Rewards, Uniform, Identity}
+use Rattle.polcert_model.specs.declared.entry.Body.TheVariants.{Probabilities, Uniform, Identity}
 use Rattle.polcert_model.specs.declared.entry.Entry.{Entry}
 use Rattle.polcert_model.specs.Words.{topic, topic_of, is_reserved, begins_item, IsWord, IsName, Discount, Values, States, Actions, Observations, Cells}
 use Rattle.polcert_model.specs.Numbers.{IsMillionths, AreNumbers}
 use Rattle.polcert_model.specs.Numbers as numbers
-use Rattle.polcert_model.specs.Elements.{Elements, Names, StandsFor, AreElements, named, by_name}
-use Rattle.polcert_model.specs.Items.{Item, lexemes_of, IsItem, IsDivided}
+use Rattle.polcert_model.specs.Elements.{Names, StandsFor, AreElements, named, by_name}
+use Rattle.polcert_model.specs.Items.{Item, IsItem, IsDivided}
 use Rattle.polcert_model.specs.Entry as entries
 use Rattle.polcert_model.specs.Entry.{ArePlaces, IsEntry, IsBody}
 use Rattle.polcert_model.specs.Preamble.{dimensions}
@@ -26,7 +26,7 @@ use Rattle.polcert_model.proofs.NarrowLaws.{append_right}
 use Rattle.polcert_model.specs.Meaning.{HasProperRows, sum_below}
 use Rattle.polcert_model.specs.Text as texts
 use Rattle.polcert_model.specs.Text.{Known, nothing_known, IsInPreamble, IsComplete, IsRight, AreRight, Denotes}
-use Rattle.polcert_model.specs.Examples.{name, numeral, colon, transition, observation, rewards, whole}
+use Rattle.polcert_model.specs.Examples.{name, numeral, colon, observation, rewards, whole}
 use Rattle.polcert_model.specs.Tiger.{star, minus, tiger, tiger_states, tiger_actions, tiger_preamble, tiger_entries, tiger_known, tiger_model, minus_whole}
 
 -- ---- items

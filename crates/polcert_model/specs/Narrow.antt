@@ -12,7 +12,7 @@ use Rattle.std.specs.Prelude.{◌≡◌, ℕ, Option, Some, None, List}
 use Rattle.polcert_text.specs.Cut.{Lexeme}
 use Rattle.polcert_model.specs.declared.fault.ItemFault.{ItemFault}
 use Rattle.polcert_model.specs.declared.fault.ItemFault.TheVariants.{BadShape}
-use Rattle.polcert_model.specs.Words.{Topic, Discount, Values, States, Actions, Observations, Start, Cells}
+use Rattle.polcert_model.specs.Words.{Topic, Start}
 use Rattle.polcert_model.specs.Elements.{Elements, Count, Names}
 use Rattle.polcert_model.specs.Items.{Item}
 use Rattle.polcert_model.specs.Preamble.{Preamble}

@@ -1,10 +1,8 @@
 -- The tiger problem: its lexemes, typed from its file, and what they are to say.
 -- Source: Cassandra's tiger.POMDP, of the examples at pomdp.org.
-use Rattle.std.specs.Prelude.{ℕ, ◌*◌, false, List, [], ◌∷◌, ℤ, pos, neg_ℤ, Some, None, codes}
+use Rattle.std.specs.Prelude.{ℕ, false, List, [], ◌∷◌, ℤ, neg_ℤ, Some, None, codes}
 use Rattle.polcert_text.specs.Cut.{Lexeme}
 use Rattle.polcert_text.specs.declared.lexeme.TokenKind.TheVariants as kinds
-use Rattle.polcert_model.specs.declared.entry.Table.TheVariants.{Transition, Observation, Reward}
-use Rattle.polcert_model.specs.declared.entry.Place.{Place}
 use Rattle.polcert_model.specs.declared.entry.Place.TheVariants.{Every, Only}
 use Rattle.polcert_model.specs.declared.entry.Body.TheVariants.{Probabilities, Uniform, Identity}
 use Rattle.polcert_model.specs.declared.entry.Entry.{Entry}

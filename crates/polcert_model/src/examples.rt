@@ -1,10 +1,11 @@
 //! Rows and tables computed from small models.
-
-ghost use Rattle.std.specs.Prelude.{◌≡◌, ◌≢◌, ◌∷◌, [], sum, true};
-ghost use Rattle.polcert_model.specs.Meaning.{t_scale, HasProperRows, sum_below};
-ghost use Rattle.polcert_model.specs.Examples.{first_row, thirds, decimal_thirds, sixths, patterns, reward_table, whole};
+ghost use Rattle.std.specs.Prelude.{◌≡◌, ◌≢◌, ◌∷◌, [], sum, true, ℕ, pos, neg_ℤ};
+ghost use Rattle.polcert_model.specs.Meaning.{t_scale, HasProperRows, sum_below, states_of, actions_of, observations_of, start_total};
+ghost use Rattle.polcert_model.specs.Examples.{first_row, thirds, decimal_thirds, sixths, patterns, reward_table, whole, reward_cells, general_first, general_last};
 ghost use Rattle.polcert_model.specs.Start.{shares_of, all_states};
 ghost use Rattle.polcert_model.specs.Elements.{Count};
+ghost use Rattle.polcert_model.specs.Text.{Denotes};
+ghost use Rattle.polcert_model.specs.Tiger.{tiger, tiger_model, tiger_states, tiger_actions};
 
 /// `uniform` over three states is exactly a third each.
 pub fn uniform_thirds()
@@ -40,12 +41,6 @@ pub fn starts()
     ensures quarters { (shares_of (250_000 ∷ 750_000 ∷ [])).weights ≡ 250_000 ∷ 750_000 ∷ [] }
     ensures quarters_total { (shares_of (250_000 ∷ 750_000 ∷ [])).total ≡ 1_000_000 }
 {}
-
-ghost use Rattle.std.specs.Prelude.{ℕ, pos, neg_ℤ};
-ghost use Rattle.polcert_model.specs.Text.{Denotes};
-ghost use Rattle.polcert_model.specs.Meaning.{states_of, actions_of, observations_of, start_total};
-ghost use Rattle.polcert_model.specs.Examples.{reward_cells, general_first, general_last};
-ghost use Rattle.polcert_model.specs.Tiger.{tiger, tiger_model, tiger_states, tiger_actions};
 
 /// Of two reward entries that cover a cell the last holds, in either order.
 pub fn reward_order()

@@ -1,7 +1,8 @@
 //! Laws of the definitions: each function has an empty body, and its contract is the law.
-
-ghost use Rattle.std.specs.Prelude.{◌≡◌, ℕ, List, ℤ};
+ghost use Rattle.std.specs.Prelude.{◌≡◌, ℕ, List, ℤ, pos, Option, Some, None, ◌+◌, ◌++◌, ◌∷◌, [], true, false, length};
+ghost use Rattle.std.specs.List.{list_any};
 ghost use Rattle.polcert_text.specs.Cut.{Lexeme};
+ghost use Rattle.polcert_text.specs.declared.tokens.TokenFault.{TokenFault};
 ghost use Rattle.polcert_model.specs.declared.entry.Table.{Table};
 ghost use Rattle.polcert_model.specs.Numbers.{AreNumbers};
 ghost use Rattle.polcert_model.specs.Elements.{Elements, StandsFor};
@@ -9,13 +10,20 @@ ghost use Rattle.polcert_model.specs.Preamble.{Preamble};
 ghost use Rattle.polcert_model.specs.Entry.{IsEntry};
 ghost use Rattle.polcert_model.specs.declared.entry.Entry.{Entry};
 ghost use Rattle.polcert_model.specs.Start.{Shares, IsStart};
-ghost use Rattle.polcert_model.specs.Meaning.{Meaning, IsSame};
-ghost use Rattle.polcert_model.specs.Text.{Denotes, IsModelText};
-ghost use Rattle.std.specs.List.{list_any};
-ghost use Rattle.std.specs.Prelude.{pos};
+ghost use Rattle.polcert_model.specs.Meaning.{Meaning, IsSame, IsWithinLimits};
+ghost use Rattle.polcert_model.specs.Text.{Denotes, IsModelText, Known, IsComplete};
 ghost use Rattle.polcert_model.specs.declared.entry.Table.TheVariants.{Reward};
 ghost use Rattle.polcert_model.specs.Cells.{covers, weight, reward};
 ghost use Rattle.polcert_model.specs.Laws.{HasDivision, HasOneDivision, GivesLastCovering, OneMoreWeight, OneMoreReward, UniformRowSums};
+ghost use Rattle.polcert_model.specs.Words.{Topic, begins_item};
+ghost use Rattle.polcert_model.specs.Narrow.{IsTaken, IsTakenText, IsNarrow, narrow_word_fault, IsAccepted};
+ghost use Rattle.polcert_model.specs.Reading.{AreRightItems, IsWithinItem, CannotGoOn, IsWrong};
+ghost use Rattle.polcert_model.specs.FirstWrong.{TextTokens, tokens_of, IsFirstWrong, AreTokensOf, word_place, LiesIn};
+ghost use Rattle.polcert_model.specs.declared.fault.ItemFault.{ItemFault};
+ghost use Rattle.polcert_model.specs.Order.{preamble_fault};
+ghost use Rattle.polcert_model.specs.declared.fault.ModelFault.{ModelFault};
+ghost use Rattle.polcert_model.specs.Refusals.{IsRefusal, SaysOfText, place_or};
+ghost use Rattle.polcert_model.specs.Items.{Item, IsDivided};
 
 /// Each list of lexemes is divided into items in just one way.
 pub fn one_division()
@@ -77,20 +85,10 @@ pub fn one_model()
     ensures text { (text : List ℕ) (m n : Meaning) → IsModelText text m → IsModelText text n → IsSame m n }
 {}
 
-ghost use Rattle.polcert_model.specs.Meaning.{IsWithinLimits};
-
 /// What lexemes denote is within its limits.
 pub fn within_limits()
     ensures { (lexemes : List Lexeme) (m : Meaning) → Denotes lexemes m → IsWithinLimits m }
 {}
-
-ghost use Rattle.std.specs.Prelude.{Option, Some, None, ◌+◌, ◌++◌, ◌∷◌, [], true, false, length};
-ghost use Rattle.polcert_text.specs.declared.tokens.TokenFault.{TokenFault};
-ghost use Rattle.polcert_model.specs.Words.{Topic, begins_item};
-ghost use Rattle.polcert_model.specs.Text.{Known, IsComplete};
-ghost use Rattle.polcert_model.specs.Narrow.{IsTaken, IsTakenText};
-ghost use Rattle.polcert_model.specs.Reading.{AreRightItems, IsWithinItem, CannotGoOn, IsWrong};
-ghost use Rattle.polcert_model.specs.FirstWrong.{TextTokens, tokens_of, IsFirstWrong};
 
 /// An item that is right with its lexemes so far makes them right items.
 pub fn right_item_ends()
@@ -137,10 +135,6 @@ pub fn one_first_wrong()
     ensures { (ts : TextTokens) (m n : ℕ) → IsFirstWrong ts m → IsFirstWrong ts n → m ≡ n }
 {}
 
-ghost use Rattle.polcert_model.specs.declared.fault.ItemFault.{ItemFault};
-ghost use Rattle.polcert_model.specs.Order.{preamble_fault};
-ghost use Rattle.polcert_model.specs.Narrow.{IsNarrow, narrow_word_fault};
-
 /// What is decided at an item's word is so: with such a fault no body makes the item right, and at the end the
 /// preamble isn't complete; without one the preamble is complete.
 pub fn order_is_decided()
@@ -150,20 +144,11 @@ pub fn order_is_decided()
     ensures complete { (k : Known) → preamble_fault k ≡ None → ((p : Preamble) × IsComplete k p) }
 {}
 
-ghost use Rattle.polcert_model.specs.declared.fault.ModelFault.{ModelFault};
-ghost use Rattle.polcert_model.specs.Narrow.{IsAccepted};
-ghost use Rattle.polcert_model.specs.FirstWrong.{AreTokensOf};
-ghost use Rattle.polcert_model.specs.Refusals.{IsRefusal, SaysOfText};
-
 /// A text that is refused, but for want of memory, isn't the text of a model.
 pub fn refused_is_not_accepted()
     ensures { (text : List ℕ) (ts : TextTokens) (fault : ModelFault) (m : Meaning) →
         AreTokensOf text ts → IsRefusal ts fault → SaysOfText fault → IsAccepted text m → ⊥ }
 {}
-
-ghost use Rattle.polcert_model.specs.Items.{Item, IsDivided};
-ghost use Rattle.polcert_model.specs.FirstWrong.{word_place, LiesIn};
-ghost use Rattle.polcert_model.specs.Refusals.{place_or};
 
 /// The places of a text's tokens rise. So the place where a part of an item's body was taken lies in the item, and so
 /// does that of its word, of what stands before all items, and of the end.
