@@ -11,6 +11,7 @@ pub mod ReadLaws
 pub mod OrderLaws
 pub mod RefusalLaws
 pub mod PlaceLaws
+pub mod DecidedLaws
 pub mod GoOnLaws
 pub mod EntryGoesOn
 pub mod StartLimits

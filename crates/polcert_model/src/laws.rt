@@ -11,14 +11,14 @@ ghost use Rattle.polcert_model.specs.Entry.{IsEntry};
 ghost use Rattle.polcert_model.specs.declared.entry.Entry.{Entry};
 ghost use Rattle.polcert_model.specs.Start.{Shares, IsStart};
 ghost use Rattle.polcert_model.specs.Meaning.{Meaning, IsSame, IsWithinLimits};
-ghost use Rattle.polcert_model.specs.Text.{Denotes, IsModelText, Known, IsComplete};
+ghost use Rattle.polcert_model.specs.Text.{Denotes, IsModelText, Known, nothing_known, IsComplete};
 ghost use Rattle.polcert_model.specs.declared.entry.Table.TheVariants.{Reward};
 ghost use Rattle.polcert_model.specs.Cells.{covers, weight, reward};
 ghost use Rattle.polcert_model.specs.Laws.{HasDivision, HasOneDivision, GivesLastCovering, OneMoreWeight, OneMoreReward, UniformRowSums};
-ghost use Rattle.polcert_model.specs.Words.{Topic, begins_item};
-ghost use Rattle.polcert_model.specs.Narrow.{IsTaken, IsTakenText, IsNarrow, narrow_word_fault, IsAccepted};
+ghost use Rattle.polcert_model.specs.Words.{Topic, topic, begins_item};
+ghost use Rattle.polcert_model.specs.Narrow.{IsTaken, AreTaken, IsTakenText, IsNarrow, narrow_word_fault, IsAccepted};
 ghost use Rattle.polcert_model.specs.Reading.{AreRightItems, IsWithinItem, CannotGoOn, IsWrong};
-ghost use Rattle.polcert_model.specs.FirstWrong.{TextTokens, tokens_of, IsFirstWrong, AreTokensOf, word_place, LiesIn};
+ghost use Rattle.polcert_model.specs.FirstWrong.{TextTokens, tokens_of, IsFirstWrong, IsDecided, AreTokensOf, word_place, LiesIn};
 ghost use Rattle.polcert_model.specs.declared.fault.ItemFault.{ItemFault};
 ghost use Rattle.polcert_model.specs.Order.{preamble_fault};
 ghost use Rattle.polcert_model.specs.declared.fault.ModelFault.{ModelFault};
@@ -142,6 +142,16 @@ pub fn order_is_decided()
         narrow_word_fault k t ≡ Some fault → IsWrong k t body }
     ensures incomplete { (k : Known) (p : Preamble) (fault : ItemFault) → preamble_fault k ≡ Some fault → IsComplete k p → ⊥ }
     ensures complete { (k : Known) → preamble_fault k ≡ None → ((p : Preamble) × IsComplete k p) }
+{}
+
+/// What is decided before an item's body is read is one kind and one place, and nothing is decided where the item's
+/// word may stand.
+pub fn one_decision()
+    ensures one { (ts : TextTokens) (n : ℕ) (f g : ItemFault) (p q : ℕ) →
+        IsDecided ts n f p → IsDecided ts n g q → (f ≡ g) × (p ≡ q) }
+    ensures nothing { (ts : TextTokens) (before : List Item) (item : Item) (after : List Item) (k : Known) (t : Topic)
+        (f : ItemFault) (p : ℕ) → IsDivided ts.lexemes [] (before ++ item ∷ after) → AreTaken nothing_known before k →
+        topic item.word ≡ Some t → narrow_word_fault k t ≡ None → IsDecided ts (length before + 1) f p → ⊥ }
 {}
 
 /// A text that is refused, but for want of memory, isn't the text of a model.
