@@ -17,3 +17,4 @@ pub mod EntryGoesOn
 pub mod StartLimits
 pub mod LimitLaws
 pub mod Tiger
+pub mod RefusedExamples

@@ -18,3 +18,4 @@ pub mod Reasons
 pub mod Refusals
 pub mod Examples
 pub mod Tiger
+pub mod RefusedExamples

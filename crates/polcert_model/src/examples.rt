@@ -6,6 +6,10 @@ ghost use Rattle.polcert_model.specs.Start.{shares_of, all_states};
 ghost use Rattle.polcert_model.specs.Elements.{Count};
 ghost use Rattle.polcert_model.specs.Text.{Denotes};
 ghost use Rattle.polcert_model.specs.Tiger.{tiger, tiger_model, tiger_states, tiger_actions};
+ghost use Rattle.polcert_text.specs.declared.tokens.TokenFault.TheVariants.{Glued};
+ghost use Rattle.polcert_model.specs.declared.fault.ItemFault.TheVariants.{Token, MissingLine, BeforeFirstItem, DuplicateLine, DiscountRange};
+ghost use Rattle.polcert_model.specs.Refusals.{IsItemRefusal};
+ghost use Rattle.polcert_model.specs.RefusedExamples.{empty_text, hello, twice, above_one, glued};
 
 /// `uniform` over three states is exactly a third each.
 pub fn uniform_thirds()
@@ -63,4 +67,14 @@ pub fn tiger_problem()
     ensures gold { tiger_model.r 1 1 0 0 ≡ pos 10_000_000 }
     ensures start { tiger_model.start.weights ≡ 1 ∷ 1 ∷ [] }
     ensures total { start_total tiger_model ≡ 2 }
+{}
+
+/// Five refused texts: the empty one, a word before the items, a line that stands twice, a discount above one, and a
+/// refused numeral.
+pub fn refused_texts()
+    ensures empty { IsItemRefusal empty_text MissingLine 1 0 }
+    ensures hello { IsItemRefusal hello BeforeFirstItem 0 0 }
+    ensures twice { IsItemRefusal twice DuplicateLine 2 12 }
+    ensures above_one { IsItemRefusal above_one DiscountRange 1 10 }
+    ensures glued { IsItemRefusal glued (Token (Glued 10)) 1 10 }
 {}
