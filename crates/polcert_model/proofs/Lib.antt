@@ -18,3 +18,4 @@ pub mod StartLimits
 pub mod LimitLaws
 pub mod Tiger
 pub mod RefusedExamples
+pub mod StartExamples

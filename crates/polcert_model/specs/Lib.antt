@@ -19,3 +19,4 @@ pub mod Refusals
 pub mod Examples
 pub mod Tiger
 pub mod RefusedExamples
+pub mod StartExamples

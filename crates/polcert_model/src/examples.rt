@@ -2,8 +2,8 @@
 ghost use Rattle.std.specs.Prelude.{◌≡◌, ◌≢◌, ◌∷◌, [], sum, true, ℕ, pos, neg_ℤ};
 ghost use Rattle.polcert_model.specs.Meaning.{t_scale, HasProperRows, sum_below, states_of, actions_of, observations_of, start_total};
 ghost use Rattle.polcert_model.specs.Examples.{first_row, thirds, decimal_thirds, sixths, patterns, reward_table, whole, reward_cells, general_first, general_last};
-ghost use Rattle.polcert_model.specs.Start.{shares_of, all_states};
-ghost use Rattle.polcert_model.specs.Elements.{Count};
+ghost use Rattle.polcert_model.specs.Start.{Shares, IsStart};
+ghost use Rattle.polcert_model.specs.StartExamples.{a_b, shares, uniform_start, halves_start, quarters_start, name_start, number_start, include_start, exclude_start, exclude_none, exclude_all};
 ghost use Rattle.polcert_model.specs.Text.{Denotes};
 ghost use Rattle.polcert_model.specs.Tiger.{tiger, tiger_model, tiger_states, tiger_actions};
 ghost use Rattle.polcert_text.specs.declared.tokens.TokenFault.TheVariants.{Glued};
@@ -37,13 +37,18 @@ pub fn reward_patterns()
         whole 7 ∷ whole 2 ∷ whole 7 ∷ whole 8 ∷ whole 7 ∷ whole 0 ∷ whole 7 ∷ whole 6 ∷ [] }
 {}
 
-/// A start of 0.5 and 0.5 is the uniform one; 0.25 and 0.75 stay millionths.
+/// Start items over two states: `0.5 0.5` is the uniform start, 0.25 and 0.75 stay millionths, and one state, listed
+/// states and all but some have a share of 1 each. Where no state is left the item isn't right.
 pub fn starts()
-    ensures halves { shares_of (500_000 ∷ 500_000 ∷ []) ≡ all_states (Count 2) }
-    ensures halves_weights { (all_states (Count 2)).weights ≡ 1 ∷ 1 ∷ [] }
-    ensures halves_total { (all_states (Count 2)).total ≡ 2 }
-    ensures quarters { (shares_of (250_000 ∷ 750_000 ∷ [])).weights ≡ 250_000 ∷ 750_000 ∷ [] }
-    ensures quarters_total { (shares_of (250_000 ∷ 750_000 ∷ [])).total ≡ 1_000_000 }
+    ensures uniform { IsStart a_b uniform_start (shares (1 ∷ 1 ∷ []) 2) }
+    ensures halves { IsStart a_b halves_start (shares (1 ∷ 1 ∷ []) 2) }
+    ensures quarters { IsStart a_b quarters_start (shares (250_000 ∷ 750_000 ∷ []) 1_000_000) }
+    ensures name { IsStart a_b name_start (shares (0 ∷ 1 ∷ []) 1) }
+    ensures number { IsStart a_b number_start (shares (0 ∷ 1 ∷ []) 1) }
+    ensures include { IsStart a_b include_start (shares (1 ∷ 0 ∷ []) 1) }
+    ensures exclude { IsStart a_b exclude_start (shares (0 ∷ 1 ∷ []) 1) }
+    ensures exclude_none { IsStart a_b exclude_none (shares (1 ∷ 1 ∷ []) 2) }
+    ensures exclude_all { (x : Shares) → IsStart a_b exclude_all x → ⊥ }
 {}
 
 /// Of two reward entries that cover a cell the last holds, in either order.
