@@ -19,3 +19,4 @@ pub mod LimitLaws
 pub mod Tiger
 pub mod RefusedExamples
 pub mod StartExamples
+pub mod First

@@ -18,5 +18,6 @@ pub mod Reasons
 pub mod Refusals
 pub mod Examples
 pub mod Tiger
+pub mod First
 pub mod RefusedExamples
 pub mod StartExamples

@@ -10,6 +10,8 @@ ghost use Rattle.polcert_text.specs.declared.tokens.TokenFault.TheVariants.{Glue
 ghost use Rattle.polcert_model.specs.declared.fault.ItemFault.TheVariants.{Token, MissingLine, BeforeFirstItem, DuplicateLine, DiscountRange};
 ghost use Rattle.polcert_model.specs.Refusals.{IsItemRefusal};
 ghost use Rattle.polcert_model.specs.RefusedExamples.{empty_text, hello, twice, above_one, glued};
+ghost use Rattle.polcert_model.specs.Narrow.{IsTakenText};
+ghost use Rattle.polcert_model.specs.First.{first, first_preamble, first_entries, first_known, first_model};
 
 /// `uniform` over three states is exactly a third each.
 pub fn uniform_thirds()
@@ -82,4 +84,14 @@ pub fn refused_texts()
     ensures twice { IsItemRefusal twice DuplicateLine 2 12 }
     ensures above_one { IsItemRefusal above_one DiscountRange 1 10 }
     ensures glued { IsItemRefusal glued (Token (Glued 10)) 1 10 }
+{}
+
+/// A small text by numbers alone is taken by the narrow stage, and denotes its model.
+pub fn first_text()
+    ensures taken { IsTakenText first first_preamble (first_known first_entries) }
+    ensures denotes { Denotes first first_model }
+    ensures stays { first_model.t 0 0 0 ≡ 2_000_000 }
+    ensures heard { first_model.o 0 1 0 ≡ 300_000 }
+    ensures paid { first_model.r 0 0 0 0 ≡ neg_ℤ (pos 1_000_000) }
+    ensures unpaid { first_model.r 0 1 0 0 ≡ pos 0 }
 {}

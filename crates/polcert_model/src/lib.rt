@@ -8,8 +8,8 @@ mod laws;
 
 pub use entry::{Body, Entry, Place, Sequence, Table};
 pub use examples::{
-    decimals_of_thirds, refused_texts, reward_order, reward_patterns, single_cells_behind_uniform,
-    starts, tiger_problem, uniform_thirds,
+    decimals_of_thirds, first_text, refused_texts, reward_order, reward_patterns,
+    single_cells_behind_uniform, starts, tiger_problem, uniform_thirds,
 };
 pub use fault::{ItemFault, ModelFault};
 pub use laws::{
