@@ -14,6 +14,8 @@ pub mod PlaceLaws
 pub mod DecidedLaws
 pub mod GoOnLaws
 pub mod EntryGoesOn
+pub mod LinesGoOn
+pub mod Possible
 pub mod StartLimits
 pub mod LimitLaws
 pub mod Tiger
