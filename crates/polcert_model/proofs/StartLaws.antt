@@ -42,7 +42,7 @@ length-pos : (ps : List ℕ) → length (map pos ps) ≡ length ps
 length-pos [] = refl
 length-pos (p ∷ ps) = ap suc (length-pos ps)
 
-numbers_once : (l : Lexeme) (ps : List ℕ) → AreNumbers (l ∷ []) (map pos ps) → length ps ≡ 1
+pub numbers_once : (l : Lexeme) (ps : List ℕ) → AreNumbers (l ∷ []) (map pos ps) → length ps ≡ 1
 numbers_once l ps a = sym (length-pos ps) ∙ one_number a
 
 one_body : (states : Elements) (ls : List Lexeme) (x y : Shares) → IsStartBody states ls x → IsStartBody states ls y → x ≡ y

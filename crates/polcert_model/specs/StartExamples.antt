@@ -1,7 +1,7 @@
 -- Start items over two named states, `a` and `b`: the lexemes behind `start`.
 use Rattle.std.specs.Prelude.{ℕ, List, [], ◌∷◌, codes}
 use Rattle.polcert_text.specs.Cut.{Lexeme}
-use Rattle.polcert_model.specs.Elements.{Elements, Names}
+use Rattle.polcert_model.specs.Elements.{Elements, Count, Names}
 use Rattle.polcert_model.specs.Start.{Shares}
 use Rattle.polcert_model.specs.Examples.{name, numeral, colon}
 
@@ -40,3 +40,20 @@ exclude_none = name (codes "exclude") ∷ colon ∷ []
 
 abbrev pub exclude_all : List Lexeme
 exclude_all = name (codes "exclude") ∷ colon ∷ name (codes "a") ∷ name (codes "b") ∷ []
+
+-- `start: 0.5 0.499999`, `start: 2`, `start: 1.0`
+abbrev pub unsummed_start : List Lexeme
+unsummed_start = colon ∷ numeral (codes "0.5") ∷ numeral (codes "0.499999") ∷ []
+
+abbrev pub third_start : List Lexeme
+third_start = colon ∷ numeral (codes "2") ∷ []
+
+abbrev pub pointed_start : List Lexeme
+pointed_start = colon ∷ numeral (codes "1.0") ∷ []
+
+-- one state alone
+abbrev pub alone : Elements
+alone = Count 1
+
+abbrev pub zero_start : List Lexeme
+zero_start = colon ∷ numeral (codes "0") ∷ []

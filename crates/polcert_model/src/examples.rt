@@ -3,7 +3,7 @@ ghost use Rattle.std.specs.Prelude.{◌≡◌, ◌≢◌, ◌∷◌, [], sum, tr
 ghost use Rattle.polcert_model.specs.Meaning.{t_scale, HasProperRows, sum_below, states_of, actions_of, observations_of, start_total};
 ghost use Rattle.polcert_model.specs.Examples.{first_row, thirds, decimal_thirds, sixths, patterns, reward_table, whole, reward_cells, general_first, general_last};
 ghost use Rattle.polcert_model.specs.Start.{Shares, IsStart};
-ghost use Rattle.polcert_model.specs.StartExamples.{a_b, shares, uniform_start, halves_start, quarters_start, name_start, number_start, include_start, exclude_start, exclude_none, exclude_all};
+ghost use Rattle.polcert_model.specs.StartExamples.{a_b, shares, uniform_start, halves_start, quarters_start, name_start, number_start, include_start, exclude_start, exclude_none, exclude_all, unsummed_start, third_start, pointed_start, alone, zero_start};
 ghost use Rattle.polcert_model.specs.Text.{Denotes};
 ghost use Rattle.polcert_model.specs.Tiger.{tiger, tiger_model, tiger_states, tiger_actions};
 ghost use Rattle.polcert_text.specs.declared.tokens.TokenFault.TheVariants.{Glued};
@@ -40,7 +40,8 @@ pub fn reward_patterns()
 {}
 
 /// Start items over two states: `0.5 0.5` is the uniform start, 0.25 and 0.75 stay millionths, and one state, listed
-/// states and all but some have a share of 1 each. Where no state is left the item isn't right.
+/// states and all but some have a share of 1 each. Where no state is left, the sum isn't one, or one number is no
+/// state's, the item isn't right. One state alone may be given by 0 or by one.
 pub fn starts()
     ensures uniform { IsStart a_b uniform_start (shares (1 ∷ 1 ∷ []) 2) }
     ensures halves { IsStart a_b halves_start (shares (1 ∷ 1 ∷ []) 2) }
@@ -51,6 +52,12 @@ pub fn starts()
     ensures exclude { IsStart a_b exclude_start (shares (0 ∷ 1 ∷ []) 1) }
     ensures exclude_none { IsStart a_b exclude_none (shares (1 ∷ 1 ∷ []) 2) }
     ensures exclude_all { (x : Shares) → IsStart a_b exclude_all x → ⊥ }
+    ensures unsummed { (x : Shares) → IsStart a_b unsummed_start x → ⊥ }
+    ensures no_third { (x : Shares) → IsStart a_b third_start x → ⊥ }
+    ensures no_point { (x : Shares) → IsStart a_b pointed_start x → ⊥ }
+    ensures alone_zero { IsStart alone zero_start (shares (1 ∷ []) 1) }
+    ensures alone_one { IsStart alone number_start (shares (1 ∷ []) 1) }
+    ensures alone_pointed { IsStart alone pointed_start (shares (1 ∷ []) 1) }
 {}
 
 /// Of two reward entries that cover a cell the last holds, in either order.

@@ -12,4 +12,10 @@ returns c = record {
   exclude = examples.exclude_shares;
   exclude_none = examples.exclude_none_shares;
   exclude_all = examples.exclude_all_refused;
+  unsummed = examples.unsummed_refused;
+  no_third = examples.third_refused;
+  no_point = examples.pointed_refused;
+  alone_zero = examples.alone_zero;
+  alone_one = examples.alone_one;
+  alone_pointed = examples.alone_pointed;
 }
