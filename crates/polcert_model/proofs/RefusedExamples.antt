@@ -14,13 +14,15 @@ use Rattle.polcert_model.specs.Preamble.{Preamble}
 use Rattle.polcert_model.specs.Text as texts
 use Rattle.polcert_model.specs.Text.{Known, nothing_known, IsInPreamble, IsComplete, IsRight}
 use Rattle.polcert_model.specs.Narrow.{IsNarrow, IsTaken, AreTaken, narrow_word_fault}
-use Rattle.polcert_model.specs.Reading.{IsWrong}
+use Rattle.polcert_model.specs.Reading.{IsWrong, CannotGoOn, IsPossible}
 use Rattle.polcert_model.specs.FirstWrong.{TextTokens, IsFirstWrong, wrong_front, wrong_item, wrong_last, wrong_end, IsDecided, before_items, at_word, at_end}
 use Rattle.polcert_model.specs.Reasons.{NumberStandsIn, unsigned as unsigned_number, IsNoFraction, InItem}
-use Rattle.polcert_model.specs.Refusals.{IsItemRefusal}
+use Rattle.polcert_model.specs.Refusals.{IsItemRefusal, StopsInBody, at_lexeme}
 use Rattle.polcert_model.specs.RefusedExamples.{name_at, numeral_at, colon_at, empty_text, hello, twice, above_one, glued}
 use Rattle.polcert_model.proofs.Basics.{one_some, same_head}
 use Rattle.polcert_model.proofs.NumberLaws.{one_list}
+use Rattle.polcert_model.proofs.GoOnLaws.{numbers_go_on}
+use Rattle.polcert_model.proofs.Possible.{a_zero, zero_is}
 use Rattle.polcert_model.proofs.Dividing.{empty_division}
 use Rattle.polcert_model.proofs.NarrowLaws.{nothing_narrow}
 use Rattle.polcert_model.proofs.OrderLaws.{not_complete, wrong_at_word}
@@ -158,4 +160,40 @@ glued_refused = record {
   lies = lies_at_fault glued [] cut_item 10 (lit≤ tt, (lit≤ tt, lit≤ tt)) (lit≤ tt) glued_divided;
   reason = (refl, refl, tt);
   decided = λ fault at d. absurd (nothing_decided glued [] cut_item [] nothing_known Discount fault at glued_divided starts (discount_topic 0) refl d);
+}
+
+-- ---- where the discount above one stops being possible
+
+colon_possible : IsPossible nothing_known Discount (colon_at 8 ∷ [])
+colon_possible = record {
+  more = a_zero ∷ [];
+  after = record nothing_known { discount = Some 0 };
+  taken = (
+    texts.discount (let k : IsInPreamble nothing_known = record { no_start = refl; no_entry = refl } in k) refl refl (unsigned (zero_is false) none) (lit≤ tt),
+    record { states = tt; actions = tt; observations = tt; no_start = refl },
+  );
+}
+
+two_stuck : CannotGoOn nothing_known Discount (colon_at 8 ∷ numeral_at 10 (codes "2") ∷ [])
+two_stuck further after (texts.discount {g = g} p e c n l, narrow) =
+    let r = numbers_go_on further (unsigned (two 10) none) n refl in
+    no_fraction g (sym (same_head r.joined)) l
+
+pub above_one_stops : StopsInBody above_one 1 10
+above_one_stops = record {
+  before = [];
+  item = one_item 0 8 10 (codes "2");
+  after = [];
+  divided = above_divided;
+  number_is = refl;
+  k = nothing_known;
+  t = Discount;
+  known = starts;
+  topic_is = discount_topic 0;
+  taken = colon_at 8 ∷ [];
+  rest = numeral_at 10 (codes "2") ∷ [];
+  whole = refl;
+  possible = colon_possible;
+  stops = at_lexeme two_stuck;
+  place_is = refl;
 }

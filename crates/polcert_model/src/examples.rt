@@ -5,10 +5,10 @@ ghost use Rattle.polcert_model.specs.Examples.{first_row, thirds, decimal_thirds
 ghost use Rattle.polcert_model.specs.Start.{Shares, IsStart};
 ghost use Rattle.polcert_model.specs.StartExamples.{a_b, shares, uniform_start, halves_start, quarters_start, name_start, number_start, include_start, exclude_start, exclude_none, exclude_all, unsummed_start, third_start, pointed_start, alone, zero_start};
 ghost use Rattle.polcert_model.specs.Text.{Denotes};
-ghost use Rattle.polcert_model.specs.Tiger.{tiger, tiger_model, tiger_states, tiger_actions};
+ghost use Rattle.polcert_model.specs.Tiger.{tiger, tiger_model};
 ghost use Rattle.polcert_text.specs.declared.tokens.TokenFault.TheVariants.{Glued};
 ghost use Rattle.polcert_model.specs.declared.fault.ItemFault.TheVariants.{Token, MissingLine, BeforeFirstItem, DuplicateLine, DiscountRange};
-ghost use Rattle.polcert_model.specs.Refusals.{IsItemRefusal};
+ghost use Rattle.polcert_model.specs.Refusals.{IsItemRefusal, StopsInBody};
 ghost use Rattle.polcert_model.specs.RefusedExamples.{empty_text, hello, twice, above_one, glued};
 ghost use Rattle.polcert_model.specs.Narrow.{IsTakenText};
 ghost use Rattle.polcert_model.specs.First.{first, first_preamble, first_entries, first_known, first_model};
@@ -90,6 +90,7 @@ pub fn refused_texts()
     ensures hello { IsItemRefusal hello BeforeFirstItem 0 0 }
     ensures twice { IsItemRefusal twice DuplicateLine 2 12 }
     ensures above_one { IsItemRefusal above_one DiscountRange 1 10 }
+    ensures above_one_stops { StopsInBody above_one 1 10 }
     ensures glued { IsItemRefusal glued (Token (Glued 10)) 1 10 }
 {}
 

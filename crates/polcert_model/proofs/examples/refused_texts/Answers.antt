@@ -7,5 +7,6 @@ returns c = record {
   hello = examples.hello_refused;
   twice = examples.twice_refused;
   above_one = examples.above_one_refused;
+  above_one_stops = examples.above_one_stops;
   glued = examples.glued_refused;
 }
