@@ -1,5 +1,5 @@
 -- What is decided at an item's word is one thing, or nothing.
-use Rattle.std.proofs.Common.{◌≡◌, ◌∙◌, ℕ, zero, suc, ◌+◌, Option, Some, None, List, [], ◌∷◌, ◌++◌, length, refl, sym, ap, subst, arith, length-append}
+use Rattle.std.proofs.Common.{◌≡◌, ◌∙◌, ℕ, suc, ◌+◌, Option, Some, None, List, [], ◌∷◌, ◌++◌, length, refl, sym, ap, subst, arith, length-append}
 use Rattle.polcert_text.specs.Cut.{Lexeme}
 use Rattle.polcert_model.specs.declared.fault.ItemFault.{ItemFault}
 use Rattle.polcert_model.specs.Words.{Topic, topic}
@@ -8,7 +8,7 @@ use Rattle.polcert_model.specs.Text.{Known, nothing_known, AreRight}
 use Rattle.polcert_model.specs.Order.{preamble_fault}
 use Rattle.polcert_model.specs.Narrow.{AreTaken, narrow_word_fault}
 use Rattle.polcert_model.specs.FirstWrong.{TextTokens, IsDecided, before_items, at_word, at_end}
-use Rattle.polcert_model.proofs.Basics.{one_some, cons≢nil, same_head, same_tail}
+use Rattle.polcert_model.proofs.Basics.{one_some, same_head, same_tail}
 use Rattle.polcert_model.proofs.ItemLaws.{one_division}
 use Rattle.polcert_model.proofs.TextLaws.{one_known}
 

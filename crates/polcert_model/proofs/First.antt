@@ -1,5 +1,5 @@
 -- The small text by numbers is taken by the narrow stage, and denotes its model.
-use Rattle.std.proofs.Common.{◌≡◌, ℕ, zero, suc, ◌<◌, ◌≤◌, Bool, true, false, Some, None, List, [], ◌∷◌, ◌++◌, length, take, drop, ℤ, pos, codes, refl, arith, lit≤, lit<}
+use Rattle.std.proofs.Common.{◌≡◌, ℕ, zero, suc, ◌<◌, ◌≤◌, Bool, true, false, None, List, [], ◌∷◌, take, ℤ, pos, codes, refl, arith, lit≤, lit<}
 use Rattle.std.proofs.lemmas.List.Elements.{All-from_recursion}
 use Rattle.std.specs.List.{list_any}
 use Rattle.polcert_text.specs.Bytes.{class_of}
@@ -16,11 +16,10 @@ use Rattle.polcert_model.specs.Elements.{Elements, Count, StandsFor, count_of, c
 use Rattle.polcert_model.specs.Items.{Item, IsItem, IsDivided}
 use Rattle.polcert_model.specs.Entry as entries
 use Rattle.polcert_model.specs.Entry.{ArePlaces, IsEntry}
-use Rattle.polcert_model.specs.Preamble.{dimensions}
 use Rattle.polcert_model.specs.Meaning.{HasProperRows, sum_below}
 use Rattle.polcert_model.specs.Text as texts
 use Rattle.polcert_model.specs.Text.{Known, nothing_known, IsInPreamble, IsComplete, AreRight, IsRightText, Denotes}
-use Rattle.polcert_model.specs.Narrow.{IsNarrow, IsTakenText}
+use Rattle.polcert_model.specs.Narrow.{IsTakenText}
 use Rattle.polcert_model.specs.Examples.{name, numeral, colon, transition, observation, rewards}
 use Rattle.polcert_model.specs.Tiger.{minus, minus_whole}
 use Rattle.polcert_model.specs.First.{first, first_preamble, first_entries, first_known, first_model}

@@ -1,5 +1,5 @@
 -- What the bodies of items have to look like, item by item: with these a reader shows where one cannot go on.
-use Rattle.std.proofs.Common.{◌≡◌, ◌∙◌, ℕ, ◌≤◌, ◌==◌, Bool, true, false, ◌⊎◌, inl, inr, Some, None, List, [], ◌∷◌, ◌++◌, length, ℤ, pos, codes, refl, sym, ap, subst, arith}
+use Rattle.std.proofs.Common.{◌≡◌, ◌∙◌, ℕ, ◌≤◌, ◌==◌, true, ◌⊎◌, inl, inr, Some, List, [], ◌∷◌, ◌++◌, length, pos, codes, refl, sym, ap, subst}
 use Rattle.std.specs.List.{list_any}
 use Rattle.polcert_text.specs.Cut.{Lexeme}
 use Rattle.polcert_text.specs.declared.lexeme.TokenKind.TheVariants.{Colon}
@@ -15,7 +15,7 @@ use Rattle.polcert_model.specs.Entry as entries
 use Rattle.polcert_model.specs.Entry.{ArePlaces, IsEntry, forms}
 use Rattle.polcert_model.specs.Text as texts
 use Rattle.polcert_model.specs.Text.{Known, IsRight}
-use Rattle.polcert_model.specs.Narrow.{IsTaken, IsNarrow, IsCounted}
+use Rattle.polcert_model.specs.Narrow.{IsTaken, IsCounted}
 use Rattle.polcert_model.specs.Reading.{IsWrong, CannotGoOn}
 use Rattle.polcert_model.proofs.Basics.{cons≢nil, same_head, same_tail}
 

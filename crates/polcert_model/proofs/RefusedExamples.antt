@@ -1,22 +1,19 @@
 -- Refused texts: kind, item and place are what one expects.
-use Rattle.std.proofs.Common.{◌≡◌, ◌∙◌, ℕ, ◌+◌, ◌≤◌, true, false, Option, Some, None, List, [], ◌∷◌, ◌++◌, length, ℤ, pos, codes, refl, sym, ap, subst, arith, lit≤}
+use Rattle.std.proofs.Common.{◌≡◌, ℕ, ◌≤◌, false, Some, List, [], ◌∷◌, pos, codes, refl, sym, subst, arith, lit≤}
 use Rattle.std.proofs.lemmas.List.Elements.{All-from_recursion}
 use Rattle.polcert_text.specs.Bytes.{class_of}
 use Rattle.polcert_text.specs.Numbers.{number_of, exponent_size, power_of, size_of, millionth}
-use Rattle.polcert_text.specs.Cut.{Lexeme}
 use Rattle.polcert_text.specs.declared.tokens.TokenFault.TheVariants.{Glued}
-use Rattle.polcert_model.specs.declared.fault.ItemFault.{ItemFault}
 use Rattle.polcert_model.specs.declared.fault.ItemFault.TheVariants.{Token, BeforeFirstItem, DuplicateLine, MissingLine, DiscountRange}
-use Rattle.polcert_model.specs.Words.{Topic, Discount, topic, topic_of}
-use Rattle.polcert_model.specs.Numbers.{IsMillionths, AreNumbers, IsNumber, none, unsigned, one}
+use Rattle.polcert_model.specs.Words.{Discount, topic, topic_of}
+use Rattle.polcert_model.specs.Numbers.{IsMillionths, none, unsigned, one}
 use Rattle.polcert_model.specs.Items.{Item, IsItem, IsDivided}
-use Rattle.polcert_model.specs.Preamble.{Preamble}
 use Rattle.polcert_model.specs.Text as texts
 use Rattle.polcert_model.specs.Text.{Known, nothing_known, IsInPreamble, IsComplete, IsRight}
-use Rattle.polcert_model.specs.Narrow.{IsNarrow, IsTaken, AreTaken, narrow_word_fault}
+use Rattle.polcert_model.specs.Narrow.{AreTaken}
 use Rattle.polcert_model.specs.Reading.{IsWrong, CannotGoOn, IsPossible}
-use Rattle.polcert_model.specs.FirstWrong.{TextTokens, IsFirstWrong, wrong_front, wrong_item, wrong_last, wrong_end, IsDecided, before_items, at_word, at_end}
-use Rattle.polcert_model.specs.Reasons.{NumberStandsIn, unsigned as unsigned_number, IsNoFraction, InItem}
+use Rattle.polcert_model.specs.FirstWrong.{wrong_front, wrong_item, wrong_last, wrong_end, IsDecided, before_items, at_word, at_end}
+use Rattle.polcert_model.specs.Reasons.{unsigned as unsigned_number}
 use Rattle.polcert_model.specs.Refusals.{IsItemRefusal, StopsInBody, at_lexeme}
 use Rattle.polcert_model.specs.RefusedExamples.{name_at, numeral_at, colon_at, empty_text, hello, twice, above_one, glued}
 use Rattle.polcert_model.proofs.Basics.{one_some, same_head}

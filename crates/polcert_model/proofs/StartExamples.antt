@@ -1,6 +1,5 @@
 -- Start items over two named states have the shares that one expects.
-use Rattle.std.proofs.Common.{◌≡◌, ◌∙◌, ℕ, ◌<◌, false, Some, inl, inr, sum, List, [], ◌∷◌, map, ℤ, pos, codes, refl, sym, ap, subst, arith, lit≤, lit<}
-use Rattle.std.specs.List.{AllZip}
+use Rattle.std.proofs.Common.{◌≡◌, ◌∙◌, ℕ, ◌<◌, false, inl, inr, sum, List, [], ◌∷◌, map, pos, codes, refl, sym, ap, subst, arith, lit≤, lit<}
 use Rattle.polcert_text.specs.Bytes.{class_of}
 use Rattle.polcert_text.specs.Numbers.{number_of, exponent_size, power_of, size_of, millionth}
 use Rattle.polcert_text.specs.Cut.{Lexeme}
