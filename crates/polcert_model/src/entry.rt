@@ -35,11 +35,11 @@ pub enum Place {
 
 /// A list that grows at its end. Contracts see it as the list.
 #[derive(Debug, Drop)]
-pub struct Sequence<T: Copy> {
+pub struct Sequence<T: Drop> {
     items: Vec<T>,
 }
 
-impl<T: Copy> Model for Sequence<T> {
+impl<T: Drop> Model for Sequence<T> {
     ghost use Rattle.std.specs.Prelude.{List};
 
     ghost Value = { List T };
@@ -47,7 +47,7 @@ impl<T: Copy> Model for Sequence<T> {
     ghost view = { λ s. s.items.items };
 }
 
-impl<T: Copy> Sequence<T> {
+impl<T: Drop> Sequence<T> {
     /// The empty list.
     pub fn new(alloc: Global) -> Self
         ensures { result ≡ [] }
@@ -64,12 +64,11 @@ impl<T: Copy> Sequence<T> {
         self.items.len()
     }
 
-    /// The item at this index, counted from 0.
-    pub fn at(&self, index: usize) -> T
-        requires { index < length self.now }
-        ensures { slice_get self.now index ≡ Some result }
+    /// The items, first to last.
+    pub fn as_slice(&self) -> &[T]
+        ensures { result.now ≡ self.now }
     {
-        self.items[index]
+        self.items.as_slice()
     }
 
     /// Puts the item behind the others. Where memory is wanting the list stays as it was.
@@ -79,6 +78,16 @@ impl<T: Copy> Sequence<T> {
     {
         self.items.push(item)?;
         Ok(())
+    }
+}
+
+impl<T: Copy + Drop> Sequence<T> {
+    /// The item at this index, counted from 0.
+    pub fn at(&self, index: usize) -> T
+        requires { index < length self.now }
+        ensures { slice_get self.now index ≡ Some result }
+    {
+        self.items[index]
     }
 }
 
@@ -128,6 +137,10 @@ mod tests {
         places.push(Place::Only(7))?;
         assert!(rt; places.len() == 2);
         assert_eq!(rt; places.at(1), Place::Only(7));
+        assert_eq!(rt;
+            places.as_slice(),
+            [Place::Every, Place::Only(7)].as_slice()
+        );
         Ok(())
     }
 }
