@@ -15,6 +15,7 @@ pub mod Laws
 pub mod Reading
 pub mod FirstWrong
 pub mod Reasons
+pub mod Misfits
 pub mod Refusals
 pub mod Examples
 pub mod Tiger

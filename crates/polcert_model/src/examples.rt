@@ -1,17 +1,18 @@
 //! Rows and tables computed from small models.
-ghost use Rattle.std.specs.Prelude.{◌≡◌, ◌≢◌, ◌∷◌, [], sum, true, ℕ, pos, neg_ℤ};
+ghost use Rattle.std.specs.Prelude.{codes, Some, None, ◌≡◌, ◌≢◌, ◌∷◌, [], sum, true, ℕ, pos, neg_ℤ};
 ghost use Rattle.polcert_model.specs.Meaning.{t_scale, HasProperRows, sum_below, states_of, actions_of, observations_of, start_total};
-ghost use Rattle.polcert_model.specs.Examples.{first_row, thirds, decimal_thirds, sixths, patterns, reward_table, whole, reward_cells, general_first, general_last};
+ghost use Rattle.polcert_model.specs.Examples.{first_row, thirds, decimal_thirds, sixths, patterns, reward_table, whole, reward_cells, general_first, general_last, name, numeral};
 ghost use Rattle.polcert_model.specs.Start.{Shares, IsStart};
 ghost use Rattle.polcert_model.specs.StartExamples.{a_b, shares, uniform_start, halves_start, quarters_start, name_start, number_start, include_start, exclude_start, exclude_none, exclude_all, unsummed_start, third_start, pointed_start, alone, zero_start};
 ghost use Rattle.polcert_model.specs.Text.{Denotes};
-ghost use Rattle.polcert_model.specs.Tiger.{tiger, tiger_model};
+ghost use Rattle.polcert_model.specs.Tiger.{tiger, tiger_model, star};
 ghost use Rattle.polcert_text.specs.declared.tokens.TokenFault.TheVariants.{Glued};
-ghost use Rattle.polcert_model.specs.declared.fault.ItemFault.TheVariants.{Token, MissingLine, BeforeFirstItem, DuplicateLine, DiscountRange};
+ghost use Rattle.polcert_model.specs.declared.fault.ItemFault.TheVariants.{Token, BadShape, WrongNumberCount, Reset, MissingLine, BeforeFirstItem, DuplicateLine, DiscountRange};
 ghost use Rattle.polcert_model.specs.Refusals.{IsItemRefusal, StopsInBody};
 ghost use Rattle.polcert_model.specs.RefusedExamples.{empty_text, hello, twice, above_one, glued};
 ghost use Rattle.polcert_model.specs.Narrow.{IsTakenText};
 ghost use Rattle.polcert_model.specs.First.{first, first_preamble, first_entries, first_known, first_model};
+ghost use Rattle.polcert_model.specs.Misfits.{misfit, Mark, Index, Number, Digits, EndOfNumbers};
 
 /// `uniform` over three states is exactly a third each.
 pub fn uniform_thirds()
@@ -102,4 +103,15 @@ pub fn first_text()
     ensures heard { first_model.o 0 1 0 ≡ 300_000 }
     ensures paid { first_model.r 0 0 0 0 ≡ neg_ℤ (pos 1_000_000) }
     ensures unpaid { first_model.r 0 1 0 0 ≡ pos 0 }
+{}
+
+/// Kinds of refusals where something else is found than is wanted: too few and too many numbers, a sign with nothing
+/// behind it, `*` where a state is wanted in a start item, and `reset` anywhere.
+pub fn kinds_of_misfits()
+    ensures few { misfit Number None ≡ WrongNumberCount }
+    ensures many { misfit EndOfNumbers (Some (numeral (codes "3"))) ≡ WrongNumberCount }
+    ensures lone_sign { misfit Digits None ≡ BadShape }
+    ensures no_star { misfit Index (Some star) ≡ BadShape }
+    ensures no_colon { misfit Mark (Some (numeral (codes "3"))) ≡ BadShape }
+    ensures reset { misfit Number (Some (name (codes "reset"))) ≡ Reset }
 {}

@@ -8,7 +8,7 @@ mod laws;
 
 pub use entry::{Body, Entry, Place, Sequence, Table};
 pub use examples::{
-    decimals_of_thirds, first_text, refused_texts, reward_order, reward_patterns,
+    decimals_of_thirds, first_text, kinds_of_misfits, refused_texts, reward_order, reward_patterns,
     single_cells_behind_uniform, starts, tiger_problem, uniform_thirds,
 };
 pub use fault::{ItemFault, ModelFault};
