@@ -1,6 +1,6 @@
 -- The kind of a refusal inside a body, by what its place is for and what is found there in place of it. What a number
 -- is worth is another matter: `Reasons` says when its value is refused.
-use Rattle.std.specs.Prelude.{ℕ, Bool, true, false, ◌||◌, Option, Some, None, List, codes, bytes_eq, if◌then◌else◌}
+use Rattle.std.specs.Prelude.{ℕ, Bool, true, false, Option, Some, None, List, codes, bytes_eq, if◌then◌else◌}
 use Rattle.polcert_text.specs.Cut.{Lexeme}
 use Rattle.polcert_text.specs.Lexemes.{are_digits}
 use Rattle.polcert_text.specs.declared.lexeme.TokenKind.{TokenKind}
