@@ -1,6 +1,6 @@
 -- Which items may stand where: what is decided at an item's word, before its body.
 -- Source: the POMDP file format page at pomdp.org: the preamble first, then the start item, then the entries.
-use Rattle.std.specs.Prelude.{ℕ, ◌*◌, Bool, true, false, not, ◌||◌, ◌&&◌, Option, Some, None, is_some, List, [], ◌∷◌, nat_lt, if◌then◌else◌}
+use Rattle.std.specs.Prelude.{ℕ, ◌*◌, Bool, true, false, ◌||◌, ◌&&◌, Option, Some, None, is_some, List, [], ◌∷◌, nat_lt, if◌then◌else◌}
 use Rattle.polcert_model.specs.declared.fault.ItemFault.{ItemFault}
 use Rattle.polcert_model.specs.declared.fault.ItemFault.TheVariants.{DuplicateLine, LateLine, MissingLine, TooManyCells}
 use Rattle.polcert_model.specs.declared.entry.Entry.{Entry}
@@ -48,14 +48,11 @@ cells_are_too_many states actions observations =
     nat_lt most_cells (actions * states * states) || nat_lt most_cells (actions * states * observations)
     || nat_lt most_cells (actions * states * states * observations)
 
-abbrev pub if_too_many : Bool → Option ItemFault
-if_too_many true = Some TooManyCells
-if_too_many false = None
-
 -- why the preamble isn't complete: a line is missing, or else a table has too many cells
 abbrev pub preamble_fault : Known → Option ItemFault
 preamble_fault k =
-    if has_all_lines k then if_too_many (cells_are_too_many (count_in k.states) (count_in k.actions) (count_in k.observations))
+    if has_all_lines k then
+    (if cells_are_too_many (count_in k.states) (count_in k.actions) (count_in k.observations) then Some TooManyCells else None)
     else Some MissingLine
 
 -- why an item of this topic cannot stand behind what is known, whatever its body: the first of these reasons

@@ -1,11 +1,11 @@
 //! What the items of a text have said so far.
-ghost use Rattle.std.specs.Prelude.{◌≡◌, ◌<◌, ◌≤◌, length, drop, get_or, OnOk, OnErr};
+ghost use Rattle.std.specs.Prelude.{◌≡◌, ◌<◌, ◌≤◌, length, drop, get_or, OnOk, OnErr, if◌then◌else◌};
 ghost use Rattle.polcert_model.specs.Elements.{Count};
 ghost use Rattle.polcert_model.specs.Entry.{cells_in};
 ghost use Rattle.polcert_model.specs.EntrySteps.{indices_in};
 ghost use Rattle.polcert_model.specs.KnownView.{least_written, learned, IsSaidWithin};
 ghost use Rattle.polcert_model.specs.Narrow.{narrow_word_fault};
-ghost use Rattle.polcert_model.specs.Order.{preamble_fault, is_late, came_before, cells_are_too_many, if_too_many};
+ghost use Rattle.polcert_model.specs.Order.{preamble_fault, is_late, came_before, cells_are_too_many};
 ghost use Rattle.polcert_model.specs.Text.{nothing_known};
 
 use crate::item::Said;
@@ -178,7 +178,7 @@ fn cells_fault(states: usize, actions: usize, observations: usize) -> Option<Ite
     requires states { states ≤ 1000 }
     requires actions { actions ≤ 1000 }
     requires observations { observations ≤ 1000 }
-    ensures { result ≡ if_too_many (cells_are_too_many states actions observations) }
+    ensures { result ≡ (if cells_are_too_many states actions observations then Some ItemFault.TooManyCells else None) }
 {
     let pairs = actions * states;
     let transitions = pairs * states;
