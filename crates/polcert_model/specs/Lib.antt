@@ -26,3 +26,4 @@ pub mod Tiger
 pub mod First
 pub mod RefusedExamples
 pub mod StartExamples
+pub mod ItemSteps

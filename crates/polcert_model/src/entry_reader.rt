@@ -5,15 +5,17 @@ ghost use Rattle.polcert_model.specs.Elements.{Elements, Count};
 ghost use Rattle.polcert_model.specs.Entry.{IsPlace};
 ghost use Rattle.polcert_model.specs.KnownView.{least_written};
 ghost use Rattle.polcert_model.specs.LineSteps.{Takes, CannotTake, CannotEnd};
-ghost use Rattle.polcert_model.specs.EntrySteps.{indices_in, ProbabilitiesGo, RewardsGo, EntryGoes, IsWithinIndices, IsEntryReason, IsPlaceReason, IfRefused, IsFull, IsListReason, MayStand, IsWordBehind, AreBegun, CannotBegin, range_of, no_numbers, body_of, AreSome};
+ghost use Rattle.polcert_model.specs.EntrySteps.{indices_in, ProbabilitiesGo, RewardsGo, EntryGoes, IsWithinIndices, IsEntryReason, IsPlaceReason, IfRefused, IsFull, IsListReason, MayStand, IsWordBehind, AreBegun, CannotBegin, range_of, no_numbers, body_of, entry_sign, AreSome};
+ghost use Rattle.polcert_model.specs.ItemSteps.{SignIs, IsEndReason};
 ghost use Rattle.polcert_model.specs.Text.{Known};
+ghost use Rattle.polcert_model.specs.Words.{Topic};
 ghost use Rattle.polcert_model.specs.declared.entry.Place.{Place};
 ghost use Rattle.polcert_model.specs.declared.entry_reader.Word.{Word};
 
 use crate::known::Known;
 use crate::lines::colon;
 use crate::number::{Range, Refusal, Sign, Step, behind_numbers, misplaced, number_step};
-use crate::words::{is_reserved, is_word};
+use crate::words::{Topic, is_reserved, is_word};
 use crate::{Body, Entry, ItemFault, Place, Sequence, Table};
 use polcert_text::{Token, TokenKind, whole_number};
 use std::alloc::{AllocError, Global};
@@ -72,7 +74,8 @@ impl<T: Copy> Numbers<T> {
 
     /// Why the list cannot end here, if it cannot.
     fn end_fault(&self) -> Option<ItemFault>
-        ensures { MatchOption result (IsFull self.now) (λ _. IsFull self.now → ⊥) }
+        ensures full { MatchOption result (IsFull self.now) (λ _. IsFull self.now → ⊥) }
+        ensures reason { IfSome result (λ fault. (t : Topic) → IsEndReason t fault) }
     {
         match self.sign {
             Some(_) => Some(ItemFault::BadShape),
@@ -89,6 +92,7 @@ impl Numbers<u32> {
         ensures refused { IfErr result (λ stop. IfRefused stop (λ r. CannotTake ProbabilitiesGo self.old (lexeme_of token.entry))) }
         ensures reason { IfErr result (λ stop. IfRefused stop (λ r.
             IsListReason Range.Probability self.old.sign (lexeme_of token.entry) r.kind r.place)) }
+        ensures sign { OnOk result (SignIs self.new.sign (lexeme_of token.entry)) }
     {
         if self.is_full() {
             return Err(Stop::Refused(behind_numbers(token)));
@@ -111,6 +115,7 @@ impl Numbers<i64> {
         ensures refused { IfErr result (λ stop. IfRefused stop (λ r. CannotTake RewardsGo self.old (lexeme_of token.entry))) }
         ensures reason { IfErr result (λ stop. IfRefused stop (λ r.
             IsListReason Range.Reward self.old.sign (lexeme_of token.entry) r.kind r.place)) }
+        ensures sign { OnOk result (SignIs self.new.sign (lexeme_of token.entry)) }
     {
         if self.is_full() {
             return Err(Stop::Refused(behind_numbers(token)));
@@ -179,6 +184,7 @@ impl EntryReader {
             CannotTake (EntryGoes (indices_in known.now self.old.table)) self.old (lexeme_of token.entry))) }
         ensures reason { IfErr result (λ stop. IfRefused stop (λ r.
             IsEntryReason self.old (lexeme_of token.entry) r.kind r.place)) }
+        ensures sign { OnOk result (SignIs (entry_sign self.new.state) (lexeme_of token.entry)) }
     {
         match &mut self.state {
             EntryState::Colon => {
@@ -206,6 +212,7 @@ impl EntryReader {
             CannotTake (EntryGoes (indices_in known.now self.old.table)) self.old (lexeme_of token.entry))) }
         ensures reason { IfErr result (λ stop. IfRefused stop (λ r.
             IsPlaceReason (lexeme_of token.entry) r.kind r.place)) }
+        ensures sign { OnOk result (SignIs (entry_sign self.new.state) (lexeme_of token.entry)) }
     {
         let count = known.dimension(self.table, self.places.len());
         let place = place_of(token, count)?;
@@ -226,6 +233,7 @@ impl EntryReader {
             CannotTake (EntryGoes (indices_in known.now self.old.table)) self.old (lexeme_of token.entry))) }
         ensures reason { IfErr result (λ stop. IfRefused stop (λ r.
             IsEntryReason self.old (lexeme_of token.entry) r.kind r.place)) }
+        ensures sign { OnOk result (SignIs (entry_sign self.new.state) (lexeme_of token.entry)) }
     {
         let written = self.places.len();
         match token.kind {
@@ -253,6 +261,7 @@ impl EntryReader {
     pub fn end(self) -> Result<Entry, ItemFault>
         ensures said { (ds : List Elements) → IfOk result (EntryGoes ds self []) }
         ensures refused { (ds : List Elements) → AreSome ds → OnErr result (CannotEnd (EntryGoes ds) self) }
+        ensures reason { IfErr result (IsEndReason (Topic.Cells self.table)) }
     {
         let EntryReader {
             table,
@@ -302,6 +311,7 @@ fn begin_numbers(
     ensures refused { IfErr result (λ stop. IfRefused stop (λ r. CannotBegin table needed (lexeme_of token.entry))) }
     ensures reason { IfErr result (λ stop. IfRefused stop (λ r.
         IsListReason (range_of table) None (lexeme_of token.entry) r.kind r.place)) }
+    ensures sign { IfOk result (λ state. SignIs (entry_sign state) (lexeme_of token.entry)) }
 {
     match table {
         Table::Reward => Ok(EntryState::Rewards(begin_rewards(alloc, needed, token)?)),
@@ -318,6 +328,7 @@ fn begin_rewards(alloc: Global, needed: usize, token: Token<'_>) -> Result<Numbe
         CannotTake RewardsGo (no_numbers needed) (lexeme_of token.entry))) }
     ensures reason { IfErr result (λ stop. IfRefused stop (λ r.
         IsListReason Range.Reward None (lexeme_of token.entry) r.kind r.place)) }
+    ensures sign { IfOk result (λ n. SignIs n.sign (lexeme_of token.entry)) }
 {
     let mut numbers = Numbers::new(alloc, needed);
     numbers.feed_reward(token)?;
@@ -331,6 +342,7 @@ fn begin_probabilities(alloc: Global, needed: usize, token: Token<'_>) -> Result
         CannotTake ProbabilitiesGo (no_numbers needed) (lexeme_of token.entry))) }
     ensures reason { IfErr result (λ stop. IfRefused stop (λ r.
         IsListReason Range.Probability None (lexeme_of token.entry) r.kind r.place)) }
+    ensures sign { IfOk result (λ n. SignIs n.sign (lexeme_of token.entry)) }
 {
     let mut numbers = Numbers::new(alloc, needed);
     numbers.feed_probability(token)?;

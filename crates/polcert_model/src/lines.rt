@@ -2,11 +2,13 @@
 ghost use Rattle.std.specs.Prelude.{◌≡◌, OnOk, OnErr, IfOk, IfErr, [], ◌∷◌, ◌≢◌};
 ghost use Rattle.polcert_text.specs.Reading.{lexeme_of};
 ghost use Rattle.polcert_model.specs.NumberSteps.{IsMisplaced};
-ghost use Rattle.polcert_model.specs.LineSteps.{Takes, CannotTake, CannotEnd, DiscountGoes, DiscountReason, ValuesGoes, WordRest, CountGoes, IsCountOf, CountReason};
+ghost use Rattle.polcert_model.specs.LineSteps.{Takes, CannotTake, CannotEnd, DiscountGoes, DiscountReason, ValuesGoes, WordRest, CountGoes, IsCountOf, CountReason, discount_sign};
+ghost use Rattle.polcert_model.specs.ItemSteps.{SignIs, IsCountRead, IsEndReason};
+ghost use Rattle.polcert_model.specs.KnownView.{IsCountWithin};
 
 use crate::ItemFault;
 use crate::number::{Range, Refusal, Sign, Step, behind_numbers, misplaced, number_step};
-use crate::words::is_word;
+use crate::words::{Topic, is_word};
 use polcert_text::{Token, TokenKind, whole_number};
 
 const MOST_ELEMENTS: usize = 1000;
@@ -25,6 +27,7 @@ impl DiscountReader {
         ensures takes { OnOk result (Takes DiscountGoes self.old (lexeme_of token.entry) self.new) }
         ensures refused { OnErr result (CannotTake DiscountGoes self.old (lexeme_of token.entry)) }
         ensures reason { IfErr result (λ r. DiscountReason self.old (lexeme_of token.entry) r.kind r.place) }
+        ensures sign { OnOk result (SignIs (discount_sign self.new) (lexeme_of token.entry)) }
     {
         match *self {
             DiscountReader::Colon => {
@@ -46,6 +49,7 @@ impl DiscountReader {
     /// What the line says, or why it cannot end here.
     pub fn end(self) -> Result<u32, ItemFault>
         ensures said { IfOk result (DiscountGoes self []) }
+        ensures reason { IfErr result (IsEndReason Topic.Discount) }
         ensures refused { OnErr result (CannotEnd DiscountGoes self) }
     {
         match self {
@@ -88,6 +92,7 @@ impl ValuesReader {
     /// What the line says, or why it cannot end here.
     pub fn end(self) -> Result<bool, ItemFault>
         ensures said { IfOk result (ValuesGoes self []) }
+        ensures reason { IfErr result (IsEndReason Topic.Values) }
         ensures refused { OnErr result (CannotEnd ValuesGoes self) }
     {
         match self {
@@ -126,6 +131,7 @@ impl CountReader {
         ensures takes { OnOk result (Takes CountGoes self.old (lexeme_of token.entry) self.new) }
         ensures refused { OnErr result (CannotTake CountGoes self.old (lexeme_of token.entry)) }
         ensures reason { IfErr result (λ r. CountReason (lexeme_of token.entry) r.kind r.place) }
+        ensures within { OnOk result (IsCountRead self.new) }
     {
         match *self {
             CountReader::Colon => {
@@ -144,6 +150,8 @@ impl CountReader {
     /// What the line says, or why it cannot end here.
     pub fn end(self) -> Result<usize, ItemFault>
         ensures said { IfOk result (CountGoes self []) }
+        ensures within { IsCountRead self → IfOk result IsCountWithin }
+        ensures reason { IfErr result (IsEndReason Topic.States) }
         ensures refused { OnErr result (CannotEnd CountGoes self) }
     {
         match self {

@@ -53,13 +53,13 @@ returns-in-None-clause-refused c =
     let none = c.in-None.ensures.none in
     elim c.in_default.branch [
       | in_default-via-in-Colon+else-written-indices_of w ↦
-        let count = w.indices_of.ensures c.args.known.now in
-        let full : length ds ≤ length r.places = omega (arith, count, w.if-written-indices_of.false, c.len-written.ensures) in
-        stuck_in_state ds r states.Body l c.requires.state (colon_stuck ds r.table r.places l w.in-Colon.is full)
+          let count = w.indices_of.ensures c.args.known.now in
+          let full : length ds ≤ length r.places = omega (arith, count, w.if-written-indices_of.false, c.len-written.ensures) in
+          stuck_in_state ds r states.Body l c.requires.state (colon_stuck ds r.table r.places l w.in-Colon.is full)
       | in_default-via-in-Numeral+else-takes_numbers w ↦
-        stuck_in_state ds r states.Body l c.requires.state (few_stuck ds r.table r.places l w.in-Numeral.is (λ low. true≢false (w.takes_numbers.ensures.1 (subst (λ n. least_written r.table ≤ n) (sym c.len-written.ensures) low)) w.if-takes_numbers.false))
+          stuck_in_state ds r states.Body l c.requires.state (few_stuck ds r.table r.places l w.in-Numeral.is (λ low. true≢false (w.takes_numbers.ensures.1 (subst (λ n. least_written r.table ≤ n) (sym c.len-written.ensures) low)) w.if-takes_numbers.false))
       | in_default-via-in_default w ↦
-        stuck_in_state ds r states.Body l c.requires.state (nothing_takes ds r.table r.places l w.in_default.not-Colon
-        (λ ls hs a. begins_no_number w.in_default.not-Numeral w.in_default.not-Plus w.in_default.not-Minus a)
-        (λ word is. none word (subst (λ n. IsWordBehind r.table n l word) (sym c.len-written.ensures) is)))
+          stuck_in_state ds r states.Body l c.requires.state (nothing_takes ds r.table r.places l w.in_default.not-Colon
+          (λ ls hs a. begins_no_number w.in_default.not-Numeral w.in_default.not-Plus w.in_default.not-Minus a)
+          (λ word is. none word (subst (λ n. IsWordBehind r.table n l word) (sym c.len-written.ensures) is)))
     ]
