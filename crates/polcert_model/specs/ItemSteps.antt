@@ -1,6 +1,6 @@
 -- An item, token by token: what is still to come of an item that was read so far.
 -- Nobody has to believe this: only contracts of private functions cite it.
-use Rattle.std.specs.Prelude.{◌≡◌, ℕ, Bool, Option, Some, None, List, [], codes}
+use Rattle.std.specs.Prelude.{◌≡◌, ℕ, Bool, false, Option, Some, None, List, [], codes}
 use Rattle.polcert_text.specs.Cut.{Lexeme}
 use Rattle.polcert_model.specs.declared.fault.ItemFault.{ItemFault}
 use Rattle.polcert_model.specs.declared.fault.ItemFault.TheVariants.{Number, BadShape, BadCount, UnknownName, IndexOutOfRange, WrongNumberCount, ProbabilityRange, DiscountRange, Reset}
@@ -18,7 +18,7 @@ use Rattle.polcert_model.specs.declared.entry_reader.EntryState.TheVariants as s
 use Rattle.polcert_model.specs.declared.number.Sign.{Sign}
 use Rattle.polcert_model.specs.Words.{Topic, Discount, Values, States, Actions, Observations, Start, Cells, IsWord, IsName}
 use Rattle.polcert_model.specs.Text.{Known}
-use Rattle.polcert_model.specs.Reasons.{IsRefusedNumber, IsNoFraction, IsDigits, IsOfElements, IsOfProbabilities}
+use Rattle.polcert_model.specs.Reasons.{is_sign, IsRefusedNumber, IsNoFraction, IsDigits, IsOfElements, IsOfProbabilities}
 use Rattle.polcert_model.specs.NumberSteps.{IsSignAt, is_negative, number_place}
 use Rattle.polcert_model.specs.LineSteps.{DiscountGoes, discount_sign, ValuesGoes, CountGoes}
 use Rattle.polcert_model.specs.EntrySteps.{indices_in, EntryGoes, IsWithinIndices, entry_sign, AreSome}
@@ -92,11 +92,12 @@ IsEndReason t BadShape = Unit {0}
 IsEndReason t WrongNumberCount = Unit {0}
 IsEndReason t _ = ⊥
 
--- the sign that waits for its numeral is this lexeme
+-- the sign that waits for its numeral is this lexeme, and otherwise it is no sign
 abbrev pub SignIs : Option Sign → Lexeme → Type 0
-SignIs None l = Unit {0}
+SignIs None l = is_sign l.kind ≡ false
 SignIs (Some sign) l = IsSignAt sign l
 
--- every index of every table numbers something
-abbrev pub HasElements : Known → Type 0
-HasElements k = (table : Table) → AreSome (indices_in k table)
+-- in an entry, every index of its table numbers something
+abbrev pub HasElements : Known → Topic → Type 0
+HasElements k (Cells table) = AreSome (indices_in k table)
+HasElements k _ = Unit {0}

@@ -27,3 +27,4 @@ pub mod First
 pub mod RefusedExamples
 pub mod StartExamples
 pub mod ItemSteps
+pub mod TextSteps

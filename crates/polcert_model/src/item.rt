@@ -79,7 +79,7 @@ impl ItemReader {
     pub fn end(self) -> Result<Said, ItemFault>
         ensures said { (k : Known) → IfOk result (λ said. ItemGoes k self [] (learned k said)) }
         ensures within { (k : Known) → IsItemWithin k self → IfOk result IsSaidWithin }
-        ensures refused { (k : Known) → HasElements k → OnErr result (CannotEnd (ItemGoes k) self) }
+        ensures refused { (k : Known) → HasElements k (topic_in self) → OnErr result (CannotEnd (ItemGoes k) self) }
         ensures reason { IfErr result (IsEndReason (topic_in self)) }
     {
         match self {

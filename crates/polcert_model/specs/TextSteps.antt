@@ -1,0 +1,80 @@
+-- A text, item by item: what its reader holds behind the lexemes so far.
+-- Nobody has to believe this: only contracts of private functions cite it.
+use Rattle.std.specs.Prelude.{◌≡◌, ℕ, ◌+◌, ◌<◌, Bool, true, false, Option, Some, None, List, [], ◌∷◌, ◌++◌, length}
+use Rattle.polcert_text.specs.Cut.{Lexeme}
+use Rattle.polcert_text.specs.declared.tokens.TokenFault.{TokenFault}
+use Rattle.polcert_text.specs.declared.tokens.TokenFault.TheVariants as token_faults
+use Rattle.polcert_model.specs.declared.fault.ItemFault.{ItemFault}
+use Rattle.polcert_model.specs.declared.fault.ItemFault.TheVariants.{Token, TextTooLong}
+use Rattle.polcert_model.specs.declared.fault.ModelFault.{ModelFault}
+use Rattle.polcert_model.specs.declared.item.ItemReader.{ItemReader}
+use Rattle.polcert_model.specs.declared.number.Sign.{Sign}
+use Rattle.polcert_model.specs.declared.reader.TextReader.{TextReader}
+use Rattle.polcert_model.specs.Words.{Topic, begins_item}
+use Rattle.polcert_model.specs.Text.{Known, nothing_known}
+use Rattle.polcert_model.specs.Narrow.{IsTaken, narrow_word_fault}
+use Rattle.polcert_model.specs.Reading.{AreRightItems, IsWithinItem}
+use Rattle.polcert_model.specs.FirstWrong.{TextTokens, AreTokensOf}
+use Rattle.polcert_model.specs.Reasons.{is_sign, ends_in_sign}
+use Rattle.polcert_model.specs.Refusals.{IsRefusal}
+use Rattle.polcert_model.specs.NumberSteps.{IsSignAt}
+use Rattle.polcert_model.specs.ItemSteps.{ItemGoes, IsItemWithin, topic_in, sign_in}
+
+-- the sign that waits for its numeral ends the body, and otherwise no sign does
+abbrev pub SignEnds : Option Sign → List Lexeme → Type 0
+SignEnds None body = ends_in_sign body ≡ false
+SignEnds (Some sign) body = (before : List Lexeme) × ((l : Lexeme) × ((body ≡ before ++ l ∷ []) × IsSignAt sign l))
+
+-- the item's body so far, and what its reader makes of what is still to come of it
+pub record IsBodyRead (k : Known) (t : Topic) (body : List Lexeme) (item : ItemReader) : Type 0 where
+  pub may_stand : narrow_word_fault k t ≡ None
+  pub topic_is : topic_in item ≡ t
+  pub within : IsItemWithin k item
+  pub sign : SignEnds (sign_in item) body
+  pub back : (ls : List Lexeme) (next : Known) → ItemGoes k item ls next → IsTaken k t (body ++ ls) next
+  pub on : (ls : List Lexeme) (next : Known) → IsTaken k t (body ++ ls) next → ItemGoes k item ls next
+
+-- within an item, behind right ones
+pub record IsItemRead (seen : List Lexeme) (r : TextReader) : Type 0 where
+  pub t : Topic
+  pub body : List Lexeme
+  pub item : ItemReader
+  pub within : IsWithinItem seen r.known t body
+  pub item_is : r.item ≡ Some item
+  pub number_is : r.number ≡ length within.items.items + 1
+  pub read : IsBodyRead r.known t body item
+
+-- before the first item
+pub record IsNothingRead (seen : List Lexeme) (r : TextReader) : Type 0 where
+  pub nothing : seen ≡ []
+  pub known_is : r.known ≡ nothing_known
+  pub item_is : r.item ≡ None
+  pub number_is : r.number ≡ 0
+
+pub data IsTextRead (seen : List Lexeme) (r : TextReader) : Type 0 where
+  nothing : IsNothingRead seen r → IsTextRead seen r
+  item : IsItemRead seen r → IsTextRead seen r
+
+-- behind right items, before the next
+pub record AreItemsRead (seen : List Lexeme) (r : TextReader) : Type 0 where
+  pub items : AreRightItems seen r.known
+  pub item_is : r.item ≡ None
+  pub number_is : r.number ≡ length items.items
+
+-- a refusal of each text whose lexemes begin with these
+abbrev pub IsRefusedBehind : List Lexeme → ModelFault → Type 0
+IsRefusedBehind seen fault = (text : List ℕ) (ts : TextTokens) (further : List Lexeme) → AreTokensOf text ts → ts.lexemes ≡ seen ++ further → IsRefusal ts fault
+
+-- an item ends at this place behind the lexemes: at the next item's word, or at the end of the text
+pub data EndsItem (ts : TextTokens) (seen : List Lexeme) (place : ℕ) : Type 0 where
+  at_word : (next : Lexeme) (further : List Lexeme) → ts.lexemes ≡ seen ++ next ∷ further → begins_item next ≡ true → place ≡ next.place → EndsItem ts seen place
+  at_end : ts.lexemes ≡ seen → place ≡ ts.end → EndsItem ts seen place
+
+-- a refusal where an item ends here
+abbrev pub IsRefusedAt : List Lexeme → ℕ → ModelFault → Type 0
+IsRefusedAt seen place fault = (text : List ℕ) (ts : TextTokens) → AreTokensOf text ts → EndsItem ts seen place → IsRefusal ts fault
+
+-- how a fault of the tokens is named
+abbrev pub fault_kind : TokenFault → ItemFault
+fault_kind (token_faults.TextTooLong at) = TextTooLong
+fault_kind f = Token f
