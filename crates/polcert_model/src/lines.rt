@@ -1,10 +1,11 @@
 //! The lines of the preamble, read token by token behind their word.
-ghost use Rattle.std.specs.Prelude.{◌≡◌, OnOk, OnErr, IfOk, IfErr, [], ◌∷◌, ◌≢◌};
+ghost use Rattle.std.specs.Prelude.{◌≡◌, false, OnOk, OnErr, IfOk, IfErr, [], ◌∷◌, ◌≢◌};
 ghost use Rattle.polcert_text.specs.Reading.{lexeme_of};
 ghost use Rattle.polcert_model.specs.NumberSteps.{IsMisplaced};
 ghost use Rattle.polcert_model.specs.LineSteps.{Takes, CannotTake, CannotEnd, DiscountGoes, DiscountReason, ValuesGoes, WordRest, CountGoes, IsCountOf, CountReason, discount_sign};
 ghost use Rattle.polcert_model.specs.ItemSteps.{SignIs, IsCountRead, IsEndReason};
 ghost use Rattle.polcert_model.specs.KnownView.{IsCountWithin};
+ghost use Rattle.polcert_model.specs.Reasons.{is_sign};
 
 use crate::ItemFault;
 use crate::number::{Range, Refusal, Sign, Step, behind_numbers, misplaced, number_step};
@@ -74,6 +75,7 @@ impl ValuesReader {
         ensures takes { OnOk result (Takes ValuesGoes self.old (lexeme_of token.entry) self.new) }
         ensures refused { OnErr result (CannotTake ValuesGoes self.old (lexeme_of token.entry)) }
         ensures reason { IfErr result (λ r. IsMisplaced (lexeme_of token.entry) r.kind r.place) }
+        ensures sign { OnOk result (is_sign (lexeme_of token.entry).kind ≡ false) }
     {
         match *self {
             ValuesReader::Colon => {
@@ -107,6 +109,7 @@ fn costs_of(token: Token<'_>) -> Result<bool, Refusal>
     ensures word { IfOk result (WordRest (lexeme_of token.entry ∷ [])) }
     ensures refused { OnErr result (CannotTake ValuesGoes ValuesReader.Word (lexeme_of token.entry)) }
     ensures reason { IfErr result (λ r. IsMisplaced (lexeme_of token.entry) r.kind r.place) }
+    ensures sign { OnOk result (is_sign (lexeme_of token.entry).kind ≡ false) }
 {
     if is_word(&token, b"reward") {
         return Ok(false);
@@ -132,6 +135,7 @@ impl CountReader {
         ensures refused { OnErr result (CannotTake CountGoes self.old (lexeme_of token.entry)) }
         ensures reason { IfErr result (λ r. CountReason (lexeme_of token.entry) r.kind r.place) }
         ensures within { OnOk result (IsCountRead self.new) }
+        ensures sign { OnOk result (is_sign (lexeme_of token.entry).kind ≡ false) }
     {
         match *self {
             CountReader::Colon => {
@@ -167,6 +171,7 @@ fn count_of(token: Token<'_>) -> Result<usize, Refusal>
     ensures count { IfOk result (IsCountOf (lexeme_of token.entry)) }
     ensures refused { OnErr result (CannotTake CountGoes CountReader.Count (lexeme_of token.entry)) }
     ensures reason { IfErr result (λ r. CountReason (lexeme_of token.entry) r.kind r.place) }
+    ensures sign { OnOk result (is_sign (lexeme_of token.entry).kind ≡ false) }
 {
     match token.kind {
         TokenKind::Numeral => match whole_number(MOST_ELEMENTS + 1, token.bytes) {
