@@ -22,6 +22,7 @@ pub mod StepLaws
 pub mod LineLaws
 pub mod ListLaws
 pub mod PatternLaws
+pub mod TakenItems
 pub mod Tiger
 pub mod RefusedExamples
 pub mod StartExamples

@@ -109,7 +109,7 @@ reward_within : (p : Preamble) (es : List Entry) (indices : List ℕ) → Entrie
 reward_within p es indices a = found_within p es indices (last_covering es Reward indices) a (last_is es Reward indices)
 
 -- ---- what the items so far say
-abbrev CountWithin : Option Elements → Type 0
+abbrev pub CountWithin : Option Elements → Type 0
 CountWithin None = Unit {0}
 CountWithin (Some e) = IsCount most_elements (count_of e)
 
@@ -152,6 +152,13 @@ all_within : (k : Known) (items : List Item) (end : Known) → KnownWithin k →
 all_within k items end w texts.none = w
 all_within k (item ∷ items) end w (texts.more {next = next} t e a behind) = all_within next items end (right_within k t item.body next w a) behind
 
+nothing_within : KnownWithin nothing_known
+nothing_within = record { start = tt; discount = tt; states = tt; actions = tt; observations = tt; entries = tt }
+
+-- the counts that right items give
+pub counts_within : (items : List Item) (k : Known) → AreRight nothing_known items k → CountWithin k.states × (CountWithin k.actions × CountWithin k.observations)
+counts_within items k right = let w = all_within nothing_known items k nothing_within right in (w.states, (w.actions, w.observations))
+
 -- ---- what is denoted
 one_of_sum : (f : ℕ → ℕ) (n i : ℕ) → i < n → f i ≤ sum_below f n
 one_of_sum f zero i l = absurd (omega (arith, l))
@@ -167,7 +174,7 @@ start_within e (Some weights) count w = w
 
 pub within_limits : (ls : List Lexeme) (m : Meaning) → Denotes ls m → IsWithinLimits m
 within_limits ls m d =
-    let w = all_within nothing_known d.right.items d.known (record { start = tt; discount = tt; states = tt; actions = tt; observations = tt; entries = tt }) d.right.right in
+    let w = all_within nothing_known d.right.items d.known nothing_within d.right.right in
     let c = d.right.complete in
     let p : m.preamble ≡ d.preamble = d.same.preamble in
     let found : IsFair (count_of d.preamble.states) (unwrap_or d.known.start (alike (count_of d.preamble.states) (λ s. true))) =
