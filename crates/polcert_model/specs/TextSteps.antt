@@ -12,6 +12,7 @@ use Rattle.polcert_model.specs.declared.number.Sign.{Sign}
 use Rattle.polcert_model.specs.declared.reader.TextReader.{TextReader}
 use Rattle.polcert_model.specs.Words.{Topic, begins_item}
 use Rattle.polcert_model.specs.Text.{Known, nothing_known}
+use Rattle.polcert_model.specs.Order.{preamble_fault}
 use Rattle.polcert_model.specs.Narrow.{IsTaken, narrow_word_fault}
 use Rattle.polcert_model.specs.Reading.{AreRightItems, IsWithinItem}
 use Rattle.polcert_model.specs.FirstWrong.{TextTokens, AreTokensOf}
@@ -78,3 +79,12 @@ IsRefusedAt seen place fault = (text : List ℕ) (ts : TextTokens) → AreTokens
 abbrev pub fault_kind : TokenFault → ItemFault
 fault_kind (token_faults.TextTooLong at) = TextTooLong
 fault_kind f = Token f
+
+-- the whole text was read: its items are right, and its preamble is complete
+pub record IsWholeRead (seen : List Lexeme) (k : Known) : Type 0 where
+  pub items : AreRightItems seen k
+  pub complete : preamble_fault k ≡ None
+
+-- a refusal where the text ends cleanly here
+abbrev pub IsRefusedWhole : List Lexeme → ℕ → ModelFault → Type 0
+IsRefusedWhole seen place fault = (text : List ℕ) (ts : TextTokens) → AreTokensOf text ts → ts.lexemes ≡ seen → ts.ending ≡ None → ts.end ≡ place → IsRefusal ts fault

@@ -1,4 +1,10 @@
 //! A model's text, read item by item.
+ghost use Rattle.std.specs.Prelude.{◌≡◌, ◌+◌, ◌<◌, ◌≤◌, ◌^◌, ◌++◌, ◌∷◌, [], Some, false, List, MatchResult};
+ghost use Rattle.polcert_text.specs.Cut.{Lexeme};
+ghost use Rattle.polcert_text.specs.Reading.{lexeme_of, fault_place};
+ghost use Rattle.polcert_model.specs.Words.{topic, begins_item};
+ghost use Rattle.polcert_model.specs.TextSteps.{IsTextRead, AreItemsRead, IsWholeRead, IsRefusedBehind, IsRefusedAt, IsRefusedWhole, fault_kind};
+
 use crate::entry_reader::Stop;
 use crate::item::ItemReader;
 use crate::known::Known;
@@ -6,7 +12,7 @@ use crate::model::Model;
 use crate::words::{Topic, begun_topic};
 use crate::{ItemFault, ModelFault};
 use polcert_text::{TEXT_LIMIT, Token, TokenFault, Tokens};
-use std::alloc::Global;
+use std::alloc::{AllocError, Global};
 
 /// Reads the items of a text, token by token.
 #[derive(Drop)]
@@ -17,7 +23,10 @@ struct TextReader {
 }
 
 impl TextReader {
-    fn new(alloc: Global) -> TextReader {
+    fn new(alloc: Global) -> TextReader
+        ensures read { IsTextRead [] result }
+        ensures number { result.number ≡ 0 }
+    {
         TextReader {
             known: Known::new(alloc),
             item: None,
@@ -25,7 +34,9 @@ impl TextReader {
         }
     }
 
-    fn fault(&self, kind: ItemFault, place: u64) -> ModelFault {
+    fn fault(&self, kind: ItemFault, place: u64) -> ModelFault
+        ensures { result ≡ ModelFault.Item kind self.now.number place }
+    {
         ModelFault::Item {
             kind,
             item: self.number,
@@ -34,7 +45,14 @@ impl TextReader {
     }
 
     /// Goes on with the next token.
-    fn take(&mut self, alloc: Global, token: Token<'_>) -> Result<(), ModelFault> {
+    fn take(&mut self, alloc: Global, token: Token<'_>) -> Result<(), ModelFault>
+        requires read { (seen : List Lexeme) × IsTextRead seen self.old }
+        requires few { self.old.number < 2 ^ 63 }
+        ensures number { self.new.number ≤ self.old.number + 1 }
+        ensures read { let l = lexeme_of token.entry in (seen : List Lexeme) → IsTextRead seen self.old → MatchResult result
+            (λ _. IsTextRead (seen ++ l ∷ []) self.new)
+            (IsRefusedBehind (seen ++ l ∷ [])) }
+    {
         match begun_topic(&token) {
             Some(topic) => {
                 self.close(token.place)?;
@@ -44,7 +62,14 @@ impl TextReader {
         }
     }
 
-    fn feed(&mut self, alloc: Global, token: Token<'_>) -> Result<(), ModelFault> {
+    /// Goes on with a token that begins no item.
+    fn feed(&mut self, alloc: Global, token: Token<'_>) -> Result<(), ModelFault>
+        requires { (seen : List Lexeme) × IsTextRead seen self.old }
+        ensures number { self.new.number ≡ self.old.number }
+        ensures read { let l = lexeme_of token.entry in (seen : List Lexeme) → IsTextRead seen self.old → begins_item l ≡ false → MatchResult result
+            (λ _. IsTextRead (seen ++ l ∷ []) self.new)
+            (IsRefusedBehind (seen ++ l ∷ [])) }
+    {
         let Some(item) = &mut self.item else {
             return Err(self.fault(ItemFault::BeforeFirstItem, token.place));
         };
@@ -56,27 +81,44 @@ impl TextReader {
     }
 
     /// Ends the item that is open, where the next begins or the text ends.
-    fn close(&mut self, place: u64) -> Result<(), ModelFault> {
+    fn close(&mut self, place: u64) -> Result<(), ModelFault>
+        requires { (seen : List Lexeme) × IsTextRead seen self.old }
+        ensures number { self.new.number ≡ self.old.number }
+        ensures items { (seen : List Lexeme) → IsTextRead seen self.old → MatchResult result
+            (λ _. AreItemsRead seen self.new)
+            (IsRefusedAt seen place) }
+    {
         let Some(item) = self.item.take() else {
             return Ok(());
         };
         match item.end() {
-            Ok(said) => Ok(self.known.learn(said)?),
+            Ok(said) => match self.known.learn(said) {
+                Ok(()) => Ok(()),
+                Err(AllocError) => Err(ModelFault::Memory),
+            },
             Err(kind) => Err(self.fault(kind, place)),
         }
     }
 
     /// Begins an item at its word.
-    fn open(&mut self, alloc: Global, topic: Topic, place: u64) -> Result<(), ModelFault> {
+    fn open(&mut self, alloc: Global, about: Topic, place: u64) -> Result<(), ModelFault>
+        requires { self.old.number < 2 ^ 63 }
+        ensures number { self.new.number ≡ self.old.number + 1 }
+        ensures read { (seen : List Lexeme) (word : Lexeme) → AreItemsRead seen self.old → topic word ≡ Some about → word.place ≡ place → MatchResult result
+            (λ _. IsTextRead (seen ++ word ∷ []) self.new)
+            (IsRefusedBehind (seen ++ word ∷ [])) }
+    {
         self.number += 1;
-        if let Some(kind) = self.known.word_fault(topic) {
+        if let Some(kind) = self.known.word_fault(about) {
             return Err(self.fault(kind, place));
         }
-        self.item = ItemReader::new(alloc, topic);
+        self.item = ItemReader::new(alloc, about);
         Ok(())
     }
 
-    fn token_fault(&self, fault: TokenFault) -> ModelFault {
+    fn token_fault(&self, fault: TokenFault) -> ModelFault
+        ensures { result ≡ ModelFault.Item (fault_kind fault) self.now.number (fault_place fault) }
+    {
         let kind = match fault {
             TokenFault::TextTooLong(_) => ItemFault::TextTooLong,
             _ => ItemFault::Token(fault),
@@ -85,7 +127,13 @@ impl TextReader {
     }
 
     /// Ends the text.
-    fn finish(self, end: u64) -> Result<Known, ModelFault> {
+    fn finish(self, end: u64) -> Result<Known, ModelFault>
+        requires read { (seen : List Lexeme) × IsTextRead seen self }
+        requires few { self.number < 2 ^ 63 }
+        ensures { (seen : List Lexeme) → IsTextRead seen self → MatchResult result
+            (IsWholeRead seen)
+            (IsRefusedWhole seen end) }
+    {
         let mut reader = self;
         reader.close(end)?;
         reader.number += 1;

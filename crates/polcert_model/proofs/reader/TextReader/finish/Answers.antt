@@ -1,0 +1,18 @@
+use Rattle.std.proofs.Common.{rules, ◌≡◌, ◌+◌, ◌<◌, ◌≤◌, ◌^◌, ◌++◌, ◌∷◌, [], Some, false, List, MatchResult, ℕ, ◌-◌, ◌*◌, length, ◌/◌, ◌%◌, Bool, true, nat_eq, nat_lt, slice_index_or, slice_set, bit_and, bit_or, Fits, w8, w32, w64, Bor, MutBor}
+use Rattle.polcert_text.specs.Cut.{Lexeme}
+use Rattle.polcert_text.specs.Reading.{lexeme_of, fault_place}
+use Rattle.polcert_model.specs.Words.{topic, begins_item}
+use Rattle.polcert_model.specs.TextSteps.{IsTextRead, AreItemsRead, IsWholeRead, IsRefusedBehind, IsRefusedAt, IsRefusedWhole, fault_kind}
+use Rattle.polcert_model.proofs.reader.TextReader.finish.Goals as goal
+
+-- src/reader.rt:138:9
+pub returns-in_err-close : goal.returns-in_err-close
+returns-in_err-close c = ?
+
+-- src/reader.rt:141:13
+pub returns-in-Some : goal.returns-in-Some
+returns-in-Some c = ?
+
+-- src/reader.rt:130:5
+pub returns : goal.returns
+returns c = ?

@@ -1,0 +1,18 @@
+use Rattle.std.proofs.Common.{rules, ◌≡◌, ◌+◌, ◌<◌, ◌≤◌, ◌^◌, ◌++◌, ◌∷◌, [], Some, false, List, MatchResult, ℕ, ◌-◌, ◌*◌, length, ◌/◌, ◌%◌, Bool, true, nat_eq, nat_lt, slice_index_or, slice_set, bit_and, bit_or, Fits, w8, w32, w64, Bor, MutBor}
+use Rattle.polcert_text.specs.Cut.{Lexeme}
+use Rattle.polcert_text.specs.Reading.{lexeme_of, fault_place}
+use Rattle.polcert_model.specs.Words.{topic, begins_item}
+use Rattle.polcert_model.specs.TextSteps.{IsTextRead, AreItemsRead, IsWholeRead, IsRefusedBehind, IsRefusedAt, IsRefusedWhole, fault_kind}
+use Rattle.polcert_model.proofs.reader.TextReader.take.Goals as goal
+
+-- src/reader.rt:58:17
+pub returns-in_err-close-in-Some-clause-read : goal.returns-in_err-close-in-Some-clause-read
+returns-in_err-close-in-Some-clause-read c = ?
+
+-- src/reader.rt:48:5
+pub returns-in_ok-close-in-Some-clause-read : goal.returns-in_ok-close-in-Some-clause-read
+returns-in_ok-close-in-Some-clause-read c = ?
+
+-- src/reader.rt:48:5
+pub returns-in-None-clause-read : goal.returns-in-None-clause-read
+returns-in-None-clause-read c = ?
