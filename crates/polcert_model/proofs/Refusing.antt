@@ -1,6 +1,6 @@
 -- What the reader of a text refuses within an item: each refusal is of the first wrong item, lies in it, and has its
 -- reason.
-use Rattle.std.proofs.Common.{◌≡◌, ◌∙◌, ℕ, ◌+◌, false, true, Bool, Option, Some, None, List, [], ◌∷◌, ◌++◌, length, refl, sym, ap, subst}
+use Rattle.std.proofs.Common.{◌≡◌, ◌∙◌, ℕ, ◌+◌, false, Bool, Option, Some, None, List, [], ◌∷◌, ◌++◌, length, refl, sym, ap, subst}
 use Rattle.std.proofs.lemmas.List.{append_assoc}
 use Rattle.polcert_text.specs.Cut.{Lexeme}
 use Rattle.polcert_model.specs.declared.fault.ItemFault.{ItemFault}
@@ -13,15 +13,15 @@ use Rattle.polcert_model.specs.Items.{Item, IsDivided}
 use Rattle.polcert_model.specs.Text.{Known, nothing_known}
 use Rattle.polcert_model.specs.Narrow.{IsTaken, AreTaken, narrow_word_fault}
 use Rattle.polcert_model.specs.Reading.{IsWithinItem, IsWrong, CannotGoOn}
-use Rattle.polcert_model.specs.FirstWrong.{TextTokens, AreTokensOf, IsFirstWrong, LiesIn, IsDecided, word_place, wrong_item}
+use Rattle.polcert_model.specs.FirstWrong.{TextTokens, IsFirstWrong, LiesIn, IsDecided, word_place, wrong_item}
 use Rattle.polcert_model.specs.Reasons.{IsReason, InItem, NumberStandsIn}
 use Rattle.polcert_model.specs.Reasons as reasons
-use Rattle.polcert_model.specs.Refusals.{IsItemRefusal, place_or}
+use Rattle.polcert_model.specs.Refusals.{place_or}
 use Rattle.polcert_model.specs.NumberSteps.{is_negative, number_place, IsSignAt}
 use Rattle.polcert_model.specs.NumberSteps as steps
 use Rattle.polcert_model.specs.LineSteps.{CannotTake, CannotEnd}
 use Rattle.polcert_model.specs.ItemSteps.{ItemGoes, topic_in, sign_in, IsItemReason, IsEndReason}
-use Rattle.polcert_model.specs.TextSteps.{SignEnds, IsBodyRead, IsItemRead, EndsItem, IsRefusedBehind, IsRefusedAt}
+use Rattle.polcert_model.specs.TextSteps.{SignEnds, IsItemRead, EndsItem, IsRefusedBehind, IsRefusedAt}
 use Rattle.polcert_model.specs.TextSteps as texts
 use Rattle.polcert_model.proofs.Basics.{one_some}
 use Rattle.polcert_model.proofs.ItemLaws.{has_division}

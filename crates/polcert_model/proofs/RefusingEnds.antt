@@ -1,6 +1,6 @@
 -- What the reader of a text refuses outside of a body: before the first item, at an item's word, at the end, and where
 -- the tokens end in a fault.
-use Rattle.std.proofs.Common.{◌≡◌, ◌∙◌, ℕ, ◌+◌, ◌≤◌, Bool, true, false, cond, Option, Some, None, List, [], ◌∷◌, ◌++◌, length, refl, sym, ap, subst}
+use Rattle.std.proofs.Common.{◌≡◌, ◌∙◌, ℕ, ◌+◌, Bool, true, false, cond, Option, Some, None, List, [], ◌∷◌, ◌++◌, length, refl, sym, ap, subst}
 use Rattle.polcert_text.specs.Cut.{Lexeme}
 use Rattle.polcert_text.specs.Reading.{fault_place}
 use Rattle.polcert_text.specs.declared.tokens.TokenFault.{TokenFault}
@@ -14,8 +14,7 @@ use Rattle.polcert_model.specs.Items.{Item, IsDivided}
 use Rattle.polcert_model.specs.Text.{Known}
 use Rattle.polcert_model.specs.Order.{is_late, came_before, ends_preamble, has_all_lines, cells_are_too_many, count_in, preamble_fault, word_fault}
 use Rattle.polcert_model.specs.Narrow.{at_start, narrow_word_fault}
-use Rattle.polcert_model.specs.Reading.{IsWithinItem}
-use Rattle.polcert_model.specs.FirstWrong.{TextTokens, AreTokensOf, IsFirstWrong, LiesIn, IsDecided, wrong_front, wrong_fault, wrong_last, wrong_end, before_items, at_word, at_end}
+use Rattle.polcert_model.specs.FirstWrong.{TextTokens, AreTokensOf, LiesIn, IsDecided, wrong_front, wrong_fault, wrong_last, wrong_end, before_items, at_word, at_end}
 use Rattle.polcert_model.specs.Reasons.{IsReason}
 use Rattle.polcert_model.specs.Refusals.{IsItemRefusal, IsRefusal}
 use Rattle.polcert_model.specs.TextSteps.{IsNothingRead, IsItemRead, IsTextRead, AreItemsRead, IsRefusedBehind, fault_kind}
@@ -24,7 +23,7 @@ use Rattle.polcert_model.proofs.Basics.{or_false_from, cons≢nil, some≢none}
 use Rattle.polcert_model.proofs.ItemLaws.{has_division, one_division}
 use Rattle.polcert_model.proofs.Dividing.{append_division, empty_division, append-nil}
 use Rattle.polcert_model.proofs.OrderLaws.{wrong_at_word, not_complete, fault_at}
-use Rattle.polcert_model.proofs.PlaceLaws.{Rises, tokens_rise, fault_rises, lies_at_word, lies_before_items, lies_at_end, lies_at_fault, lies_at_once}
+use Rattle.polcert_model.proofs.PlaceLaws.{tokens_rise, fault_rises, lies_at_word, lies_before_items, lies_at_end, lies_at_fault, lies_at_once}
 use Rattle.polcert_model.proofs.DecidedLaws.{one_decided}
 use Rattle.polcert_model.proofs.Within.{item_begins}
 use Rattle.polcert_model.proofs.Refusing.{Here, item_here, here, first_here, free_here}
@@ -110,7 +109,6 @@ pub word_refused : (seen : List Lexeme) (r : TextReader) (word : Lexeme) (t : To
 word_refused seen r word t kind w is wrong text ts further tokens e =
     let d = has_division further in
     let more : List Lexeme = d.0 in
-    let begun : IsWithinItem (seen ++ word ∷ []) r.known t [] = item_begins seen word r.known t w.items is in
     let h : Here ts (r.number + 1) r.known t more =
     here ts (r.number + 1) (seen ++ word ∷ []) [] further more r.known t d.1 (item_begins seen word r.known t w.items is) e (ap (λ n. n + 1) w.number_is) d.2 in
     let decided : IsDecided ts (r.number + 1) kind word.place = at_word h.before (item_here h) h.after r.known t h.divided h.taken h.topic_is wrong h.number_is refl in
