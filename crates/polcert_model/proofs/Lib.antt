@@ -12,6 +12,9 @@ pub mod OrderLaws
 pub mod RefusalLaws
 pub mod PlaceLaws
 pub mod DecidedLaws
+pub mod Within
+pub mod Refusing
+pub mod RefusingEnds
 pub mod GoOnLaws
 pub mod EntryGoesOn
 pub mod LinesGoOn

@@ -20,7 +20,7 @@ pub starts_right : AreRightItems [] nothing_known
 starts_right = record { items = []; divided = empty_division; right = (none, nothing_narrow) }
 
 -- the lexemes, cut as the item is that was begun
-within_division : (seen body tail f : List Lexeme) (k : Known) (t : Topic) (ys : List Item) (w : IsWithinItem seen k t body) → IsDivided tail f ys
+pub within_division : (seen body tail f : List Lexeme) (k : Known) (t : Topic) (ys : List Item) (w : IsWithinItem seen k t body) → IsDivided tail f ys
     → IsDivided (seen ++ tail) [] (w.items.items ++ (record { word = w.word; body = body ++ f }) ∷ ys)
 within_division seen body tail f k t ys w d =
     let inner : IsDivided (body ++ tail) (body ++ f) ys = append_division body tail f ys w.no_word d in

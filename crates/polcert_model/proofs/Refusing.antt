@@ -1,0 +1,217 @@
+-- What the reader of a text refuses within an item: each refusal is of the first wrong item, lies in it, and has its
+-- reason.
+use Rattle.std.proofs.Common.{◌≡◌, ◌∙◌, ℕ, ◌+◌, false, Bool, Option, Some, None, List, [], ◌∷◌, ◌++◌, length, refl, sym, ap, subst}
+use Rattle.std.proofs.lemmas.List.{append_assoc}
+use Rattle.polcert_text.specs.Cut.{Lexeme}
+use Rattle.polcert_model.specs.declared.fault.ItemFault.{ItemFault}
+use Rattle.polcert_model.specs.declared.fault.ItemFault.TheVariants.{Number, BadShape, BadCount, UnknownName, IndexOutOfRange, WrongNumberCount, ProbabilityRange, DiscountRange, Reset}
+use Rattle.polcert_model.specs.declared.fault.ModelFault.TheVariants as model_faults
+use Rattle.polcert_model.specs.declared.number.Sign.{Sign}
+use Rattle.polcert_model.specs.declared.reader.TextReader.{TextReader}
+use Rattle.polcert_model.specs.Words.{Topic, topic, begins_item}
+use Rattle.polcert_model.specs.Items.{Item, IsDivided}
+use Rattle.polcert_model.specs.Text.{Known, nothing_known}
+use Rattle.polcert_model.specs.Narrow.{IsTaken, AreTaken, narrow_word_fault}
+use Rattle.polcert_model.specs.Reading.{IsWithinItem, IsWrong, CannotGoOn}
+use Rattle.polcert_model.specs.FirstWrong.{TextTokens, IsFirstWrong, LiesIn, IsDecided, word_place, wrong_item}
+use Rattle.polcert_model.specs.Reasons.{IsReason, InItem, NumberStandsIn}
+use Rattle.polcert_model.specs.Reasons as reasons
+use Rattle.polcert_model.specs.Refusals.{place_or}
+use Rattle.polcert_model.specs.NumberSteps.{is_negative, number_place, IsSignAt}
+use Rattle.polcert_model.specs.NumberSteps as steps
+use Rattle.polcert_model.specs.LineSteps.{CannotTake, CannotEnd}
+use Rattle.polcert_model.specs.ItemSteps.{ItemGoes, topic_in, sign_in, IsItemReason, IsEndReason}
+use Rattle.polcert_model.specs.TextSteps.{SignEnds, IsItemRead, EndsItem, IsRefusedBehind, IsRefusedAt}
+use Rattle.polcert_model.specs.TextSteps as texts
+use Rattle.polcert_model.proofs.Basics.{one_some}
+use Rattle.polcert_model.proofs.ItemLaws.{has_division}
+use Rattle.polcert_model.proofs.Dividing.{next_division, empty_division, append-nil}
+use Rattle.polcert_model.proofs.ReadLaws.{within_division}
+use Rattle.polcert_model.proofs.PlaceLaws.{Rises, tokens_rise, lies_in_item}
+use Rattle.polcert_model.proofs.DecidedLaws.{nothing_decided}
+use Rattle.polcert_model.proofs.Within.{within_goes_on}
+
+-- an item of the text with this number, topic and body, behind right ones
+pub record Here (ts : TextTokens) (n : ℕ) (k : Known) (t : Topic) (body : List Lexeme) : Type 0 where
+  pub before : List Item
+  pub word : Lexeme
+  pub after : List Item
+  pub divided : IsDivided ts.lexemes [] (before ++ (record { word = word; body = body }) ∷ after)
+  pub taken : AreTaken nothing_known before k
+  pub topic_is : topic word ≡ Some t
+  pub number_is : n ≡ length before + 1
+
+abbrev pub item_here : {ts : TextTokens} {n : ℕ} {k : Known} {t : Topic} {body : List Lexeme} → Here ts n k t body → Item
+item_here {body = body} h = record { word = h.word; body = body }
+
+-- the item that was begun, with what follows of its body and what follows it
+abbrev pub here : (ts : TextTokens) (n : ℕ) (seen body tail f : List Lexeme) (k : Known) (t : Topic) (ys : List Item) (w : IsWithinItem seen k t body)
+    → ts.lexemes ≡ seen ++ tail → n ≡ length w.items.items + 1 → IsDivided tail f ys → Here ts n k t (body ++ f)
+here ts n seen body tail f k t ys w e number d = record {
+  before = w.items.items;
+  word = w.word;
+  after = ys;
+  divided = subst (λ ls. IsDivided ls [] (w.items.items ++ (record { word = w.word; body = body ++ f }) ∷ ys)) (sym e) (within_division seen body tail f k t ys w d);
+  taken = w.items.right;
+  topic_is = w.topic_is;
+  number_is = number;
+}
+
+-- it is the first wrong item
+pub first_here : (ts : TextTokens) (n : ℕ) (k : Known) (t : Topic) (body : List Lexeme) (h : Here ts n k t body) → IsWrong k t body → IsFirstWrong ts n
+first_here ts n k t body h wrong =
+    wrong_item h.before (item_here h) h.after k h.divided h.taken (λ u e. subst (λ x. IsWrong k x body) (one_some h.topic_is e) wrong) h.number_is
+
+-- a place in its body lies in it
+lies_here : (ts : TextTokens) (n place : ℕ) (k : Known) (t : Topic) (body taken rest : List Lexeme) (h : Here ts n k t body) → Rises 0 ts.lexemes ts.end
+    → body ≡ taken ++ rest → place ≡ place_or rest (word_place h.after ts.end 0) → LiesIn ts n place
+lies_here ts n place k t body taken rest h rises e at =
+    subst (λ m. LiesIn ts m place) (sym h.number_is)
+    (subst (LiesIn ts (length h.before + 1)) (sym at) (lies_in_item ts h.before (item_here h) h.after taken rest rises h.divided e))
+
+-- this is so of its body
+so_here : (ts : TextTokens) (n : ℕ) (k : Known) (t : Topic) (body : List Lexeme) (Is : Topic → List Lexeme → Type 0) → Here ts n k t body → Is t body → InItem ts n Is
+so_here ts n k t body Is h so = record {
+  before = h.before;
+  item = item_here h;
+  after = h.after;
+  divided = h.divided;
+  number_is = h.number_is;
+  t = t;
+  topic_is = h.topic_is;
+  holds = so;
+}
+
+-- nothing is decided where its word may stand
+pub free_here : (ts : TextTokens) (n : ℕ) (k : Known) (t : Topic) (body : List Lexeme) (h : Here ts n k t body) → narrow_word_fault k t ≡ None
+    → (fault : ItemFault) (at : ℕ) → IsDecided ts n fault at → ⊥
+free_here ts n k t body h free fault at d =
+    nothing_decided ts h.before (item_here h) h.after k t fault at h.divided h.taken h.topic_is free (subst (λ m. IsDecided ts m fault at) h.number_is d)
+
+-- ---- where a number stands in the body
+
+signed_whole : (body before more : List Lexeme) (s l : Lexeme) → body ≡ before ++ s ∷ [] → (body ++ l ∷ []) ++ more ≡ before ++ s ∷ l ∷ more
+signed_whole body before more s l e = append_assoc body (l ∷ []) more ∙ ap (λ (b : List Lexeme). b ++ l ∷ more) e ∙ append_assoc before (s ∷ []) (l ∷ more)
+
+sign_place : (sign : Sign) (s : Lexeme) → IsSignAt sign s → sign.place ≡ s.place
+sign_place sign s (steps.plus kind negative place) = place
+sign_place sign s (steps.minus kind negative place) = place
+
+signed_stands : (sign : Sign) (body before more : List Lexeme) (s l : Lexeme) (place : ℕ) (Is : Bool → Lexeme → Type 0) → body ≡ before ++ s ∷ [] → IsSignAt sign s
+    → place ≡ sign.place → Is sign.negative l → NumberStandsIn ((body ++ l ∷ []) ++ more) place Is
+signed_stands sign body before more s l place Is e (steps.plus kind negative at) p so =
+    reasons.plus before s l more (signed_whole body before more s l e) kind (p ∙ at) (subst (λ b. Is b l) negative so)
+signed_stands sign body before more s l place Is e (steps.minus kind negative at) p so =
+    reasons.minus before s l more (signed_whole body before more s l e) kind (p ∙ at) (subst (λ b. Is b l) negative so)
+
+number_stands : (sign : Option Sign) (body more : List Lexeme) (l : Lexeme) (place : ℕ) (Is : Bool → Lexeme → Type 0) → SignEnds sign body → place ≡ number_place sign l
+    → Is (is_negative sign) l → NumberStandsIn ((body ++ l ∷ []) ++ more) place Is
+number_stands None body more l place Is ends p so = reasons.unsigned body l more (append_assoc body (l ∷ []) more) ends p so
+number_stands (Some sign) body more l place Is ends p so = signed_stands sign body ends.0 more ends.1.0 l place Is ends.1.1.0 ends.1.1.1 p so
+
+number_lies : (ts : TextTokens) (n place : ℕ) (k : Known) (t : Topic) (sign : Option Sign) (body more : List Lexeme) (l : Lexeme) → Here ts n k t ((body ++ l ∷ []) ++ more)
+    → Rises 0 ts.lexemes ts.end → SignEnds sign body → place ≡ number_place sign l → LiesIn ts n place
+number_lies ts n place k t None body more l h rises ends p = lies_here ts n place k t ((body ++ l ∷ []) ++ more) body (l ∷ more) h rises (append_assoc body (l ∷ []) more) p
+number_lies ts n place k t (Some sign) body more l h rises ends p =
+    lies_here ts n place k t ((body ++ l ∷ []) ++ more) ends.0 (ends.1.0 ∷ l ∷ more) h rises (signed_whole body ends.0 more ends.1.0 l ends.1.1.0)
+    (p ∙ sign_place sign ends.1.0 ends.1.1.1)
+
+-- ---- a token that is refused
+
+-- the place and the reason of a refusal at the lexeme behind the body, or at the sign before it
+record Refused (ts : TextTokens) (n place : ℕ) (kind : ItemFault) : Type 0 where
+  lies : LiesIn ts n place
+  reason : IsReason ts n place kind
+
+at_number : (ts : TextTokens) (n place : ℕ) (k : Known) (t : Topic) (sign : Option Sign) (body more : List Lexeme) (l : Lexeme) (kind : ItemFault) → Here ts n k t ((body ++ l ∷ []) ++ more)
+    → Rises 0 ts.lexemes ts.end → SignEnds sign body → place ≡ number_place sign l → IsReason ts n place kind → Refused ts n place kind
+at_number ts n place k t sign body more l kind h rises ends p reason = record { lies = number_lies ts n place k t sign body more l h rises ends p; reason = reason }
+
+at_lexeme : (ts : TextTokens) (n place : ℕ) (k : Known) (t : Topic) (body more : List Lexeme) (l : Lexeme) (kind : ItemFault) → Here ts n k t ((body ++ l ∷ []) ++ more)
+    → Rises 0 ts.lexemes ts.end → place ≡ l.place → IsReason ts n place kind → Refused ts n place kind
+at_lexeme ts n place k t body more l kind h rises p reason =
+    record { lies = lies_here ts n place k t ((body ++ l ∷ []) ++ more) body (l ∷ more) h rises (append_assoc body (l ∷ []) more) p; reason = reason }
+
+stands : (body more : List Lexeme) (l : Lexeme) (place : ℕ) (Is : Lexeme → Type 0) → place ≡ l.place → Is l → reasons.StandsIn ((body ++ l ∷ []) ++ more) place Is
+stands body more l place Is p so = record { before = body; lexeme = l; after = more; whole = append_assoc body (l ∷ []) more; place_is = p; holds = so }
+
+refused_here : (ts : TextTokens) (n place : ℕ) (k : Known) (t : Topic) (sign : Option Sign) (body more : List Lexeme) (l : Lexeme) (kind : ItemFault)
+    → Here ts n k t ((body ++ l ∷ []) ++ more) → Rises 0 ts.lexemes ts.end → SignEnds sign body → IsItemReason t sign l kind place → Refused ts n place kind
+refused_here ts n place k t sign body more l (Number fault) h rises ends m =
+    at_number ts n place k t sign body more l (Number fault) h rises ends m.0
+    (so_here ts n k t _ _ h (number_stands sign body more l place (reasons.IsRefusedNumber fault) ends m.0 m.1))
+refused_here ts n place k t sign body more l DiscountRange h rises ends m =
+    at_number ts n place k t sign body more l DiscountRange h rises ends m.1
+    (so_here ts n k t _ _ h (m.0, number_stands sign body more l place reasons.IsNoFraction ends m.1 m.2))
+refused_here ts n place k t sign body more l ProbabilityRange h rises ends m =
+    at_number ts n place k t sign body more l ProbabilityRange h rises ends m.1
+    (so_here ts n k t _ _ h (m.0, number_stands sign body more l place reasons.IsNoFraction ends m.1 m.2))
+refused_here ts n place k t sign body more l Reset h rises ends m =
+    at_lexeme ts n place k t body more l Reset h rises m.0 (so_here ts n k t _ _ h (stands body more l place _ m.0 m.1))
+refused_here ts n place k t sign body more l UnknownName h rises ends m =
+    at_lexeme ts n place k t body more l UnknownName h rises m.0 (so_here ts n k t _ _ h (stands body more l place _ m.0 m.1))
+refused_here ts n place k t sign body more l IndexOutOfRange h rises ends m =
+    at_lexeme ts n place k t body more l IndexOutOfRange h rises m.0 (so_here ts n k t _ _ h (stands body more l place _ m.0 m.1))
+refused_here ts n place k t sign body more l BadCount h rises ends m =
+    at_lexeme ts n place k t body more l BadCount h rises m.0 (so_here ts n k t _ _ h m.1)
+refused_here ts n place k t sign body more l BadShape h rises ends m = at_lexeme ts n place k t body more l BadShape h rises m tt
+refused_here ts n place k t sign body more l WrongNumberCount h rises ends m = at_lexeme ts n place k t body more l WrongNumberCount h rises m tt
+refused_here ts n place k t sign body more l _ h rises ends m = absurd m
+
+-- the item doesn't go on with the lexeme
+stuck : (seen : List Lexeme) (r : TextReader) (w : IsItemRead seen r) (l : Lexeme) → CannotTake (ItemGoes r.known) w.item l
+    → CannotGoOn r.known w.t (w.body ++ l ∷ [])
+stuck seen r w l none more after taken =
+    none more after (w.read.on (l ∷ more) after (subst (λ b. IsTaken r.known w.t b after) (append_assoc w.body (l ∷ []) more) taken))
+
+pub feed_refused : (seen : List Lexeme) (r : TextReader) (l : Lexeme) (kind : ItemFault) (place : ℕ) (w : IsItemRead seen r) → begins_item l ≡ false
+    → CannotTake (ItemGoes r.known) w.item l → IsItemReason (topic_in w.item) (sign_in w.item) l kind place → IsRefusedBehind (seen ++ l ∷ []) (model_faults.Item kind r.number place)
+feed_refused seen r l kind place w inner none reason text ts further tokens e =
+    let d = has_division further in
+    let more : List Lexeme = d.0 in
+    let behind = within_goes_on seen l r.known w.t w.body w.within inner in
+    let h : Here ts r.number r.known w.t ((w.body ++ l ∷ []) ++ more) = here ts r.number (seen ++ l ∷ []) (w.body ++ l ∷ []) further more r.known w.t d.1 behind e w.number_is d.2 in
+    let refused = refused_here ts r.number place r.known w.t (sign_in w.item) w.body more l kind h (tokens_rise text ts tokens) w.read.sign
+    (subst (λ t. IsItemReason t (sign_in w.item) l kind place) w.read.topic_is reason) in
+    record {
+      first_wrong = first_here ts r.number r.known w.t ((w.body ++ l ∷ []) ++ more) h (stuck seen r w l none more);
+      lies = refused.lies;
+      reason = refused.reason;
+      decided = λ fault at x. absurd (free_here ts r.number r.known w.t ((w.body ++ l ∷ []) ++ more) h w.read.may_stand fault at x);
+    }
+
+-- ---- an item that cannot end
+
+-- the item that ends here, and where
+record EndsHere (ts : TextTokens) (n place : ℕ) (k : Known) (t : Topic) (body : List Lexeme) : Type 0 where
+  here_is : Here ts n k t (body ++ [])
+  place_is : place ≡ word_place here_is.after ts.end 0
+
+ends_here : (ts : TextTokens) (n place : ℕ) (seen body : List Lexeme) (k : Known) (t : Topic) (w : IsWithinItem seen k t body) → n ≡ length w.items.items + 1
+    → EndsItem ts seen place → EndsHere ts n place k t body
+ends_here ts n place seen body k t w number (texts.at_word next further e begins p) =
+    let d = has_division further in
+    let item : Item = record { word = next; body = d.0 } in
+    record {
+      here_is = here ts n seen body (next ∷ further) [] k t (item ∷ d.1) w e number (next_division [] further d.0 next [] d.1 begins empty_division d.2);
+      place_is = p;
+    }
+ends_here ts n place seen body k t w number (texts.at_end e p) =
+    record { here_is = here ts n seen body [] [] k t [] w (e ∙ sym (append-nil seen)) number empty_division; place_is = p }
+
+end_reason : (ts : TextTokens) (n place : ℕ) (k : Known) (t : Topic) (body : List Lexeme) (kind : ItemFault) → Here ts n k t body → IsEndReason t kind → IsReason ts n place kind
+end_reason ts n place k t body BadCount h m = so_here ts n k t body _ h m
+end_reason ts n place k t body BadShape h m = tt
+end_reason ts n place k t body WrongNumberCount h m = tt
+end_reason ts n place k t body _ h m = absurd m
+
+pub end_refused : (seen : List Lexeme) (r : TextReader) (kind : ItemFault) (place : ℕ) (w : IsItemRead seen r) → CannotEnd (ItemGoes r.known) w.item
+    → IsEndReason (topic_in w.item) kind → IsRefusedAt seen place (model_faults.Item kind r.number place)
+end_refused seen r kind place w none reason text ts tokens ends =
+    let x = ends_here ts r.number place seen w.body r.known w.t w.within w.number_is ends in
+    record {
+      first_wrong = first_here ts r.number r.known w.t (w.body ++ []) x.here_is (λ after taken. none after (w.read.on [] after taken));
+      lies = lies_here ts r.number place r.known w.t (w.body ++ []) w.body [] x.here_is (tokens_rise text ts tokens) refl x.place_is;
+      reason = end_reason ts r.number place r.known w.t (w.body ++ []) kind x.here_is (subst (λ t. IsEndReason t kind) w.read.topic_is reason);
+      decided = λ fault at y. absurd (free_here ts r.number r.known w.t (w.body ++ []) x.here_is w.read.may_stand fault at y);
+    }

@@ -1,0 +1,181 @@
+-- What the reader of a text refuses outside of a body: before the first item, at an item's word, at the end, and where
+-- the tokens end in a fault.
+use Rattle.std.proofs.Common.{◌≡◌, ◌∙◌, ℕ, ◌+◌, Bool, true, false, cond, Option, Some, None, List, [], ◌∷◌, ◌++◌, length, refl, sym, ap, subst}
+use Rattle.polcert_text.specs.Cut.{Lexeme}
+use Rattle.polcert_text.specs.Reading.{fault_place}
+use Rattle.polcert_text.specs.declared.tokens.TokenFault.{TokenFault}
+use Rattle.polcert_text.specs.declared.tokens.TokenFault.TheVariants as token_faults
+use Rattle.polcert_model.specs.declared.fault.ItemFault.{ItemFault}
+use Rattle.polcert_model.specs.declared.fault.ItemFault.TheVariants.{BeforeFirstItem, BadShape, DuplicateLine, LateLine, MissingLine, TooManyCells}
+use Rattle.polcert_model.specs.declared.fault.ModelFault.TheVariants as model_faults
+use Rattle.polcert_model.specs.declared.reader.TextReader.{TextReader}
+use Rattle.polcert_model.specs.Words.{Topic, Discount, Values, States, Actions, Observations, Start, Cells, topic, begins_item}
+use Rattle.polcert_model.specs.Items.{Item, IsDivided}
+use Rattle.polcert_model.specs.Text.{Known}
+use Rattle.polcert_model.specs.Order.{is_late, came_before, ends_preamble, has_all_lines, cells_are_too_many, count_in, preamble_fault, word_fault}
+use Rattle.polcert_model.specs.Narrow.{at_start, narrow_word_fault}
+use Rattle.polcert_model.specs.FirstWrong.{TextTokens, AreTokensOf, LiesIn, IsDecided, wrong_front, wrong_fault, wrong_last, wrong_end, before_items, at_word, at_end}
+use Rattle.polcert_model.specs.Reasons.{IsReason}
+use Rattle.polcert_model.specs.Refusals.{IsItemRefusal, IsRefusal}
+use Rattle.polcert_model.specs.TextSteps.{IsNothingRead, IsItemRead, IsTextRead, AreItemsRead, IsRefusedBehind, fault_kind}
+use Rattle.polcert_model.specs.TextSteps as texts
+use Rattle.polcert_model.proofs.Basics.{or_false_from, cons≢nil, some≢none}
+use Rattle.polcert_model.proofs.ItemLaws.{has_division, one_division}
+use Rattle.polcert_model.proofs.Dividing.{append_division, empty_division, append-nil}
+use Rattle.polcert_model.proofs.OrderLaws.{wrong_at_word, not_complete, fault_at}
+use Rattle.polcert_model.proofs.PlaceLaws.{tokens_rise, fault_rises, lies_at_word, lies_before_items, lies_at_end, lies_at_fault, lies_at_once}
+use Rattle.polcert_model.proofs.DecidedLaws.{one_decided}
+use Rattle.polcert_model.proofs.Within.{item_begins}
+use Rattle.polcert_model.proofs.Refusing.{Here, item_here, here, first_here, free_here}
+
+-- ---- before the first item
+
+before_division : (l : Lexeme) (further f : List Lexeme) (items : List Item) → begins_item l ≡ false → IsDivided further f items → IsDivided (l ∷ further) (l ∷ f) items
+before_division l further f items inner d = append_division (l ∷ []) further f items (or_false_from (begins_item l) false inner refl) d
+
+pub before_refused : (seen : List Lexeme) (r : TextReader) (l : Lexeme) → IsNothingRead seen r → begins_item l ≡ false
+    → IsRefusedBehind (seen ++ l ∷ []) (model_faults.Item BeforeFirstItem r.number l.place)
+before_refused seen r l w inner text ts further tokens e =
+    let d = has_division further in
+    let whole : ts.lexemes ≡ l ∷ further = e ∙ ap (λ (s : List Lexeme). (s ++ l ∷ []) ++ further) w.nothing in
+    let divided : IsDivided ts.lexemes (l ∷ d.0) d.1 = subst (λ ls. IsDivided ls (l ∷ d.0) d.1) (sym whole) (before_division l further d.0 d.1 inner d.2) in
+    let decided : IsDecided ts r.number BeforeFirstItem l.place = before_items l d.0 d.1 divided w.number_is refl refl in
+    record {
+      first_wrong = wrong_front l d.0 d.1 divided w.number_is;
+      lies = subst (λ n. LiesIn ts n l.place) (sym w.number_is) (lies_before_items ts l d.0 d.1 (tokens_rise text ts tokens) divided);
+      reason = decided;
+      decided = λ fault at x. one_decided ts r.number BeforeFirstItem fault l.place at decided x;
+    }
+
+-- ---- what is decided before a body
+
+-- the reasons that are decided there
+abbrev IsOrderFault : ItemFault → Type 0
+IsOrderFault BadShape = Unit {0}
+IsOrderFault DuplicateLine = Unit {0}
+IsOrderFault LateLine = Unit {0}
+IsOrderFault MissingLine = Unit {0}
+IsOrderFault TooManyCells = Unit {0}
+IsOrderFault _ = ⊥
+
+order_reason : (ts : TextTokens) (n place : ℕ) (kind : ItemFault) → IsOrderFault kind → IsDecided ts n kind place → IsReason ts n place kind
+order_reason ts n place BadShape o d = tt
+order_reason ts n place DuplicateLine o d = d
+order_reason ts n place LateLine o d = d
+order_reason ts n place MissingLine o d = d
+order_reason ts n place TooManyCells o d = d
+order_reason ts n place _ o d = absurd o
+
+some_once : {A : Type 0} {x y : A} → Some x ≡ Some y → x ≡ y
+some_once e = cc
+
+none≢some : {A : Type 0} {x : A} → None ≡ Some x → ⊥
+none≢some e = cc
+
+-- the reason for an incomplete preamble, of whether all lines came and whether there are too many cells
+abbrev lacking : Bool → Bool → Option ItemFault
+lacking lines many = cond lines (cond many (Some TooManyCells) None) (Some MissingLine)
+
+lacking_order : (lines many : Bool) (kind : ItemFault) → lacking lines many ≡ Some kind → IsOrderFault kind
+lacking_order true true kind e = subst IsOrderFault (some_once e) tt
+lacking_order true false kind e = absurd (none≢some e)
+lacking_order false many kind e = subst IsOrderFault (some_once e) tt
+
+preamble_order : (k : Known) (kind : ItemFault) → preamble_fault k ≡ Some kind → IsOrderFault kind
+preamble_order k kind e = lacking_order (has_all_lines k) (cells_are_too_many (count_in k.states) (count_in k.actions) (count_in k.observations)) kind e
+
+fault_order : (late came ends : Bool) (fault : Option ItemFault) (kind : ItemFault) → ((f : ItemFault) → fault ≡ Some f → IsOrderFault f)
+    → fault_at late came ends fault ≡ Some kind → IsOrderFault kind
+fault_order true came ends fault kind behind e = subst IsOrderFault (some_once e) tt
+fault_order false true ends fault kind behind e = subst IsOrderFault (some_once e) tt
+fault_order false false true fault kind behind e = behind kind e
+fault_order false false false fault kind behind e = absurd (none≢some e)
+
+start_order : (t : Topic) (fault : Option ItemFault) (kind : ItemFault) → ((f : ItemFault) → fault ≡ Some f → IsOrderFault f) → at_start t fault ≡ Some kind → IsOrderFault kind
+start_order t (Some f) kind behind e = behind kind e
+start_order Start None kind behind e = subst IsOrderFault (some_once e) tt
+start_order Discount None kind behind e = absurd (none≢some e)
+start_order Values None kind behind e = absurd (none≢some e)
+start_order States None kind behind e = absurd (none≢some e)
+start_order Actions None kind behind e = absurd (none≢some e)
+start_order Observations None kind behind e = absurd (none≢some e)
+start_order (Cells table) None kind behind e = absurd (none≢some e)
+
+word_order : (k : Known) (t : Topic) (kind : ItemFault) → narrow_word_fault k t ≡ Some kind → IsOrderFault kind
+word_order k t kind e = start_order t (word_fault k t) kind (λ f g. fault_order (is_late k t) (came_before k t) (ends_preamble t) (preamble_fault k) f (preamble_order k) g) e
+
+pub word_refused : (seen : List Lexeme) (r : TextReader) (word : Lexeme) (t : Topic) (kind : ItemFault) → AreItemsRead seen r → topic word ≡ Some t
+    → narrow_word_fault r.known t ≡ Some kind → IsRefusedBehind (seen ++ word ∷ []) (model_faults.Item kind (r.number + 1) word.place)
+word_refused seen r word t kind w is wrong text ts further tokens e =
+    let d = has_division further in
+    let more : List Lexeme = d.0 in
+    let h : Here ts (r.number + 1) r.known t more =
+    here ts (r.number + 1) (seen ++ word ∷ []) [] further more r.known t d.1 (item_begins seen word r.known t w.items is) e (ap (λ n. n + 1) w.number_is) d.2 in
+    let decided : IsDecided ts (r.number + 1) kind word.place = at_word h.before (item_here h) h.after r.known t h.divided h.taken h.topic_is wrong h.number_is refl in
+    record {
+      first_wrong = first_here ts (r.number + 1) r.known t more h (wrong_at_word r.known t kind more wrong);
+      lies = subst (λ n. LiesIn ts n word.place) (sym h.number_is) (lies_at_word ts h.before (item_here h) h.after (tokens_rise text ts tokens) h.divided);
+      reason = order_reason ts (r.number + 1) word.place kind (word_order r.known t kind wrong) decided;
+      decided = λ fault at x. one_decided ts (r.number + 1) kind fault word.place at decided x;
+    }
+
+pub text_end_refused : (seen : List Lexeme) (r : TextReader) (kind : ItemFault) → AreItemsRead seen r → preamble_fault r.known ≡ Some kind
+    → (text : List ℕ) (ts : TextTokens) → AreTokensOf text ts → ts.lexemes ≡ seen → ts.ending ≡ None → IsRefusal ts (model_faults.Item kind (r.number + 1) ts.end)
+text_end_refused seen r kind w wrong text ts tokens e clean =
+    let items : List Item = w.items.items in
+    let divided : IsDivided ts.lexemes [] items = subst (λ ls. IsDivided ls [] items) (sym e) w.items.divided in
+    let number : r.number + 1 ≡ length items + 1 = ap (λ n. n + 1) w.number_is in
+    let decided : IsDecided ts (r.number + 1) kind ts.end = at_end items r.known divided w.items.right clean wrong number refl in
+    record {
+      first_wrong = wrong_end items r.known divided w.items.right clean (λ p complete. not_complete r.known p kind wrong complete) number;
+      lies = subst (λ n. LiesIn ts n ts.end) (sym number) (lies_at_end ts items divided);
+      reason = order_reason ts (r.number + 1) ts.end kind (preamble_order r.known kind wrong) decided;
+      decided = λ fault at x. one_decided ts (r.number + 1) kind fault ts.end at decided x;
+    }
+
+-- ---- a fault of the tokens
+
+fault_reason : (ts : TextTokens) (n : ℕ) (f : TokenFault) → ts.ending ≡ Some f → IsReason ts n (fault_place f) (fault_kind f)
+fault_reason ts n (token_faults.TextTooLong at) e = e
+fault_reason ts n (token_faults.BadByte at) e = (e, refl, tt)
+fault_reason ts n (token_faults.TokenTooLong at) e = (e, refl, tt)
+fault_reason ts n (token_faults.Glued at) e = (e, refl, tt)
+
+no_empty : (xs : List Item) (x : Item) (ys : List Item) → xs ++ x ∷ ys ≡ [] → ⊥
+no_empty [] x ys e = cons≢nil e
+no_empty (z ∷ xs) x ys e = cons≢nil e
+
+-- nothing is decided where no lexeme came before the fault
+none_decided : (ts : TextTokens) (n place : ℕ) (fault : ItemFault) (f : TokenFault) → ts.lexemes ≡ [] → ts.ending ≡ Some f → IsDecided ts n fault place → ⊥
+none_decided ts n place fault f empty e (before_items l ls items d z x p) = cons≢nil (sym d.whole ∙ empty)
+none_decided ts n place fault f empty e (at_word before item after k t d taken is wrong z p) =
+    no_empty before item after (one_division [] [] [] (before ++ item ∷ after) [] (subst (λ s. IsDivided s [] (before ++ item ∷ after)) empty d) empty_division).1
+none_decided ts n place fault f empty e (at_end items k d taken clean wrong z p) = some≢none e clean
+
+at_once : (seen : List Lexeme) (r : TextReader) (f : TokenFault) → IsNothingRead seen r → (text : List ℕ) (ts : TextTokens) → AreTokensOf text ts → ts.lexemes ≡ seen
+    → ts.ending ≡ Some f → IsItemRefusal ts (fault_kind f) r.number (fault_place f)
+at_once seen r f w text ts tokens e ending =
+    let empty : ts.lexemes ≡ [] = e ∙ w.nothing in
+    record {
+      first_wrong = wrong_fault f empty ending w.number_is;
+      lies = subst (λ n. LiesIn ts n (fault_place f)) (sym w.number_is) (lies_at_once ts (fault_place f) (fault_rises text ts f tokens ending).1 empty);
+      reason = fault_reason ts r.number f ending;
+      decided = λ fault at x. absurd (none_decided ts r.number at fault f empty ending x);
+    }
+
+in_item : (seen : List Lexeme) (r : TextReader) (f : TokenFault) → IsItemRead seen r → (text : List ℕ) (ts : TextTokens) → AreTokensOf text ts → ts.lexemes ≡ seen
+    → ts.ending ≡ Some f → IsItemRefusal ts (fault_kind f) r.number (fault_place f)
+in_item seen r f w text ts tokens e ending =
+    let h : Here ts r.number r.known w.t (w.body ++ []) = here ts r.number seen w.body [] [] r.known w.t [] w.within (e ∙ sym (append-nil seen)) w.number_is empty_division in
+    let rises = fault_rises text ts f tokens ending in
+    record {
+      first_wrong = wrong_last h.before (item_here h) r.known f h.divided h.taken ending h.number_is;
+      lies = subst (λ n. LiesIn ts n (fault_place f)) (sym h.number_is) (lies_at_fault ts h.before (item_here h) (fault_place f) rises.0 rises.1 h.divided);
+      reason = fault_reason ts r.number f ending;
+      decided = λ fault at x. absurd (free_here ts r.number r.known w.t (w.body ++ []) h w.read.may_stand fault at x);
+    }
+
+pub fault_refused : (seen : List Lexeme) (r : TextReader) (f : TokenFault) → IsTextRead seen r → (text : List ℕ) (ts : TextTokens) → AreTokensOf text ts → ts.lexemes ≡ seen
+    → ts.ending ≡ Some f → IsRefusal ts (model_faults.Item (fault_kind f) r.number (fault_place f))
+fault_refused seen r f (texts.nothing w) text ts tokens e ending = at_once seen r f w text ts tokens e ending
+fault_refused seen r f (texts.item w) text ts tokens e ending = in_item seen r f w text ts tokens e ending
