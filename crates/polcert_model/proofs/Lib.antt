@@ -26,6 +26,7 @@ pub mod LineLaws
 pub mod ListLaws
 pub mod PatternLaws
 pub mod TakenItems
+pub mod TextReading
 pub mod Tiger
 pub mod RefusedExamples
 pub mod StartExamples

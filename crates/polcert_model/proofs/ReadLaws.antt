@@ -28,13 +28,13 @@ within_division seen body tail f k t ys w d =
     subst (λ s. IsDivided s [] (w.items.items ++ (record { word = w.word; body = body ++ f }) ∷ ys)) (sym joined)
     (next_division w.before (body ++ tail) (body ++ f) w.word w.items.items ys (begins w.word t w.topic_is) w.items.divided inner)
 
-seen_division : (seen body : List Lexeme) (k : Known) (t : Topic) (w : IsWithinItem seen k t body) → IsDivided seen [] (w.items.items ++ (record { word = w.word; body = body }) ∷ [])
+pub seen_division : (seen body : List Lexeme) (k : Known) (t : Topic) (w : IsWithinItem seen k t body) → IsDivided seen [] (w.items.items ++ (record { word = w.word; body = body }) ∷ [])
 seen_division seen body k t w =
     subst (λ s. IsDivided s [] (w.items.items ++ (record { word = w.word; body = body }) ∷ [])) (append-nil seen)
     (subst (λ b. IsDivided (seen ++ []) [] (w.items.items ++ (record { word = w.word; body = b }) ∷ [])) (append-nil body) (within_division seen body [] [] k t [] w empty_division))
 
 -- where the item is right with the lexemes so far, they are right items again
-pub item_ends : (seen body : List Lexeme) (k after : Known) (t : Topic) → IsWithinItem seen k t body → IsTaken k t body after → AreRightItems seen after
+abbrev pub item_ends : (seen body : List Lexeme) (k after : Known) (t : Topic) → IsWithinItem seen k t body → IsTaken k t body after → AreRightItems seen after
 item_ends seen body k after t w r =
     let item : Item = record { word = w.word; body = body } in
     record {

@@ -1,18 +1,20 @@
-use Rattle.std.proofs.Common.{rules, ◌≡◌, ◌+◌, ◌<◌, ◌≤◌, ◌^◌, ◌++◌, ◌∷◌, [], Some, false, List, MatchResult, ℕ, ◌-◌, ◌*◌, length, ◌/◌, ◌%◌, Bool, true, nat_eq, nat_lt, slice_index_or, slice_set, bit_and, bit_or, Fits, w8, w32, w64, Bor, MutBor}
-use Rattle.polcert_text.specs.Cut.{Lexeme}
-use Rattle.polcert_text.specs.Reading.{lexeme_of, fault_place}
-use Rattle.polcert_model.specs.Words.{topic, begins_item}
-use Rattle.polcert_model.specs.TextSteps.{IsTextRead, AreItemsRead, IsWholeRead, IsRefusedBehind, IsRefusedAt, IsRefusedWhole, fault_kind}
+use Rattle.std.proofs.Common.{sym, subst}
+use Rattle.polcert_text.specs.Reading.{lexeme_of}
+use Rattle.polcert_model.specs.Refusals.{IsRefusal}
+use Rattle.polcert_model.proofs.TextReading.{not_begun, item_takes, item_refuses}
 use Rattle.polcert_model.proofs.reader.TextReader.feed.Goals as goal
 
--- src/reader.rt:74:13
 pub returns-in_default-clause-read : goal.returns-in_default-clause-read
-returns-in_default-clause-read c = ?
+returns-in_default-clause-read c = λ seen read inside text ts further tokens same.
+    subst (IsRefusal ts) (sym c.fault.ensures) (not_begun seen c.args.self.now (lexeme_of c.args.token) read c.in_default.is inside text ts further tokens same)
 
--- src/reader.rt:66:5
 pub returns-in-Ok-clause-read : goal.returns-in-Ok-clause-read
-returns-in-Ok-clause-read c = ?
+returns-in-Ok-clause-read c = λ seen read inside.
+    let e = c.in-Ok.ensures in
+    item_takes seen c.args.self.now (lexeme_of c.args.token) c.in-Some.item c.feed.new.self read c.in-Some.is inside e.topic e.within e.takes e.sign
 
--- src/reader.rt:66:5
 pub returns-in-Err-Refused-clause-read : goal.returns-in-Err-Refused-clause-read
-returns-in-Err-Refused-clause-read c = ?
+returns-in-Err-Refused-clause-read c = λ seen read inside text ts further tokens same.
+    let e = c.in-Err-Refused.ensures in
+    subst (IsRefusal ts) (sym c.fault-in-Err-Refused.ensures)
+    (item_refuses seen c.args.self.now (lexeme_of c.args.token) c.in-Some.item _ _ read c.in-Some.is inside e.refused e.reason text ts further tokens same)

@@ -1,14 +1,13 @@
-use Rattle.std.proofs.Common.{rules, ◌≡◌, ◌+◌, ◌<◌, ◌≤◌, ◌^◌, ◌++◌, ◌∷◌, [], Some, false, List, MatchResult, ℕ, ◌-◌, ◌*◌, length, ◌/◌, ◌%◌, Bool, true, nat_eq, nat_lt, slice_index_or, slice_set, bit_and, bit_or, Fits, w8, w32, w64, Bor, MutBor}
-use Rattle.polcert_text.specs.Cut.{Lexeme}
-use Rattle.polcert_text.specs.Reading.{lexeme_of, fault_place}
-use Rattle.polcert_model.specs.Words.{topic, begins_item}
-use Rattle.polcert_model.specs.TextSteps.{IsTextRead, AreItemsRead, IsWholeRead, IsRefusedBehind, IsRefusedAt, IsRefusedWhole, fault_kind}
+use Rattle.std.proofs.Common.{◌∙◌, sym, subst}
+use Rattle.polcert_model.specs.Refusals.{IsRefusal}
+use Rattle.polcert_model.proofs.TextReading.{item_opened, item_not_opened}
 use Rattle.polcert_model.proofs.reader.TextReader.open.Goals as goal
 
--- src/reader.rt:113:13
 pub returns-in-Some-clause-read : goal.returns-in-Some-clause-read
-returns-in-Some-clause-read c = ?
+returns-in-Some-clause-read c = λ seen word read about at text ts further tokens same.
+    subst (IsRefusal ts) (sym c.fault.ensures)
+    (item_not_opened seen c.args.self.now word c.args.about c.in-Some.kind c.args.place read about (sym c.word_fault.ensures ∙ c.in-Some.is) at text ts further tokens same)
 
--- src/reader.rt:104:5
 pub returns-clause-read : goal.returns-clause-read
-returns-clause-read c = ?
+returns-clause-read c = λ seen word read about at.
+    item_opened seen c.args.self.now word c.args.about c.new.result read about (sym c.word_fault.ensures ∙ c.in_default.is) c.new.ensures

@@ -1,0 +1,162 @@
+-- A text's reader, step by step: what it holds behind one more lexeme, and behind an item.
+use Rattle.std.proofs.Common.{◌≡◌, ◌∙◌, ℕ, ◌+◌, false, Option, Some, None, Result, Ok, Err, List, [], ◌∷◌, ◌++◌, length, MatchResult, refl, sym, ap, subst, append_assoc, length-append}
+use Rattle.polcert_text.specs.Cut.{Lexeme}
+use Rattle.polcert_model.specs.declared.fault.ItemFault.{ItemFault}
+use Rattle.polcert_model.specs.declared.fault.ItemFault.TheVariants.{BeforeFirstItem}
+use Rattle.polcert_model.specs.declared.fault.ModelFault.{ModelFault}
+use Rattle.polcert_model.specs.declared.fault.ModelFault.TheVariants as model_faults
+use Rattle.polcert_model.specs.declared.item.ItemReader.{ItemReader}
+use Rattle.polcert_model.specs.declared.item.Said.{Said}
+use Rattle.polcert_model.specs.declared.reader.TextReader.{TextReader}
+use Rattle.polcert_model.specs.Words.{Topic, Discount, Values, States, Actions, Observations, Start, Cells, topic, begins_item}
+use Rattle.polcert_model.specs.Items.{IsDivided}
+use Rattle.polcert_model.specs.Text.{Known, nothing_known}
+use Rattle.polcert_model.specs.Text as texts
+use Rattle.polcert_model.specs.Narrow.{IsTaken, AreTaken, at_start, narrow_word_fault}
+use Rattle.polcert_model.specs.Order.{word_fault, preamble_fault}
+use Rattle.polcert_model.specs.FirstWrong.{TextTokens, AreTokensOf}
+use Rattle.polcert_model.specs.Refusals.{IsRefusal}
+use Rattle.polcert_model.specs.LineSteps.{Takes, CannotTake, CannotEnd}
+use Rattle.polcert_model.specs.ItemSteps.{ItemGoes, IsItemWithin, IsItemReason, IsEndReason, topic_in, sign_in, SignIs, new_item, HasElements}
+use Rattle.polcert_model.specs.KnownView.{learned}
+use Rattle.polcert_model.specs.TextSteps.{IsTextRead, IsItemRead, IsBodyRead, AreItemsRead, IsWholeRead, IsRefusedBehind, IsRefusedAt, IsRefusedWhole, EndsItem, at_word, at_end, nothing, item}
+use Rattle.polcert_model.proofs.Basics.{one_some}
+use Rattle.polcert_model.proofs.Dividing.{begins, empty_division, append-nil}
+use Rattle.polcert_model.proofs.NarrowLaws.{nothing_narrow}
+use Rattle.polcert_model.proofs.ReadLaws.{item_ends}
+use Rattle.polcert_model.proofs.TakenItems.{item_begun, item_goes_on, has_elements}
+use Rattle.polcert_model.proofs.Within.{within_goes_on, item_begins}
+use Rattle.polcert_model.proofs.Refusing.{feed_refused, end_refused}
+use Rattle.polcert_model.proofs.RefusingEnds.{before_refused, word_refused, text_end_refused}
+
+none≢some : {A : Type 0} {o : Option A} {x : A} → o ≡ None → o ≡ Some x → ⊥
+none≢some e f = cc
+
+abbrev reader_of : Known → Option ItemReader → ℕ → TextReader
+reader_of known held number = record { known = known; item = held; number = number }
+
+-- ---- an item's end
+
+-- no item is open
+pub none_open : (seen : List Lexeme) (r : TextReader) (held : Option ItemReader) → IsTextRead seen r → r.item ≡ None → held ≡ None → AreItemsRead seen (reader_of r.known held r.number)
+none_open seen r held (nothing n) e f = record {
+  items = record { items = []; divided = subst (λ s. IsDivided s [] []) (sym n.nothing) empty_division; right = subst (AreTaken nothing_known []) (sym n.known_is) (texts.none, nothing_narrow) };
+  item_is = f;
+  number_is = n.number_is;
+}
+none_open seen r held (item w) e f = absurd (none≢some e w.item_is)
+
+same_item : (seen : List Lexeme) (r : TextReader) (i : ItemReader) → r.item ≡ Some i → (w : IsItemRead seen r) → w.item ≡ i
+same_item seen r i e w = one_some w.item_is e
+
+-- the open item's reader is within its bounds
+pub open_within : (seen : List Lexeme) (r : TextReader) (i : ItemReader) → IsTextRead seen r → r.item ≡ Some i → IsItemWithin r.known i
+open_within seen r i (nothing n) e = absurd (none≢some n.item_is e)
+open_within seen r i (item w) e = subst (IsItemWithin r.known) (same_item seen r i e w) w.read.within
+
+-- the open item ends
+pub item_ended : (seen : List Lexeme) (r : TextReader) (held : Option ItemReader) (i : ItemReader) (known : Known) (said : Said) → IsTextRead seen r → r.item ≡ Some i → held ≡ None
+    → ItemGoes r.known i [] (learned r.known said) → known ≡ learned r.known said → AreItemsRead seen (reader_of known held r.number)
+item_ended seen r held i known said (nothing n) e none goes e' = absurd (none≢some n.item_is e)
+item_ended seen r held i known said (item w) e none goes same =
+    let after = learned r.known said in
+    let taken : IsTaken r.known w.t w.body after =
+    subst (λ b. IsTaken r.known w.t b after) (append-nil w.body) (w.read.back [] after (subst (λ j. ItemGoes r.known j [] after) (sym (same_item seen r i e w)) goes)) in
+    subst (λ k. AreItemsRead seen (reader_of k held r.number)) (sym same) (record {
+      items = item_ends seen w.body r.known after w.t w.within taken;
+      item_is = none;
+      number_is = w.number_is ∙ sym (length-append w.within.items.items (record { word = w.within.word; body = w.body } ∷ []));
+    })
+
+-- the open item cannot end
+pub item_not_ended : (seen : List Lexeme) (r : TextReader) (i : ItemReader) (kind : ItemFault) (place : ℕ) → IsTextRead seen r → r.item ≡ Some i
+    → ((k : Known) → HasElements k (topic_in i) → CannotEnd (ItemGoes k) i) → IsEndReason (topic_in i) kind → IsRefusedAt seen place (model_faults.Item kind r.number place)
+item_not_ended seen r i kind place (nothing n) e stuck reason = absurd (none≢some n.item_is e)
+item_not_ended seen r i kind place (item w) e stuck reason =
+    let same = same_item seen r i e w in
+    let some : HasElements r.known (topic_in w.item) = subst (HasElements r.known) (sym w.read.topic_is) (has_elements w.within.items.items r.known w.t w.within.items.right.0 w.read.may_stand) in
+    let cannot : CannotEnd (ItemGoes r.known) w.item = subst (λ j. HasElements r.known (topic_in j) → CannotEnd (ItemGoes r.known) j) (sym same) (stuck r.known) some in
+    end_refused seen r kind place w cannot (subst (λ j. IsEndReason (topic_in j) kind) (sym same) reason)
+
+-- ---- one lexeme more
+
+-- before the first item
+pub not_begun : (seen : List Lexeme) (r : TextReader) (l : Lexeme) → IsTextRead seen r → r.item ≡ None → begins_item l ≡ false
+    → IsRefusedBehind (seen ++ l ∷ []) (model_faults.Item BeforeFirstItem r.number l.place)
+not_begun seen r l (nothing n) e inside = before_refused seen r l n inside
+not_begun seen r l (item w) e inside = absurd (none≢some e w.item_is)
+
+-- the open item takes it
+pub item_takes : (seen : List Lexeme) (r : TextReader) (l : Lexeme) (old new : ItemReader) → IsTextRead seen r → r.item ≡ Some old → begins_item l ≡ false
+    → topic_in new ≡ topic_in old → IsItemWithin r.known new → Takes (ItemGoes r.known) old l new → SignIs (sign_in new) l → IsTextRead (seen ++ l ∷ []) (reader_of r.known (Some new) r.number)
+item_takes seen r l old new (nothing n) e inside same within takes sign = absurd (none≢some n.item_is e)
+item_takes seen r l old new (item w) e inside same within takes sign =
+    let read : IsBodyRead r.known w.t w.body old = subst (IsBodyRead r.known w.t w.body) (same_item seen r old e w) w.read in
+    item (record {
+      t = w.t;
+      body = w.body ++ l ∷ [];
+      item = new;
+      within = within_goes_on seen l r.known w.t w.body w.within inside;
+      item_is = refl;
+      number_is = w.number_is;
+      read = item_goes_on r.known w.t w.body old new l read same within takes sign;
+    })
+
+-- it cannot
+pub item_refuses : (seen : List Lexeme) (r : TextReader) (l : Lexeme) (i : ItemReader) (kind : ItemFault) (place : ℕ) → IsTextRead seen r → r.item ≡ Some i → begins_item l ≡ false
+    → CannotTake (ItemGoes r.known) i l → IsItemReason (topic_in i) (sign_in i) l kind place → IsRefusedBehind (seen ++ l ∷ []) (model_faults.Item kind r.number place)
+item_refuses seen r l i kind place (nothing n) e inside stuck reason = absurd (none≢some n.item_is e)
+item_refuses seen r l i kind place (item w) e inside stuck reason =
+    let same = sym (same_item seen r i e w) in
+    feed_refused seen r l kind place w inside (subst (λ j. CannotTake (ItemGoes r.known) j l) same stuck) (subst (λ j. IsItemReason (topic_in j) (sign_in j) l kind place) same reason)
+
+-- ---- an item's word
+
+at_start_none : (t : Topic) (o : Option ItemFault) → at_start t o ≡ None → t ≡ Start → ⊥
+at_start_none t o e s = at o (subst (λ x. at_start x o ≡ None) s e)
+  where
+    at : (o : Option ItemFault) → at_start Start o ≡ None → ⊥
+    at None e = cc
+    at (Some f) e = cc
+
+new_some : (k : Known) (t : Topic) → narrow_word_fault k t ≡ None → (j : ItemReader) × (new_item t ≡ Some j)
+new_some k Discount e = (_, refl)
+new_some k Values e = (_, refl)
+new_some k States e = (_, refl)
+new_some k Actions e = (_, refl)
+new_some k Observations e = (_, refl)
+new_some k Start e = absurd (at_start_none Start (word_fault k Start) e refl)
+new_some k (Cells table) e = (_, refl)
+
+pub item_opened : (seen : List Lexeme) (r : TextReader) (word : Lexeme) (t : Topic) (held : Option ItemReader) → AreItemsRead seen r → topic word ≡ Some t → narrow_word_fault r.known t ≡ None
+    → held ≡ new_item t → IsTextRead (seen ++ word ∷ []) (reader_of r.known held (r.number + 1))
+item_opened seen r word t held a e free same =
+    let j = new_some r.known t free in
+    item (record {
+      t = t;
+      body = [];
+      item = j.0;
+      within = item_begins seen word r.known t a.items e;
+      item_is = same ∙ j.1;
+      number_is = ap (λ n. n + 1) a.number_is;
+      read = item_begun r.known t j.0 a.items.right.1 free j.1;
+    })
+
+pub item_not_opened : (seen : List Lexeme) (r : TextReader) (word : Lexeme) (t : Topic) (kind : ItemFault) (place : ℕ) → AreItemsRead seen r → topic word ≡ Some t
+    → narrow_word_fault r.known t ≡ Some kind → word.place ≡ place → IsRefusedBehind (seen ++ word ∷ []) (model_faults.Item kind (r.number + 1) place)
+item_not_opened seen r word t kind place a e fault at =
+    subst (λ p. IsRefusedBehind (seen ++ word ∷ []) (model_faults.Item kind (r.number + 1) p)) at (word_refused seen r word t kind a e fault)
+
+-- a refusal where an item ends, at the next item's word
+pub refused_at_word : (seen : List Lexeme) (word : Lexeme) (t : Topic) (fault : ModelFault) → topic word ≡ Some t → IsRefusedAt seen word.place fault → IsRefusedBehind (seen ++ word ∷ []) fault
+refused_at_word seen word t fault e refused text ts further tokens same =
+    refused text ts tokens (at_word word further (same ∙ append_assoc seen (word ∷ []) further) (begins word t e) refl)
+
+-- and at the end
+pub refused_at_end : (seen : List Lexeme) (place : ℕ) (fault : ModelFault) → IsRefusedAt seen place fault → IsRefusedWhole seen place fault
+refused_at_end seen place fault refused text ts tokens same clean stop = refused text ts tokens (at_end same (sym stop))
+
+pub whole_refused : (seen : List Lexeme) (r : TextReader) (kind : ItemFault) (place : ℕ) → AreItemsRead seen r → preamble_fault r.known ≡ Some kind
+    → IsRefusedWhole seen place (model_faults.Item kind (r.number + 1) place)
+whole_refused seen r kind place a fault text ts tokens same clean stop =
+    subst (λ p. IsRefusal ts (model_faults.Item kind (r.number + 1) p)) stop (text_end_refused seen r kind a fault text ts tokens same clean)
