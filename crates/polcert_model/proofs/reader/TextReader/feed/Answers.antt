@@ -15,6 +15,7 @@ returns-in-Ok-clause-read c = λ seen read inside.
 
 pub returns-in-Err-Refused-clause-read : goal.returns-in-Err-Refused-clause-read
 returns-in-Err-Refused-clause-read c = λ seen read inside text ts further tokens same.
-    let e = c.in-Err-Refused.ensures in
+    let stuck = rw c.in-Err-Refused.field-0-is at c.in-Err-Refused.ensures.refused in
+    let reason = rw c.in-Err-Refused.field-0-is at c.in-Err-Refused.ensures.reason in
     subst (IsRefusal ts) (sym c.fault-in-Err-Refused.ensures)
-    (item_refuses seen c.args.self.now (lexeme_of c.args.token) c.in-Some.item _ _ read c.in-Some.is inside e.refused e.reason text ts further tokens same)
+    (item_refuses seen c.args.self.now (lexeme_of c.args.token) c.in-Some.item c.in-Err-Refused.refusal.kind c.in-Err-Refused.refusal.place read c.in-Some.is inside stuck reason text ts further tokens same)

@@ -1,0 +1,21 @@
+use Rattle.std.proofs.Common.{◌∙◌, sym, subst}
+use Rattle.std.proofs.lemmas.Result.{err_from_is_err_and}
+use Rattle.polcert_model.specs.Refusals.{IsRefusal}
+use Rattle.polcert_model.proofs.TextReading.{refused_at_end, whole_refused}
+use Rattle.polcert_model.proofs.reader.TextReader.finish.Goals as goal
+
+pub returns-in_err-close : goal.returns-in_err-close
+returns-in_err-close c = λ seen read.
+    let p = err_from_is_err_and c.from_residual.result c.from_residual.ensures.1 in
+    rw (p.1, p.2) (refused_at_end seen c.args.end _ (c.in_err-close.ensures.items seen read))
+
+pub returns-in-Some : goal.returns-in-Some
+returns-in-Some c = λ seen read text ts tokens same clean stop.
+    subst (IsRefusal ts) (sym c.fault.ensures)
+    (whole_refused seen c.close.new.self c.in-Some.kind c.args.end (c.in_ok-close.ensures.items seen read) (sym c.preamble_fault.ensures ∙ c.in-Some.is) text ts tokens same clean stop)
+
+pub returns : goal.returns
+returns c = λ seen read. record {
+  items = (c.in_ok-close.ensures.items seen read).items;
+  complete = sym c.preamble_fault.ensures ∙ c.in_default.is;
+}
