@@ -12,3 +12,4 @@ pub mod GoOnLaws
 pub mod SmallestText
 pub mod StartLimits
 pub mod LimitLaws
+pub mod AxisLaws

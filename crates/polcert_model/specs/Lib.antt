@@ -17,3 +17,6 @@ pub mod FirstWrong
 pub mod Reasons
 pub mod Refusals
 pub mod Examples
+pub mod Contents
+pub mod Sound
+pub mod Axes

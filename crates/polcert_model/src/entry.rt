@@ -111,6 +111,7 @@ pub struct Entries {
 
 impl Model for Entries {
     ghost use Rattle.std.specs.Prelude.{List};
+    ghost use Rattle.polcert_model.specs.declared.entry.Entry.{Entry};
 
     ghost Value = { List Entry };
 

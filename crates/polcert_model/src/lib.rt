@@ -1,6 +1,7 @@
 //! Models: what the texts of POMDP files are, and what they denote.
 #![tactic(auto)]
 
+mod cells;
 mod entry;
 mod examples;
 mod fault;
@@ -9,6 +10,7 @@ mod known;
 mod laws;
 mod model;
 mod reader;
+mod rows;
 #[cfg(test)]
 mod tests;
 mod words;

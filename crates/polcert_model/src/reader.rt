@@ -2,7 +2,8 @@
 use crate::item::{ItemReader, Stop, Want};
 use crate::known::Known;
 use crate::model::Model;
-use crate::words::{Topic, topic};
+use crate::rows::{WrongRow, first_wrong_row};
+use crate::words::{Topic, token_topic};
 use crate::{ItemFault, ModelFault};
 use polcert_text::{TEXT_LIMIT, Token, TokenFault, Tokens};
 use std::alloc::Global;
@@ -34,7 +35,7 @@ impl TextReader {
 
     /// Goes on with the next token.
     fn take(&mut self, alloc: Global, token: Token<'_>) -> Result<(), ModelFault> {
-        match topic(&token) {
+        match token_topic(&token) {
             Some(topic) => {
                 self.close(token.place)?;
                 self.open(alloc, topic, token.place)
@@ -122,7 +123,24 @@ pub fn read_model(alloc: Global, text: &[u8]) -> Result<Model, ModelFault> {
             Err(fault) => return Err(reader.token_fault(fault)),
         }
     }
-    let model = Model::of(reader.finish(tokens.end())?);
-    model.test_rows()?;
-    Ok(model)
+    let Known {
+        discount,
+        costs,
+        states,
+        actions,
+        observations,
+        entries,
+    } = reader.finish(tokens.end())?;
+    let model = Model::of(
+        discount.unwrap_or(0),
+        costs.unwrap_or(false),
+        states.unwrap_or(1),
+        actions.unwrap_or(1),
+        observations.unwrap_or(1),
+        entries,
+    );
+    match first_wrong_row(&model) {
+        None => Ok(model),
+        Some(WrongRow { table, action, row }) => Err(ModelFault::RowSum { table, action, row }),
+    }
 }

@@ -37,7 +37,7 @@ fn topic_of(word: &[u8]) -> Option<Topic>
 }
 
 /// The topic of the item that the token begins, if it begins one.
-pub fn topic(token: &Token<'_>) -> Option<Topic>
+pub fn token_topic(token: &Token<'_>) -> Option<Topic>
     ensures { result ≡ topic (lexeme_of token.now) }
 {
     match token.kind {

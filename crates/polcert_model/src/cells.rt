@@ -1,0 +1,95 @@
+//! Looking a cell up among the entries, from the last one back.
+ghost use Rattle.std.specs.Prelude.{◌≡◌, ◌*◌, ◌<◌, ◌≤◌, ◌^◌, length, slice_index_or, All};
+ghost use Rattle.std.specs.Option.{option_copied};
+ghost use Rattle.polcert_model.specs.Cells.{fits_place, fit_places, is_table, covers, on_diagonal, IsLastCovering};
+ghost use Rattle.polcert_model.specs.Axes.{indices_of, cells_of, place_of, IsInRange};
+
+use crate::{Entry, Place, Sequence, Table};
+
+/// One index of a cell, and how many elements it runs over.
+#[derive(Clone, Copy)]
+pub(crate) struct Axis {
+    pub index: usize,
+    pub count: usize,
+}
+
+/// The last of the entries that covers the cell, if one does.
+pub(crate) fn last_covering<'a>(
+    entries: &'a [Entry],
+    table: Table,
+    axes: &[Axis],
+) -> Option<&'a Entry>
+    ensures { IsLastCovering entries.now table (indices_of axes.now) (option_copied result) }
+{
+    for number in (0..entries.len()).rev() {
+        let entry = &entries[number];
+        if covers(entry, table, axes) {
+            return Some(entry);
+        }
+    }
+    None
+}
+
+/// Whether the entry is one of this table, and its places fit the first of these indices.
+pub(crate) fn covers(entry: &Entry, table: Table, axes: &[Axis]) -> bool
+    ensures { result ≡ covers table (indices_of axes.now) entry.now }
+{
+    is_table(entry.table, table) && fit_places(&entry.places, axes)
+}
+
+fn is_table(table: Table, other: Table) -> bool
+    ensures { result ≡ is_table table other }
+{
+    matches!(
+        (table, other),
+        (Table::Transition, Table::Transition)
+            | (Table::Observation, Table::Observation)
+            | (Table::Reward, Table::Reward)
+    )
+}
+
+fn fit_places(places: &Sequence<Place>, axes: &[Axis]) -> bool
+    ensures { result ≡ fit_places places.now (indices_of axes.now) }
+{
+    if places.len() > axes.len() {
+        return false;
+    }
+    for number in 0..places.len() {
+        if !fits_place(places.at(number), axes[number].index) {
+            return false;
+        }
+    }
+    true
+}
+
+fn fits_place(place: Place, index: usize) -> bool
+    ensures { result ≡ fits_place place index }
+{
+    match place {
+        Place::Every => true,
+        Place::Only(element) => element == index,
+    }
+}
+
+/// The number of the cell at these indices, where cells are numbered row after row.
+pub(crate) fn place_of(axes: &[Axis]) -> usize
+    requires in_range { All IsInRange axes.now }
+    requires room { cells_of axes.now < 2 ^ 64 }
+    ensures place { result ≡ place_of axes.now }
+    ensures within { result < cells_of axes.now }
+{
+    let mut place = 0;
+    for axis in axes {
+        place = place * axis.count + axis.index;
+    }
+    place
+}
+
+pub(crate) fn on_diagonal(axes: &[Axis]) -> bool
+    ensures { result ≡ on_diagonal (indices_of axes.now) }
+{
+    match axes {
+        [start, end] => start.index == end.index,
+        _ => false,
+    }
+}
