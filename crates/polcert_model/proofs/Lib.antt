@@ -13,3 +13,4 @@ pub mod SmallestText
 pub mod StartLimits
 pub mod LimitLaws
 pub mod AxisLaws
+pub mod SoundLaws

@@ -1,10 +1,17 @@
 //! Looking a cell up among the entries, from the last one back.
-ghost use Rattle.std.specs.Prelude.{◌≡◌, ◌*◌, ◌<◌, ◌≤◌, ◌^◌, length, slice_index_or, All};
+ghost use Rattle.std.specs.Prelude.{◌≡◌, ◌*◌, ◌<◌, ◌≤◌, ◌^◌, List, length, All};
 ghost use Rattle.std.specs.Option.{option_copied};
-ghost use Rattle.polcert_model.specs.Cells.{fits_place, fit_places, is_table, covers, on_diagonal, IsLastCovering};
-ghost use Rattle.polcert_model.specs.Axes.{indices_of, cells_of, place_of, IsInRange};
+ghost use Rattle.polcert_model.specs.Elements.{Elements, most_elements};
+ghost use Rattle.polcert_model.specs.Numbers.{one};
+ghost use Rattle.polcert_model.specs.Meaning.{IsCount};
+ghost use Rattle.polcert_model.specs.Cells.{fits_place, fit_places, is_table, covers, on_diagonal, weight_in, reward_in, IsLastCovering};
+ghost use Rattle.polcert_model.specs.Sound.{Fills};
+ghost use Rattle.polcert_model.specs.Axes.{indices_of, cells_of, place_of, IsInRange, AreAxes};
 
-use crate::{Entry, Place, Sequence, Table};
+use crate::{Body, Entry, Place, Sequence, Table};
+
+/// One, in millionths.
+pub(crate) const ONE: u64 = 1_000_000;
 
 /// One index of a cell, and how many elements it runs over.
 #[derive(Clone, Copy)]
@@ -71,8 +78,48 @@ fn fits_place(place: Place, index: usize) -> bool
     }
 }
 
+/// What a body gives the cell at these indices, the ones that the places of its entry leave open, in a table whose
+/// rows have so many columns.
+pub(crate) fn weight_in(body: &Body, open: &[Axis], columns: usize) -> u64
+    requires columns { IsCount most_elements columns }
+    requires in_range { All IsInRange open.now }
+    requires few { length open.now ≤ 4 }
+    requires fills { Fills (cells_of open.now) body.now }
+    ensures weight { (ds : List Elements) → AreAxes ds open.now →
+        result ≡ weight_in columns body.now ds (indices_of open.now) }
+    ensures small { result ≤ one * columns }
+{
+    match body {
+        Body::Probabilities(numbers) => u64::from(numbers.at(place_of(open))) * columns as u64,
+        Body::Uniform => ONE,
+        Body::Identity => if on_diagonal(open) {
+            ONE * columns as u64
+        } else {
+            0
+        },
+        Body::Rewards(_) => 0,
+    }
+}
+
+/// The reward that a body gives the cell at these indices, the ones that the places of its entry leave open.
+pub(crate) fn reward_in(costs: bool, body: &Body, open: &[Axis]) -> i64
+    requires in_range { All IsInRange open.now }
+    requires few { length open.now ≤ 4 }
+    requires fills { Fills (cells_of open.now) body.now }
+    ensures { (ds : List Elements) → AreAxes ds open.now →
+        result ≡ reward_in costs body.now ds (indices_of open.now) }
+{
+    match body {
+        Body::Rewards(numbers) => {
+            let written = numbers.at(place_of(open));
+            if costs { -written } else { written }
+        }
+        Body::Probabilities(_) | Body::Uniform | Body::Identity => 0,
+    }
+}
+
 /// The number of the cell at these indices, where cells are numbered row after row.
-pub(crate) fn place_of(axes: &[Axis]) -> usize
+fn place_of(axes: &[Axis]) -> usize
     requires in_range { All IsInRange axes.now }
     requires room { cells_of axes.now < 2 ^ 64 }
     ensures place { result ≡ place_of axes.now }
@@ -85,7 +132,8 @@ pub(crate) fn place_of(axes: &[Axis]) -> usize
     place
 }
 
-pub(crate) fn on_diagonal(axes: &[Axis]) -> bool
+/// Whether two indices are left open, and are the same.
+fn on_diagonal(axes: &[Axis]) -> bool
     ensures { result ≡ on_diagonal (indices_of axes.now) }
 {
     match axes {

@@ -1,13 +1,24 @@
 //! A model, as it was read.
-ghost use Rattle.std.specs.Prelude.{◌≡◌, ◌<◌, ◌≤◌};
+ghost use Rattle.std.specs.Prelude.{◌≡◌, ◌<◌, ◌≤◌, ◌*◌, length};
+ghost use Rattle.polcert_model.specs.Numbers.{one};
+ghost use Rattle.polcert_model.specs.Preamble.{dimensions, columns as columns_in};
+ghost use Rattle.polcert_model.specs.Cells.{weight, reward};
 ghost use Rattle.polcert_model.specs.Meaning.{states_of, actions_of, observations_of, t_scale, o_scale, start_weight, start_total};
 ghost use Rattle.polcert_model.specs.Contents.{meaning};
+ghost use Rattle.polcert_model.specs.Axes.{indices_of, AreAxes};
+ghost use Rattle.polcert_model.specs.declared.entry.Table.TheVariants.{Reward as RewardTable};
 
-use crate::cells::{Axis, last_covering, on_diagonal, place_of};
-use crate::{Body, Entries, Entry, Table};
+use crate::cells::{Axis, ONE, last_covering, reward_in, weight_in};
+use crate::{Entries, Entry, Table};
 use std::marker;
 
-/// A model of a partially observable Markov decision process.
+/// A model of a partially observable Markov decision process: what its text says.
+///
+/// States, actions and observations go by their numbers, counted from 0 in the order of the text. Probabilities are
+/// weights over a scale, so that each row of T sums to `t_scale` and each row of O to `o_scale`, exactly. The discount
+/// and rewards are in millionths.
+///
+/// Source: the POMDP file format page at pomdp.org.
 #[derive(Debug, Drop)]
 pub struct Model {
     discount: u32,
@@ -29,11 +40,10 @@ impl marker::Model for Model {
     ghost invariant = { λ m. IsSound (contents_of m.discount m.costs m.states m.actions m.observations m.entries) };
 }
 
-const ONE: u64 = 1_000_000;
-
 impl Model {
     ghost use Rattle.polcert_model.specs.Sound.{contents_of, IsSound};
 
+    /// The model of a text that has these lines in its preamble, names no element, and has no start item.
     pub(crate) fn of(
         discount: u32,
         costs: bool,
@@ -55,10 +65,177 @@ impl Model {
         }
     }
 
-    /// How many states there are, from 1 to 1,000.
+    /// How many states there are: 1 to 1,000.
     pub fn states(&self) -> usize
         ensures { result ≡ states_of (meaning self.now) }
     {
         self.states
+    }
+
+    /// How many actions there are: 1 to 1,000.
+    pub fn actions(&self) -> usize
+        ensures { result ≡ actions_of (meaning self.now) }
+    {
+        self.actions
+    }
+
+    /// How many observations there are: 1 to 1,000.
+    pub fn observations(&self) -> usize
+        ensures { result ≡ observations_of (meaning self.now) }
+    {
+        self.observations
+    }
+
+    /// Whether the text gives costs in place of rewards. `r` gives rewards in either case.
+    pub fn is_cost(&self) -> bool
+        ensures { result ≡ (meaning self.now).preamble.costs }
+    {
+        self.costs
+    }
+
+    /// The discount, in millionths: 0 to 1,000,000.
+    pub fn discount(&self) -> u32
+        ensures { result ≡ (meaning self.now).preamble.discount }
+    {
+        self.discount
+    }
+
+    /// What each row of T sums to: 1,000,000 for each state.
+    pub fn t_scale(&self) -> u64
+        ensures { result ≡ t_scale (meaning self.now) }
+    {
+        ONE * self.states as u64
+    }
+
+    /// What each row of O sums to: 1,000,000 for each observation.
+    pub fn o_scale(&self) -> u64
+        ensures { result ≡ o_scale (meaning self.now) }
+    {
+        ONE * self.observations as u64
+    }
+
+    /// The share of state `s` in the start, out of `start_total`: each state has the same where the text has no start
+    /// item. `s` is a state's number.
+    pub fn start_weight(&self, s: usize) -> u64
+        requires { s < states_of (meaning self.now) }
+        ensures { result ≡ start_weight (meaning self.now) s }
+    {
+        1
+    }
+
+    /// What the shares of all states in the start sum to.
+    pub fn start_total(&self) -> u64
+        ensures { result ≡ start_total (meaning self.now) }
+    {
+        self.states as u64
+    }
+
+    /// T: the weight of the end state `e` where action `a` is taken in state `s`, out of `t_scale`. `a` is an action's
+    /// number, and `s` and `e` are states' numbers.
+    pub fn t(&self, a: usize, s: usize, e: usize) -> u64
+        requires action { a < actions_of (meaning self.now) }
+        requires start { s < states_of (meaning self.now) }
+        requires end { e < states_of (meaning self.now) }
+        ensures { result ≡ (meaning self.now).t a s e }
+    {
+        self.weight(
+            Table::Transition,
+            &[self.action(a), self.state(s), self.state(e)],
+            self.states,
+        )
+    }
+
+    /// O: the weight of observation `z` where action `a` ends in state `e`, out of `o_scale`. `a`, `e` and `z` are the
+    /// numbers of an action, a state and an observation.
+    pub fn o(&self, a: usize, e: usize, z: usize) -> u64
+        requires action { a < actions_of (meaning self.now) }
+        requires end { e < states_of (meaning self.now) }
+        requires observation { z < observations_of (meaning self.now) }
+        ensures { result ≡ (meaning self.now).o a e z }
+    {
+        self.weight(
+            Table::Observation,
+            &[self.action(a), self.state(e), self.observation(z)],
+            self.observations,
+        )
+    }
+
+    /// R: the reward, in millionths, where action `a` is taken in state `s`, ends in state `e` and observation `z` is
+    /// made: minus what is written where the text gives costs. `a`, `s`, `e` and `z` are the numbers of an action, two
+    /// states and an observation.
+    pub fn r(&self, a: usize, s: usize, e: usize, z: usize) -> i64
+        requires action { a < actions_of (meaning self.now) }
+        requires start { s < states_of (meaning self.now) }
+        requires end { e < states_of (meaning self.now) }
+        requires observation { z < observations_of (meaning self.now) }
+        ensures { result ≡ (meaning self.now).r a s e z }
+    {
+        self.reward(&[
+            self.action(a),
+            self.state(s),
+            self.state(e),
+            self.observation(z),
+        ])
+    }
+
+    /// The entries, in the order of the text.
+    pub(crate) fn entries(&self) -> &[Entry]
+        ensures { result.now ≡ self.now.entries }
+    {
+        self.entries.as_slice()
+    }
+
+    fn action(&self, index: usize) -> Axis
+        ensures index { result.index ≡ index }
+        ensures count { result.count ≡ actions_of (meaning self.now) }
+    {
+        Axis {
+            index,
+            count: self.actions,
+        }
+    }
+
+    fn state(&self, index: usize) -> Axis
+        ensures index { result.index ≡ index }
+        ensures count { result.count ≡ states_of (meaning self.now) }
+    {
+        Axis {
+            index,
+            count: self.states,
+        }
+    }
+
+    fn observation(&self, index: usize) -> Axis
+        ensures index { result.index ≡ index }
+        ensures count { result.count ≡ observations_of (meaning self.now) }
+    {
+        Axis {
+            index,
+            count: self.observations,
+        }
+    }
+
+    /// The weight of a cell of T or O, in a row of so many columns.
+    pub(crate) fn weight(&self, table: Table, axes: &[Axis], columns: usize) -> u64
+        requires axes { AreAxes (dimensions self.now.preamble table) axes.now }
+        requires columns { columns ≡ columns_in self.now.preamble table }
+        ensures weight { result ≡ weight self.now.preamble self.now.entries table (indices_of axes.now) }
+        ensures small { result ≤ one * columns }
+    {
+        match last_covering(self.entries.as_slice(), table, axes) {
+            Some(entry) => weight_in(&entry.body, &axes[entry.places.len()..], columns),
+            None => 0,
+        }
+    }
+
+    /// The reward of a cell of R.
+    fn reward(&self, axes: &[Axis]) -> i64
+        requires { AreAxes (dimensions self.now.preamble RewardTable) axes.now }
+        ensures { result ≡ reward self.now.preamble self.now.entries (indices_of axes.now) }
+    {
+        match last_covering(self.entries.as_slice(), Table::Reward, axes) {
+            Some(entry) => reward_in(self.costs, &entry.body, &axes[entry.places.len()..]),
+            None => 0,
+        }
     }
 }
