@@ -1,5 +1,5 @@
 //! Looking a cell up among the entries, from the last one back.
-ghost use Rattle.std.specs.Prelude.{◌≡◌, ◌*◌, ◌<◌, ◌≤◌, ◌^◌, List, length, All};
+ghost use Rattle.std.specs.Prelude.{◌≡◌, ◌*◌, ◌<◌, ◌≤◌, ◌^◌, List, length, drop, All};
 ghost use Rattle.std.specs.Option.{option_copied};
 ghost use Rattle.polcert_model.specs.Elements.{Elements, most_elements};
 ghost use Rattle.polcert_model.specs.Numbers.{one};
@@ -42,6 +42,14 @@ pub(crate) fn covers(entry: &Entry, table: Table, axes: &[Axis]) -> bool
     ensures { result ≡ covers table (indices_of axes.now) entry.now }
 {
     is_table(entry.table, table) && fit_places(&entry.places, axes)
+}
+
+/// The indices that the places of the entry leave open.
+pub(crate) fn left_open<'a>(entry: &Entry, axes: &'a [Axis]) -> &'a [Axis]
+    requires { length entry.now.places ≤ length axes.now }
+    ensures { result.now ≡ drop (length entry.now.places) axes.now }
+{
+    &axes[entry.places.len()..]
 }
 
 fn is_table(table: Table, other: Table) -> bool

@@ -5,10 +5,10 @@ ghost use Rattle.polcert_model.specs.Preamble.{dimensions, columns as columns_in
 ghost use Rattle.polcert_model.specs.Cells.{weight, reward};
 ghost use Rattle.polcert_model.specs.Meaning.{states_of, actions_of, observations_of, t_scale, o_scale, start_weight, start_total};
 ghost use Rattle.polcert_model.specs.Contents.{meaning};
-ghost use Rattle.polcert_model.specs.Axes.{indices_of, AreAxes};
+ghost use Rattle.polcert_model.specs.Axes.{indices_of, IsInRange, AreAxes};
 ghost use Rattle.polcert_model.specs.declared.entry.Table.TheVariants.{Reward as RewardTable};
 
-use crate::cells::{Axis, ONE, last_covering, reward_in, weight_in};
+use crate::cells::{Axis, ONE, last_covering, left_open, reward_in, weight_in};
 use crate::{Entries, Entry, Table};
 use std::marker;
 
@@ -120,6 +120,7 @@ impl Model {
         requires { s < states_of (meaning self.now) }
         ensures { result ≡ start_weight (meaning self.now) s }
     {
+        prove!(s < self.states);
         1
     }
 
@@ -186,8 +187,10 @@ impl Model {
     }
 
     fn action(&self, index: usize) -> Axis
+        requires { index < actions_of (meaning self.now) }
         ensures index { result.index ≡ index }
         ensures count { result.count ≡ actions_of (meaning self.now) }
+        ensures in_range { IsInRange result }
     {
         Axis {
             index,
@@ -196,8 +199,10 @@ impl Model {
     }
 
     fn state(&self, index: usize) -> Axis
+        requires { index < states_of (meaning self.now) }
         ensures index { result.index ≡ index }
         ensures count { result.count ≡ states_of (meaning self.now) }
+        ensures in_range { IsInRange result }
     {
         Axis {
             index,
@@ -206,8 +211,10 @@ impl Model {
     }
 
     fn observation(&self, index: usize) -> Axis
+        requires { index < observations_of (meaning self.now) }
         ensures index { result.index ≡ index }
         ensures count { result.count ≡ observations_of (meaning self.now) }
+        ensures in_range { IsInRange result }
     {
         Axis {
             index,
@@ -223,7 +230,7 @@ impl Model {
         ensures small { result ≤ one * columns }
     {
         match last_covering(self.entries.as_slice(), table, axes) {
-            Some(entry) => weight_in(&entry.body, &axes[entry.places.len()..], columns),
+            Some(entry) => weight_in(&entry.body, left_open(entry, axes), columns),
             None => 0,
         }
     }
@@ -234,7 +241,7 @@ impl Model {
         ensures { result ≡ reward self.now.preamble self.now.entries (indices_of axes.now) }
     {
         match last_covering(self.entries.as_slice(), Table::Reward, axes) {
-            Some(entry) => reward_in(self.costs, &entry.body, &axes[entry.places.len()..]),
+            Some(entry) => reward_in(self.costs, &entry.body, left_open(entry, axes)),
             None => 0,
         }
     }
