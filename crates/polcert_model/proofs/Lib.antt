@@ -14,3 +14,4 @@ pub mod StartLimits
 pub mod LimitLaws
 pub mod AxisLaws
 pub mod SoundLaws
+pub mod SoundTexts
