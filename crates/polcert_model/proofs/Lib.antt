@@ -15,3 +15,4 @@ pub mod LimitLaws
 pub mod AxisLaws
 pub mod SoundLaws
 pub mod SoundTexts
+pub mod RowSumLaws

@@ -20,3 +20,4 @@ pub mod Examples
 pub mod Contents
 pub mod Sound
 pub mod Axes
+pub mod RowSums

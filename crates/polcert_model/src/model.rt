@@ -1,9 +1,10 @@
 //! A model, as it was read.
 ghost use Rattle.std.specs.Prelude.{◌≡◌, ◌<◌, ◌≤◌, ◌*◌, length};
 ghost use Rattle.polcert_model.specs.Numbers.{one};
+ghost use Rattle.polcert_model.specs.Elements.{most_elements};
 ghost use Rattle.polcert_model.specs.Preamble.{dimensions, columns as columns_in};
 ghost use Rattle.polcert_model.specs.Cells.{weight, reward};
-ghost use Rattle.polcert_model.specs.Meaning.{states_of, actions_of, observations_of, t_scale, o_scale, start_weight, start_total};
+ghost use Rattle.polcert_model.specs.Meaning.{IsCount, states_of, actions_of, observations_of, t_scale, o_scale, start_weight, start_total};
 ghost use Rattle.polcert_model.specs.Contents.{meaning};
 ghost use Rattle.polcert_model.specs.Axes.{indices_of, IsInRange, AreAxes};
 ghost use Rattle.polcert_model.specs.declared.entry.Table.TheVariants.{Reward as RewardTable};
@@ -142,7 +143,6 @@ impl Model {
         self.weight(
             Table::Transition,
             &[self.action(a), self.state(s), self.state(e)],
-            self.states,
         )
     }
 
@@ -157,7 +157,6 @@ impl Model {
         self.weight(
             Table::Observation,
             &[self.action(a), self.state(e), self.observation(z)],
-            self.observations,
         )
     }
 
@@ -186,7 +185,19 @@ impl Model {
         self.entries.as_slice()
     }
 
-    fn action(&self, index: usize) -> Axis
+    /// How many columns a row of the table has: those of R have one.
+    pub(crate) fn columns(&self, table: Table) -> usize
+        ensures columns { result ≡ columns_in self.now.preamble table }
+        ensures count { IsCount most_elements result }
+    {
+        match table {
+            Table::Transition => self.states,
+            Table::Observation => self.observations,
+            Table::Reward => 1,
+        }
+    }
+
+    pub(crate) fn action(&self, index: usize) -> Axis
         requires { index < actions_of (meaning self.now) }
         ensures index { result.index ≡ index }
         ensures count { result.count ≡ actions_of (meaning self.now) }
@@ -198,7 +209,7 @@ impl Model {
         }
     }
 
-    fn state(&self, index: usize) -> Axis
+    pub(crate) fn state(&self, index: usize) -> Axis
         requires { index < states_of (meaning self.now) }
         ensures index { result.index ≡ index }
         ensures count { result.count ≡ states_of (meaning self.now) }
@@ -222,15 +233,14 @@ impl Model {
         }
     }
 
-    /// The weight of a cell of T or O, in a row of so many columns.
-    pub(crate) fn weight(&self, table: Table, axes: &[Axis], columns: usize) -> u64
-        requires axes { AreAxes (dimensions self.now.preamble table) axes.now }
-        requires columns { columns ≡ columns_in self.now.preamble table }
+    /// The weight of a cell of T or O.
+    pub(crate) fn weight(&self, table: Table, axes: &[Axis]) -> u64
+        requires { AreAxes (dimensions self.now.preamble table) axes.now }
         ensures weight { result ≡ weight self.now.preamble self.now.entries table (indices_of axes.now) }
-        ensures small { result ≤ one * columns }
+        ensures small { result ≤ one * columns_in self.now.preamble table }
     {
         match last_covering(self.entries.as_slice(), table, axes) {
-            Some(entry) => weight_in(&entry.body, left_open(entry, axes), columns),
+            Some(entry) => weight_in(&entry.body, left_open(entry, axes), self.columns(table)),
             None => 0,
         }
     }

@@ -10,12 +10,12 @@ left_open-requires c = found_places _ c.args.table c.args.axes.now _ (is_found _
 pub weight_in-requires-clause-fills : goal.weight_in-requires-clause-fills
 weight_in-requires-clause-fills c =
     let found = kept_found _ c.args.self.now _ c.args.table (indices_of c.args.axes.now) _ c.self.view_is c.as_slice.ensures c.in-Some.ensures in
-    kept_fills c.args.self.now c.args.table c.args.axes.now _ _ (subst IsSound c.self.view_is c.self.invariant) c.requires.axes found c.left_open.ensures
+    kept_fills c.args.self.now c.args.table c.args.axes.now _ _ (subst IsSound c.self.view_is c.self.invariant) c.requires found c.left_open.ensures
 
 pub returns-in-Some-clause-weight : goal.returns-in-Some-clause-weight
 returns-in-Some-clause-weight c =
     let found = kept_found _ c.args.self.now _ c.args.table (indices_of c.args.axes.now) _ c.self.view_is c.as_slice.ensures c.in-Some.ensures in
-    kept_weight c.args.self.now c.args.table c.args.axes.now _ _ _ _ c.requires.axes c.requires.columns found c.left_open.ensures c.weight_in.ensures.weight
+    kept_weight c.args.self.now c.args.table c.args.axes.now _ _ _ _ c.requires c.columns.ensures.columns found c.left_open.ensures c.weight_in.ensures.weight
 
 pub returns-in-None-clause-weight : goal.returns-in-None-clause-weight
 returns-in-None-clause-weight c =
