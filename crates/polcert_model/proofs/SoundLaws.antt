@@ -279,5 +279,7 @@ four_in_range w x y z a b c d = more_range w (x ∷ y ∷ z ∷ []) a (more_rang
 pub alike_weight : (n s : ℕ) → s < n → 1 ≡ get_or (alike n (λ x. true)).weights s 0
 alike_weight n s l = sym (get_or-map-range_with_len (λ (x : ℕ). 1) 0 n s s 0 l (omega arith))
 
-pub alike_total : (n : ℕ) → n ≡ (alike n (λ x. true)).total
-alike_total n = sym (length-range_with_len 0 n) ∙ is_count_by length (λ (x : ℕ). true) refl (λ x xs. omega arith) (range_with_len 0 n)
+pub alike_total : (n : ℕ) → 1 * n ≡ (alike n (λ x. true)).total
+alike_total n =
+    let same : 1 * n ≡ n = omega arith in
+    same ∙ sym (length-range_with_len 0 n) ∙ is_count_by length (λ (x : ℕ). true) refl (λ x xs. omega arith) (range_with_len 0 n)

@@ -13,6 +13,9 @@ use crate::cells::{Axis, ONE, last_covering, left_open, reward_in, weight_in};
 use crate::{Entries, Entry, Table};
 use std::marker;
 
+/// The share of each state in a start where all states are alike.
+const ALIKE: u64 = 1;
+
 /// A model of a partially observable Markov decision process: what its text says.
 ///
 /// States, actions and observations go by their numbers, counted from 0 in the order of the text. Probabilities are
@@ -122,14 +125,14 @@ impl Model {
         ensures { result ≡ start_weight (meaning self.now) s }
     {
         prove!(s < self.states);
-        1
+        ALIKE
     }
 
     /// What the shares of all states in the start sum to.
     pub fn start_total(&self) -> u64
         ensures { result ≡ start_total (meaning self.now) }
     {
-        self.states as u64
+        ALIKE * self.states as u64
     }
 
     /// T: the weight of the end state `e` where action `a` is taken in state `s`, out of `t_scale`. `a` is an action's

@@ -52,9 +52,7 @@ fn is_proper_row(model: &Model, table: Table, action: usize, row: usize) -> bool
 {
     match table {
         Table::Transition => row_sum(model, table, action, row) == model.t_scale(),
-        Table::Observation => {
-            row_sum(model, table, action, row) == model.o_scale()
-        }
+        Table::Observation => { row_sum(model, table, action, row) == model.o_scale() }
         Table::Reward => false,
     }
 }
