@@ -16,3 +16,4 @@ pub mod AxisLaws
 pub mod SoundLaws
 pub mod SoundTexts
 pub mod RowSumLaws
+pub mod RowPartLaws

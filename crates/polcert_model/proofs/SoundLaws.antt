@@ -149,19 +149,25 @@ same_table Reward Transition e = absurd (true≢false e refl)
 same_table Reward Observation e = absurd (true≢false e refl)
 same_table Reward Reward e = refl
 
+pub covered_table : (table : Table) (indices : List ℕ) (entry : Entry) → covers table indices entry ≡ true → entry.table ≡ table
+covered_table table indices entry c = same_table entry.table table (and_true (is_table entry.table table) (fit_places entry.places indices) c).0
+
 pub found_table : (entries : List Entry) (table : Table) (indices : List ℕ) (entry : Entry) → IsFound entries table indices entry → entry.table ≡ table
-found_table entries table indices entry f = same_table entry.table table (and_true (is_table entry.table table) (fit_places entry.places indices) f.covered).0
+found_table entries table indices entry f = covered_table table indices entry f.covered
 
 places_fit : (ps : List Place) (indices : List ℕ) → fit_places ps indices ≡ true → length ps ≤ length indices
 places_fit [] indices e = omega arith
 places_fit (p ∷ ps) [] e = absurd (true≢false e refl)
 places_fit (p ∷ ps) (i ∷ is) e = let rest = places_fit ps is (and_true (fits_place p i) (fit_places ps is) e).1 in omega (arith, rest)
 
-pub found_places : (entries : List Entry) (table : Table) (axes : List Axis) (entry : Entry) → IsFound entries table (indices_of axes) entry → length entry.places ≤ length axes
-found_places entries table axes entry f =
-    let fit = places_fit entry.places (indices_of axes) (and_true (is_table entry.table table) (fit_places entry.places (indices_of axes)) f.covered).1 in
+pub covered_places : (table : Table) (axes : List Axis) (entry : Entry) → covers table (indices_of axes) entry ≡ true → length entry.places ≤ length axes
+covered_places table axes entry c =
+    let fit = places_fit entry.places (indices_of axes) (and_true (is_table entry.table table) (fit_places entry.places (indices_of axes)) c).1 in
     let same : length (indices_of axes) ≡ length axes = length-map axes (λ (x : Axis). x.index) in
     omega (arith, fit, same)
+
+pub found_places : (entries : List Entry) (table : Table) (axes : List Axis) (entry : Entry) → IsFound entries table (indices_of axes) entry → length entry.places ≤ length axes
+found_places entries table axes entry f = covered_places table axes entry f.covered
 
 -- ---- the indices left open
 drop_map : {V W : Type 0} (f : V → W) (n : ℕ) (vs : List V) → map f (drop n vs) ≡ drop n (map f vs)
@@ -199,13 +205,9 @@ fills_open p table axes entry a t s =
     subst (λ c. Fills c entry.body) (sym cells) s.body
 
 -- ---- what a cell is worth
-pub weight_found : (p : Preamble) (entries : List Entry) (table : Table) (axes : List Axis) (entry : Entry) → IsLastCovering entries table (indices_of axes) (Some entry) → entry.table ≡ table
-    → weight_in (columns p table) entry.body (drop (length entry.places) (dimensions p table)) (indices_of (drop (length entry.places) axes)) ≡ weight p entries table (indices_of axes)
-weight_found p entries table axes entry found t =
-    let n = length entry.places in
-    ap (λ u. weight_in (columns p u) entry.body (drop n (dimensions p u)) (indices_of (drop n axes))) (sym t)
-    ∙ ap (λ is. weight_in (columns p entry.table) entry.body (drop n (dimensions p entry.table)) is) (drop_map (λ (x : Axis). x.index) n axes)
-    ∙ ap (value_or 0 (weight_of p (indices_of axes))) (last_is_one entries table (indices_of axes) (Some entry) found)
+pub weight_found : (p : Preamble) (entries : List Entry) (table : Table) (indices : List ℕ) (entry : Entry) (w : ℕ) → IsLastCovering entries table indices (Some entry)
+    → w ≡ weight_of p indices entry → w ≡ weight p entries table indices
+weight_found p entries table indices entry w found e = e ∙ ap (value_or 0 (weight_of p indices)) (last_is_one entries table indices (Some entry) found)
 
 pub weight_nothing : (p : Preamble) (entries : List Entry) (table : Table) (indices : List ℕ) → IsLastCovering entries table indices None → 0 ≡ weight p entries table indices
 weight_nothing p entries table indices found = ap (value_or 0 (weight_of p indices)) (last_is_one entries table indices None found)
@@ -228,6 +230,12 @@ columns_count c Reward s = (omega arith, omega arith)
 
 -- ---- as the readers use them
 -- what holds of the entries that a model keeps holds of its contents
+pub kept_sound : (inside kept : Contents) (entries : List Entry) (table : Table) (indices : List ℕ) (entry : Entry) → inside ≡ kept → entries ≡ inside.entries → IsSound inside
+    → IsLastCovering entries table indices (Some entry) → IsSoundEntry kept.preamble entry
+kept_sound inside kept entries table indices entry view same s f =
+    subst (λ (k : Contents). IsSoundEntry k.preamble entry) view
+    (found_sound inside.preamble entries table indices entry (subst (All (IsSoundEntry inside.preamble)) (sym same) s.entries) (is_found entries table indices entry f))
+
 pub kept_found : (inside kept : Contents) (entries : List Entry) (table : Table) (indices : List ℕ) (found : Option Entry) → inside ≡ kept → entries ≡ inside.entries
     → IsLastCovering entries table indices found → IsLastCovering kept.entries table indices found
 kept_found inside kept entries table indices found view same f = subst (λ es. IsLastCovering es table indices found) (same ∙ ap (λ (k : Contents). k.entries) view) f
@@ -240,17 +248,22 @@ kept_fills kept table axes rest entry s a found o =
     let here = fills_open kept.preamble table axes entry a (found_table kept.entries table (indices_of axes) entry f) (found_sound kept.preamble kept.entries table (indices_of axes) entry s.entries f) in
     subst (λ (xs : List Axis). Fills (cells_of xs) entry.body) (sym o) here
 
-pub kept_weight : (kept : Contents) (table : Table) (axes rest : List Axis) (entry : Entry) (width w : ℕ) → AreAxes (dimensions kept.preamble table) axes → width ≡ columns kept.preamble table
-    → IsLastCovering kept.entries table (indices_of axes) (Some entry) → rest ≡ drop (length entry.places) axes
-    → ((ds : List Elements) → AreAxes ds rest → w ≡ weight_in width entry.body ds (indices_of rest)) → w ≡ weight kept.preamble kept.entries table (indices_of axes)
-kept_weight kept table axes rest entry width w a c found o given =
+pub entry_fills : (p : Preamble) (table : Table) (axes rest : List Axis) (entry : Entry) → IsSoundEntry p entry → covers table (indices_of axes) entry ≡ true
+    → AreAxes (dimensions p table) axes → rest ≡ drop (length entry.places) axes → Fills (cells_of rest) entry.body
+entry_fills p table axes rest entry s covered a o =
+    subst (λ (xs : List Axis). Fills (cells_of xs) entry.body) (sym o) (fills_open p table axes entry a (covered_table table (indices_of axes) entry covered) s)
+
+pub entry_weight : (p : Preamble) (table : Table) (axes rest : List Axis) (entry : Entry) (width w : ℕ) → covers table (indices_of axes) entry ≡ true → AreAxes (dimensions p table) axes
+    → width ≡ columns p table → rest ≡ drop (length entry.places) axes
+    → ((ds : List Elements) → AreAxes ds rest → w ≡ weight_in width entry.body ds (indices_of rest)) → w ≡ weight_of p (indices_of axes) entry
+entry_weight p table axes rest entry width w covered a c o given =
     let n = length entry.places in
-    let f = is_found kept.entries table (indices_of axes) entry found in
-    let there : AreAxes (drop n (dimensions kept.preamble table)) rest = subst (AreAxes (drop n (dimensions kept.preamble table))) (sym o) (axes_open n (dimensions kept.preamble table) axes a) in
-    given (drop n (dimensions kept.preamble table)) there
-    ∙ ap (λ (xs : List Axis). weight_in width entry.body (drop n (dimensions kept.preamble table)) (indices_of xs)) o
-    ∙ ap (λ m. weight_in m entry.body (drop n (dimensions kept.preamble table)) (indices_of (drop n axes))) c
-    ∙ weight_found kept.preamble kept.entries table axes entry found (found_table kept.entries table (indices_of axes) entry f)
+    let t = covered_table table (indices_of axes) entry covered in
+    given (drop n (dimensions p table)) (subst (AreAxes (drop n (dimensions p table))) (sym o) (axes_open n (dimensions p table) axes a))
+    ∙ ap (λ (xs : List Axis). weight_in width entry.body (drop n (dimensions p table)) (indices_of xs)) o
+    ∙ ap (λ m. weight_in m entry.body (drop n (dimensions p table)) (indices_of (drop n axes))) c
+    ∙ ap (λ u. weight_in (columns p u) entry.body (drop n (dimensions p u)) (indices_of (drop n axes))) (sym t)
+    ∙ ap (λ is. weight_in (columns p entry.table) entry.body (drop n (dimensions p entry.table)) is) (drop_map (λ (x : Axis). x.index) n axes)
 
 pub kept_reward : (kept : Contents) (axes rest : List Axis) (entry : Entry) (costs : Bool) (h : ℤ) → AreAxes (dimensions kept.preamble Reward) axes → costs ≡ kept.preamble.costs
     → IsLastCovering kept.entries Reward (indices_of axes) (Some entry) → rest ≡ drop (length entry.places) axes

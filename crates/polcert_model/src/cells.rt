@@ -52,7 +52,7 @@ pub(crate) fn left_open<'a>(entry: &Entry, axes: &'a [Axis]) -> &'a [Axis]
     &axes[entry.places.len()..]
 }
 
-fn is_table(table: Table, other: Table) -> bool
+pub(crate) fn is_table(table: Table, other: Table) -> bool
     ensures { result ≡ is_table table other }
 {
     matches!(
@@ -77,7 +77,7 @@ fn fit_places(places: &Sequence<Place>, axes: &[Axis]) -> bool
     true
 }
 
-fn fits_place(place: Place, index: usize) -> bool
+pub(crate) fn fits_place(place: Place, index: usize) -> bool
     ensures { result ≡ fits_place place index }
 {
     match place {

@@ -10,6 +10,7 @@ mod known;
 mod laws;
 mod model;
 mod reader;
+mod row_part;
 mod rows;
 #[cfg(test)]
 mod tests;

@@ -1,11 +1,13 @@
 //! A model, as it was read.
-ghost use Rattle.std.specs.Prelude.{◌≡◌, ◌<◌, ◌≤◌, ◌*◌, length};
+ghost use Rattle.std.specs.Prelude.{◌≡◌, ◌<◌, ◌≤◌, ◌*◌, true, [], ◌∷◌, All};
 ghost use Rattle.polcert_model.specs.Numbers.{one};
 ghost use Rattle.polcert_model.specs.Elements.{most_elements};
 ghost use Rattle.polcert_model.specs.Preamble.{dimensions, columns as columns_in};
-ghost use Rattle.polcert_model.specs.Cells.{weight, reward};
+ghost use Rattle.polcert_model.specs.Cells.{covers, weight_of, weight, reward};
 ghost use Rattle.polcert_model.specs.Meaning.{IsCount, states_of, actions_of, observations_of, t_scale, o_scale, start_weight, start_total};
 ghost use Rattle.polcert_model.specs.Contents.{meaning};
+ghost use Rattle.polcert_model.specs.Sound.{IsSoundEntry};
+ghost use Rattle.polcert_model.specs.RowSums.{IsWeighted};
 ghost use Rattle.polcert_model.specs.Axes.{indices_of, IsInRange, AreAxes};
 ghost use Rattle.polcert_model.specs.declared.entry.Table.TheVariants.{Reward as RewardTable};
 
@@ -183,7 +185,8 @@ impl Model {
 
     /// The entries, in the order of the text.
     pub(crate) fn entries(&self) -> &[Entry]
-        ensures { result.now ≡ self.now.entries }
+        ensures entries { result.now ≡ self.now.entries }
+        ensures sound { All (IsSoundEntry self.now.preamble) result.now }
     {
         self.entries.as_slice()
     }
@@ -200,7 +203,26 @@ impl Model {
         }
     }
 
-    pub(crate) fn action(&self, index: usize) -> Axis
+    /// The indices of a cell of T or O.
+    pub(crate) fn cell(&self, table: Table, action: usize, state: usize, column: usize) -> [Axis; 3]
+        requires weighted { IsWeighted table }
+        requires action { action < actions_of (meaning self.now) }
+        requires state { state < states_of (meaning self.now) }
+        requires column { column < columns_in self.now.preamble table }
+        ensures axes { AreAxes (dimensions self.now.preamble table) result }
+        ensures indices { indices_of result ≡ action ∷ state ∷ column ∷ [] }
+    {
+        [
+            self.action(action),
+            self.state(state),
+            Axis {
+                index: column,
+                count: self.columns(table),
+            },
+        ]
+    }
+
+    fn action(&self, index: usize) -> Axis
         requires { index < actions_of (meaning self.now) }
         ensures index { result.index ≡ index }
         ensures count { result.count ≡ actions_of (meaning self.now) }
@@ -212,7 +234,7 @@ impl Model {
         }
     }
 
-    pub(crate) fn state(&self, index: usize) -> Axis
+    fn state(&self, index: usize) -> Axis
         requires { index < states_of (meaning self.now) }
         ensures index { result.index ≡ index }
         ensures count { result.count ≡ states_of (meaning self.now) }
@@ -237,15 +259,25 @@ impl Model {
     }
 
     /// The weight of a cell of T or O.
-    pub(crate) fn weight(&self, table: Table, axes: &[Axis]) -> u64
+    fn weight(&self, table: Table, axes: &[Axis]) -> u64
         requires { AreAxes (dimensions self.now.preamble table) axes.now }
-        ensures weight { result ≡ weight self.now.preamble self.now.entries table (indices_of axes.now) }
-        ensures small { result ≤ one * columns_in self.now.preamble table }
+        ensures { result ≡ weight self.now.preamble self.now.entries table (indices_of axes.now) }
     {
         match last_covering(self.entries.as_slice(), table, axes) {
-            Some(entry) => weight_in(&entry.body, left_open(entry, axes), self.columns(table)),
+            Some(entry) => self.weight_of(entry, table, axes),
             None => 0,
         }
+    }
+
+    /// What an entry of T or O gives a cell that it covers.
+    pub(crate) fn weight_of(&self, entry: &Entry, table: Table, axes: &[Axis]) -> u64
+        requires sound { IsSoundEntry self.now.preamble entry.now }
+        requires covered { covers table (indices_of axes.now) entry.now ≡ true }
+        requires axes { AreAxes (dimensions self.now.preamble table) axes.now }
+        ensures weight { result ≡ weight_of self.now.preamble (indices_of axes.now) entry.now }
+        ensures small { result ≤ one * columns_in self.now.preamble table }
+    {
+        weight_in(&entry.body, left_open(entry, axes), self.columns(table))
     }
 
     /// The reward of a cell of R.

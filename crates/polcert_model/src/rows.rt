@@ -1,14 +1,19 @@
 //! The test of the row sums.
-ghost use Rattle.std.specs.Prelude.{◌≡◌, ◌*◌, ◌<◌, ◌≤◌, ◌↔◌, IsTrue, MatchOption};
+ghost use Rattle.std.specs.Prelude.{◌≡◌, ◌*◌, ◌<◌, ◌≤◌, ◌↔◌, IsTrue, MatchOption, length};
 ghost use Rattle.polcert_model.specs.Numbers.{one};
 ghost use Rattle.polcert_model.specs.Preamble.{columns as columns_in};
 ghost use Rattle.polcert_model.specs.Meaning.{states_of, actions_of, sum_below, HasProperRows};
 ghost use Rattle.polcert_model.specs.Contents.{meaning};
 ghost use Rattle.polcert_model.specs.Rows.{IsProperRow, IsFirstWrongRow};
-ghost use Rattle.polcert_model.specs.RowSums.{IsWeighted, row_of, AreProper, IsFirstWrongIn};
+ghost use Rattle.polcert_model.specs.Sound.{IsSoundEntry};
+ghost use Rattle.polcert_model.specs.declared.row_part.RowPart.TheVariants.{Whole as WholeRow};
+ghost use Rattle.polcert_model.specs.RowSums.{IsWeighted, row_of, AreProper, IsFirstWrongIn, IsPartOf, unseen};
 
-use crate::cells::Axis;
-use crate::{Model, Table};
+use crate::row_part::{RowPart, row_part};
+use crate::{Entry, Model, Table};
+
+/// The most columns that a row may have.
+const MOST_COLUMNS: usize = 1000;
 
 /// A row that does not sum to its scale: of T, by action and start state, or of O, by action and end state.
 #[derive(Clone, Copy)]
@@ -57,7 +62,8 @@ fn is_proper_row(model: &Model, table: Table, action: usize, row: usize) -> bool
     }
 }
 
-/// What a row of T or O sums to.
+/// What a row of T or O sums to. The entries are gone through once, from the last one back: each column counts where
+/// it is first met, and an entry that covers the whole row is the last to look at.
 fn row_sum(model: &Model, table: Table, action: usize, row: usize) -> u64
     requires weighted { IsWeighted table }
     requires action { action < actions_of (meaning model.now) }
@@ -65,17 +71,48 @@ fn row_sum(model: &Model, table: Table, action: usize, row: usize) -> u64
     ensures { result ≡ sum_below (row_of model.now table action row) (columns_in model.now.preamble table) }
 {
     let columns = model.columns(table);
+    let entries = model.entries();
+    let mut seen = [false; MOST_COLUMNS];
+    let mut sum = 0;
+    for number in (0..entries.len()).rev() {
+        let entry = &entries[number];
+        match row_part(entry, table, action, row) {
+            RowPart::Nothing => {}
+            RowPart::Column(column) => if !seen[column] {
+                seen[column] = true;
+                sum += model.weight_of(entry, table, &model.cell(table, action, row, column));
+            },
+            RowPart::Whole => return sum + unseen_sum(model, table, action, row, entry, &seen),
+        }
+    }
+    sum
+}
+
+/// What an entry that covers the whole row gives the columns that are not met yet.
+fn unseen_sum(
+    model: &Model,
+    table: Table,
+    action: usize,
+    row: usize,
+    entry: &Entry,
+    seen: &[bool],
+) -> u64
+    requires weighted { IsWeighted table }
+    requires action { action < actions_of (meaning model.now) }
+    requires row { row < states_of (meaning model.now) }
+    requires sound { IsSoundEntry model.now.preamble entry.now }
+    requires whole { IsPartOf WholeRow table action row entry.now }
+    requires size { length seen.now ≡ 1000 }
+    ensures sum { result ≡ sum_below (unseen model.now.preamble action row entry.now seen.now)
+        (columns_in model.now.preamble table) }
+    ensures small { result ≤ (one * columns_in model.now.preamble table) * 1000 }
+{
+    let columns = model.columns(table);
     let mut sum = 0;
     for column in 0..columns {
-        let axes = [
-            model.action(action),
-            model.state(row),
-            Axis {
-                index: column,
-                count: columns,
-            },
-        ];
-        sum += model.weight(table, &axes);
+        if !seen[column] {
+            sum += model.weight_of(entry, table, &model.cell(table, action, row, column));
+        }
     }
     sum
 }
