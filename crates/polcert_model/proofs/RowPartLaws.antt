@@ -8,11 +8,10 @@ use Rattle.std.proofs.lemmas.Grind.{get_or-set_at}
 use Rattle.polcert_model.specs.declared.entry.Table.{Table}
 use Rattle.polcert_model.specs.declared.entry.Table.TheVariants.{Transition, Observation, Reward}
 use Rattle.polcert_model.specs.declared.entry.Place.{Place}
-use Rattle.polcert_model.specs.declared.entry.Place.TheVariants.{Every, Only}
+use Rattle.polcert_model.specs.declared.entry.Place.TheVariants.{Only}
 use Rattle.polcert_model.specs.declared.entry.Body.{Body}
 use Rattle.polcert_model.specs.declared.entry.Body.TheVariants.{Probabilities, Rewards, Uniform, Identity}
 use Rattle.polcert_model.specs.declared.entry.Entry.{Entry}
-use Rattle.polcert_model.specs.declared.row_part.RowPart.{RowPart}
 use Rattle.polcert_model.specs.declared.row_part.RowPart.TheVariants.{Nothing, Column, Whole}
 use Rattle.polcert_model.specs.Numbers.{one}
 use Rattle.polcert_model.specs.Elements.{Elements, count_of}
@@ -20,7 +19,7 @@ use Rattle.polcert_model.specs.Preamble.{Preamble, dimensions, columns}
 use Rattle.polcert_model.specs.Cells.{fits_place, fit_places, is_table, covers, row_major, on_diagonal, weight_in, weight_of, weight, value_or, last_covering, IsLastCovering, last, none}
 use Rattle.polcert_model.specs.Meaning.{sum_below}
 use Rattle.polcert_model.specs.Sound.{IsPlaceIn, ArePlacesIn, Fills, IsSoundEntry}
-use Rattle.polcert_model.specs.RowSums.{IsWeighted, fits_if, fits_at, meets_row, IsPartOf, IsTally, unseen}
+use Rattle.polcert_model.specs.RowSums.{IsWeighted, fits_at, meets_row, IsPartOf, IsTally, unseen}
 use Rattle.polcert_model.proofs.Basics.{true≢false, is_true_or_false, some≢none}
 use Rattle.polcert_model.proofs.Basics.{and_true as both}
 use Rattle.polcert_model.proofs.CellLaws.{last_is, last_is_one}

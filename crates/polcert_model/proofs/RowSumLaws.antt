@@ -1,9 +1,9 @@
 -- The test of the row sums.
-use Rattle.std.proofs.Common.{◌≡◌, ◌∙◌, ℕ, ◌+◌, ◌<◌, ◌≤◌, ◌↔◌, IsTrue, nat_eq, Option, Some, None, MatchOption, refl, sym, ap, subst, arith, rules, tests}
+use Rattle.std.proofs.Common.{◌≡◌, ◌∙◌, ℕ, ◌↔◌, IsTrue, nat_eq, sym, rules, tests}
 use Rattle.polcert_model.specs.declared.entry.Table.{Table}
 use Rattle.polcert_model.specs.declared.entry.Table.TheVariants.{Transition, Observation, Reward}
 use Rattle.polcert_model.specs.Preamble.{columns}
-use Rattle.polcert_model.specs.Meaning.{Meaning, states_of, actions_of, observations_of, t_scale, o_scale, sum_below}
+use Rattle.polcert_model.specs.Meaning.{t_scale, o_scale, sum_below}
 use Rattle.polcert_model.specs.Contents.{Contents, meaning}
 use Rattle.polcert_model.specs.Rows.{IsProperRow}
 use Rattle.polcert_model.specs.RowSums.{row_of}

@@ -1,5 +1,5 @@
 -- What sound contents and axes in range give the readers of a model.
-use Rattle.std.proofs.Common.{◌≡◌, ◌∙◌, ℕ, zero, suc, ◌+◌, ◌-◌, ◌*◌, ◌<◌, ◌≤◌, ◌^◌, Bool, true, false, ◌&&◌, List, [], ◌∷◌, ◌++◌, length, take, drop, get_or, map, All, slice_get, Some, None, Option, ℤ, pos, negsuc, neg_ℤ, ◌-ℤ◌, unsigned_abs, FitsSigned, if◌then◌else◌, w64, refl, sym, ap, subst, arith}
+use Rattle.std.proofs.Common.{◌≡◌, ◌∙◌, ℕ, zero, suc, ◌+◌, ◌*◌, ◌<◌, ◌≤◌, ◌^◌, Bool, true, List, [], ◌∷◌, ◌++◌, length, drop, get_or, map, All, slice_get, Some, None, Option, ℤ, pos, negsuc, neg_ℤ, ◌-ℤ◌, unsigned_abs, FitsSigned, if◌then◌else◌, w64, refl, sym, ap, subst, arith}
 use Rattle.std.proofs.Math.Nat.{mul-le-mul, mul-le-mul_right, pow-suc}
 use Rattle.std.specs.List.{range_with_len}
 use Rattle.std.proofs.lemmas.List.{length-map, length-drop}
@@ -22,7 +22,7 @@ use Rattle.polcert_model.specs.declared.entry.Table.TheVariants.{Transition, Obs
 use Rattle.polcert_model.specs.declared.entry.Place.{Place}
 use Rattle.polcert_model.specs.declared.entry.Entry.{Entry}
 use Rattle.polcert_model.specs.Preamble.{Preamble, dimensions, columns}
-use Rattle.polcert_model.specs.Cells.{row_major, fits_place, fit_places, is_table, covers, weight_in, reward_in, weight_of, reward_of, weight, reward, value_or, IsLastCovering, last, none}
+use Rattle.polcert_model.specs.Cells.{row_major, fits_place, fit_places, is_table, covers, weight_in, reward_in, weight_of, reward_of, weight, reward, value_or, IsLastCovering, last}
 use Rattle.polcert_model.specs.Start.{alike}
 use Rattle.polcert_model.specs.Meaning.{IsCount}
 use Rattle.polcert_model.specs.Contents.{Contents}

@@ -1,6 +1,6 @@
 -- What is known of the contents that a model keeps, so that looking a cell up stays within bounds.
 -- Nobody has to believe this file: only private functions cite it, and what a right text says is shown to meet it.
-use Rattle.std.specs.Prelude.{◌≡◌, ℕ, ◌<◌, ◌≤◌, ◌==◌, Bool, true, Option, None, List, [], ◌∷◌, length, drop, All, unsigned_abs}
+use Rattle.std.specs.Prelude.{◌≡◌, ℕ, ◌<◌, ◌≤◌, ◌==◌, Bool, true, None, List, [], ◌∷◌, length, drop, All, unsigned_abs}
 use Rattle.std.specs.List.{list_any}
 use Rattle.polcert_text.specs.Numbers.{largest}
 use Rattle.polcert_model.specs.declared.entry.Place.{Place}

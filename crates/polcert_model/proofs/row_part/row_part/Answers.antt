@@ -1,4 +1,4 @@
-use Rattle.std.proofs.Common.{◌∙◌, sym, arith}
+use Rattle.std.proofs.Common.{sym, arith}
 use Rattle.polcert_model.specs.declared.entry.Place.TheVariants.{Every, Only}
 use Rattle.polcert_model.proofs.RowPartLaws.{misses, too_many_places, covers_whole, covers_third}
 use Rattle.polcert_model.proofs.row_part.row_part.Goals as goal

@@ -1,7 +1,5 @@
-use Rattle.std.proofs.Common.{ℕ, ◌<◌}
-use Rattle.polcert_model.specs.Meaning.{states_of}
 use Rattle.polcert_model.specs.Contents.{meaning}
-use Rattle.polcert_model.specs.Rows.{IsProperRow, AreProperBefore}
+use Rattle.polcert_model.specs.Rows.{AreProperBefore}
 use Rattle.polcert_model.proofs.rows.first_wrong_in.Given as goal
 
 abbrev pub invariant-loop-action : goal.invariant-loop-action

@@ -1,4 +1,4 @@
-use Rattle.std.proofs.Common.{◌≡◌, ◌∙◌, sym, ap, subst, refl, ◌<◌, arith, drop, length, [], ◌∷◌}
+use Rattle.std.proofs.Common.{◌∙◌, sym, ap, subst, refl, ◌<◌, arith, length}
 use Rattle.std.proofs.lemmas.List.{drop_all}
 use Rattle.polcert_model.specs.Cells.{weight_of}
 use Rattle.polcert_model.proofs.RowPartLaws as laws
