@@ -8,6 +8,7 @@ use Rattle.polcert_model.specs.declared.entry.Place.{Place}
 use Rattle.polcert_model.specs.declared.entry.Entry.{Entry}
 use Rattle.polcert_model.specs.declared.row_part.RowPart.{RowPart}
 use Rattle.polcert_model.specs.declared.row_part.RowPart.TheVariants.{Nothing, Column, Whole}
+use Rattle.polcert_model.specs.Elements.{most_elements}
 use Rattle.polcert_model.specs.Preamble.{Preamble}
 use Rattle.polcert_model.specs.Cells.{fits_place, is_table, covers, weight_of, weight}
 use Rattle.polcert_model.specs.Meaning.{Meaning, states_of, actions_of, sum_below}
@@ -55,7 +56,7 @@ IsPartOf Whole table a s entry = (c : ℕ) → covers table (a ∷ s ∷ c ∷ [
 
 -- which columns these entries cover, and what they sum to
 pub record IsTally (p : Preamble) (table : Table) (a s columns : ℕ) (entries : List Entry) (seen : List Bool) (sum : ℕ) : Type 0 where
-  pub size : length seen ≡ 1000
+  pub size : length seen ≡ most_elements
   pub seen_are : (c : ℕ) → c < columns → slice_index_or seen c false ≡ list_any (covers table (a ∷ s ∷ c ∷ [])) entries
   pub sum_is : sum ≡ sum_below (λ c. weight p entries table (a ∷ s ∷ c ∷ [])) columns
 

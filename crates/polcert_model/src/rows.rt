@@ -1,6 +1,7 @@
 //! The test of the row sums.
 ghost use Rattle.std.specs.Prelude.{◌≡◌, ◌*◌, ◌<◌, ◌≤◌, ◌↔◌, IsTrue, MatchOption, length};
 ghost use Rattle.polcert_model.specs.Numbers.{one};
+ghost use Rattle.polcert_model.specs.Elements.{most_elements};
 ghost use Rattle.polcert_model.specs.Preamble.{columns as columns_in};
 ghost use Rattle.polcert_model.specs.Meaning.{states_of, actions_of, sum_below, HasProperRows};
 ghost use Rattle.polcert_model.specs.Contents.{meaning};
@@ -57,7 +58,7 @@ fn is_proper_row(model: &Model, table: Table, action: usize, row: usize) -> bool
 {
     match table {
         Table::Transition => row_sum(model, table, action, row) == model.t_scale(),
-        Table::Observation => { row_sum(model, table, action, row) == model.o_scale() }
+        Table::Observation => row_sum(model, table, action, row) == model.o_scale(),
         Table::Reward => false,
     }
 }
@@ -102,10 +103,10 @@ fn unseen_sum(
     requires row { row < states_of (meaning model.now) }
     requires sound { IsSoundEntry model.now.preamble entry.now }
     requires whole { IsPartOf WholeRow table action row entry.now }
-    requires size { length seen.now ≡ 1000 }
+    requires size { length seen.now ≡ most_elements }
     ensures sum { result ≡ sum_below (unseen model.now.preamble action row entry.now seen.now)
         (columns_in model.now.preamble table) }
-    ensures small { result ≤ (one * columns_in model.now.preamble table) * 1000 }
+    ensures small { result ≤ (one * columns_in model.now.preamble table) * most_elements }
 {
     let columns = model.columns(table);
     let mut sum = 0;
