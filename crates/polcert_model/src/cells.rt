@@ -88,19 +88,19 @@ pub(crate) fn fits_place(place: Place, index: usize) -> bool
 
 /// What a body gives the cell at these indices, the ones that the places of its entry leave open, in a table whose
 /// rows have so many columns.
-pub(crate) fn weight_in(body: &Body, open: &[Axis], columns: usize) -> u64
+pub(crate) fn weight_in(body: &Body, axes: &[Axis], columns: usize) -> u64
     requires columns { IsCount most_elements columns }
-    requires in_range { All IsInRange open.now }
-    requires few { length open.now ≤ 4 }
-    requires fills { Fills (cells_of open.now) body.now }
-    ensures weight { (ds : List Elements) → AreAxes ds open.now →
-        result ≡ weight_in columns body.now ds (indices_of open.now) }
+    requires in_range { All IsInRange axes.now }
+    requires few { length axes.now ≤ 4 }
+    requires fills { Fills (cells_of axes.now) body.now }
+    ensures weight { (ds : List Elements) → AreAxes ds axes.now →
+        result ≡ weight_in columns body.now ds (indices_of axes.now) }
     ensures small { result ≤ one * columns }
 {
     match body {
-        Body::Probabilities(numbers) => u64::from(numbers.at(place_of(open))) * columns as u64,
+        Body::Probabilities(numbers) => u64::from(numbers.at(place_of(axes))) * columns as u64,
         Body::Uniform => ONE,
-        Body::Identity => if on_diagonal(open) {
+        Body::Identity => if on_diagonal(axes) {
             ONE * columns as u64
         } else {
             0
@@ -110,16 +110,16 @@ pub(crate) fn weight_in(body: &Body, open: &[Axis], columns: usize) -> u64
 }
 
 /// The reward that a body gives the cell at these indices, the ones that the places of its entry leave open.
-pub(crate) fn reward_in(costs: bool, body: &Body, open: &[Axis]) -> i64
-    requires in_range { All IsInRange open.now }
-    requires few { length open.now ≤ 4 }
-    requires fills { Fills (cells_of open.now) body.now }
-    ensures { (ds : List Elements) → AreAxes ds open.now →
-        result ≡ reward_in costs body.now ds (indices_of open.now) }
+pub(crate) fn reward_in(costs: bool, body: &Body, axes: &[Axis]) -> i64
+    requires in_range { All IsInRange axes.now }
+    requires few { length axes.now ≤ 4 }
+    requires fills { Fills (cells_of axes.now) body.now }
+    ensures { (ds : List Elements) → AreAxes ds axes.now →
+        result ≡ reward_in costs body.now ds (indices_of axes.now) }
 {
     match body {
         Body::Rewards(numbers) => {
-            let written = numbers.at(place_of(open));
+            let written = numbers.at(place_of(axes));
             if costs { -written } else { written }
         }
         Body::Probabilities(_) | Body::Uniform | Body::Identity => 0,

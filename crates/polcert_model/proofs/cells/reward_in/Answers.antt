@@ -4,7 +4,7 @@ use Rattle.polcert_model.proofs.SoundLaws.{cells_fit, reward_small, minus_fits, 
 use Rattle.polcert_model.proofs.cells.reward_in.Goals as goal
 
 pub place_of-requires-clause-room : goal.place_of-requires-clause-room
-place_of-requires-clause-room c = cells_fit c.args.open.now c.requires.few c.requires.in_range
+place_of-requires-clause-room c = cells_fit c.args.axes.now c.requires.few c.requires.in_range
 
 pub overflow_sub-result : goal.overflow_sub-result
 overflow_sub-result c = minus_fits c.at-written.result (reward_small _ _ _ _ _ c.in-Rewards.is c.requires.fills c.at-written.ensures)

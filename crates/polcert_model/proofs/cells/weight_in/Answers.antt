@@ -4,7 +4,7 @@ use Rattle.polcert_model.proofs.SoundLaws.{cells_fit, probability_weight, probab
 use Rattle.polcert_model.proofs.cells.weight_in.Goals as goal
 
 pub place_of-requires-clause-room : goal.place_of-requires-clause-room
-place_of-requires-clause-room c = cells_fit c.args.open.now c.requires.few c.requires.in_range
+place_of-requires-clause-room c = cells_fit c.args.axes.now c.requires.few c.requires.in_range
 
 pub returns-in-Probabilities-clause-weight : goal.returns-in-Probabilities-clause-weight
 returns-in-Probabilities-clause-weight c =
