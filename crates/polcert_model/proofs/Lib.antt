@@ -31,3 +31,8 @@ pub mod Tiger
 pub mod RefusedExamples
 pub mod StartExamples
 pub mod First
+pub mod AxisLaws
+pub mod SoundLaws
+pub mod SoundTexts
+pub mod RowSumLaws
+pub mod RowPartLaws

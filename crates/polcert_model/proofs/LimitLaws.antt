@@ -46,12 +46,12 @@ factor_le : (m n d : ℕ) → 0 < d → m * d ≤ n * d → m ≤ n
 factor_le m n d p l =
     ⊎_elim (λ le. le) (λ above. let k : (n + 1) * d ≤ m * d = mul-le-mul_right d above in absurd (omega (arith, k))) (up_to_or_above m n)
 
-number_within : (negative : Bool) (l : Lexeme) (h : ℤ) → IsMillionths negative l h → unsigned_abs h ≤ largest
+pub number_within : (negative : Bool) (l : Lexeme) (h : ℤ) → IsMillionths negative l h → unsigned_abs h ≤ largest
 number_within negative l h a =
     let e : unsigned_abs h * millionth ≡ size_of l.bytes = sym (unsigned_abs-mul h (pos millionth)) ∙ ap unsigned_abs a.exact ∙ abs-signed negative (size_of l.bytes) in
     factor_le (unsigned_abs h) largest millionth millionth_pos (subst (λ n. n ≤ largest * millionth) (sym e) a.readable.size)
 
-abbrev AreWithin : List ℤ → Type 0
+abbrev pub AreWithin : List ℤ → Type 0
 AreWithin [] = Unit {0}
 AreWithin (h ∷ hs) = (unsigned_abs h ≤ largest) × AreWithin hs
 
@@ -70,7 +70,7 @@ one_within (h ∷ hs) zero a = a.0
 one_within (h ∷ hs) (suc k) a = one_within hs k a.1
 
 -- ---- entries
-abbrev BodyWithin : Body → Type 0
+abbrev pub BodyWithin : Body → Type 0
 BodyWithin (Rewards hs) = AreWithin hs
 BodyWithin _ = Unit {0}
 
@@ -80,7 +80,7 @@ body_within (entries.rewards a c) = numbers_within a
 body_within (entries.uniform w) = tt
 body_within (entries.identity w) = tt
 
-abbrev EntriesWithin : List Entry → Type 0
+abbrev pub EntriesWithin : List Entry → Type 0
 EntriesWithin [] = Unit {0}
 EntriesWithin (e ∷ es) = BodyWithin e.body × EntriesWithin es
 
@@ -113,22 +113,22 @@ abbrev pub CountWithin : Option Elements → Type 0
 CountWithin None = Unit {0}
 CountWithin (Some e) = IsCount most_elements (count_of e)
 
-abbrev DiscountWithin : Option ℕ → Type 0
+abbrev pub DiscountWithin : Option ℕ → Type 0
 DiscountWithin None = Unit {0}
 DiscountWithin (Some g) = g ≤ 1_000_000
 
-abbrev StartWithin : Option Elements → Option Shares → Type 0
+abbrev pub StartWithin : Option Elements → Option Shares → Type 0
 StartWithin o None = Unit {0}
 StartWithin None (Some weights) = ⊥
 StartWithin (Some e) (Some weights) = IsFair (count_of e) weights
 
-record KnownWithin (k : Known) : Type 0 where
-  start : StartWithin k.states k.start
-  discount : DiscountWithin k.discount
-  states : CountWithin k.states
-  actions : CountWithin k.actions
-  observations : CountWithin k.observations
-  entries : EntriesWithin k.entries
+pub record KnownWithin (k : Known) : Type 0 where
+  pub start : StartWithin k.states k.start
+  pub discount : DiscountWithin k.discount
+  pub states : CountWithin k.states
+  pub actions : CountWithin k.actions
+  pub observations : CountWithin k.observations
+  pub entries : EntriesWithin k.entries
 
 elements_within : {ls : List Lexeme} {e : Elements} → AreElements ls e → IsCount most_elements (count_of e)
 elements_within (counted a l m) = (l, m)
@@ -148,7 +148,7 @@ right_within k t ls next w (texts.start {p = q} {shares = weights} p c a) =
     record { start = subst (λ o. StartWithin o (Some weights)) (sym c.lines.states) (start_fair q.states _ weights count.0 count.1 a); discount = w.discount; states = w.states; actions = w.actions; observations = w.observations; entries = w.entries }
 right_within k t ls next w (texts.entry {e = e} c a) = record { start = w.start; discount = w.discount; states = w.states; actions = w.actions; observations = w.observations; entries = one_more_within k.entries e w.entries (body_within a.body) }
 
-all_within : (k : Known) (items : List Item) (end : Known) → KnownWithin k → AreRight k items end → KnownWithin end
+pub all_within : (k : Known) (items : List Item) (end : Known) → KnownWithin k → AreRight k items end → KnownWithin end
 all_within k items end w texts.none = w
 all_within k (item ∷ items) end w (texts.more {next = next} t e a behind) = all_within next items end (right_within k t item.body next w a) behind
 

@@ -28,3 +28,7 @@ pub mod RefusedExamples
 pub mod StartExamples
 pub mod ItemSteps
 pub mod TextSteps
+pub mod Contents
+pub mod Sound
+pub mod Axes
+pub mod RowSums

@@ -1,6 +1,7 @@
 //! Models: what the texts of POMDP files are, and what they denote.
 #![tactic(auto)]
 
+mod cells;
 mod entry;
 mod entry_reader;
 mod examples;
@@ -12,6 +13,8 @@ mod lines;
 mod model;
 mod number;
 mod reader;
+mod row_part;
+mod rows;
 #[cfg(test)]
 mod tests;
 mod words;

@@ -1,7 +1,30 @@
 //! A model, as it was read.
-use crate::{Body, Entries, Entry, ModelFault, Place, Table};
+ghost use Rattle.std.specs.Prelude.{◌≡◌, ◌<◌, ◌≤◌, ◌*◌, true, [], ◌∷◌, All};
+ghost use Rattle.polcert_model.specs.Numbers.{one};
+ghost use Rattle.polcert_model.specs.Elements.{most_elements};
+ghost use Rattle.polcert_model.specs.Preamble.{dimensions, columns as columns_in};
+ghost use Rattle.polcert_model.specs.Cells.{covers, weight_of, weight, reward};
+ghost use Rattle.polcert_model.specs.Meaning.{IsCount, states_of, actions_of, observations_of, t_scale, o_scale, start_weight, start_total};
+ghost use Rattle.polcert_model.specs.Contents.{meaning};
+ghost use Rattle.polcert_model.specs.Sound.{IsSoundEntry};
+ghost use Rattle.polcert_model.specs.RowSums.{IsWeighted};
+ghost use Rattle.polcert_model.specs.Axes.{indices_of, IsInRange, AreAxes};
+ghost use Rattle.polcert_model.specs.declared.entry.Table.TheVariants.{Reward as RewardTable};
 
-/// A model of a partially observable Markov decision process.
+use crate::cells::{Axis, ONE, last_covering, left_open, reward_in, weight_in};
+use crate::{Entries, Entry, Table};
+use std::marker;
+
+/// The share of each state in a start where all states are alike.
+const ALIKE: u64 = 1;
+
+/// A model of a partially observable Markov decision process: what its text says.
+///
+/// States, actions and observations go by their numbers, counted from 0 in the order of the text. Probabilities are
+/// weights over a scale, so that each row of T sums to `t_scale` and each row of O to `o_scale`, exactly. The discount
+/// and rewards are in millionths.
+///
+/// Source: the POMDP file format page at pomdp.org.
 #[derive(Debug, Drop)]
 pub struct Model {
     discount: u32,
@@ -12,9 +35,21 @@ pub struct Model {
     entries: Entries,
 }
 
-const ONE: u64 = 1_000_000;
+impl marker::Model for Model {
+    ghost use Rattle.polcert_model.specs.Contents.{Contents};
+    ghost use Rattle.polcert_model.specs.Sound.{contents_of, IsSound};
+
+    ghost Value = { Contents };
+
+    ghost view = { λ m. contents_of m.discount m.costs m.states m.actions m.observations m.entries };
+
+    ghost invariant = { λ m. IsSound (contents_of m.discount m.costs m.states m.actions m.observations m.entries) };
+}
 
 impl Model {
+    ghost use Rattle.polcert_model.specs.Sound.{contents_of, IsSound};
+
+    /// The model of a text that has these lines in its preamble, names no element, and has no start item.
     pub(crate) fn of(
         discount: u32,
         costs: bool,
@@ -22,7 +57,10 @@ impl Model {
         actions: usize,
         observations: usize,
         entries: Entries,
-    ) -> Model {
+    ) -> Model
+        requires { IsSound (contents_of discount costs states actions observations entries) }
+        ensures { result ≡ contents_of discount costs states actions observations entries }
+    {
         Model {
             discount,
             costs,
@@ -33,172 +71,223 @@ impl Model {
         }
     }
 
-    /// How many states there are.
-    pub fn states(&self) -> usize {
+    /// How many states there are: 1 to 1,000.
+    pub fn states(&self) -> usize
+        ensures { result ≡ states_of (meaning self.now) }
+    {
         self.states
     }
 
-    /// How many actions there are.
-    pub fn actions(&self) -> usize {
+    /// How many actions there are: 1 to 1,000.
+    pub fn actions(&self) -> usize
+        ensures { result ≡ actions_of (meaning self.now) }
+    {
         self.actions
     }
 
-    /// How many observations there are.
-    pub fn observations(&self) -> usize {
+    /// How many observations there are: 1 to 1,000.
+    pub fn observations(&self) -> usize
+        ensures { result ≡ observations_of (meaning self.now) }
+    {
         self.observations
     }
 
-    /// The discount in millionths.
-    pub fn discount(&self) -> u32 {
-        self.discount
-    }
-
-    /// Whether the rewards were written as costs.
-    pub fn is_cost(&self) -> bool {
+    /// Whether the text gives costs in place of rewards. `r` gives rewards in either case.
+    pub fn is_cost(&self) -> bool
+        ensures { result ≡ (meaning self.now).preamble.costs }
+    {
         self.costs
     }
 
-    /// What a row of T sums to.
-    pub fn t_scale(&self) -> u64 {
+    /// The discount, in millionths: 0 to 1,000,000.
+    pub fn discount(&self) -> u32
+        ensures { result ≡ (meaning self.now).preamble.discount }
+    {
+        self.discount
+    }
+
+    /// What each row of T sums to: 1,000,000 for each state.
+    pub fn t_scale(&self) -> u64
+        ensures { result ≡ t_scale (meaning self.now) }
+    {
         ONE * self.states as u64
     }
 
-    /// What a row of O sums to.
-    pub fn o_scale(&self) -> u64 {
+    /// What each row of O sums to: 1,000,000 for each observation.
+    pub fn o_scale(&self) -> u64
+        ensures { result ≡ o_scale (meaning self.now) }
+    {
         ONE * self.observations as u64
     }
 
-    /// The weight of end state `e` under action `a` in start state `s`, on the scale `t_scale`.
-    pub fn t(&self, a: usize, s: usize, e: usize) -> u64 {
-        weight(
-            &self.entries,
+    /// The share of state `s` in the start, out of `start_total`: each state has the same where the text has no start
+    /// item. `s` is a state's number.
+    pub fn start_weight(&self, s: usize) -> u64
+        requires { s < states_of (meaning self.now) }
+        ensures { result ≡ start_weight (meaning self.now) s }
+    {
+        prove!(s < self.states);
+        ALIKE
+    }
+
+    /// What the shares of all states in the start sum to.
+    pub fn start_total(&self) -> u64
+        ensures { result ≡ start_total (meaning self.now) }
+    {
+        ALIKE * self.states as u64
+    }
+
+    /// T: the weight of the end state `e` where action `a` is taken in state `s`, out of `t_scale`. `a` is an action's
+    /// number, and `s` and `e` are states' numbers.
+    pub fn t(&self, a: usize, s: usize, e: usize) -> u64
+        requires action { a < actions_of (meaning self.now) }
+        requires start { s < states_of (meaning self.now) }
+        requires end { e < states_of (meaning self.now) }
+        ensures { result ≡ (meaning self.now).t a s e }
+    {
+        self.weight(
             Table::Transition,
-            [a, s, e],
-            self.states,
-            self.states,
+            &[self.action(a), self.state(s), self.state(e)],
         )
     }
 
-    /// The weight of observation `z` under action `a` in end state `e`, on the scale `o_scale`.
-    pub fn o(&self, a: usize, e: usize, z: usize) -> u64 {
-        weight(
-            &self.entries,
+    /// O: the weight of observation `z` where action `a` ends in state `e`, out of `o_scale`. `a`, `e` and `z` are the
+    /// numbers of an action, a state and an observation.
+    pub fn o(&self, a: usize, e: usize, z: usize) -> u64
+        requires action { a < actions_of (meaning self.now) }
+        requires end { e < states_of (meaning self.now) }
+        requires observation { z < observations_of (meaning self.now) }
+        ensures { result ≡ (meaning self.now).o a e z }
+    {
+        self.weight(
             Table::Observation,
-            [a, e, z],
-            self.states,
-            self.observations,
+            &[self.action(a), self.state(e), self.observation(z)],
         )
     }
 
-    /// The reward in millionths.
-    pub fn r(&self, a: usize, s: usize, e: usize, z: usize) -> i64 {
-        match last_covering(&self.entries, Table::Reward, &[a, s, e, z]) {
-            Some(entry) => {
-                let written = match &entry.body {
-                    Body::Rewards(numbers) => {
-                        numbers.at(row_major(
-                            entry.places.len(),
-                            &[a, s, e, z],
-                            &[self.actions, self.states, self.states, self.observations],
-                        ))
-                    }
-                    _ => 0,
-                };
-                if self.costs { -written } else { written }
-            }
+    /// R: the reward, in millionths, where action `a` is taken in state `s`, ends in state `e` and observation `z` is
+    /// made: minus what is written where the text gives costs. `a`, `s`, `e` and `z` are the numbers of an action, two
+    /// states and an observation.
+    pub fn r(&self, a: usize, s: usize, e: usize, z: usize) -> i64
+        requires action { a < actions_of (meaning self.now) }
+        requires start { s < states_of (meaning self.now) }
+        requires end { e < states_of (meaning self.now) }
+        requires observation { z < observations_of (meaning self.now) }
+        ensures { result ≡ (meaning self.now).r a s e z }
+    {
+        self.reward(&[
+            self.action(a),
+            self.state(s),
+            self.state(e),
+            self.observation(z),
+        ])
+    }
+
+    /// The entries, in the order of the text.
+    pub(crate) fn entries(&self) -> &[Entry]
+        ensures entries { result.now ≡ self.now.entries }
+        ensures sound { All (IsSoundEntry self.now.preamble) result.now }
+    {
+        self.entries.as_slice()
+    }
+
+    /// How many columns a row of the table has: those of R have one.
+    pub(crate) fn columns(&self, table: Table) -> usize
+        ensures columns { result ≡ columns_in self.now.preamble table }
+        ensures count { IsCount most_elements result }
+    {
+        match table {
+            Table::Transition => self.states,
+            Table::Observation => self.observations,
+            Table::Reward => 1,
+        }
+    }
+
+    /// The indices of a cell of T or O.
+    pub(crate) fn cell(&self, table: Table, action: usize, state: usize, column: usize) -> [Axis; 3]
+        requires weighted { IsWeighted table }
+        requires action { action < actions_of (meaning self.now) }
+        requires state { state < states_of (meaning self.now) }
+        requires column { column < columns_in self.now.preamble table }
+        ensures axes { AreAxes (dimensions self.now.preamble table) result }
+        ensures indices { indices_of result ≡ action ∷ state ∷ column ∷ [] }
+    {
+        [
+            self.action(action),
+            self.state(state),
+            Axis {
+                index: column,
+                count: self.columns(table),
+            },
+        ]
+    }
+
+    fn action(&self, index: usize) -> Axis
+        requires { index < actions_of (meaning self.now) }
+        ensures index { result.index ≡ index }
+        ensures count { result.count ≡ actions_of (meaning self.now) }
+        ensures in_range { IsInRange result }
+    {
+        Axis {
+            index,
+            count: self.actions,
+        }
+    }
+
+    fn state(&self, index: usize) -> Axis
+        requires { index < states_of (meaning self.now) }
+        ensures index { result.index ≡ index }
+        ensures count { result.count ≡ states_of (meaning self.now) }
+        ensures in_range { IsInRange result }
+    {
+        Axis {
+            index,
+            count: self.states,
+        }
+    }
+
+    fn observation(&self, index: usize) -> Axis
+        requires { index < observations_of (meaning self.now) }
+        ensures index { result.index ≡ index }
+        ensures count { result.count ≡ observations_of (meaning self.now) }
+        ensures in_range { IsInRange result }
+    {
+        Axis {
+            index,
+            count: self.observations,
+        }
+    }
+
+    /// The weight of a cell of T or O.
+    fn weight(&self, table: Table, axes: &[Axis]) -> u64
+        requires { AreAxes (dimensions self.now.preamble table) axes.now }
+        ensures { result ≡ weight self.now.preamble self.now.entries table (indices_of axes.now) }
+    {
+        match last_covering(self.entries.as_slice(), table, axes) {
+            Some(entry) => self.weight_of(entry, table, axes),
             None => 0,
         }
     }
 
-    pub(crate) fn test_rows(&self) -> Result<(), ModelFault> {
-        for action in 0..self.actions {
-            for row in 0..self.states {
-                let mut sum = 0u64;
-                for e in 0..self.states {
-                    sum += self.t(action, row, e);
-                }
-                if sum != self.t_scale() {
-                    return Err(ModelFault::RowSum {
-                        table: Table::Transition,
-                        action,
-                        row,
-                    });
-                }
-            }
-        }
-        for action in 0..self.actions {
-            for row in 0..self.states {
-                let mut sum = 0u64;
-                for z in 0..self.observations {
-                    sum += self.o(action, row, z);
-                }
-                if sum != self.o_scale() {
-                    return Err(ModelFault::RowSum {
-                        table: Table::Observation,
-                        action,
-                        row,
-                    });
-                }
-            }
-        }
-        Ok(())
+    /// What an entry of T or O gives a cell that it covers.
+    pub(crate) fn weight_of(&self, entry: &Entry, table: Table, axes: &[Axis]) -> u64
+        requires sound { IsSoundEntry self.now.preamble entry.now }
+        requires covered { covers table (indices_of axes.now) entry.now ≡ true }
+        requires axes { AreAxes (dimensions self.now.preamble table) axes.now }
+        ensures weight { result ≡ weight_of self.now.preamble (indices_of axes.now) entry.now }
+        ensures small { result ≤ one * columns_in self.now.preamble table }
+    {
+        weight_in(&entry.body, left_open(entry, axes), self.columns(table))
     }
-}
 
-fn weight(
-    entries: &Entries,
-    table: Table,
-    indices: [usize; 3],
-    states: usize,
-    columns: usize,
-) -> u64 {
-    match last_covering(entries, table, &indices) {
-        Some(entry) => match &entry.body {
-            Body::Probabilities(numbers) => {
-                let place = row_major(entry.places.len(), &indices, &[0, states, columns]);
-                u64::from(numbers.at(place)) * columns as u64
-            }
-            Body::Uniform => ONE,
-            Body::Identity => if indices[1] == indices[2] {
-                ONE * columns as u64
-            } else {
-                0
-            },
-            Body::Rewards(_) => 0,
-        },
-        None => 0,
-    }
-}
-
-fn row_major(written: usize, indices: &[usize], dimensions: &[usize]) -> usize {
-    let mut place = 0usize;
-    for number in written..indices.len() {
-        place = place * dimensions[number] + indices[number];
-    }
-    place
-}
-
-fn last_covering<'a>(entries: &'a Entries, table: Table, indices: &[usize]) -> Option<&'a Entry> {
-    entries
-        .as_slice()
-        .iter()
-        .rev()
-        .find(|entry| covers(entry, table, indices))
-}
-
-fn covers(entry: &Entry, table: Table, indices: &[usize]) -> bool {
-    if entry.table != table {
-        return false;
-    }
-    for number in 0..entry.places.len() {
-        match entry.places.at(number) {
-            Place::Every => {}
-            Place::Only(index) => {
-                if number < indices.len() && indices[number] != index {
-                    return false;
-                }
-            }
+    /// The reward of a cell of R.
+    fn reward(&self, axes: &[Axis]) -> i64
+        requires { AreAxes (dimensions self.now.preamble RewardTable) axes.now }
+        ensures { result ≡ reward self.now.preamble self.now.entries (indices_of axes.now) }
+    {
+        match last_covering(self.entries.as_slice(), Table::Reward, axes) {
+            Some(entry) => reward_in(self.costs, &entry.body, left_open(entry, axes)),
+            None => 0,
         }
     }
-    true
 }

@@ -1,0 +1,58 @@
+-- What is known of the contents that a model keeps, so that looking a cell up stays within bounds.
+-- Nobody has to believe this file: only private functions cite it, and what a right text says is shown to meet it.
+use Rattle.std.specs.Prelude.{◌≡◌, ℕ, ◌<◌, ◌≤◌, ◌==◌, Bool, true, None, List, [], ◌∷◌, length, drop, All, unsigned_abs}
+use Rattle.std.specs.List.{list_any}
+use Rattle.polcert_text.specs.Numbers.{largest}
+use Rattle.polcert_model.specs.declared.entry.Place.{Place}
+use Rattle.polcert_model.specs.declared.entry.Place.TheVariants.{Every, Only}
+use Rattle.polcert_model.specs.declared.entry.Body.{Body}
+use Rattle.polcert_model.specs.declared.entry.Body.TheVariants.{Probabilities, Rewards, Uniform, Identity}
+use Rattle.polcert_model.specs.declared.entry.Entry.{Entry}
+use Rattle.polcert_model.specs.Numbers.{one}
+use Rattle.polcert_model.specs.Elements.{Elements, Count, count_of, most_elements}
+use Rattle.polcert_model.specs.Preamble.{Preamble, dimensions}
+use Rattle.polcert_model.specs.Entry.{forms, cells_in}
+use Rattle.polcert_model.specs.Meaning.{IsCount}
+use Rattle.polcert_model.specs.Contents.{Contents}
+
+-- a place is `*`, or one of the elements
+abbrev pub IsPlaceIn : Elements → Place → Type 0
+IsPlaceIn d Every = Unit {0}
+IsPlaceIn d (Only index) = index < count_of d
+
+-- the places stand for the first of the indices
+abbrev pub ArePlacesIn : List Elements → List Place → Type 0
+ArePlacesIn ds [] = Unit {0}
+ArePlacesIn [] (p ∷ ps) = ⊥
+ArePlacesIn (d ∷ ds) (p ∷ ps) = IsPlaceIn d p × ArePlacesIn ds ps
+
+-- a body with a number for each of so many cells, none too large
+abbrev pub Fills : ℕ → Body → Type 0
+Fills cells (Probabilities ps) = (length ps ≡ cells) × All (λ p. p ≤ one) ps
+Fills cells (Rewards hs) = (length hs ≡ cells) × All (λ h. unsigned_abs h ≤ largest) hs
+Fills cells Uniform = Unit {0}
+Fills cells Identity = Unit {0}
+
+-- the entry has one of the forms, its places are elements, and its body fills the cells that they leave open
+pub record IsSoundEntry (p : Preamble) (entry : Entry) : Type 0 where
+  pub form : list_any (λ n. n == length entry.places) (forms entry.table entry.body) ≡ true
+  pub places : ArePlacesIn (dimensions p entry.table) entry.places
+  pub body : Fills (cells_in (drop (length entry.places) (dimensions p entry.table))) entry.body
+
+-- counts, a discount of at most one, and sound entries
+pub record IsSound (c : Contents) : Type 0 where
+  pub states : IsCount most_elements (count_of c.preamble.states)
+  pub actions : IsCount most_elements (count_of c.preamble.actions)
+  pub observations : IsCount most_elements (count_of c.preamble.observations)
+  pub discount : c.preamble.discount ≤ one
+  pub entries : All (IsSoundEntry c.preamble) c.entries
+
+-- the preamble of a model whose elements have no names
+abbrev pub numbered : ℕ → Bool → ℕ → ℕ → ℕ → Preamble
+numbered discount costs states actions observations =
+    record { discount = discount; costs = costs; states = Count states; actions = Count actions; observations = Count observations }
+
+-- the contents of a model whose elements have no names and whose text has no start item
+abbrev pub contents_of : ℕ → Bool → ℕ → ℕ → ℕ → List Entry → Contents
+contents_of discount costs states actions observations entries =
+    record { preamble = numbered discount costs states actions observations; start = None; entries = entries }
