@@ -1,0 +1,36 @@
+-- Whole numbers and signed numbers among the lexemes of a model.
+-- Source: the grammar at pomdp.org (INT, FLOAT, an optional sign before either). Every number of a model is a whole
+-- number of millionths, and blanks may stand between its sign and its numeral.
+use Rattle.std.specs.Prelude.{◌≡◌, ℕ, Bool, true, false, List, [], ◌∷◌, ℤ}
+use Rattle.std.specs.Str.Parse.{digits_value}
+use Rattle.polcert_text.specs.Lexemes.{are_digits}
+use Rattle.polcert_text.specs.Numbers.{IsReadable, IsExact}
+use Rattle.polcert_text.specs.Cut.{Lexeme}
+use Rattle.polcert_text.specs.declared.lexeme.TokenKind.TheVariants.{Numeral, Plus, Minus}
+
+-- the lexeme is digits alone, and this is their number
+pub record IsWhole (l : Lexeme) (n : ℕ) : Type 0 where
+  pub kind : l.kind ≡ Numeral
+  pub digits : are_digits l.bytes ≡ true
+  pub value : digits_value 10 l.bytes ≡ n
+
+-- the lexeme is a numeral without a fault, and with its sign it is h millionths
+pub record IsMillionths (negative : Bool) (l : Lexeme) (h : ℤ) : Type 0 where
+  pub kind : l.kind ≡ Numeral
+  pub readable : IsReadable l.bytes
+  pub exact : IsExact negative l.bytes h
+
+-- the lexemes are these numbers, one after another: each a numeral, perhaps behind a sign
+pub data AreNumbers : List Lexeme → List ℤ → Type 0 where
+  none : AreNumbers [] []
+  unsigned : {l : Lexeme} {ls : List Lexeme} {h : ℤ} {hs : List ℤ} → IsMillionths false l h → AreNumbers ls hs → AreNumbers (l ∷ ls) (h ∷ hs)
+  plus : {sign l : Lexeme} {ls : List Lexeme} {h : ℤ} {hs : List ℤ} → sign.kind ≡ Plus → IsMillionths false l h → AreNumbers ls hs → AreNumbers (sign ∷ l ∷ ls) (h ∷ hs)
+  minus : {sign l : Lexeme} {ls : List Lexeme} {h : ℤ} {hs : List ℤ} → sign.kind ≡ Minus → IsMillionths true l h → AreNumbers ls hs → AreNumbers (sign ∷ l ∷ ls) (h ∷ hs)
+
+-- the lexemes are one number
+abbrev pub IsNumber : List Lexeme → ℤ → Type 0
+IsNumber ls h = AreNumbers ls (h ∷ [])
+
+-- one, in millionths: a probability and the discount lie from 0 to it
+abbrev pub one : ℕ
+one = 1_000_000

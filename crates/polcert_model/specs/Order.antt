@@ -1,0 +1,64 @@
+-- Which items may stand where: what is decided at an item's word, before its body.
+-- Source: the POMDP file format page at pomdp.org: the preamble first, then the start item, then the entries.
+use Rattle.std.specs.Prelude.{ℕ, ◌*◌, Bool, true, false, ◌||◌, ◌&&◌, Option, Some, None, is_some, List, [], ◌∷◌, nat_lt, if◌then◌else◌}
+use Rattle.polcert_model.specs.declared.fault.ItemFault.{ItemFault}
+use Rattle.polcert_model.specs.declared.fault.ItemFault.TheVariants.{DuplicateLine, LateLine, MissingLine, TooManyCells}
+use Rattle.polcert_model.specs.declared.entry.Entry.{Entry}
+use Rattle.polcert_model.specs.Words.{Topic, Discount, Values, States, Actions, Observations, Start, Cells}
+use Rattle.polcert_model.specs.Elements.{Elements, count_of}
+use Rattle.polcert_model.specs.Text.{Known, most_cells}
+
+abbrev pub has_entries : List Entry → Bool
+has_entries [] = false
+has_entries (e ∷ es) = true
+
+-- An item of this topic came too late: a line of the preamble behind a start item or an entry, a start item behind an
+-- entry.
+abbrev pub is_late : Known → Topic → Bool
+is_late k (Cells table) = false
+is_late k Start = has_entries k.entries
+is_late k _ = is_some k.start || has_entries k.entries
+
+-- an item of this topic came before, where one may stand once only
+abbrev pub came_before : Known → Topic → Bool
+came_before k Discount = is_some k.discount
+came_before k Values = is_some k.costs
+came_before k States = is_some k.states
+came_before k Actions = is_some k.actions
+came_before k Observations = is_some k.observations
+came_before k Start = is_some k.start
+came_before k (Cells table) = false
+
+-- the start item and the entries stand behind a complete preamble
+abbrev pub ends_preamble : Topic → Bool
+ends_preamble Start = true
+ends_preamble (Cells table) = true
+ends_preamble _ = false
+
+-- (in an MDP the line of observations isn't missed)
+abbrev pub has_all_lines : Known → Bool
+has_all_lines k = is_some k.discount && is_some k.costs && is_some k.states && is_some k.actions && is_some k.observations
+
+abbrev pub count_in : Option Elements → ℕ
+count_in None = 0
+count_in (Some elements) = count_of elements
+
+abbrev pub cells_are_too_many : ℕ → ℕ → ℕ → Bool
+cells_are_too_many states actions observations =
+    nat_lt most_cells (actions * states * states) || nat_lt most_cells (actions * states * observations)
+    || nat_lt most_cells (actions * states * states * observations)
+
+-- why the preamble isn't complete: a line is missing, or else a table has too many cells
+abbrev pub preamble_fault : Known → Option ItemFault
+preamble_fault k =
+    if has_all_lines k then
+    (if cells_are_too_many (count_in k.states) (count_in k.actions) (count_in k.observations) then Some TooManyCells else None)
+    else Some MissingLine
+
+-- why an item of this topic cannot stand behind what is known, whatever its body: the first of these reasons
+abbrev pub word_fault : Known → Topic → Option ItemFault
+word_fault k t =
+    if is_late k t then Some LateLine
+    else (if came_before k t then Some DuplicateLine
+    else (if ends_preamble t then preamble_fault k
+    else None))

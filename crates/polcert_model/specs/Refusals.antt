@@ -1,0 +1,70 @@
+-- Refusals: what is promised of each, and where those inside an item's body stand.
+use Rattle.std.specs.Prelude.{◌≡◌, ℕ, ◌+◌, true, List, [], ◌∷◌, ◌++◌, length, Some, None}
+use Rattle.polcert_text.specs.Cut.{Lexeme}
+use Rattle.polcert_text.specs.declared.lexeme.TokenKind.TheVariants.{Numeral}
+use Rattle.polcert_model.specs.declared.fault.ItemFault.{ItemFault}
+use Rattle.polcert_model.specs.declared.fault.ModelFault.{ModelFault}
+use Rattle.polcert_model.specs.declared.fault.ModelFault.TheVariants.{RowSum, Memory}
+use Rattle.polcert_model.specs.declared.fault.ModelFault.TheVariants as model_faults
+use Rattle.polcert_model.specs.Words.{Topic, topic}
+use Rattle.polcert_model.specs.Items.{Item, IsDivided}
+use Rattle.polcert_model.specs.Preamble.{Preamble}
+use Rattle.polcert_model.specs.Meaning.{meaning_of}
+use Rattle.polcert_model.specs.Rows.{IsFirstWrongRow}
+use Rattle.polcert_model.specs.Text.{Known, nothing_known}
+use Rattle.polcert_model.specs.Narrow.{AreTaken, IsTakenText}
+use Rattle.polcert_model.specs.Reading.{IsWrong, CannotGoOn, IsPossible}
+use Rattle.polcert_model.specs.FirstWrong.{TextTokens, IsFirstWrong, LiesIn, IsDecided, word_place}
+use Rattle.polcert_model.specs.Reasons.{IsReason, is_sign}
+
+pub record IsItemRefusal (ts : TextTokens) (kind : ItemFault) (number place : ℕ) : Type 0 where
+  pub first_wrong : IsFirstWrong ts number
+  pub lies : LiesIn ts number place
+  pub reason : IsReason ts number place kind
+  -- what is decided before the body comes before anything in it
+  pub decided : (fault : ItemFault) (at : ℕ) → IsDecided ts number fault at → (kind ≡ fault) × (place ≡ at)
+
+-- A row is refused only where all items are right, and is then the first that doesn't sum to its scale. Want of memory
+-- says nothing of the text.
+abbrev pub IsRefusal : TextTokens → ModelFault → Type 0
+IsRefusal ts (model_faults.Item kind item place) = IsItemRefusal ts kind item place
+IsRefusal ts (RowSum table action row) =
+    (ts.ending ≡ None) × ((p : Preamble) × (k : Known) × IsTakenText ts.lexemes p k × IsFirstWrongRow (meaning_of p k.start k.entries) table action row)
+IsRefusal ts Memory = Unit {0}
+
+-- want of memory says nothing of the text, and every other refusal that it is wrong
+abbrev pub SaysOfText : ModelFault → Type 0
+SaysOfText Memory = ⊥
+SaysOfText _ = Unit {0}
+
+-- where the first of the lexemes stands, or what is behind them
+abbrev pub place_or : List Lexeme → ℕ → ℕ
+place_or [] behind = behind
+place_or (l ∷ ls) behind = l.place
+
+-- Behind the lexemes taken the item is no longer possible: with the next lexeme, with the next two as a sign and a
+-- numeral, or, where nothing is left of it, as it is.
+pub data Stops (k : Known) (t : Topic) (taken : List Lexeme) : List Lexeme → Type 0 where
+  at_lexeme : {l : Lexeme} {behind : List Lexeme} → CannotGoOn k t (taken ++ l ∷ []) → Stops k t taken (l ∷ behind)
+  at_number : {sign l : Lexeme} {behind : List Lexeme} → is_sign sign.kind ≡ true → l.kind ≡ Numeral → CannotGoOn k t (taken ++ sign ∷ l ∷ [])
+      → Stops k t taken (sign ∷ l ∷ behind)
+  at_end : IsWrong k t taken → Stops k t taken []
+
+-- The place stands in the item where its lexemes so far are still possible, and with what stands there they aren't.
+-- (A start item's numbers are tested only once it has more than one, so that its refusals may stand further on.)
+pub record StopsInBody (ts : TextTokens) (number place : ℕ) : Type 0 where
+  pub before : List Item
+  pub item : Item
+  pub after : List Item
+  pub divided : IsDivided ts.lexemes [] (before ++ item ∷ after)
+  pub number_is : number ≡ length before + 1
+  pub k : Known
+  pub t : Topic
+  pub known : AreTaken nothing_known before k
+  pub topic_is : topic item.word ≡ Some t
+  pub taken : List Lexeme
+  pub rest : List Lexeme
+  pub whole : item.body ≡ taken ++ rest
+  pub possible : IsPossible k t taken
+  pub stops : Stops k t taken rest
+  pub place_is : place ≡ place_or rest (word_place after ts.end 0)

@@ -1,0 +1,146 @@
+//! Entries: the lines of T, O and R, as a model keeps them.
+ghost use Rattle.std.specs.Prelude.{◌≡◌, ◌<◌, ◌++◌, ◌∷◌, [], length, slice_get, OnOk, OnErr};
+
+use std::alloc::{AllocError, Global};
+use std::fmt;
+use std::marker::Model;
+
+/// A table of a model, by the letter that its entries begin with.
+#[derive(Clone, Copy, Debug, PartialEq, Eq)]
+pub enum Table {
+    /// T: the probability of each end state, by action and start state.
+    Transition,
+    /// O: the probability of each observation, by action and end state.
+    Observation,
+    /// R: the reward, by action, start state, end state and observation.
+    Reward,
+}
+
+impl fmt::Display for Table {
+    fn fmt<W: fmt::Write>(&self, f: &mut fmt::Formatter<W>) -> fmt::Result {
+        match self {
+            Table::Transition => write!(f, "T"),
+            Table::Observation => write!(f, "O"),
+            Table::Reward => write!(f, "R"),
+        }
+    }
+}
+
+/// One index of an entry's pattern: all elements (`*`), or the element of this number, counted from 0.
+#[derive(Clone, Copy, Debug, PartialEq, Eq)]
+pub enum Place {
+    Every,
+    Only(usize),
+}
+
+/// A list that grows at its end. Contracts see it as the list.
+#[derive(Debug, Drop)]
+pub struct Sequence<T: Drop> {
+    items: Vec<T>,
+}
+
+impl<T: Drop> Model for Sequence<T> {
+    ghost use Rattle.std.specs.Prelude.{List};
+
+    ghost Value = { List T };
+
+    ghost view = { λ s. s.items.items };
+}
+
+impl<T: Drop> Sequence<T> {
+    /// The empty list.
+    pub fn new(alloc: Global) -> Self
+        ensures { result ≡ [] }
+    {
+        Sequence {
+            items: Vec::new(alloc),
+        }
+    }
+
+    /// How many items there are.
+    pub fn len(&self) -> usize
+        ensures { result ≡ length self.now }
+    {
+        self.items.len()
+    }
+
+    /// The items, first to last.
+    pub fn as_slice(&self) -> &[T]
+        ensures { result.now ≡ self.now }
+    {
+        self.items.as_slice()
+    }
+
+    /// Puts the item behind the others. Where memory is wanting the list stays as it was.
+    pub fn push(&mut self, item: T) -> Result<(), AllocError>
+        ensures ok { OnOk result (self.new ≡ self.old ++ item ∷ []) }
+        ensures err { OnErr result (self.new ≡ self.old) }
+    {
+        self.items.push(item)?;
+        Ok(())
+    }
+}
+
+impl<T: Copy + Drop> Sequence<T> {
+    /// The item at this index, counted from 0.
+    pub fn at(&self, index: usize) -> T
+        requires { index < length self.now }
+        ensures { slice_get self.now index ≡ Some result }
+    {
+        self.items[index]
+    }
+}
+
+/// What fills the cells that an entry's places leave open, row after row: numbers in millionths, or a word.
+#[derive(Debug, Drop)]
+pub enum Body {
+    /// Probabilities, each from 0 to 1,000,000 millionths.
+    Probabilities(Sequence<u32>),
+    /// Rewards or costs as written, each from -10,000,000,000,000 to 10,000,000,000,000 millionths.
+    Rewards(Sequence<i64>),
+    /// The word `uniform`.
+    Uniform,
+    /// The word `identity`.
+    Identity,
+}
+
+/// An entry: its table, the first indices of the cells that it covers, and what these cells hold.
+#[derive(Debug, Drop)]
+pub struct Entry {
+    pub table: Table,
+    pub places: Sequence<Place>,
+    pub body: Body,
+}
+
+#[cfg(test)]
+mod tests {
+    use super::*;
+    use std::test::Fail;
+
+    #[test]
+    fn tables_print_their_letter(rt: HostRuntime) -> Result<(), Fail> {
+        let alloc = rt.alloc();
+        for (table, letter) in [
+            (Table::Transition, "T"),
+            (Table::Observation, "O"),
+            (Table::Reward, "R"),
+        ] {
+            assert_eq!(rt; format!(in alloc; "{table}")?.as_str(), letter);
+        }
+        Ok(())
+    }
+
+    #[test]
+    fn sequence_keeps_its_items(rt: HostRuntime) -> Result<(), Fail> {
+        let mut places = Sequence::new(rt.alloc());
+        places.push(Place::Every)?;
+        places.push(Place::Only(7))?;
+        assert!(rt; places.len() == 2);
+        assert_eq!(rt; places.at(1), Place::Only(7));
+        assert_eq!(rt;
+            places.as_slice(),
+            [Place::Every, Place::Only(7)].as_slice()
+        );
+        Ok(())
+    }
+}
