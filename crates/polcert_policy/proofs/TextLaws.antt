@@ -6,7 +6,7 @@ use Rattle.polcert_text.proofs.TextLaws.{one_cut}
 use Rattle.polcert_policy.specs.Fronts.{Taken}
 use Rattle.polcert_policy.specs.Graphs.{PolicyGraph, IsLooseGraph, IsGraph, IsFirstBeyond, HasNodesOnly, IsPossible}
 use Rattle.polcert_policy.specs.GraphText.{text_limit, IsGraphText, EndsEarly, HasWrongToken, IsGraphRefusal, IsNoGraphText}
-use Rattle.polcert_policy.specs.GraphReading.{IsTokenRefusal, IsEndRefusal}
+use Rattle.polcert_policy.specs.GraphRead.{IsTokenRefusal, IsEndRefusal}
 use Rattle.polcert_policy.specs.declared.fault.GraphFault.{GraphFault}
 use Rattle.polcert_policy.specs.declared.fault.GraphFault.TheVariants as faults
 use Rattle.polcert_policy.proofs.FrontLaws.{taken_cut, cut_taken}

@@ -5,12 +5,13 @@ ghost use Rattle.polcert_text.specs.Reading.{lexeme_of};
 ghost use Rattle.polcert_policy.specs.Words.{minus_kind, is_joined};
 ghost use Rattle.polcert_policy.specs.Graphs.{PolicyGraph, IsGraph, most_elements, most_nodes};
 ghost use Rattle.polcert_policy.specs.GraphText.{IsGraphText, IsGraphRefusal, IsNoGraphText};
-ghost use Rattle.polcert_policy.specs.GraphReading.{IsRead, IsTokenRefusal, IsEndRefusal, MinusOf, HasCounts, CheckedNumber, ReadAction, Advanced, TakesNext, IsApartFrom, AllBelow, IsFirstBeyondAt};
+ghost use Rattle.polcert_policy.specs.GraphRead.{IsRead, IsTokenRefusal, IsEndRefusal, MinusOf, HasCounts, CheckedNumber, ReadAction, Advanced, TakesNext, IsApartFrom, AllBelow, IsFirstBeyondAt};
 
-use crate::digits::{successor_of, whole_of};
+use crate::words::{successor_of, whole_of};
 use crate::fault::GraphFault;
 use crate::graph::Graph;
-use crate::reading::{MinusSign, Reading};
+use crate::graph_reading::{GraphReading, MinusSign};
+use crate::successor::Successor;
 use polcert_text::{TEXT_LIMIT, Token, TokenKind, Tokens};
 use std::alloc::{AllocError, Global};
 
@@ -48,7 +49,7 @@ fn push<T: Drop>(items: &mut Vec<T>, item: T) -> Result<(), AllocError>
     Ok(())
 }
 
-impl Reading {
+impl GraphReading {
     fn new(alloc: Global, actions: usize, observations: usize) -> Self
         requires some_actions { 1 ≤ actions }
         requires few_actions { actions ≤ most_elements }
@@ -57,7 +58,7 @@ impl Reading {
         ensures read { IsRead [] result }
         ensures counts { HasCounts actions observations result }
     {
-        Reading {
+        GraphReading {
             actions,
             observations,
             node: 0,
@@ -144,7 +145,7 @@ impl Reading {
         let Some(successor) = successor_of(token) else {
             return Err(GraphFault::BadShape(token.place));
         };
-        push(&mut self.successors, successor)?;
+        push(&mut self.successors, Successor::of(successor))?;
         self.advance();
         Ok(())
     }
@@ -221,12 +222,12 @@ impl Reading {
 }
 
 /// Where the first successor stands that isn't below the count.
-fn first_beyond(successors: &[Option<usize>], count: usize) -> Option<usize>
+fn first_beyond(successors: &[Successor], count: usize) -> Option<usize>
     ensures { MatchOption result (AllBelow count successors.now) (IsFirstBeyondAt count successors.now) }
 {
     for (i, successor) in successors.iter().enumerate() {
-        if let Some(node) = successor
-            && *node >= count
+        if let Some(node) = successor.node()
+            && node >= count
         {
             return Some(i);
         }
@@ -249,7 +250,7 @@ pub fn read_graph(
     ensures refused { IfErr result (IsGraphRefusal actions observations text.now) }
 {
     let mut tokens = Tokens::new(text, TEXT_LIMIT);
-    let mut reading = Reading::new(alloc, actions, observations);
+    let mut reading = GraphReading::new(alloc, actions, observations);
     while let Some(next) = tokens.next_token() {
         match next {
             Ok(token) => reading.take(token)?,
@@ -257,89 +258,4 @@ pub fn read_graph(
         }
     }
     reading.finish(text.len() as u64)
-}
-
-/// A text is one graph.
-pub fn one_graph()
-    ensures { (actions observations : ℕ) (text : List ℕ) (g h : PolicyGraph) →
-        IsGraphText actions observations text g → IsGraphText actions observations text h → g ≡ h }
-{}
-
-#[cfg(test)]
-mod tests {
-    use super::*;
-    use polcert_text::TokenFault;
-    use std::test::Fail;
-
-    fn fault(alloc: Global, text: &[u8], actions: usize, observations: usize) -> Option<GraphFault>
-        requires some_actions { 1 ≤ actions }
-        requires few_actions { actions ≤ most_elements }
-        requires some_observations { 1 ≤ observations }
-        requires few_observations { observations ≤ most_elements }
-    {
-        match read_graph(alloc, text, actions, observations) {
-            Ok(_) => None,
-            Err(fault) => Some(fault),
-        }
-    }
-
-    #[test]
-    fn refused(rt: HostRuntime) -> Result<(), Fail> {
-        assert_eq!(rt; fault(rt.alloc(), b"", 3, 2), Some(GraphFault::NoNodes(0)));
-        assert_eq!(rt;
-            fault(rt.alloc(), b"0 0 -1 0", 1, 2),
-            Some(GraphFault::BadShape(4))
-        );
-        assert_eq!(rt;
-            fault(rt.alloc(), b"0 0 0 1", 1, 2),
-            Some(GraphFault::SuccessorOutOfRange {
-                node: 0,
-                observation: 1
-            })
-        );
-        assert_eq!(rt;
-            fault(rt.alloc(), b"0 3 0 0", 3, 2),
-            Some(GraphFault::ActionOutOfRange(2))
-        );
-        assert_eq!(rt;
-            fault(rt.alloc(), b"0 0 0 ;", 3, 2),
-            Some(GraphFault::Token(TokenFault::BadByte(6)))
-        );
-        assert_eq!(rt;
-            fault(rt.alloc(), b"0 0 0 -0x", 3, 2),
-            Some(GraphFault::Token(TokenFault::Glued(7)))
-        );
-        assert_eq!(rt;
-            fault(rt.alloc(), b"0 0 0 0 2", 3, 2),
-            Some(GraphFault::NodeOutOfOrder(8))
-        );
-        assert_eq!(rt;
-            fault(rt.alloc(), b"0 0 0", 3, 2),
-            Some(GraphFault::Truncated(5))
-        );
-        assert_eq!(rt;
-            fault(rt.alloc(), b"0 0 0 99999999999999999999", 3, 2),
-            Some(GraphFault::SuccessorOutOfRange {
-                node: 0,
-                observation: 1
-            })
-        );
-        Ok(())
-    }
-
-    #[test]
-    fn accepted(rt: HostRuntime) -> Result<(), Fail> {
-        match read_graph(rt.alloc(), b"0 2 - X\n1 0 0 001 # end", 3, 2) {
-            Ok(graph) => {
-                assert_eq!(rt; graph.nodes(), 2);
-                if graph.nodes() == 2 && graph.observations() == 2 {
-                    assert_eq!(rt; graph.action(0), 2);
-                    assert_eq!(rt; graph.next(0, 0), None);
-                    assert_eq!(rt; graph.next(1, 1), Some(1));
-                }
-            }
-            Err(fault) => assert_eq!(rt; fault, GraphFault::Memory),
-        }
-        Ok(())
-    }
 }

@@ -2,7 +2,7 @@
 ghost use Rattle.std.specs.Prelude.{◌≡◌, min, true, false, MatchOption};
 ghost use Rattle.polcert_text.specs.Reading.{lexeme_of};
 ghost use Rattle.polcert_policy.specs.Words.{is_whole, whole_of, is_x, is_successor, successor_of};
-ghost use Rattle.polcert_policy.specs.GraphReading.{cap, kept_of};
+ghost use Rattle.polcert_policy.specs.Kept.{cap, kept_of};
 
 use polcert_text::{TokenKind, Token, whole_number};
 

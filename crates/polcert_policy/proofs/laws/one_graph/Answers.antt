@@ -2,7 +2,7 @@ use Rattle.std.proofs.Common.{subst}
 use Rattle.polcert_text.proofs.TextLaws as cuts
 use Rattle.polcert_policy.specs.Graphs.{IsLooseGraph}
 use Rattle.polcert_policy.proofs.GraphLaws as laws
-use Rattle.polcert_policy.proofs.graph_reader.one_graph.Goals as goal
+use Rattle.polcert_policy.proofs.laws.one_graph.Goals as goal
 
 pub returns : goal.returns
 returns c = λ actions observations text g h x y.

@@ -2,9 +2,7 @@ use Rattle.std.proofs.Common.{subst}
 use Rattle.polcert_text.proofs.TextLaws as cuts
 use Rattle.polcert_policy.specs.Vectors.{IsVectors}
 use Rattle.polcert_policy.proofs.VectorLaws as laws
-use Rattle.polcert_policy.proofs.VectorSteps as steps
-use Rattle.polcert_policy.proofs.Fillers as fillers
-use Rattle.polcert_policy.proofs.vectors.one_vectors.Goals as goal
+use Rattle.polcert_policy.proofs.laws.one_vectors.Goals as goal
 
 pub returns : goal.returns
 returns c = λ graph states text v w x y.
