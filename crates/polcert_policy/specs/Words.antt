@@ -1,4 +1,4 @@
--- What a token of a policy file says.
+-- What a token of a policy file says: a number, or a node that follows.
 use Rattle.std.specs.Prelude.{ℕ, ◌+◌, ◌==◌, Bool, true, false, ◌&&◌, Option, Some, None, List, [], ◌∷◌, length}
 use Rattle.std.specs.Str.Parse.{digits_value}
 use Rattle.polcert_text.specs.Lexemes.{are_digits, is_empty}

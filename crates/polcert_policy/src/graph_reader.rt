@@ -1,10 +1,10 @@
 //! Reads a policy graph.
-ghost use Rattle.std.specs.Prelude.{◌≡◌, ◌+◌, ◌<◌, ◌≤◌, ◌⊎◌, ◌++◌, ◌∷◌, [], ℕ, true, length, List, MatchResult, MatchOption, IfOk, IfErr};
+ghost use Rattle.std.specs.Prelude.{◌≡◌, ◌+◌, ◌<◌, ◌≤◌, ◌⊎◌, ◌++◌, ◌∷◌, [], ℕ, true, length, List, MatchResult, MatchOption, IfOk, IfErr, IsErrAnd};
 ghost use Rattle.polcert_text.specs.Cut.{Lexeme};
 ghost use Rattle.polcert_text.specs.Reading.{lexeme_of};
 ghost use Rattle.polcert_policy.specs.Words.{minus_kind, is_joined};
 ghost use Rattle.polcert_policy.specs.Graphs.{PolicyGraph, IsGraph, most_elements, most_nodes};
-ghost use Rattle.polcert_policy.specs.GraphText.{IsGraphText, IsGraphRefusal, IsNoGraphText};
+ghost use Rattle.polcert_policy.specs.GraphText.{IsGraphText, IsGraphRefusal, IsNoGraphText, HasFirstBeyond, NamesSuccessor};
 ghost use Rattle.polcert_policy.specs.GraphRead.{IsRead, IsTokenRefusal, IsEndRefusal, MinusOf, HasCounts, CheckedNumber, ReadAction, Advanced, TakesNext, IsApartFrom, AllBelow, IsFirstBeyondAt};
 
 use crate::words::{successor_of, whole_of};
@@ -235,7 +235,13 @@ fn first_beyond(successors: &[Successor], count: usize) -> Option<usize>
     None
 }
 
-/// Reads a graph text for a model with these counts.
+/// Reads a policy graph, as pomdp-solve writes it into a `.pg` file: one node after another, each with its number, its
+/// action, and a successor for each observation. `actions` and `observations` are the model's counts.
+///
+/// # Errors
+///
+/// The first token that can't stand at its place (G1 to G4, G8), the end of the text where it may not end (G6, G7), or
+/// else the first successor by node and observation that isn't a node (G5). G9 where memory ran out.
 pub fn read_graph(
     alloc: Global,
     text: &[u8],
@@ -248,6 +254,10 @@ pub fn read_graph(
     requires few_observations { observations ≤ most_elements }
     ensures accepted { MatchResult result (IsGraphText actions observations text.now) (IsNoGraphText actions observations text.now) }
     ensures refused { IfErr result (IsGraphRefusal actions observations text.now) }
+
+    // Where only the bound on successors fails, the first that breaks it by node and observation is named.
+    ensures beyond { (n z : ℕ) → HasFirstBeyond actions observations text.now n z →
+        IsErrAnd result (NamesSuccessor n z) }
 {
     let mut tokens = Tokens::new(text, TEXT_LIMIT);
     let mut reading = GraphReading::new(alloc, actions, observations);
