@@ -7,14 +7,14 @@ use Rattle.std.proofs.lemmas.Int.{ints}
 use Rattle.polcert_text.specs.Bytes.{class_of, is_digit}
 use Rattle.polcert_text.specs.Lexemes.{is_numeral, are_digits, is_empty}
 use Rattle.polcert_text.specs.Numbers.{number_of, exponent_size, power_of, size_of, millionth, largest, IsReadable, IsFloor, Measures}
-use Rattle.polcert_text.proofs.SignedLaws.{floor_positive}
+use Rattle.polcert_text.proofs.SignedLaws.{floor_positive, floor_negative}
 use Rattle.polcert_text.proofs.SizeLaws.{millionth_pos}
 use Rattle.polcert_text.proofs.PrintLaws.{decimal_digits}
 use Rattle.polcert_text.specs.Cut.{Lexeme}
 use Rattle.polcert_text.specs.declared.lexeme.TokenKind.TheVariants.{Numeral}
-use Rattle.polcert_policy.specs.Vectors.{Part, IsPart, IsActionPart, IsValuePart}
+use Rattle.polcert_policy.specs.Vectors.{Part, sign_kind, is_negative, IsPart, IsActionPart, IsValuePart}
 
-abbrev zero_bytes : List ℕ
+abbrev pub zero_bytes : List ℕ
 zero_bytes = 48 ∷ []
 
 number_zero : number_of zero_bytes ≡ 0
@@ -80,4 +80,22 @@ action_spelled a l = record {
   unsigned = refl;
   whole = some_digits (decimal a) (decimal_digits a l) (decimal_nonempty a l);
   value = (decimal_is_IsNumeral a l).1;
+}
+
+abbrev pub signed_zero : Lexeme → Part
+signed_zero s = let t : Lexeme = record { kind = Numeral; place = 0; bytes = zero_bytes } in record { sign = Some s; token = t }
+
+zero_floor : (b : Bool) → IsFloor b zero_bytes (pos 0)
+zero_floor true = floor_negative zero_bytes 0 false measured
+zero_floor false = floor_positive zero_bytes 0 false measured
+
+same_some : (s u : Lexeme) → Some s ≡ Some u → s ≡ u
+same_some s u e = cc
+
+-- so is `0` behind a sign
+pub signed_zero_value : (s : Lexeme) → sign_kind s.kind ≡ true → IsValuePart (signed_zero s) (pos 0)
+signed_zero_value s sign = record {
+  part = record { numeral = refl; signed = λ u e. subst (λ x. sign_kind x.kind ≡ true) (same_some s u e) sign };
+  readable = zero_value.readable;
+  floor = zero_floor (is_negative (Some s));
 }

@@ -10,23 +10,23 @@ use Rattle.polcert_policy.specs.Graphs.{PolicyGraph, nodes}
 use Rattle.polcert_policy.specs.Vectors.{PolicyVectors, Part, sign_kind, with_sign, tokens_of, IsPart, IsActionPart, AreVectors, IsVectors}
 use Rattle.polcert_policy.proofs.Places.{row_above, row_below, row_of, get_within, within_get, same_some, some_none, same_list}
 
-head_of : {X : Type 0} (x y : X) (xs ys : List X) → x ∷ xs ≡ y ∷ ys → x ≡ y
+pub head_of : {X : Type 0} (x y : X) (xs ys : List X) → x ∷ xs ≡ y ∷ ys → x ≡ y
 head_of x y xs ys e = cc
 
-tail_of : {X : Type 0} (x y : X) (xs ys : List X) → x ∷ xs ≡ y ∷ ys → xs ≡ ys
+pub tail_of : {X : Type 0} (x y : X) (xs ys : List X) → x ∷ xs ≡ y ∷ ys → xs ≡ ys
 tail_of x y xs ys e = cc
 
-cons_not_nil : {X : Type 0} (x : X) (xs : List X) → x ∷ xs ≡ [] → ⊥
+pub cons_not_nil : {X : Type 0} (x : X) (xs : List X) → x ∷ xs ≡ [] → ⊥
 cons_not_nil x xs e = cc
 
-no_sign_numeral : (k : TokenKind) → numeral_kind k ≡ true → sign_kind k ≡ true → ⊥
+pub no_sign_numeral : (k : TokenKind) → numeral_kind k ≡ true → sign_kind k ≡ true → ⊥
 no_sign_numeral Numeral e f = cc
 no_sign_numeral _ e f = cc
 
 abbrev pub AreParts : List Part → Type 0
 AreParts ps = (k : ℕ) (p : Part) → slice_get ps k ≡ Some p → IsPart p
 
-not_sign : (s t : Lexeme) → s ≡ t → sign_kind s.kind ≡ true → numeral_kind t.kind ≡ true → ⊥
+pub not_sign : (s t : Lexeme) → s ≡ t → sign_kind s.kind ≡ true → numeral_kind t.kind ≡ true → ⊥
 not_sign s t e sign numeral = no_sign_numeral t.kind numeral (subst (λ x. sign_kind x.kind ≡ true) e sign)
 
 -- parts that begin the tokens of others begin the others
@@ -83,7 +83,7 @@ antisym h k l m = omega (arith, ints, l, m)
 one_floor : (b : Bool) (bs : List ℕ) (h k : ℤ) → IsFloor b bs h → IsFloor b bs k → h ≡ k
 one_floor b bs h k x y = antisym h k (y.greatest h x.not_above) (x.greatest k y.not_above)
 
-same_count : {X : Type 0} (xs ys : List X) → length (xs ++ ys) ≡ length xs → xs ++ ys ≡ xs
+pub same_count : {X : Type 0} (xs ys : List X) → length (xs ++ ys) ≡ length xs → xs ++ ys ≡ xs
 same_count [] [] l = refl
 same_count [] (y ∷ ys) l = absurd (omega (arith, l))
 same_count (x ∷ xs) ys l = ap (λ zs. x ∷ zs) (same_count xs ys (omega (arith, l)))

@@ -3,13 +3,13 @@
 -- Restates the description of pomdp-solve's value function file, https://www.pomdp.org/code/alpha-file-spec.html: for
 -- each vector the number of its action, and then a value for each state. Here vector n belongs to node n of a policy
 -- graph, any line ends may stand between the tokens, and values are rounded down to whole millionths.
-use Rattle.std.specs.Prelude.{◌≡◌, ℕ, ℤ, ◌+◌, ◌*◌, ◌<◌, Bool, true, false, Option, Some, None, List, [], ◌∷◌, ◌++◌, length, slice_get, slice_index_or, pos}
+use Rattle.std.specs.Prelude.{◌≡◌, ℕ, ℤ, ◌+◌, ◌*◌, ◌<◌, ◌≤◌, ◌≤ℤ◌, neg_ℤ, Bool, true, false, Option, Some, None, List, [], ◌∷◌, ◌++◌, length, slice_get, slice_index_or, pos}
 use Rattle.polcert_text.specs.Cut.{Lexeme}
-use Rattle.polcert_text.specs.Numbers.{IsFloor, IsReadable}
+use Rattle.polcert_text.specs.Numbers.{IsFloor, IsReadable, largest}
 use Rattle.polcert_text.specs.declared.lexeme.TokenKind.{TokenKind}
 use Rattle.polcert_text.specs.declared.lexeme.TokenKind.TheVariants.{Plus, Minus}
 use Rattle.polcert_policy.specs.Words.{numeral_kind, minus_kind, is_whole, whole_of}
-use Rattle.polcert_policy.specs.Graphs.{PolicyGraph, nodes, action_of}
+use Rattle.polcert_policy.specs.Graphs.{PolicyGraph, nodes, action_of, most_nodes, most_elements}
 
 -- a value for each node and state, node by node, in millionths
 pub record PolicyVectors : Type 0 where
@@ -77,3 +77,19 @@ pub record IsVectors (graph : PolicyGraph) (states : ℕ) (ts : List Lexeme) (v 
 -- the tokens begin a list that is vectors of the graph
 abbrev pub ArePossible : PolicyGraph → ℕ → List Lexeme → Type 0
 ArePossible graph states ts = (more : List Lexeme) × ((v : PolicyVectors) × IsVectors graph states (ts ++ more) v)
+
+-- from -10,000,000 to 10,000,000, in millionths
+abbrev pub IsInRange : ℤ → Type 0
+IsInRange h = (neg_ℤ (pos largest) ≤ℤ h) × (h ≤ℤ pos largest)
+
+-- what is true of all vectors
+pub record AreProper (nodes states : ℕ) (values : List ℤ) : Type 0 where
+  pub some_nodes : 1 ≤ nodes
+  pub few_nodes : nodes ≤ most_nodes
+  pub some_states : 1 ≤ states
+  pub few_states : states ≤ most_elements
+  pub filled : length values ≡ nodes * states
+  pub in_range : (k : ℕ) (h : ℤ) → slice_get values k ≡ Some h → IsInRange h
+
+abbrev pub AreProperVectors : PolicyVectors → Type 0
+AreProperVectors v = AreProper v.nodes v.states v.values

@@ -1,5 +1,5 @@
 //! Reads a policy graph.
-ghost use Rattle.std.specs.Prelude.{◌≡◌, ◌+◌, ◌<◌, ◌≤◌, ◌⊎◌, ◌++◌, ◌∷◌, [], ℕ, true, length, List, MatchResult, MatchOption, IfOk, IfErr, IsErrAnd};
+ghost use Rattle.std.specs.Prelude.{◌≡◌, ◌+◌, ◌<◌, ◌≤◌, ◌⊎◌, ◌++◌, ◌∷◌, [], ℕ, true, length, List, MatchResult, MatchOption, IfErr, IsErrAnd};
 ghost use Rattle.polcert_text.specs.Cut.{Lexeme};
 ghost use Rattle.polcert_text.specs.Reading.{lexeme_of};
 ghost use Rattle.polcert_policy.specs.Words.{minus_kind, is_joined};
@@ -10,10 +10,11 @@ ghost use Rattle.polcert_policy.specs.GraphRead.{IsRead, IsTokenRefusal, IsEndRe
 use crate::words::{successor_of, whole_of};
 use crate::fault::GraphFault;
 use crate::graph::Graph;
+use crate::growth::push;
 use crate::graph_reading::{GraphReading, MinusSign};
 use crate::successor::Successor;
 use polcert_text::{TEXT_LIMIT, Token, TokenKind, Tokens};
-use std::alloc::{AllocError, Global};
+use std::alloc::Global;
 
 const MOST_NODES: usize = 10_000;
 
@@ -40,13 +41,6 @@ fn minus_of(token: Token<'_>) -> Option<MinusSign>
         }),
         _ => None,
     }
-}
-
-fn push<T: Drop>(items: &mut Vec<T>, item: T) -> Result<(), AllocError>
-    ensures { IfOk result (λ _. items.new.items ≡ items.old.items ++ item ∷ []) }
-{
-    items.push(item)?;
-    Ok(())
 }
 
 impl GraphReading {
