@@ -3,7 +3,7 @@
 -- Restates the description of pomdp-solve's value function file, https://www.pomdp.org/code/alpha-file-spec.html: for
 -- each vector the number of its action, and then a value for each state. Here vector n belongs to node n of a policy
 -- graph, any line ends may stand between the tokens, and values are rounded down to whole millionths.
-use Rattle.std.specs.Prelude.{◌≡◌, ℕ, ℤ, ◌+◌, ◌*◌, ◌<◌, ◌≤◌, ◌≤ℤ◌, neg_ℤ, Bool, true, false, Option, Some, None, List, [], ◌∷◌, ◌++◌, length, slice_get, slice_index_or, pos}
+use Rattle.std.specs.Prelude.{◌≡◌, ℕ, ℤ, ◌+◌, ◌*◌, ◌<◌, ◌≤◌, ◌≤ℤ◌, ◌+ℤ◌, neg_ℤ, map, Bool, true, false, Option, Some, None, List, [], ◌∷◌, ◌++◌, length, slice_get, slice_index_or, pos}
 use Rattle.polcert_text.specs.Cut.{Lexeme}
 use Rattle.polcert_text.specs.Numbers.{IsFloor, IsReadable, largest}
 use Rattle.polcert_text.specs.declared.lexeme.TokenKind.{TokenKind}
@@ -93,3 +93,11 @@ pub record AreProper (nodes states : ℕ) (values : List ℤ) : Type 0 where
 
 abbrev pub AreProperVectors : PolicyVectors → Type 0
 AreProperVectors v = AreProper v.nodes v.states v.values
+
+-- the same vectors with one number added to every value
+abbrev pub shifted_by : PolicyVectors → ℤ → PolicyVectors
+shifted_by v by = record { nodes = v.nodes; states = v.states; values = map (λ h. h +ℤ by) v.values }
+
+-- with this number added every value stays in range
+abbrev pub CanShift : PolicyVectors → ℤ → Type 0
+CanShift v by = (n s : ℕ) → n < v.nodes → s < v.states → IsInRange (value_of v n s +ℤ by)

@@ -1,8 +1,8 @@
 ghost use Rattle.std.specs.Prelude.{◌≤◌};
 ghost use Rattle.polcert_policy.specs.Graphs.{most_elements};
 
-use crate::{Graph, GraphFault, VectorFault, Vectors, read_graph, read_vectors};
-use polcert_text::{NumberFault, TokenFault};
+use crate::{Graph, GraphFault, VectorFault, Vectors, read_graph, read_vectors, write_vectors};
+use polcert_text::{NumberFault, SliceSink, TokenFault};
 use std::alloc::Global;
 use std::test::Fail;
 
@@ -195,6 +195,40 @@ fn accepted_vectors(rt: HostRuntime) -> Result<(), Fail> {
         assert_eq!(rt; vectors.states(), 2);
         assert!(rt; begins(&vectors, want));
     }
+    Ok(())
+}
+
+#[test]
+fn written_vectors(rt: HostRuntime) -> Result<(), Fail> {
+    let alloc = rt.alloc();
+    let graph = read_graph(alloc, b"0 0 0 - 1 2 - -", 3, 2)?;
+    for (text, want) in [
+        (b"0 - 20 + 5 2 .5 0.0000019".as_slice(), b"0\n-20 5\n\n2\n0.5 0.000001\n\n".as_slice()),
+        (b"0 1e7 -1e7 2 0 -0.25", b"0\n10000000 -10000000\n\n2\n0 -0.25\n\n"),
+    ] {
+        let vectors = read_vectors(alloc, text, &graph, 2)?;
+        let mut buffer = [0u8; 64];
+        let mut sink = SliceSink::new(&mut buffer);
+        if graph.nodes() == vectors.nodes() {
+            assert!(rt; write_vectors(&graph, &vectors, &mut sink).is_ok());
+        }
+        assert_eq!(rt; sink.len, want.len());
+        assert_eq!(rt; &buffer[..want.len().min(64)], want);
+    }
+    Ok(())
+}
+
+#[test]
+fn full_sink(rt: HostRuntime) -> Result<(), Fail> {
+    let alloc = rt.alloc();
+    let graph = read_graph(alloc, b"0 0 0 0", 3, 2)?;
+    let vectors = read_vectors(alloc, b"0 -20 5", &graph, 2)?;
+    let mut buffer = [0u8; 5];
+    let mut sink = SliceSink::new(&mut buffer);
+    if graph.nodes() == vectors.nodes() {
+        assert!(rt; write_vectors(&graph, &vectors, &mut sink).is_err());
+    }
+    assert_eq!(rt; &buffer, b"0\n-20");
     Ok(())
 }
 
