@@ -151,6 +151,7 @@ pub record IsPrinted (u : Printed) : Type 0 where
   pub first : ℕ
   pub more : List ℕ
   pub behind_is : u.behind ≡ first ∷ more
+  pub few : length u.behind ≤ 2
 
 abbrev pub texts_of : List Printed → List ℕ
 texts_of [] = []

@@ -2,6 +2,7 @@
 ghost use Rattle.std.specs.Prelude.{◌≡◌, ◌<◌};
 ghost use Rattle.polcert_text.specs.Sink.{WritesText};
 ghost use Rattle.polcert_policy.specs.Graphs.{nodes};
+ghost use Rattle.polcert_policy.specs.VectorText.{IsVectorsText};
 ghost use Rattle.polcert_policy.specs.FullForm.{behind_value, value_text, values_text, action_text, vector_text, vectors_text};
 
 use crate::graph::Graph;
@@ -21,9 +22,15 @@ pub fn write_vectors<W: Sink>(
     out: &mut W,
 ) -> Result<(), SinkFailed>
     requires { nodes graph.now ≡ vectors.now.nodes }
-    ensures { WritesText W.writes W.failures out.old (vectors_text graph.now vectors.now) result out.new }
+    ensures written { WritesText W.writes W.failures out.old (vectors_text graph.now vectors.now) result out.new }
+
+    // Read with the same graph and number of states, the text is accepted and gives the same vectors.
+    ensures reads_back { IsVectorsText graph.now vectors.now.states (vectors_text graph.now vectors.now) vectors.now }
 {
-    for node in 0..graph.nodes() {
+    let nodes = graph.nodes();
+    let vector_count = vectors.nodes();
+    prove!(nodes == vector_count);
+    for node in 0..nodes {
         write_vector(graph, vectors, node, out)?;
     }
     Ok(())
