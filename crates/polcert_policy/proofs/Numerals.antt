@@ -124,7 +124,7 @@ plain_point : (ds fs : List ℕ) → list_all is_digit ds ≡ true → 0 < lengt
 plain_point [] fs h some few f small = absurd (omega (arith, some))
 plain_point (d ∷ ds) fs h some few f small =
     let state : state_through Start ((d ∷ ds) ++ 46 ∷ fs) ≡ Fraction = state_through-append Start (d ∷ ds) (46 ∷ fs) ∙ ap (λ s. state_through s (46 ∷ fs)) (whole_state d ds h)
-        ∙ ap (λ c. state_through (state_after Whole c) fs) point_class_is ∙ digits_fraction fs f in
+    ∙ ap (λ c. state_through (state_after Whole c) fs) point_class_is ∙ digits_fraction fs f in
     record {
       digit = d;
       rest = ds ++ 46 ∷ fs;

@@ -202,15 +202,23 @@ cut_printed (u ∷ us) place gap all h = at (λ n. cut_printed us n u.behind all
     at : ((n : ℕ) → IsCut (rest_at n (u.behind ++ texts_of us)) (tokens_of (parts_from (n + length u.behind) us)) None) → (negative : Bool) → IsCut (rest_at place (gap ++ ((signed_text negative u.numeral ++ u.behind) ++ texts_of us)))
         (tokens_of (part_with (place + length gap) negative u.numeral ∷ parts_from (place + length gap + length (signed_text negative u.numeral ++ u.behind)) us)) None
     at go false =
-        subst (λ bs. IsCut (rest_at place (gap ++ bs)) (tokens_of (part_with (place + length gap) false u.numeral ∷ parts_from (place + length gap + length (u.numeral ++ u.behind)) us)) None) (sym (append_assoc u.numeral u.behind (texts_of us)))
-        (rest_at (place + length gap + length u.numeral) (u.behind ++ texts_of us), numeral_next place gap h,
-        onward go (place + length gap + length u.numeral) _ (omega (arith, length-append u.numeral u.behind)))
+        subst (λ bs. IsCut (rest_at place (gap ++ bs)) (tokens_of (part_with (place + length gap) false u.numeral ∷ parts_from (place + length gap + length (u.numeral ++ u.behind)) us)) None) (sym (append_assoc u.numeral u.behind (texts_of us))) (
+          rest_at (place + length gap + length u.numeral) (u.behind ++ texts_of us),
+          numeral_next place gap h,
+          onward go (place + length gap + length u.numeral) _ (omega (arith, length-append u.numeral u.behind)),
+        )
     at go true =
         let sign = takes_next place gap (45 ∷ []) Minus 45 [] all.0.plain.digit (all.0.plain.rest ++ (u.behind ++ texts_of us)) (u.numeral ++ (u.behind ++ texts_of us)) h refl minus_ends
-            (ap (λ w. w ++ (u.behind ++ texts_of us)) all.0.plain.begins) minus_kind_of (ap (λ s. state_after s (class_of all.0.plain.digit)) minus_state) refl (omega arith) in
+        (ap (λ w. w ++ (u.behind ++ texts_of us)) all.0.plain.begins) minus_kind_of (ap (λ s. state_after s (class_of all.0.plain.digit)) minus_state) refl (omega arith) in
         let numeral = numeral_next (place + length gap + 1) [] refl in
         let placed : place + length gap + 1 + 0 ≡ place + length gap + 1 = omega arith in
-        let whole : IsCut (rest_at place (gap ++ (45 ∷ (u.numeral ++ (u.behind ++ texts_of us))))) (tokens_of (part_with (place + length gap) true u.numeral ∷ parts_from (place + length gap + length (45 ∷ (u.numeral ++ u.behind))) us)) None =
-            (_, sign, (_, subst (λ n. TakesToken (rest_at (place + length gap + 1) (u.numeral ++ (u.behind ++ texts_of us))) (record { kind = Numeral; place = n; bytes = u.numeral }) (rest_at (n + length u.numeral) (u.behind ++ texts_of us))) placed numeral,
-            onward go (place + length gap + 1 + length u.numeral) _ (omega (arith, length-append u.numeral u.behind)))) in
+        let whole : IsCut (rest_at place (gap ++ (45 ∷ (u.numeral ++ (u.behind ++ texts_of us))))) (tokens_of (part_with (place + length gap) true u.numeral ∷ parts_from (place + length gap + length (45 ∷ (u.numeral ++ u.behind))) us)) None = (
+          _,
+          sign,
+          (
+            _,
+            subst (λ n. TakesToken (rest_at (place + length gap + 1) (u.numeral ++ (u.behind ++ texts_of us))) (record { kind = Numeral; place = n; bytes = u.numeral }) (rest_at (n + length u.numeral) (u.behind ++ texts_of us))) placed numeral,
+            onward go (place + length gap + 1 + length u.numeral) _ (omega (arith, length-append u.numeral u.behind)),
+          ),
+        ) in
         subst (λ bs. IsCut (rest_at place (gap ++ (45 ∷ bs))) (tokens_of (part_with (place + length gap) true u.numeral ∷ parts_from (place + length gap + length (45 ∷ (u.numeral ++ u.behind))) us)) None) (sym (append_assoc u.numeral u.behind (texts_of us))) whole

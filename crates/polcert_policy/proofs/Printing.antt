@@ -12,7 +12,7 @@ pub parts_at : (whole part : ℕ → List ℕ) → ((n : ℕ) → whole (suc n) 
 parts_at whole part step k zero h = absurd (omega arith)
 parts_at whole part step k (suc m) h =
     ⊎_elim (λ l. let was = parts_at whole part step k m l in
-        (was.0 ++ part m, step m ∙ ap (λ xs. xs ++ part m) was.1 ∙ append_assoc (whole k) (part k ++ was.0) (part m) ∙ ap (λ xs. whole k ++ xs) (append_assoc (part k) was.0 (part m))))
+    (was.0 ++ part m, step m ∙ ap (λ xs. xs ++ part m) was.1 ∙ append_assoc (whole k) (part k ++ was.0) (part m) ∙ ap (λ xs. whole k ++ xs) (append_assoc (part k) was.0 (part m))))
     (λ e. ([], step m ∙ ap (λ n. whole n ++ part n) (sym e) ∙ ap (λ xs. whole k ++ xs) (sym (append-nil (part k)))))
     (below_or_at k m h)
 

@@ -24,10 +24,6 @@ push_shifted xs old new i d by can inside fits was pushed =
     let kept = to_z-of_z w64 _ (sum_fits xs i d by can inside fits) ∙ ap (λ z. z +ℤ by) (to_z-of_z w64 (get_or xs i d) fits) in
     pushed ∙ (λ j. was j ++ kept j ∷ []) ∙ sym (ap (map (λ h. h +ℤ by)) (take_more xs i d inside) ∙ map-append (λ h. h +ℤ by) (take i xs) (get_or xs i d ∷ []))
 
-
-
-
-
 -- the condition on nodes and states is one on all values
 pub can_add : (count o : ℕ) (vs : List ℤ) (by : ℤ) → AreProper count o vs → CanShift (record { nodes = count; states = o; values = vs }) by → CanAdd vs by
 can_add count o vs by proper can k h e =

@@ -112,7 +112,7 @@ possible_open g o ps node column vs (Some s) (Some u) proper some old is =
     before h =
         let numeral = (signed_zero s).token in
         let tokens : tokens_of (ps ++ signed_zero s ∷ []) ++ h.0 ≡ (tokens_of ps ++ s ∷ []) ++ (numeral ∷ h.0) =
-            ap (λ ts. ts ++ h.0) (tokens-append ps (signed_zero s ∷ [])) ∙ append_assoc (tokens_of ps) (s ∷ numeral ∷ []) h.0 ∙ sym (append_assoc (tokens_of ps) (s ∷ []) (numeral ∷ h.0)) in
+        ap (λ ts. ts ++ h.0) (tokens-append ps (signed_zero s ∷ [])) ∙ append_assoc (tokens_of ps) (s ∷ numeral ∷ []) h.0 ∙ sym (append_assoc (tokens_of ps) (s ∷ []) (numeral ∷ h.0)) in
         (numeral ∷ h.0, (h.1.0, subst (λ ts. IsVectors g o ts h.1.0) tokens h.1.1))
 
     go : (c : ℕ) → AreVectorsUpTo g o ps node (1 + c) vs → (suc c < o) ⊎ (suc c ≡ o) → ArePossible g o (tokens_of ps ++ s ∷ [])
@@ -334,12 +334,12 @@ read_value g old mid new seen t value begun numeral readable floor states node c
     let At : ℕ → ℕ → Type 0 = λ n c. AreVectorsUpTo g old.states (h.parts ++ p ∷ []) n c (old.values.items ++ value ∷ []) in
     let ends : (suc (old.column - 1) < old.states) ⊎ (suc (old.column - 1) ≡ old.states) = order (suc (old.column - 1)) old.states (omega (arith, at.within)) in
     let stepped : At new.node new.column = ⊎_elim (λ l.
-        let is = next.inside (omega (arith, l, states, column, begun)) in
-        subst (λ n. At n new.column) (sym (is.0 ∙ node)) (subst (λ c. At old.node c) (omega (arith, is.1, column, begun)) (step_value_within g old.states h.parts p value old.node (old.column - 1) old.values.items l at part)))
-        (λ f.
-        let is = next.last (omega (arith, f, states, column, begun)) in
-        subst (λ n. At n new.column) (omega (arith, is.0, node)) (subst (λ c. At (suc old.node) c) (sym is.1) (step_value_last g old.states h.parts p value old.node (old.column - 1) old.values.items f at part)))
-        ends in
+    let is = next.inside (omega (arith, l, states, column, begun)) in
+    subst (λ n. At n new.column) (sym (is.0 ∙ node)) (subst (λ c. At old.node c) (omega (arith, is.1, column, begun)) (step_value_within g old.states h.parts p value old.node (old.column - 1) old.values.items l at part)))
+    (λ f.
+    let is = next.last (omega (arith, f, states, column, begun)) in
+    subst (λ n. At n new.column) (omega (arith, is.0, node)) (subst (λ c. At (suc old.node) c) (sym is.1) (step_value_last g old.states h.parts p value old.node (old.column - 1) old.values.items f at part)))
+    ends in
     record {
       proper = h.proper;
       parts = h.parts ++ p ∷ [];

@@ -7,12 +7,12 @@ ghost use Rattle.polcert_policy.specs.Graphs.{PolicyGraph, IsGraph, most_element
 ghost use Rattle.polcert_policy.specs.GraphText.{IsGraphText, IsGraphRefusal, IsNoGraphText, HasFirstBeyond, NamesSuccessor};
 ghost use Rattle.polcert_policy.specs.GraphRead.{IsRead, IsTokenRefusal, IsEndRefusal, MinusOf, HasCounts, CheckedNumber, ReadAction, Advanced, TakesNext, IsApartFrom, AllBelow, IsFirstBeyondAt};
 
-use crate::words::{successor_of, whole_of};
 use crate::fault::GraphFault;
 use crate::graph::Graph;
-use crate::growth::push;
 use crate::graph_reading::{GraphReading, MinusSign};
+use crate::growth::push;
 use crate::successor::Successor;
+use crate::words::{successor_of, whole_of};
 use polcert_text::{TEXT_LIMIT, Token, TokenKind, Tokens};
 use std::alloc::Global;
 

@@ -10,19 +10,16 @@ ghost use Rattle.polcert_policy.specs.FullForm.{vectors_text};
 pub fn one_graph()
     ensures { (actions observations : ℕ) (text : List ℕ) (g h : PolicyGraph) →
         IsGraphText actions observations text g → IsGraphText actions observations text h → g ≡ h }
-{
-}
+{}
 
 /// A text is at most one list of vectors of a graph.
 pub fn one_vectors()
     ensures { (graph : PolicyGraph) (states : ℕ) (text : List ℕ) (v w : PolicyVectors) →
         IsVectorsText graph states text v → IsVectorsText graph states text w → v ≡ w }
-{
-}
+{}
 
 /// The full form of vectors, read with their graph and number of states, is accepted and gives the vectors back.
 pub fn full_form_reads_back()
     ensures { (graph : PolicyGraph) (v : PolicyVectors) → IsProperGraph graph → AreProperVectors v →
         v.nodes ≡ nodes graph → IsVectorsText graph v.states (vectors_text graph v) v }
-{
-}
+{}

@@ -1,5 +1,6 @@
-ghost use Rattle.std.specs.Prelude.{◌≤◌};
+ghost use Rattle.std.specs.Prelude.{◌≤◌, IsTrue, negsuc};
 ghost use Rattle.polcert_policy.specs.Graphs.{most_elements};
+ghost use Rattle.polcert_policy.specs.Vectors.{CanShift};
 
 use crate::{Graph, GraphFault, VectorFault, Vectors, read_graph, read_vectors, write_vectors};
 use polcert_text::{NumberFault, SliceSink, TokenFault};
@@ -7,7 +8,12 @@ use std::alloc::Global;
 use std::test::Fail;
 
 /// How the text is refused as a graph.
-fn graph_fault(alloc: Global, text: &[u8], actions: usize, observations: usize) -> Option<GraphFault>
+fn graph_fault(
+    alloc: Global,
+    text: &[u8],
+    actions: usize,
+    observations: usize,
+) -> Option<GraphFault>
     requires some_actions { 1 ≤ actions }
     requires few_actions { actions ≤ most_elements }
     requires some_observations { 1 ≤ observations }
@@ -187,7 +193,10 @@ fn accepted_vectors(rt: HostRuntime) -> Result<(), Fail> {
             b"0 # listen\n-1e-25 - # minus\n 0.0000000000000000000000001",
             [-1, -1],
         ),
-        (b"0 10000000 -10000000", [10_000_000_000_000, -10_000_000_000_000]),
+        (
+            b"0 10000000 -10000000",
+            [10_000_000_000_000, -10_000_000_000_000],
+        ),
         (b"00 -0.0 .5", [0, 500_000]),
     ] {
         let vectors = read_vectors(alloc, text, &graph, 2)?;
@@ -203,8 +212,14 @@ fn written_vectors(rt: HostRuntime) -> Result<(), Fail> {
     let alloc = rt.alloc();
     let graph = read_graph(alloc, b"0 0 0 - 1 2 - -", 3, 2)?;
     for (text, want) in [
-        (b"0 - 20 + 5 2 .5 0.0000019".as_slice(), b"0\n-20 5\n\n2\n0.5 0.000001\n\n".as_slice()),
-        (b"0 1e7 -1e7 2 0 -0.25", b"0\n10000000 -10000000\n\n2\n0 -0.25\n\n"),
+        (
+            b"0 - 20 + 5 2 .5 0.0000019".as_slice(),
+            b"0\n-20 5\n\n2\n0.5 0.000001\n\n".as_slice(),
+        ),
+        (
+            b"0 1e7 -1e7 2 0 -0.25",
+            b"0\n10000000 -10000000\n\n2\n0 -0.25\n\n",
+        ),
     ] {
         let vectors = read_vectors(alloc, text, &graph, 2)?;
         let mut buffer = [0u8; 64];
@@ -214,6 +229,43 @@ fn written_vectors(rt: HostRuntime) -> Result<(), Fail> {
         }
         assert_eq!(rt; sink.len, want.len());
         assert_eq!(rt; &buffer[..want.len().min(64)], want);
+    }
+    Ok(())
+}
+
+/// Whether these are one vector of two values that may be lowered by a millionth.
+fn can_lower(vectors: &Vectors) -> bool
+    ensures { IsTrue result → CanShift vectors.now (negsuc 0) }
+{
+    if vectors.nodes() != 1 {
+        return false;
+    }
+    if vectors.states() != 2 {
+        return false;
+    }
+    let first = vectors.at(0, 0);
+    let second = vectors.at(0, 1);
+    if first <= -10_000_000_000_000 {
+        return false;
+    }
+    if second <= -10_000_000_000_000 {
+        return false;
+    }
+    true
+}
+
+#[test]
+fn shifted_vectors(rt: HostRuntime) -> Result<(), Fail> {
+    let alloc = rt.alloc();
+    let graph = read_graph(alloc, b"0 0 0 0", 3, 2)?;
+    let vectors = read_vectors(alloc, b"0 -19.999999 5", &graph, 2)?;
+    if can_lower(&vectors) {
+        let lowered = vectors.shifted(alloc, -1)?;
+        assert_eq!(rt; lowered.nodes(), 1);
+        assert!(rt; begins(&lowered, [-20_000_000, 4_999_999]));
+        assert!(rt; begins(&vectors, [-19_999_999, 5_000_000]));
+    } else {
+        assert!(rt; false, "the values are small");
     }
     Ok(())
 }

@@ -4,7 +4,7 @@ ghost use Rattle.polcert_text.specs.Reading.{lexeme_of};
 ghost use Rattle.polcert_policy.specs.Words.{is_whole, whole_of, is_x, is_successor, successor_of};
 ghost use Rattle.polcert_policy.specs.Kept.{cap, kept_of};
 
-use polcert_text::{TokenKind, Token, whole_number};
+use polcert_text::{Token, TokenKind, whole_number};
 
 const CAP: usize = 1_000_000;
 
