@@ -1,5 +1,5 @@
 -- The full form of vectors, read with their graph, gives the vectors back.
-use Rattle.std.proofs.Common.{◌≡◌, ◌∙◌, ℕ, ℤ, suc, zero, ◌+◌, ◌-◌, ◌*◌, ◌^◌, ◌<◌, ◌≤◌, ◌*ℤ◌, ◌⊎◌, ⊎_elim, Bool, true, false, cond, pos, negsuc, Option, Some, None, List, [], ◌∷◌, ◌++◌, length, take, decimal, codes, refl, sym, ap, subst, arith, append_assoc, append-nil, length-append, take_all}
+use Rattle.std.proofs.Common.{◌≡◌, ◌∙◌, ℕ, ℤ, suc, zero, ◌+◌, ◌-◌, ◌*◌, ◌^◌, ◌<◌, ◌≤◌, Bool, true, false, cond, pos, negsuc, None, List, [], ◌∷◌, ◌++◌, length, take, decimal, codes, refl, sym, ap, subst, arith, append_assoc, append-nil, length-append, take_all}
 use Rattle.std.specs.List.{list_all, list_any}
 use Rattle.std.specs.Prelude.{◌==◌}
 use Rattle.std.specs.Str.Parse.{digits_value}
@@ -7,25 +7,23 @@ use Rattle.std.proofs.lemmas.Bool.{le-ltb}
 use Rattle.std.proofs.lemmas.Int.{ints}
 use Rattle.std.proofs.lemmas.List.{take_more}
 use Rattle.std.proofs.lemmas.Option.{slice_get-get_or}
-use Rattle.std.proofs.lemmas.Fmt.{decimal_is_IsNumeral, decimal_nonempty}
 use Rattle.std.proofs.Math.Nat.{mul-le-mul_right}
 use Rattle.std.proofs.Math.IntN.{pos-*ℤ-pos}
 use Rattle.polcert_text.specs.Bytes.{class_of, is_blank, is_exponent_mark}
-use Rattle.polcert_text.specs.Lexemes.{after}
-use Rattle.polcert_text.specs.Cut.{Rest, IsCut, text_rest}
+use Rattle.polcert_text.specs.Cut.{IsCut, text_rest}
 use Rattle.polcert_text.specs.Millionths.{unsigned_text, scaled_text}
-use Rattle.polcert_text.specs.Numbers.{without_sign, exponent_size, size_of, millionth, largest, IsReadable, IsExact, Measures}
-use Rattle.polcert_text.proofs.PrintLaws.{written_exact, decimal_digits}
+use Rattle.polcert_text.specs.Numbers.{without_sign, exponent_size, size_of, millionth, largest, IsReadable, Measures}
+use Rattle.polcert_text.proofs.PrintLaws.{written_exact}
 use Rattle.polcert_text.proofs.SignedLaws.{floor_positive, floor_negative}
 use Rattle.polcert_text.proofs.SizeLaws.{after-none, millionth_pos}
 use Rattle.polcert_policy.specs.Graphs.{PolicyGraph, nodes, action_of, IsProperGraph}
 use Rattle.polcert_policy.specs.GraphText.{text_limit}
-use Rattle.polcert_policy.specs.Vectors.{PolicyVectors, Part, sign_kind, tokens_of, value_of, IsActionPart, IsValuePart, IsVectors, IsInRange, AreProper, AreProperVectors}
+use Rattle.polcert_policy.specs.Vectors.{PolicyVectors, Part, sign_kind, tokens_of, value_of, IsActionPart, IsValuePart, IsVectors, IsInRange, AreProperVectors}
 use Rattle.polcert_policy.specs.VectorText.{IsVectorsText}
 use Rattle.polcert_policy.specs.VectorsRead.{AreVectorsUpTo}
-use Rattle.polcert_policy.specs.FullForm.{behind_value, value_text, values_text, action_text, vector_text, vectors_text_up_to, vectors_text}
+use Rattle.polcert_policy.specs.FullForm.{behind_value, values_text, action_text, vectors_text_up_to, vectors_text}
 use Rattle.polcert_policy.proofs.Places.{some_none, same_some, row_above}
-use Rattle.polcert_policy.proofs.Fillers.{part_of, action_spelled}
+use Rattle.polcert_policy.proofs.Fillers.{action_spelled}
 use Rattle.polcert_policy.proofs.VectorSteps.{step_vector_action, step_value_within, step_value_last}
 use Rattle.polcert_policy.proofs.Numerals.{IsPlain, plain_unsigned, plain_decimal}
 use Rattle.polcert_policy.proofs.PrintedCut.{rest_at, Printed, printed_text, IsPrinted, texts_of, AllPrinted, part_with, parts_from, cut_printed}

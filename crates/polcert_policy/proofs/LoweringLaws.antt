@@ -1,5 +1,5 @@
 -- One vector of two values can be lowered by a millionth.
-use Rattle.std.proofs.Common.{◌≡◌, ℕ, ℤ, ◌+◌, ◌*◌, ◌<◌, ◌⊎◌, ⊎_elim, pos, negsuc, ◌≤ℤ◌, Bool, false, sym, subst, arith}
+use Rattle.std.proofs.Common.{◌≡◌, ℕ, ℤ, ◌<◌, ◌⊎◌, ⊎_elim, pos, negsuc, ◌≤ℤ◌, false, sym, subst, arith}
 use Rattle.std.specs.Prelude.{◌+ℤ◌}
 use Rattle.std.proofs.lemmas.Int.{ints, to_z-of_z}
 use Rattle.std.specs.Int.Signed.{le_z}

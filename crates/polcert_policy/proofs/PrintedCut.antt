@@ -1,9 +1,9 @@
 -- The tokens of numbers that are written one behind another, with blanks or line ends behind each.
-use Rattle.std.proofs.Common.{◌≡◌, ◌∙◌, ℕ, suc, zero, ◌+◌, ◌*◌, ◌<◌, ◌≤◌, Bool, true, false, cond, ◌&&◌, Option, Some, None, List, [], ◌∷◌, ◌++◌, length, take, drop, get_or, refl, sym, ap, subst, arith, append_assoc, append-nil, length-append, take_all}
+use Rattle.std.proofs.Common.{◌≡◌, ◌∙◌, ℕ, ◌+◌, ◌<◌, ◌≤◌, Bool, true, false, Some, None, List, [], ◌∷◌, ◌++◌, length, take, drop, refl, sym, ap, subst, arith, append_assoc, append-nil, length-append, take_all}
 use Rattle.std.specs.List.{list_all}
 use Rattle.std.proofs.Math.Seq.{drop-append_seam, get_or-append_seam}
 use Rattle.std.proofs.lemmas.List.{take_at, drop_all}
-use Rattle.polcert_text.specs.Bytes.{class_of, is_blank, is_glue, blank_class, digit_class, glue_class}
+use Rattle.polcert_text.specs.Bytes.{class_of, is_blank, blank_class, digit_class, glue_class}
 use Rattle.polcert_text.specs.Gaps.{is_gap}
 use Rattle.polcert_text.specs.Lexemes.{kind_of}
 use Rattle.polcert_text.specs.Fronts.{IsLongestGap, IsLongestLexeme}
@@ -19,7 +19,6 @@ use Rattle.polcert_text.specs.declared.lexeme.State.{State}
 use Rattle.polcert_text.specs.declared.lexeme.State.TheVariants as states
 use Rattle.polcert_text.specs.declared.lexeme.TokenKind.{TokenKind}
 use Rattle.polcert_text.specs.declared.lexeme.TokenKind.TheVariants.{Numeral, Minus}
-use Rattle.polcert_text.specs.declared.tokens.TokenFault.{TokenFault}
 use Rattle.polcert_text.proofs.GapLaws.{gap_until_open, gap_through_more, longest_gap_at}
 use Rattle.polcert_text.proofs.LexemeLaws.{kind_of-through, state_through-append, front_keeps, front_whatever_follows}
 use Rattle.polcert_text.proofs.MeasureLaws.{and-true_left, and-true_right}

@@ -1,5 +1,5 @@
 -- Texts that are written part by part.
-use Rattle.std.proofs.Common.{◌≡◌, ◌∙◌, ℕ, suc, zero, ◌+◌, ◌<◌, ◌≤◌, ◌⊎◌, ⊎_elim, Option, Result, IsErr, List, [], ◌++◌, refl, sym, ap, subst, arith, append_assoc, append-nil}
+use Rattle.std.proofs.Common.{◌≡◌, ◌∙◌, ℕ, suc, zero, ◌<◌, ◌⊎◌, ⊎_elim, Option, Result, IsErr, List, [], ◌++◌, sym, ap, subst, arith, append_assoc, append-nil}
 use Rattle.polcert_text.specs.Device.{HasFailed}
 use Rattle.polcert_text.specs.Sink.{Takes, TakesFront, WritesText}
 use Rattle.polcert_text.proofs.Taking.{front_then, front_after, wrote_front}

@@ -1,5 +1,5 @@
 -- Values with one number added to each.
-use Rattle.std.proofs.Common.{◌≡◌, ◌∙◌, ℕ, ℤ, ◌+◌, ◌*◌, ◌<◌, ◌≤◌, pos, Some, List, [], ◌∷◌, ◌++◌, length, map, take, slice_get, slice_index_or, get_or, refl, sym, ap, subst, arith}
+use Rattle.std.proofs.Common.{◌≡◌, ◌∙◌, ℕ, ℤ, ◌+◌, ◌*◌, ◌<◌, pos, Some, List, [], ◌∷◌, ◌++◌, length, map, take, slice_get, get_or, sym, ap, subst, arith}
 use Rattle.std.specs.Prelude.{◌+ℤ◌, FitsSigned, option_map}
 use Rattle.std.proofs.lemmas.Int.{to_z-of_z}
 use Rattle.std.proofs.lemmas.List.{take_more, length-map, map-append}

@@ -1,5 +1,5 @@
 -- What a refused or accepted list of tokens says of the whole text.
-use Rattle.std.proofs.Common.{◌≡◌, ℕ, Option, Some, None, Result, Ok, Err, List, [], length, ◌<◌, ◌+◌, ◌*◌, ◌⊎◌, inl, inr, IsErrAnd, MatchResult, IfErr, sym, subst, arith, append-nil}
+use Rattle.std.proofs.Common.{◌≡◌, ℕ, Option, Some, None, Result, Ok, Err, List, [], length, ◌<◌, ◌+◌, ◌*◌, ◌⊎◌, inl, inr, IsErrAnd, MatchResult, IfErr, subst, arith, append-nil}
 use Rattle.polcert_text.specs.Cut.{Lexeme, Rest, Ends, IsCut, text_rest}
 use Rattle.polcert_text.specs.declared.tokens.TokenFault.{TokenFault}
 use Rattle.polcert_text.proofs.TextLaws.{one_cut}

@@ -10,15 +10,14 @@ use Rattle.polcert_policy.specs.Words.{numeral_kind, minus_kind, is_whole, whole
 use Rattle.polcert_policy.specs.Graphs.{PolicyGraph, nodes, action_of, IsProperGraph}
 use Rattle.polcert_policy.specs.Vectors.{PolicyVectors, Part, sign_kind, with_sign, tokens_of, is_negative, IsPart, IsActionPart, IsValuePart, AreVectors, IsVectors, ArePossible}
 use Rattle.polcert_policy.specs.VectorText.{StopVectorsAt}
-use Rattle.polcert_policy.specs.VectorsRead.{AreVectorsUpTo, open_of, IsSignOf, IsOpenSign, place_behind, is_minus, HasVectors, IsPartRefusal, CheckedAction, AdvancedValue}
+use Rattle.polcert_policy.specs.VectorsRead.{AreVectorsUpTo, open_of, IsOpenSign, place_behind, is_minus, HasVectors, IsPartRefusal, CheckedAction, AdvancedValue}
 use Rattle.polcert_policy.specs.declared.fault.VectorFault.{VectorFault}
 use Rattle.polcert_policy.specs.declared.fault.VectorFault.TheVariants as faults
 use Rattle.polcert_policy.specs.declared.vectors_reading.OpenSign.{OpenSign}
 use Rattle.polcert_policy.specs.declared.vectors_reading.VectorsReading.{VectorsReading}
-use Rattle.polcert_policy.proofs.Places.{row_above, some_none, same_some}
-use Rattle.polcert_policy.proofs.GraphLaws.{length_snoc}
+use Rattle.polcert_policy.proofs.Places.{some_none, same_some}
 use Rattle.polcert_policy.proofs.Fillers.{signed_zero, signed_zero_value}
-use Rattle.polcert_policy.proofs.VectorLaws.{head_of, tail_of, cons_not_nil, no_sign_numeral, not_sign, front_parts, vector_parts}
+use Rattle.polcert_policy.proofs.VectorLaws.{head_of, tail_of, cons_not_nil, not_sign, front_parts, vector_parts}
 use Rattle.polcert_policy.proofs.VectorSteps.{FitsVectors, step_vector_action, step_value_within, step_value_last, needed_part, can_end, possible_parts, tokens-append}
 
 true_false : {b : Bool} → b ≡ true → b ≡ false → ⊥

@@ -1,4 +1,4 @@
-use Rattle.std.proofs.Common.{◌≡◌, ◌∙◌, ◌+◌, ◌<◌, ℕ, suc, refl, sym, subst, rules, arith}
+use Rattle.std.proofs.Common.{◌≡◌, ◌∙◌, ◌+◌, ◌<◌, suc, refl, sym, subst, rules, arith}
 use Rattle.polcert_text.specs.Sink.{Takes, nothing}
 use Rattle.polcert_text.proofs.Taking.{took_then}
 use Rattle.polcert_policy.specs.Graphs.{nodes}

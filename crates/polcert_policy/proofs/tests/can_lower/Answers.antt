@@ -1,4 +1,4 @@
-use Rattle.std.proofs.Common.{◌≡◌, ◌∙◌, sym}
+use Rattle.std.proofs.Common.{◌∙◌, sym}
 use Rattle.polcert_policy.proofs.LoweringLaws.{can_lower_two, above_least}
 use Rattle.polcert_policy.proofs.tests.can_lower.Goals as goal
 

@@ -1,4 +1,4 @@
-use Rattle.std.proofs.Common.{ℤ, pos, get_or, sym, subst, rules}
+use Rattle.std.proofs.Common.{pos, get_or, sym, subst, rules}
 use Rattle.std.specs.Prelude.{FitsSigned}
 use Rattle.std.proofs.lemmas.Int.{to_z-of_z}
 use mir.Syntax.{w64}
