@@ -4,7 +4,8 @@ use Rattle.std.specs.List.{list_all}
 use Rattle.std.proofs.lemmas.Fmt.{decimal_is_IsNumeral, decimal_nonempty}
 use Rattle.polcert_text.specs.Bytes.{class_of, is_digit}
 use Rattle.polcert_text.specs.Lexemes.{is_numeral, are_digits}
-use Rattle.polcert_text.specs.Numbers.{number_of, exponent_size, power_of, size_of, millionth, largest, IsFloor, Measures}
+use Rattle.polcert_text.specs.Numbers.{number_of, exponent_size, power_of, size_of, millionth, largest, IsFloor}
+use Rattle.polcert_text.specs.Scaling.{Measures}
 use Rattle.polcert_text.proofs.SignedLaws.{floor_positive, floor_negative}
 use Rattle.polcert_text.proofs.SizeLaws.{millionth_pos}
 use Rattle.polcert_text.proofs.PrintLaws.{decimal_digits}

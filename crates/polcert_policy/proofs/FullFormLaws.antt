@@ -12,7 +12,8 @@ use Rattle.std.proofs.Math.IntN.{pos-*ℤ-pos}
 use Rattle.polcert_text.specs.Bytes.{class_of, is_blank, is_exponent_mark}
 use Rattle.polcert_text.specs.Cut.{IsCut, text_rest}
 use Rattle.polcert_text.specs.Millionths.{unsigned_text, scaled_text}
-use Rattle.polcert_text.specs.Numbers.{without_sign, exponent_size, size_of, millionth, largest, IsReadable, Measures}
+use Rattle.polcert_text.specs.Numbers.{without_sign, exponent_size, size_of, millionth, largest, IsReadable}
+use Rattle.polcert_text.specs.Scaling.{Measures}
 use Rattle.polcert_text.proofs.PrintLaws.{written_exact}
 use Rattle.polcert_text.proofs.SignedLaws.{floor_positive, floor_negative}
 use Rattle.polcert_text.proofs.SizeLaws.{after-none, millionth_pos}
