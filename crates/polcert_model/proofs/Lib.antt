@@ -36,3 +36,5 @@ pub mod SoundLaws
 pub mod SoundTexts
 pub mod RowSumLaws
 pub mod RowPartLaws
+pub mod FrontLaws
+pub mod WholeTexts

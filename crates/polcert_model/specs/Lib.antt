@@ -32,3 +32,4 @@ pub mod Contents
 pub mod Sound
 pub mod Axes
 pub mod RowSums
+pub mod Fronts

@@ -18,7 +18,9 @@ use Rattle.polcert_model.specs.Reading.{AreRightItems, IsWithinItem}
 use Rattle.polcert_model.specs.FirstWrong.{TextTokens, AreTokensOf}
 use Rattle.polcert_model.specs.Reasons.{is_sign, ends_in_sign}
 use Rattle.polcert_model.specs.Refusals.{IsRefusal}
+use Rattle.polcert_model.specs.Contents.{Contents}
 use Rattle.polcert_model.specs.NumberSteps.{IsSignAt}
+use Rattle.polcert_model.specs.EntrySteps.{preamble_in}
 use Rattle.polcert_model.specs.ItemSteps.{ItemGoes, IsItemWithin, topic_in, sign_in}
 
 -- the sign that waits for its numeral ends the body, and otherwise no sign does
@@ -88,3 +90,7 @@ pub record IsWholeRead (seen : List Lexeme) (k : Known) : Type 0 where
 -- a refusal where the text ends cleanly here
 abbrev pub IsRefusedWhole : List Lexeme → ℕ → ModelFault → Type 0
 IsRefusedWhole seen place fault = (text : List ℕ) (ts : TextTokens) → AreTokensOf text ts → ts.lexemes ≡ seen → ts.ending ≡ None → ts.end ≡ place → IsRefusal ts fault
+
+-- what is kept of it
+abbrev pub kept : Known → Contents
+kept k = record { preamble = preamble_in k; start = None; entries = k.entries }

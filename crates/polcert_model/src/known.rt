@@ -1,5 +1,5 @@
 //! What the items of a text have said so far.
-ghost use Rattle.std.specs.Prelude.{◌≡◌, ◌<◌, ◌≤◌, length, drop, get_or, OnOk, OnErr, if◌then◌else◌};
+ghost use Rattle.std.specs.Prelude.{◌≡◌, ◌<◌, ◌≤◌, length, drop, get_or, List, OnOk, OnErr, if◌then◌else◌};
 ghost use Rattle.polcert_model.specs.Elements.{Count};
 ghost use Rattle.polcert_model.specs.Entry.{cells_in};
 ghost use Rattle.polcert_model.specs.EntrySteps.{indices_in};
@@ -7,6 +7,8 @@ ghost use Rattle.polcert_model.specs.KnownView.{least_written, learned, IsSaidWi
 ghost use Rattle.polcert_model.specs.Narrow.{narrow_word_fault};
 ghost use Rattle.polcert_model.specs.Order.{preamble_fault, is_late, came_before, cells_are_too_many};
 ghost use Rattle.polcert_model.specs.Text.{nothing_known};
+ghost use Rattle.polcert_model.specs.TextSteps.{IsWholeRead, kept};
+ghost use Rattle.polcert_text.specs.Cut.{Lexeme};
 
 use crate::item::Said;
 use crate::words::Topic;
@@ -71,7 +73,10 @@ impl Known {
     }
 
     /// The model that a complete preamble and entries denote.
-    pub fn into_model(self) -> model::Model {
+    pub fn into_model(self) -> model::Model
+        requires { (seen : List Lexeme) × IsWholeRead seen self }
+        ensures { result ≡ kept self }
+    {
         let Known {
             discount,
             costs,
@@ -83,9 +88,9 @@ impl Known {
         model::Model::of(
             discount.unwrap_or(0),
             costs.unwrap_or(false),
-            states.unwrap_or(1),
-            actions.unwrap_or(1),
-            observations.unwrap_or(1),
+            states.unwrap_or(0),
+            actions.unwrap_or(0),
+            observations.unwrap_or(0),
             entries,
         )
     }

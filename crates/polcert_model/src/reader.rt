@@ -1,13 +1,19 @@
 //! A model's text, read item by item.
-ghost use Rattle.std.specs.Prelude.{◌≡◌, ◌+◌, ◌<◌, ◌≤◌, ◌^◌, ◌++◌, ◌∷◌, [], Some, false, List, MatchResult};
-ghost use Rattle.polcert_text.specs.Cut.{Lexeme};
+ghost use Rattle.std.specs.Prelude.{None, IfOk, IfErr, ◌≡◌, ◌+◌, ◌<◌, ◌≤◌, ◌^◌, ◌++◌, ◌∷◌, [], Some, false, List, MatchResult};
+ghost use Rattle.polcert_text.specs.Cut.{Lexeme, IsCut, text_rest};
 ghost use Rattle.polcert_text.specs.Reading.{lexeme_of, fault_place};
 ghost use Rattle.polcert_model.specs.Words.{topic, begins_item};
+ghost use Rattle.polcert_model.specs.Text.{most_bytes};
+ghost use Rattle.polcert_model.specs.Narrow.{IsAccepted};
+ghost use Rattle.polcert_model.specs.FirstWrong.{TextTokens, AreTokensOf};
+ghost use Rattle.polcert_model.specs.Refusals.{IsRefusal};
+ghost use Rattle.polcert_model.specs.Contents.{meaning};
 ghost use Rattle.polcert_model.specs.TextSteps.{IsTextRead, AreItemsRead, IsWholeRead, IsRefusedBehind, IsRefusedAt, IsRefusedWhole, fault_kind};
 
 use crate::entry_reader::Stop;
 use crate::item::ItemReader;
 use crate::known::Known;
+use crate::rows::{WrongRow, first_wrong_row};
 use crate::model::Model;
 use crate::words::{Topic, begun_topic};
 use crate::{ItemFault, ModelFault};
@@ -144,8 +150,11 @@ impl TextReader {
     }
 }
 
-/// Reads a model's text.
-pub fn read_model(alloc: Global, text: &[u8]) -> Result<Model, ModelFault> {
+/// What the items of a whole text say.
+fn read_text(alloc: Global, text: &[u8]) -> Result<Known, ModelFault>
+    ensures read { IfOk result (λ k. (seen : List Lexeme) × IsCut (text_rest text.now most_bytes) seen None × IsWholeRead seen k) }
+    ensures refused { IfErr result (λ fault. (ts : TextTokens) → AreTokensOf text.now ts → IsRefusal ts fault) }
+{
     let mut tokens = Tokens::new(text, TEXT_LIMIT);
     let mut reader = TextReader::new(alloc);
     while let Some(next) = tokens.next_token() {
@@ -154,7 +163,24 @@ pub fn read_model(alloc: Global, text: &[u8]) -> Result<Model, ModelFault> {
             Err(fault) => return Err(reader.token_fault(fault)),
         }
     }
-    let model = reader.finish(tokens.end())?.into_model();
-    model.test_rows()?;
-    Ok(model)
+    reader.finish(tokens.end())
+}
+
+/// Reads the text of a model, and tests that each row of its tables sums to its scale.
+///
+/// # Errors
+///
+/// The first item that is wrong, with the reason and the offset of the byte where; or else the first row that does not
+/// sum to its scale. `ModelFault::Memory` where memory ran out.
+///
+/// Source: the POMDP file format page and its grammar at pomdp.org.
+pub fn read_model(alloc: Global, text: &[u8]) -> Result<Model, ModelFault>
+    ensures accepted { IfOk result (λ m. IsAccepted text.now (meaning m)) }
+    ensures refused { IfErr result (λ fault. (ts : TextTokens) → AreTokensOf text.now ts → IsRefusal ts fault) }
+{
+    let model = read_text(alloc, text)?.into_model();
+    match first_wrong_row(&model) {
+        None => Ok(model),
+        Some(WrongRow { table, action, row }) => Err(ModelFault::RowSum { table, action, row }),
+    }
 }
