@@ -33,7 +33,7 @@ use Rattle.polcert_model.proofs.OrderLaws.{discount_may_stand, values_may_stand,
 use Rattle.polcert_model.proofs.PatternLaws.{colon_takes}
 
 -- the preamble that is known is the complete one
-same_preamble : (k : Known) (p : Preamble) → HasLines k p → preamble_in k ≡ p
+pub same_preamble : (k : Known) (p : Preamble) → HasLines k p → preamble_in k ≡ p
 same_preamble k p h = λ i. record {
   discount = unwrap_or (h.discount i) 0;
   costs = unwrap_or (h.costs i) false;
