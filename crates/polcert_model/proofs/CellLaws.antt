@@ -1,5 +1,5 @@
 -- A cell has the value of the last entry that covers it.
-use Rattle.std.proofs.Common.{◌≡◌, ◌∙◌, ℕ, zero, suc, ◌+◌, ◌*◌, ◌<◌, Bool, true, false, cond, ◌&&◌, ⊎_elim, length, drop, Option, Some, None, List, [], ◌∷◌, ◌++◌, reverse, mul-suc, refl, sym, ap, subst, arith}
+use Rattle.std.proofs.Common.{◌≡◌, ◌∙◌, ℕ, pos, zero, suc, ◌+◌, ◌*◌, ◌<◌, Bool, true, false, cond, ◌&&◌, ⊎_elim, length, drop, Option, Some, None, List, [], ◌∷◌, ◌++◌, reverse, mul-suc, refl, sym, ap, subst, arith}
 use Rattle.std.proofs.lemmas.List.{reverse-append, append_assoc}
 use Rattle.std.specs.List.{list_any, find}
 use Rattle.polcert_model.specs.declared.entry.Table.{Table}
@@ -7,8 +7,10 @@ use Rattle.polcert_model.specs.Preamble.{Preamble, columns, dimensions}
 use Rattle.polcert_model.specs.declared.entry.Place.{Place}
 use Rattle.polcert_model.specs.declared.entry.Body.TheVariants.{Uniform}
 use Rattle.polcert_model.specs.declared.entry.Entry.{Entry}
-use Rattle.polcert_model.specs.Cells.{covers, last_covering, weight, weight_of, value_or, IsLastCovering, last, none, fit_places, fits_place, is_table, weight_in}
+use Rattle.polcert_model.specs.Cells.{covers, last_covering, weight, weight_of, reward, reward_of, value_or, IsLastCovering, last, none, fit_places, fits_place, is_table, weight_in}
 use Rattle.polcert_model.specs.Meaning.{sum_below}
+use Rattle.polcert_model.specs.declared.entry.Table.TheVariants.{Reward}
+use Rattle.polcert_model.specs.Laws.{OneMoreWeight, OneMoreReward}
 use Rattle.polcert_model.proofs.Basics.{true≢false, or_false, or_false_from, and_true, is_true_or_false}
 
 -- with one more entry at the end
@@ -102,3 +104,21 @@ pub uniform_row : (p : Preamble) (entries : List Entry) (table : Table) (row : L
     → ((c : ℕ) → c < n → last_covering entries table (row ++ c ∷ []) ≡ Some entry) → sum_below (λ c. weight p entries table (row ++ c ∷ [])) n ≡ 1_000_000 * n
 uniform_row p entries table row entry n u h =
     sum_of_same _ 1_000_000 n (λ c l. ap (value_or 0 (weight_of p (row ++ c ∷ []))) (h c l) ∙ uniform_weight p (row ++ c ∷ []) entry u)
+
+pub uncovered_weight : (p : Preamble) (entries : List Entry) (table : Table) (indices : List ℕ) → list_any (covers table indices) entries ≡ false → weight p entries table indices ≡ 0
+uncovered_weight p entries table indices e = ap (value_or 0 (weight_of p indices)) (none_is_found (covers table indices) entries e)
+
+pub uncovered_reward : (p : Preamble) (entries : List Entry) (indices : List ℕ) → list_any (covers Reward indices) entries ≡ false → reward p entries indices ≡ pos 0
+uncovered_reward p entries indices e = ap (value_or (pos 0) (reward_of p indices)) (none_is_found (covers Reward indices) entries e)
+
+pub one_more_weight : (p : Preamble) (entries : List Entry) (entry : Entry) (table : Table) (indices : List ℕ) → OneMoreWeight p entries entry table indices
+one_more_weight p entries entry table indices = (
+  (λ e. ap (value_or 0 (weight_of p indices)) (covered_now entries entry table indices e)),
+  (λ e. ap (value_or 0 (weight_of p indices)) (not_covered_now entries entry table indices e)),
+)
+
+pub one_more_reward : (p : Preamble) (entries : List Entry) (entry : Entry) (indices : List ℕ) → OneMoreReward p entries entry indices
+one_more_reward p entries entry indices = (
+  (λ e. ap (value_or (pos 0) (reward_of p indices)) (covered_now entries entry Reward indices e)),
+  (λ e. ap (value_or (pos 0) (reward_of p indices)) (not_covered_now entries entry Reward indices e)),
+)

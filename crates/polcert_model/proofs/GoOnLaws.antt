@@ -9,7 +9,6 @@ use Rattle.polcert_model.specs.Numbers.{IsMillionths, AreNumbers, IsNumber, none
 use Rattle.polcert_model.specs.Elements.{Elements}
 use Rattle.polcert_model.specs.Preamble.{Preamble, dimensions}
 use Rattle.polcert_model.specs.declared.entry.Place.{Place}
-use Rattle.polcert_model.specs.declared.entry.Entry.{Entry}
 use Rattle.polcert_model.specs.Entry.{IsPlace, ArePlaces, IsEntry}
 use Rattle.polcert_model.specs.Entry as entries
 use Rattle.polcert_model.specs.Text.{Known, IsComplete, entry, discount}

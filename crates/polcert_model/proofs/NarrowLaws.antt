@@ -1,12 +1,12 @@
 -- Right items, put together and taken apart; what is narrow at the end was so before.
-use Rattle.std.proofs.Common.{◌≡◌, ◌∙◌, Option, Some, None, List, [], ◌∷◌, ◌++◌, refl, sym, ap, subst}
+use Rattle.std.proofs.Common.{◌≡◌, Option, Some, None, List, [], ◌∷◌, ◌++◌, refl, sym, subst}
 use Rattle.polcert_text.specs.Cut.{Lexeme}
 use Rattle.polcert_model.specs.Words.{Topic, topic}
 use Rattle.polcert_model.specs.Elements.{Elements}
 use Rattle.polcert_model.specs.Items.{Item}
 use Rattle.polcert_model.specs.Text as texts
 use Rattle.polcert_model.specs.Text.{Known, nothing_known, IsRight, AreRight, none, more}
-use Rattle.polcert_model.specs.Narrow.{IsCounted, IsNarrow, IsTaken, AreTaken}
+use Rattle.polcert_model.specs.Narrow.{IsCounted, IsNarrow, AreTaken}
 use Rattle.polcert_model.specs.Reading.{IsWrong}
 use Rattle.polcert_model.proofs.Basics.{one_some}
 use Rattle.polcert_model.proofs.TextLaws.{one_right}

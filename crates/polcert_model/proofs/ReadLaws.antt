@@ -1,21 +1,20 @@
 -- The first wrong item, from the lexemes taken so far and however the text goes on.
-use Rattle.std.proofs.Common.{◌≡◌, ◌∙◌, ℕ, ◌+◌, true, false, Option, Some, None, List, [], ◌∷◌, ◌++◌, length, flat_map, refl, sym, ap, subst}
+use Rattle.std.proofs.Common.{◌≡◌, ◌∙◌, ℕ, suc, ◌+◌, arith, length-append, true, false, Option, Some, None, List, [], ◌∷◌, ◌++◌, length, refl, sym, ap, subst}
 use Rattle.std.proofs.lemmas.List.{append_assoc}
-use Rattle.std.specs.List.{list_any}
 use Rattle.polcert_text.specs.Cut.{Lexeme}
 use Rattle.polcert_text.specs.declared.tokens.TokenFault.{TokenFault}
 use Rattle.polcert_model.specs.Words.{Topic, topic, begins_item}
-use Rattle.polcert_model.specs.Items.{Item, lexemes_of, IsItem, IsDivided}
+use Rattle.polcert_model.specs.Items.{Item, IsDivided}
 use Rattle.polcert_model.specs.Preamble.{Preamble}
-use Rattle.polcert_model.specs.Text.{Known, nothing_known, IsComplete, AreRight, none, more}
-use Rattle.polcert_model.specs.Narrow.{IsNarrow, IsTaken, AreTaken, IsTakenText}
+use Rattle.polcert_model.specs.Text.{Known, nothing_known, IsComplete, IsRight, AreRight, none, more}
+use Rattle.polcert_model.specs.Narrow.{IsTaken, AreTaken, IsTakenText}
 use Rattle.polcert_model.specs.Reading.{AreRightItems, IsWithinItem, CannotGoOn, IsWrong}
 use Rattle.polcert_model.specs.FirstWrong.{TextTokens, tokens_of, IsFirstWrong, wrong_front, wrong_fault, wrong_item, wrong_last, wrong_end}
-use Rattle.polcert_model.proofs.Basics.{one_some, or_false_from, cons≢nil}
+use Rattle.polcert_model.proofs.Basics.{one_some, or_false_from, cons≢nil, same_head, same_tail}
 use Rattle.polcert_model.proofs.ItemLaws.{one_division, has_division}
-use Rattle.polcert_model.proofs.TextLaws.{one_preamble, one_known}
-use Rattle.polcert_model.proofs.Dividing.{begins, append_division, next_division, empty_division, append-nil, whole_body}
-use Rattle.polcert_model.proofs.NarrowLaws.{append_right, rest_right, nothing_narrow, no_wrong_item}
+use Rattle.polcert_model.proofs.TextLaws.{one_right, one_known}
+use Rattle.polcert_model.proofs.Dividing.{begins, append_division, next_division, empty_division, append-nil}
+use Rattle.polcert_model.proofs.NarrowLaws.{append_right, nothing_narrow, no_wrong_next, no_wrong_item}
 
 pub starts_right : AreRightItems [] nothing_known
 starts_right = record { items = []; divided = empty_division; right = (none, nothing_narrow) }
@@ -103,3 +102,94 @@ not_taken ts n p last (wrong_end items k d right e lacking z) clean (text, narro
     let same = one_division ts.lexemes [] [] text.items items text.divided d in
     let known : last ≡ k = one_known nothing_known items last k (subst (λ x. AreRight nothing_known x last) same.1 text.right) right.0 in
     lacking p (subst (λ x. IsComplete x p) known text.complete)
+
+-- items behind right ones, of which the first isn't taken, begin at one place
+same_place : (k m n : Known) (xs ys : List Item) (x y : Item) (us vs : List Item) → AreTaken k xs m → AreTaken k ys n
+    → ((t : Topic) → topic x.word ≡ Some t → IsWrong m t x.body) → ((t : Topic) → topic y.word ≡ Some t → IsWrong n t y.body) → xs ++ x ∷ us ≡ ys ++ y ∷ vs → length xs ≡ length ys
+same_place k m n [] [] x y us vs a b wrong other e = refl
+same_place k m n [] (z ∷ ys) x y us vs (none, nx) b wrong other e =
+    absurd (no_wrong_next k n z ys (subst (λ (w : Item). (t : Topic) → topic w.word ≡ Some t → IsWrong k t w.body) (same_head e) wrong) b)
+same_place k m n (z ∷ xs) [] x y us vs a (none, ny) wrong other e =
+    absurd (no_wrong_next k m z xs (subst (λ (w : Item). (t : Topic) → topic w.word ≡ Some t → IsWrong k t w.body) (sym (same_head e)) other) a)
+same_place k m n (z ∷ xs) (w ∷ ys) x y us vs (more {next = p} t f a behind, na) (more {next = q} u g b after, nb) wrong other e =
+    let items : w ≡ z = sym (same_head e) in
+    let topics : u ≡ t = one_some (subst (λ (i : Item). topic i.word ≡ Some u) items g) f in
+    let right : IsRight k t z.body q = subst (λ (i : Item). IsRight k t i.body q) items (subst (λ v. IsRight k v w.body q) topics b) in
+    let known : q ≡ p = one_right k t z.body q p right a in
+    let rest = same_place p m n xs ys x y us vs (behind, na) (subst (λ v. AreRight v ys n) known after, nb) wrong other (same_tail e) in
+    ap suc rest
+
+no_empty : (xs : List Item) (x : Item) (ys : List Item) → xs ++ x ∷ ys ≡ [] → ⊥
+no_empty [] x ys e = cons≢nil e
+no_empty (z ∷ xs) x ys e = cons≢nil e
+
+-- the last item of the text, behind right ones, where one of the items isn't taken
+place_of_last : (k m n : Known) (xs ys : List Item) (x y : Item) (us : List Item) → AreTaken k xs m → AreTaken k ys n
+    → ((t : Topic) → topic x.word ≡ Some t → IsWrong m t x.body) → xs ++ x ∷ us ≡ ys ++ y ∷ [] → length xs ≡ length ys
+place_of_last k m n [] [] x y us a b wrong e = refl
+place_of_last k m n [] (z ∷ ys) x y us (none, nx) b wrong e =
+    absurd (no_wrong_next k n z ys (subst (λ (w : Item). (t : Topic) → topic w.word ≡ Some t → IsWrong k t w.body) (same_head e) wrong) b)
+place_of_last k m n (z ∷ xs) [] x y us a b wrong e = absurd (no_empty xs x us (same_tail e))
+place_of_last k m n (z ∷ xs) (w ∷ ys) x y us (more {next = p} t f a behind, na) (more {next = q} u g b after, nb) wrong e =
+    let items : w ≡ z = sym (same_head e) in
+    let topics : u ≡ t = one_some (subst (λ (i : Item). topic i.word ≡ Some u) items g) f in
+    let right : IsRight k t z.body q = subst (λ (i : Item). IsRight k t i.body q) items (subst (λ v. IsRight k v w.body q) topics b) in
+    let known : q ≡ p = one_right k t z.body q p right a in
+    let rest = place_of_last p m n xs ys x y us (behind, na) (subst (λ v. AreRight v ys n) known after, nb) wrong (same_tail e) in
+    ap suc rest
+
+last_place : (xs ys : List Item) (x y : Item) → xs ++ x ∷ [] ≡ ys ++ y ∷ [] → length xs ≡ length ys
+last_place xs ys x y e = omega (arith, simp length-append at (ap length e))
+
+front_or_none : (ls : List Lexeme) (l : Lexeme) (fs : List Lexeme) (items others : List Item) → IsDivided ls (l ∷ fs) items → IsDivided ls [] others → ⊥
+front_or_none ls l fs items others a b = cons≢nil (one_division ls (l ∷ fs) [] items others a b).0
+
+front_or_empty : (ls : List Lexeme) (l : Lexeme) (fs : List Lexeme) (items : List Item) → IsDivided ls (l ∷ fs) items → ls ≡ [] → ⊥
+front_or_empty ls l fs items a e = nil≢cons (sym e ∙ a.whole)
+
+item_or_empty : (ls : List Lexeme) (xs : List Item) (x : Item) (ys : List Item) → IsDivided ls [] (xs ++ x ∷ ys) → ls ≡ [] → ⊥
+item_or_empty ls xs x ys a e = no_empty xs x ys (one_division [] [] [] (xs ++ x ∷ ys) [] (subst (λ s. IsDivided s [] (xs ++ x ∷ ys)) e a) empty_division).1
+
+item_or_end : (ls : List Lexeme) (xs : List Item) (x : Item) (ys items : List Item) (k last : Known) → IsDivided ls [] (xs ++ x ∷ ys) → AreTaken nothing_known xs k
+    → ((t : Topic) → topic x.word ≡ Some t → IsWrong k t x.body) → IsDivided ls [] items → AreTaken nothing_known items last → ⊥
+item_or_end ls xs x ys items k last a taken wrong b (all, narrow) =
+    no_wrong_item nothing_known k last xs ys x wrong taken (subst (λ v. AreRight nothing_known v last) (one_division ls [] [] items (xs ++ x ∷ ys) b a).1 all, narrow)
+
+zeros : (m n : ℕ) → m ≡ 0 → n ≡ 0 → m ≡ n
+zeros m n a b = a ∙ sym b
+
+numbers : (m n : ℕ) (xs ys : List Item) → m ≡ length xs + 1 → n ≡ length ys + 1 → length xs ≡ length ys → m ≡ n
+numbers m n xs ys a b e = a ∙ ap (λ k. k + 1) e ∙ sym b
+
+-- at most one item is the first wrong one
+pub one_number : (ts : TextTokens) (m n : ℕ) → IsFirstWrong ts m → IsFirstWrong ts n → m ≡ n
+one_number ts m n (wrong_front l ls xs a p) (wrong_front k ks ys b q) = zeros m n p q
+one_number ts m n (wrong_front l ls xs a p) (wrong_fault f b c q) = zeros m n p q
+one_number ts m n (wrong_front l ls xs a p) (wrong_item ys y vs k b t w q) = absurd (front_or_none ts.lexemes l ls xs _ a b)
+one_number ts m n (wrong_front l ls xs a p) (wrong_last ys y k f b t c q) = absurd (front_or_none ts.lexemes l ls xs _ a b)
+one_number ts m n (wrong_front l ls xs a p) (wrong_end ys k b t c i q) = absurd (front_or_none ts.lexemes l ls xs _ a b)
+one_number ts m n (wrong_fault f a c p) (wrong_front l ls xs b q) = zeros m n p q
+one_number ts m n (wrong_fault f a c p) (wrong_fault g b d q) = zeros m n p q
+one_number ts m n (wrong_fault f a c p) (wrong_item ys y vs k b t w q) = absurd (item_or_empty ts.lexemes ys y vs b a)
+one_number ts m n (wrong_fault f a c p) (wrong_last ys y k g b t d q) = absurd (item_or_empty ts.lexemes ys y [] b a)
+one_number ts m n (wrong_fault f a c p) (wrong_end ys k b t d i q) = absurd (none≢some d c)
+one_number ts m n (wrong_item xs x us j a s v p) (wrong_front l ls ys b q) = absurd (front_or_none ts.lexemes l ls ys _ b a)
+one_number ts m n (wrong_item xs x us j a s v p) (wrong_fault f b c q) = absurd (item_or_empty ts.lexemes xs x us a b)
+one_number ts m n (wrong_item xs x us j a s v p) (wrong_item ys y vs k b t w q) =
+    numbers m n xs ys p q (same_place nothing_known j k xs ys x y us vs s t v w (one_division ts.lexemes [] [] (xs ++ x ∷ us) (ys ++ y ∷ vs) a b).1)
+one_number ts m n (wrong_item xs x us j a s v p) (wrong_last ys y k f b t c q) =
+    numbers m n xs ys p q (place_of_last nothing_known j k xs ys x y us s t v (one_division ts.lexemes [] [] (xs ++ x ∷ us) (ys ++ y ∷ []) a b).1)
+one_number ts m n (wrong_item xs x us j a s v p) (wrong_end ys k b t c i q) = absurd (item_or_end ts.lexemes xs x us ys j k a s v b t)
+one_number ts m n (wrong_last xs x j g a s d p) (wrong_front l ls ys b q) = absurd (front_or_none ts.lexemes l ls ys _ b a)
+one_number ts m n (wrong_last xs x j g a s d p) (wrong_fault f b c q) = absurd (item_or_empty ts.lexemes xs x [] a b)
+one_number ts m n (wrong_last xs x j g a s d p) (wrong_item ys y vs k b t w q) =
+    sym (numbers n m ys xs q p (place_of_last nothing_known k j ys xs y x vs t s w (one_division ts.lexemes [] [] (ys ++ y ∷ vs) (xs ++ x ∷ []) b a).1))
+one_number ts m n (wrong_last xs x j g a s d p) (wrong_last ys y k f b t c q) =
+    numbers m n xs ys p q (last_place xs ys x y (one_division ts.lexemes [] [] (xs ++ x ∷ []) (ys ++ y ∷ []) a b).1)
+one_number ts m n (wrong_last xs x j g a s d p) (wrong_end ys k b t c i q) = absurd (none≢some c d)
+one_number ts m n (wrong_end xs j a s d i p) (wrong_front l ls ys b q) = absurd (front_or_none ts.lexemes l ls ys _ b a)
+one_number ts m n (wrong_end xs j a s d i p) (wrong_fault f b c q) = absurd (none≢some d c)
+one_number ts m n (wrong_end xs j a s d i p) (wrong_item ys y vs k b t w q) = absurd (item_or_end ts.lexemes ys y vs xs k j b t w a s)
+one_number ts m n (wrong_end xs j a s d i p) (wrong_last ys y k f b t c q) = absurd (none≢some d c)
+one_number ts m n (wrong_end xs j a s d i p) (wrong_end ys k b t c e q) =
+    numbers m n xs ys p q (ap length (one_division ts.lexemes [] [] xs ys a b).1)

@@ -29,7 +29,7 @@ plus_not_name k e f = cc
 minus_not_name : (k : TokenKind) → k ≡ Minus → k ≡ Name → ⊥
 minus_not_name k e f = cc
 
-name_not_colon : (k : TokenKind) → k ≡ Name → k ≡ Colon → ⊥
+pub name_not_colon : (k : TokenKind) → k ≡ Name → k ≡ Colon → ⊥
 name_not_colon k e f = cc
 
 numbers_not_word : {l : Lexeme} {hs : List ℤ} → l.kind ≡ Name → AreNumbers (l ∷ []) hs → ⊥
@@ -42,7 +42,7 @@ length-pos : (ps : List ℕ) → length (map pos ps) ≡ length ps
 length-pos [] = refl
 length-pos (p ∷ ps) = ap suc (length-pos ps)
 
-numbers_once : (l : Lexeme) (ps : List ℕ) → AreNumbers (l ∷ []) (map pos ps) → length ps ≡ 1
+pub numbers_once : (l : Lexeme) (ps : List ℕ) → AreNumbers (l ∷ []) (map pos ps) → length ps ≡ 1
 numbers_once l ps a = sym (length-pos ps) ∙ one_number a
 
 one_body : (states : Elements) (ls : List Lexeme) (x y : Shares) → IsStartBody states ls x → IsStartBody states ls y → x ≡ y
@@ -72,7 +72,7 @@ one_body states ls x y (probabilities ps o p d s) (number m n b) = absurd (omega
 one_body states ls x y (probabilities ps o p d s) (only_state c n v) = absurd (omega (arith, o, c))
 one_body states ls x y (probabilities ps o p d s) (probabilities qs m n c t) = ap shares_of (pos_once ps qs (one_list p n))
 
-one_choice : (states : Elements) (ls : List Lexeme) (ms ns : List ℕ) → AllZip (StandsFor states) ls ms → AllZip (StandsFor states) ls ns → ms ≡ ns
+pub one_choice : (states : Elements) (ls : List Lexeme) (ms ns : List ℕ) → AllZip (StandsFor states) ls ms → AllZip (StandsFor states) ls ns → ms ≡ ns
 one_choice states [] [] [] a b = refl
 one_choice states [] (m ∷ ms) ns a b = absurd a
 one_choice states [] ms (n ∷ ns) a b = absurd b
@@ -83,7 +83,7 @@ one_choice states (l ∷ ls) (m ∷ ms) (n ∷ ns) a b =
     let behind : ms ≡ ns = one_choice states ls ms ns a.1 b.1 in
     cc
 
-include_not_exclude : (l : Lexeme) → IsWord (codes "include") l → IsWord (codes "exclude") l → ⊥
+pub include_not_exclude : (l : Lexeme) → IsWord (codes "include") l → IsWord (codes "exclude") l → ⊥
 include_not_exclude l a b = different (sym a.bytes ∙ b.bytes)
   where
     different : codes "include" ≡ codes "exclude" → ⊥

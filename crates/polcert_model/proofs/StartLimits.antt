@@ -8,7 +8,7 @@ use Rattle.std.proofs.lemmas.Bool.Decides.{nat_tests}
 use Rattle.std.specs.List.{range_with_len, count_by}
 use Rattle.polcert_text.specs.Cut.{Lexeme}
 use Rattle.polcert_model.specs.Elements.{Elements, Count, Names, count_of, number_of}
-use Rattle.polcert_model.specs.Start.{Shares, alike, all_states, single, shares_of, is_level, is_positive, included, excluded, IsStartBody, uniform, name, number, only_state, probabilities, IsStart, plain, include, exclude}
+use Rattle.polcert_model.specs.Start.{Shares, alike, shares_of, is_level, is_positive, included, excluded, IsStartBody, uniform, name, number, only_state, probabilities, IsStart, plain, include, exclude}
 
 -- shares of n states
 pub record IsFair (n : ℕ) (shares : Shares) : Type 0 where

@@ -1,7 +1,7 @@
 -- States, actions and observations: so many, or names in order.
 -- Source: the POMDP file format page at pomdp.org, "states:", "actions:" and "observations:": "either a number or a
 -- list of names"; an element of a list may also be given by its number, from 0 on.
-use Rattle.std.specs.Prelude.{◌≡◌, ◌≢◌, ℕ, ◌<◌, ◌≤◌, List, [], ◌∷◌, length, map, Option, Some, None, All, AllPairs, bytes_eq, position}
+use Rattle.std.specs.Prelude.{◌≡◌, ◌≢◌, ℕ, ◌<◌, ◌≤◌, List, [], ◌∷◌, length, map, Option, Some, None, All, AllPairs, bytes_eq, position, slice_get}
 use Rattle.polcert_text.specs.Cut.{Lexeme}
 use Rattle.polcert_model.specs.Words.{IsName}
 use Rattle.polcert_model.specs.Numbers.{IsWhole}
@@ -18,6 +18,11 @@ count_of (Names names) = length names
 abbrev pub number_of : Elements → List ℕ → Option ℕ
 number_of (Count n) name = None
 number_of (Names names) name = position (bytes_eq name) names
+
+-- the name of the element of this number, where names were given
+abbrev pub name_of : Elements → ℕ → Option (List ℕ)
+name_of (Count n) index = None
+name_of (Names names) index = slice_get names index
 
 -- The lexeme stands for the element of this number: it is the number, or the element's name.
 pub data StandsFor (elements : Elements) (l : Lexeme) (index : ℕ) : Type 0 where

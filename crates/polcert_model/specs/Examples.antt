@@ -1,5 +1,5 @@
 -- Small models, to be computed by hand.
-use Rattle.std.specs.Prelude.{ℕ, ◌*◌, false, List, [], ◌∷◌, map, ℤ, pos, None, codes}
+use Rattle.std.specs.Prelude.{ℕ, ◌*◌, false, List, [], ◌∷◌, map, ℤ, pos, neg_ℤ, None, codes}
 use Rattle.std.specs.List.{range_with_len}
 use Rattle.polcert_text.specs.Cut.{Lexeme}
 use Rattle.polcert_text.specs.declared.lexeme.TokenKind.TheVariants as kinds
@@ -72,10 +72,19 @@ numeral bytes = record { kind = kinds.Numeral; place = 0; bytes = bytes }
 abbrev pub colon : Lexeme
 colon = record { kind = kinds.Colon; place = 0; bytes = codes ":" }
 
--- `discount: 1 values: reward states: 1 actions: 1 observations: 1 T: 0 identity O: 0 uniform`
-abbrev pub smallest : List Lexeme
-smallest =
-    name (codes "discount") ∷ colon ∷ numeral (codes "1") ∷ name (codes "values") ∷ colon ∷ name (codes "reward")
-    ∷ name (codes "states") ∷ colon ∷ numeral (codes "1") ∷ name (codes "actions") ∷ colon ∷ numeral (codes "1")
-    ∷ name (codes "observations") ∷ colon ∷ numeral (codes "1") ∷ name (codes "T") ∷ colon ∷ numeral (codes "0") ∷ name (codes "identity")
-    ∷ name (codes "O") ∷ colon ∷ numeral (codes "0") ∷ name (codes "uniform") ∷ []
+-- a reward for the one action and observation, at all start and end states of two
+abbrev pub reward_cells : Meaning → List ℤ
+reward_cells m = m.r 0 0 0 0 ∷ m.r 0 0 1 0 ∷ m.r 0 1 0 0 ∷ m.r 0 1 1 0 ∷ []
+
+abbrev pub minus_one_everywhere : Entry
+minus_one_everywhere = rewards (Every ∷ Every ∷ Every ∷ Every ∷ []) (neg_ℤ (whole 1) ∷ [])
+
+abbrev pub five_at_first : Entry
+five_at_first = rewards (Only 0 ∷ Only 0 ∷ Only 0 ∷ Only 0 ∷ []) (whole 5 ∷ [])
+
+-- `R: * : * : * : * -1 R: 0 : 0 : 0 : 0 5`, and with the first of them once more at the end
+abbrev pub general_first : Meaning
+general_first = plain 2 (minus_one_everywhere ∷ five_at_first ∷ [])
+
+abbrev pub general_last : Meaning
+general_last = plain 2 (minus_one_everywhere ∷ five_at_first ∷ minus_one_everywhere ∷ [])

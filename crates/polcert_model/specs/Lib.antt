@@ -15,9 +15,14 @@ pub mod Laws
 pub mod Reading
 pub mod FirstWrong
 pub mod Reasons
+pub mod Misfits
 pub mod Refusals
 pub mod Examples
 pub mod Contents
 pub mod Sound
 pub mod Axes
 pub mod RowSums
+pub mod Tiger
+pub mod First
+pub mod RefusedExamples
+pub mod StartExamples

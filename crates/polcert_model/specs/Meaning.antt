@@ -2,7 +2,7 @@
 -- Source: the POMDP file format page at pomdp.org. Probabilities are whole numbers over a scale (a row sums to its
 -- scale exactly), discount and rewards are in millionths, and a reward is what is written, or minus that under
 -- `values: cost`, so that more is better.
-use Rattle.std.specs.Prelude.{◌≡◌, ℕ, zero, suc, ◌+◌, ◌*◌, ◌<◌, ◌≤◌, true, List, [], ◌∷◌, ℤ, unsigned_abs, Option, unwrap_or, length, get_or, sum}
+use Rattle.std.specs.Prelude.{◌≡◌, ℕ, zero, suc, ◌+◌, ◌*◌, ◌<◌, ◌≤◌, List, [], ◌∷◌, ℤ, unsigned_abs, Option, unwrap_or, length, get_or, sum}
 use Rattle.polcert_text.specs.Numbers.{largest}
 use Rattle.polcert_model.specs.declared.entry.Table.TheVariants.{Transition, Observation}
 use Rattle.polcert_model.specs.Elements.{count_of, most_elements}

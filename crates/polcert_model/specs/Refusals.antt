@@ -32,6 +32,11 @@ IsRefusal ts (RowSum table action row) =
     (ts.ending ≡ None) × ((p : Preamble) × (k : Known) × IsTakenText ts.lexemes p k × IsFirstWrongRow (meaning_of p k.start k.entries) table action row)
 IsRefusal ts Memory = Unit {0}
 
+-- want of memory says nothing of the text, and every other refusal that it is wrong
+abbrev pub SaysOfText : ModelFault → Type 0
+SaysOfText Memory = ⊥
+SaysOfText _ = Unit {0}
+
 -- where the first of the lexemes stands, or what is behind them
 abbrev pub place_or : List Lexeme → ℕ → ℕ
 place_or [] behind = behind

@@ -35,11 +35,11 @@ pub enum Place {
 
 /// A list that grows at its end. Contracts see it as the list.
 #[derive(Debug, Drop)]
-pub struct Sequence<T: Copy> {
+pub struct Sequence<T: Drop> {
     items: Vec<T>,
 }
 
-impl<T: Copy> Model for Sequence<T> {
+impl<T: Drop> Model for Sequence<T> {
     ghost use Rattle.std.specs.Prelude.{List};
 
     ghost Value = { List T };
@@ -47,7 +47,7 @@ impl<T: Copy> Model for Sequence<T> {
     ghost view = { λ s. s.items.items };
 }
 
-impl<T: Copy> Sequence<T> {
+impl<T: Drop> Sequence<T> {
     /// The empty list.
     pub fn new(alloc: Global) -> Self
         ensures { result ≡ [] }
@@ -64,12 +64,11 @@ impl<T: Copy> Sequence<T> {
         self.items.len()
     }
 
-    /// The item at this index, counted from 0.
-    pub fn at(&self, index: usize) -> T
-        requires { index < length self.now }
-        ensures { slice_get self.now index ≡ Some result }
+    /// The items, first to last.
+    pub fn as_slice(&self) -> &[T]
+        ensures { result.now ≡ self.now }
     {
-        self.items[index]
+        self.items.as_slice()
     }
 
     /// Puts the item behind the others. Where memory is wanting the list stays as it was.
@@ -79,6 +78,16 @@ impl<T: Copy> Sequence<T> {
     {
         self.items.push(item)?;
         Ok(())
+    }
+}
+
+impl<T: Copy + Drop> Sequence<T> {
+    /// The item at this index, counted from 0.
+    pub fn at(&self, index: usize) -> T
+        requires { index < length self.now }
+        ensures { slice_get self.now index ≡ Some result }
+    {
+        self.items[index]
     }
 }
 
@@ -103,51 +112,38 @@ pub struct Entry {
     pub body: Body,
 }
 
-/// The entries of a model, in the order of its text. Contracts see them as the list.
-#[derive(Debug, Drop)]
-pub struct Entries {
-    items: Vec<Entry>,
-}
+/// The entries of a model, in the order of its text.
+pub type Entries = Sequence<Entry>;
 
-impl Model for Entries {
-    ghost use Rattle.std.specs.Prelude.{List};
-    ghost use Rattle.polcert_model.specs.declared.entry.Entry.{Entry};
+#[cfg(test)]
+mod tests {
+    use super::*;
+    use std::test::Fail;
 
-    ghost Value = { List Entry };
-
-    ghost view = { λ s. s.items.items };
-}
-
-impl Entries {
-    /// The empty list.
-    pub fn new(alloc: Global) -> Self
-        ensures { result ≡ [] }
-    {
-        Entries {
-            items: Vec::new(alloc),
+    #[test]
+    fn tables_print_their_letter(rt: HostRuntime) -> Result<(), Fail> {
+        let alloc = rt.alloc();
+        for (table, letter) in [
+            (Table::Transition, "T"),
+            (Table::Observation, "O"),
+            (Table::Reward, "R"),
+        ] {
+            assert_eq!(rt; format!(in alloc; "{table}")?.as_str(), letter);
         }
+        Ok(())
     }
 
-    /// How many entries there are.
-    pub fn len(&self) -> usize
-        ensures { result ≡ length self.now }
-    {
-        self.items.len()
-    }
-
-    /// The entries, in order.
-    pub fn as_slice(&self) -> &[Entry]
-        ensures { result.now ≡ self.now }
-    {
-        self.items.as_slice()
-    }
-
-    /// Puts the entry behind the others. Where memory is wanting the list stays as it was.
-    pub fn push(&mut self, entry: Entry) -> Result<(), AllocError>
-        ensures ok { OnOk result (self.new ≡ self.old ++ entry ∷ []) }
-        ensures err { OnErr result (self.new ≡ self.old) }
-    {
-        self.items.push(entry)?;
+    #[test]
+    fn sequence_keeps_its_items(rt: HostRuntime) -> Result<(), Fail> {
+        let mut places = Sequence::new(rt.alloc());
+        places.push(Place::Every)?;
+        places.push(Place::Only(7))?;
+        assert!(rt; places.len() == 2);
+        assert_eq!(rt; places.at(1), Place::Only(7));
+        assert_eq!(rt;
+            places.as_slice(),
+            [Place::Every, Place::Only(7)].as_slice()
+        );
         Ok(())
     }
 }

@@ -1,10 +1,18 @@
 //! Rows and tables computed from small models.
-
-ghost use Rattle.std.specs.Prelude.{◌≡◌, ◌≢◌, ◌∷◌, [], sum, true};
-ghost use Rattle.polcert_model.specs.Meaning.{t_scale, HasProperRows, sum_below};
-ghost use Rattle.polcert_model.specs.Examples.{first_row, thirds, decimal_thirds, sixths, patterns, reward_table, whole};
-ghost use Rattle.polcert_model.specs.Start.{shares_of, all_states};
-ghost use Rattle.polcert_model.specs.Elements.{Count};
+ghost use Rattle.std.specs.Prelude.{codes, Some, None, ◌≡◌, ◌≢◌, ◌∷◌, [], sum, true, ℕ, pos, neg_ℤ};
+ghost use Rattle.polcert_model.specs.Meaning.{t_scale, HasProperRows, sum_below, states_of, actions_of, observations_of, start_total};
+ghost use Rattle.polcert_model.specs.Examples.{first_row, thirds, decimal_thirds, sixths, patterns, reward_table, whole, reward_cells, general_first, general_last, name, numeral};
+ghost use Rattle.polcert_model.specs.Start.{Shares, IsStart};
+ghost use Rattle.polcert_model.specs.StartExamples.{a_b, shares, uniform_start, halves_start, quarters_start, name_start, number_start, include_start, exclude_start, exclude_none, exclude_all, unsummed_start, third_start, pointed_start, alone, zero_start};
+ghost use Rattle.polcert_model.specs.Text.{Denotes};
+ghost use Rattle.polcert_model.specs.Tiger.{tiger, tiger_model, star};
+ghost use Rattle.polcert_text.specs.declared.tokens.TokenFault.TheVariants.{Glued};
+ghost use Rattle.polcert_model.specs.declared.fault.ItemFault.TheVariants.{Token, BadShape, WrongNumberCount, Reset, MissingLine, BeforeFirstItem, DuplicateLine, DiscountRange};
+ghost use Rattle.polcert_model.specs.Refusals.{IsItemRefusal, StopsInBody};
+ghost use Rattle.polcert_model.specs.RefusedExamples.{empty_text, hello, twice, above_one, glued};
+ghost use Rattle.polcert_model.specs.Narrow.{IsTakenText};
+ghost use Rattle.polcert_model.specs.First.{first, first_preamble, first_entries, first_known, first_model};
+ghost use Rattle.polcert_model.specs.Misfits.{misfit, Mark, Index, Number, Digits, EndOfNumbers};
 
 /// `uniform` over three states is exactly a third each.
 pub fn uniform_thirds()
@@ -32,19 +40,78 @@ pub fn reward_patterns()
         whole 7 ∷ whole 2 ∷ whole 7 ∷ whole 8 ∷ whole 7 ∷ whole 0 ∷ whole 7 ∷ whole 6 ∷ [] }
 {}
 
-/// A start of 0.5 and 0.5 is the uniform one; 0.25 and 0.75 stay millionths.
+/// Start items over two states: `0.5 0.5` is the uniform start, 0.25 and 0.75 stay millionths, and one state, listed
+/// states and all but some have a share of 1 each. Where no state is left, the sum isn't one, or one number is no
+/// state's, the item isn't right. One state alone may be given by 0 or by one.
 pub fn starts()
-    ensures halves { shares_of (500_000 ∷ 500_000 ∷ []) ≡ all_states (Count 2) }
-    ensures halves_weights { (all_states (Count 2)).weights ≡ 1 ∷ 1 ∷ [] }
-    ensures halves_total { (all_states (Count 2)).total ≡ 2 }
-    ensures quarters { (shares_of (250_000 ∷ 750_000 ∷ [])).weights ≡ 250_000 ∷ 750_000 ∷ [] }
-    ensures quarters_total { (shares_of (250_000 ∷ 750_000 ∷ [])).total ≡ 1_000_000 }
+    ensures uniform { IsStart a_b uniform_start (shares (1 ∷ 1 ∷ []) 2) }
+    ensures halves { IsStart a_b halves_start (shares (1 ∷ 1 ∷ []) 2) }
+    ensures quarters { IsStart a_b quarters_start (shares (250_000 ∷ 750_000 ∷ []) 1_000_000) }
+    ensures name { IsStart a_b name_start (shares (0 ∷ 1 ∷ []) 1) }
+    ensures number { IsStart a_b number_start (shares (0 ∷ 1 ∷ []) 1) }
+    ensures include { IsStart a_b include_start (shares (1 ∷ 0 ∷ []) 1) }
+    ensures exclude { IsStart a_b exclude_start (shares (0 ∷ 1 ∷ []) 1) }
+    ensures exclude_none { IsStart a_b exclude_none (shares (1 ∷ 1 ∷ []) 2) }
+    ensures exclude_all { (x : Shares) → IsStart a_b exclude_all x → ⊥ }
+    ensures unsummed { (x : Shares) → IsStart a_b unsummed_start x → ⊥ }
+    ensures no_third { (x : Shares) → IsStart a_b third_start x → ⊥ }
+    ensures no_point { (x : Shares) → IsStart a_b pointed_start x → ⊥ }
+    ensures alone_zero { IsStart alone zero_start (shares (1 ∷ []) 1) }
+    ensures alone_one { IsStart alone number_start (shares (1 ∷ []) 1) }
+    ensures alone_pointed { IsStart alone pointed_start (shares (1 ∷ []) 1) }
 {}
 
-ghost use Rattle.polcert_model.specs.Text.{Denotes};
-ghost use Rattle.polcert_model.specs.Examples.{smallest, plain};
+/// Of two reward entries that cover a cell the last holds, in either order.
+pub fn reward_order()
+    ensures general_first { reward_cells general_first ≡
+        pos 5_000_000 ∷ neg_ℤ (pos 1_000_000) ∷ neg_ℤ (pos 1_000_000) ∷ neg_ℤ (pos 1_000_000) ∷ [] }
+    ensures general_last { reward_cells general_last ≡
+        neg_ℤ (pos 1_000_000) ∷ neg_ℤ (pos 1_000_000) ∷ neg_ℤ (pos 1_000_000) ∷ neg_ℤ (pos 1_000_000) ∷ [] }
+{}
 
-/// The lexemes of the smallest model are right, and denote it.
-pub fn smallest_model()
-    ensures { Denotes smallest (plain 1 []) }
+/// The lexemes of the tiger problem are right, and denote its model.
+pub fn tiger_problem()
+    ensures denotes { Denotes tiger tiger_model }
+    ensures states { states_of tiger_model ≡ 2 }
+    ensures actions { actions_of tiger_model ≡ 3 }
+    ensures observations { observations_of tiger_model ≡ 2 }
+    ensures discount { tiger_model.preamble.discount ≡ 950_000 }
+    ensures scale { t_scale tiger_model ≡ 2_000_000 }
+    ensures opened { tiger_model.t 1 0 1 ≡ 1_000_000 }
+    ensures heard { tiger_model.o 0 1 1 ≡ 1_700_000 }
+    ensures gold { tiger_model.r 1 1 0 0 ≡ pos 10_000_000 }
+    ensures start { tiger_model.start.weights ≡ 1 ∷ 1 ∷ [] }
+    ensures total { start_total tiger_model ≡ 2 }
+{}
+
+/// Five refused texts: the empty one, a word before the items, a line that stands twice, a discount above one, and a
+/// refused numeral.
+pub fn refused_texts()
+    ensures empty { IsItemRefusal empty_text MissingLine 1 0 }
+    ensures hello { IsItemRefusal hello BeforeFirstItem 0 0 }
+    ensures twice { IsItemRefusal twice DuplicateLine 2 12 }
+    ensures above_one { IsItemRefusal above_one DiscountRange 1 10 }
+    ensures above_one_stops { StopsInBody above_one 1 10 }
+    ensures glued { IsItemRefusal glued (Token (Glued 10)) 1 10 }
+{}
+
+/// A small text by numbers alone is taken by the narrow stage, and denotes its model.
+pub fn first_text()
+    ensures taken { IsTakenText first first_preamble (first_known first_entries) }
+    ensures denotes { Denotes first first_model }
+    ensures stays { first_model.t 0 0 0 ≡ 2_000_000 }
+    ensures heard { first_model.o 0 1 0 ≡ 300_000 }
+    ensures paid { first_model.r 0 0 0 0 ≡ neg_ℤ (pos 1_000_000) }
+    ensures unpaid { first_model.r 0 1 0 0 ≡ pos 0 }
+{}
+
+/// Kinds of refusals where something else is found than is wanted: too few and too many numbers, a sign with nothing
+/// behind it, `*` where a state is wanted in a start item, and `reset` anywhere.
+pub fn kinds_of_misfits()
+    ensures few { misfit Number None ≡ WrongNumberCount }
+    ensures many { misfit EndOfNumbers (Some (numeral (codes "3"))) ≡ WrongNumberCount }
+    ensures lone_sign { misfit Digits None ≡ BadShape }
+    ensures no_star { misfit Index (Some star) ≡ BadShape }
+    ensures no_colon { misfit Mark (Some (numeral (codes "3"))) ≡ BadShape }
+    ensures reset { misfit Number (Some (name (codes "reset"))) ≡ Reset }
 {}

@@ -1,7 +1,8 @@
 //! Laws of the definitions: each function has an empty body, and its contract is the law.
-
-ghost use Rattle.std.specs.Prelude.{◌≡◌, ℕ, List, ℤ};
+ghost use Rattle.std.specs.Prelude.{◌≡◌, ℕ, List, ℤ, pos, Option, Some, None, ◌+◌, ◌++◌, ◌∷◌, [], true, false, length};
+ghost use Rattle.std.specs.List.{list_any};
 ghost use Rattle.polcert_text.specs.Cut.{Lexeme};
+ghost use Rattle.polcert_text.specs.declared.tokens.TokenFault.{TokenFault};
 ghost use Rattle.polcert_model.specs.declared.entry.Table.{Table};
 ghost use Rattle.polcert_model.specs.Numbers.{AreNumbers};
 ghost use Rattle.polcert_model.specs.Elements.{Elements, StandsFor};
@@ -9,9 +10,20 @@ ghost use Rattle.polcert_model.specs.Preamble.{Preamble};
 ghost use Rattle.polcert_model.specs.Entry.{IsEntry};
 ghost use Rattle.polcert_model.specs.declared.entry.Entry.{Entry};
 ghost use Rattle.polcert_model.specs.Start.{Shares, IsStart};
-ghost use Rattle.polcert_model.specs.Meaning.{Meaning, IsSame};
-ghost use Rattle.polcert_model.specs.Text.{Denotes, IsModelText};
-ghost use Rattle.polcert_model.specs.Laws.{HasDivision, HasOneDivision, GivesLastCovering, OneMoreEntry, UniformRowSums};
+ghost use Rattle.polcert_model.specs.Meaning.{Meaning, IsSame, IsWithinLimits};
+ghost use Rattle.polcert_model.specs.Text.{Denotes, IsModelText, Known, nothing_known, IsComplete};
+ghost use Rattle.polcert_model.specs.declared.entry.Table.TheVariants.{Reward};
+ghost use Rattle.polcert_model.specs.Cells.{covers, weight, reward};
+ghost use Rattle.polcert_model.specs.Laws.{HasDivision, HasOneDivision, GivesLastCovering, OneMoreWeight, OneMoreReward, UniformRowSums};
+ghost use Rattle.polcert_model.specs.Words.{Topic, topic, begins_item};
+ghost use Rattle.polcert_model.specs.Narrow.{IsTaken, AreTaken, IsTakenText, IsNarrow, narrow_word_fault, IsAccepted};
+ghost use Rattle.polcert_model.specs.Reading.{AreRightItems, IsWithinItem, CannotGoOn, IsWrong};
+ghost use Rattle.polcert_model.specs.FirstWrong.{TextTokens, tokens_of, IsFirstWrong, IsDecided, AreTokensOf, word_place, LiesIn};
+ghost use Rattle.polcert_model.specs.declared.fault.ItemFault.{ItemFault};
+ghost use Rattle.polcert_model.specs.Order.{preamble_fault};
+ghost use Rattle.polcert_model.specs.declared.fault.ModelFault.{ModelFault};
+ghost use Rattle.polcert_model.specs.Refusals.{IsRefusal, SaysOfText, place_or};
+ghost use Rattle.polcert_model.specs.Items.{Item, IsDivided};
 
 /// Each list of lexemes is divided into items in just one way.
 pub fn one_division()
@@ -46,9 +58,20 @@ pub fn one_value()
     ensures { (entries : List Entry) (table : Table) (indices : List ℕ) → GivesLastCovering entries table indices }
 {}
 
-/// A further entry gives its value to the cells that it covers, and to no others.
+/// A cell that no entry covers is 0.
+pub fn uncovered_is_zero()
+    ensures weight { (p : Preamble) (entries : List Entry) (table : Table) (indices : List ℕ) →
+        list_any (covers table indices) entries ≡ false → weight p entries table indices ≡ 0 }
+    ensures reward { (p : Preamble) (entries : List Entry) (indices : List ℕ) →
+        list_any (covers Reward indices) entries ≡ false → reward p entries indices ≡ pos 0 }
+{}
+
+/// A further entry gives its value to the cells that it covers, and the others keep theirs.
 pub fn one_more_entry()
-    ensures { (entries : List Entry) (entry : Entry) (table : Table) (indices : List ℕ) → OneMoreEntry entries entry table indices }
+    ensures weight { (p : Preamble) (entries : List Entry) (entry : Entry) (table : Table) (indices : List ℕ) →
+        OneMoreWeight p entries entry table indices }
+    ensures reward { (p : Preamble) (entries : List Entry) (entry : Entry) (indices : List ℕ) →
+        OneMoreReward p entries entry indices }
 {}
 
 /// A row that one `uniform` covers sums to its scale.
@@ -62,20 +85,10 @@ pub fn one_model()
     ensures text { (text : List ℕ) (m n : Meaning) → IsModelText text m → IsModelText text n → IsSame m n }
 {}
 
-ghost use Rattle.polcert_model.specs.Meaning.{IsWithinLimits};
-
 /// What lexemes denote is within its limits.
 pub fn within_limits()
     ensures { (lexemes : List Lexeme) (m : Meaning) → Denotes lexemes m → IsWithinLimits m }
 {}
-
-ghost use Rattle.std.specs.Prelude.{Option, Some, None, ◌+◌, ◌++◌, ◌∷◌, [], true, false, length};
-ghost use Rattle.polcert_text.specs.declared.tokens.TokenFault.{TokenFault};
-ghost use Rattle.polcert_model.specs.Words.{Topic, begins_item};
-ghost use Rattle.polcert_model.specs.Text.{Known, IsComplete};
-ghost use Rattle.polcert_model.specs.Narrow.{IsTaken, IsTakenText};
-ghost use Rattle.polcert_model.specs.Reading.{AreRightItems, IsWithinItem, CannotGoOn, IsWrong};
-ghost use Rattle.polcert_model.specs.FirstWrong.{TextTokens, tokens_of, IsFirstWrong};
 
 /// An item that is right with its lexemes so far makes them right items.
 pub fn right_item_ends()
@@ -115,4 +128,49 @@ pub fn first_wrong_outside_items()
 pub fn first_wrong_is_not_right()
     ensures { (ts : TextTokens) (n : ℕ) (p : Preamble) (k : Known) →
         IsFirstWrong ts n → ts.ending ≡ None → IsTakenText ts.lexemes p k → ⊥ }
+{}
+
+/// At most one item is the first that isn't right.
+pub fn one_first_wrong()
+    ensures { (ts : TextTokens) (m n : ℕ) → IsFirstWrong ts m → IsFirstWrong ts n → m ≡ n }
+{}
+
+/// What is decided at an item's word is so: with such a fault no body makes the item right, and at the end the
+/// preamble isn't complete; without one the preamble is complete.
+pub fn order_is_decided()
+    ensures at_word { (k : Known) (t : Topic) (fault : ItemFault) (body : List Lexeme) →
+        narrow_word_fault k t ≡ Some fault → IsWrong k t body }
+    ensures incomplete { (k : Known) (p : Preamble) (fault : ItemFault) → preamble_fault k ≡ Some fault → IsComplete k p → ⊥ }
+    ensures complete { (k : Known) → preamble_fault k ≡ None → ((p : Preamble) × IsComplete k p) }
+{}
+
+/// What is decided before an item's body is read is one kind and one place, and nothing is decided where the item's
+/// word may stand.
+pub fn one_decision()
+    ensures one { (ts : TextTokens) (n : ℕ) (f g : ItemFault) (p q : ℕ) →
+        IsDecided ts n f p → IsDecided ts n g q → (f ≡ g) × (p ≡ q) }
+    ensures nothing { (ts : TextTokens) (before : List Item) (item : Item) (after : List Item) (k : Known) (t : Topic)
+        (f : ItemFault) (p : ℕ) → IsDivided ts.lexemes [] (before ++ item ∷ after) → AreTaken nothing_known before k →
+        topic item.word ≡ Some t → narrow_word_fault k t ≡ None → IsDecided ts (length before + 1) f p → ⊥ }
+{}
+
+/// A text that is refused, but for want of memory, isn't the text of a model.
+pub fn refused_is_not_accepted()
+    ensures { (text : List ℕ) (ts : TextTokens) (fault : ModelFault) (m : Meaning) →
+        AreTokensOf text ts → IsRefusal ts fault → SaysOfText fault → IsAccepted text m → ⊥ }
+{}
+
+/// The places of a text's tokens rise. So the place where a part of an item's body was taken lies in the item, and so
+/// does that of its word, of what stands before all items, and of the end.
+pub fn places_lie_in_items()
+    ensures in_body { (text : List ℕ) (ts : TextTokens) (before : List Item) (item : Item) (after : List Item)
+        (taken rest : List Lexeme) → AreTokensOf text ts → IsDivided ts.lexemes [] (before ++ item ∷ after) →
+        item.body ≡ taken ++ rest → LiesIn ts (length before + 1) (place_or rest (word_place after ts.end 0)) }
+    ensures at_word { (text : List ℕ) (ts : TextTokens) (before : List Item) (item : Item) (after : List Item) →
+        AreTokensOf text ts → IsDivided ts.lexemes [] (before ++ item ∷ after) →
+        LiesIn ts (length before + 1) item.word.place }
+    ensures before_items { (text : List ℕ) (ts : TextTokens) (l : Lexeme) (ls : List Lexeme) (items : List Item) →
+        AreTokensOf text ts → IsDivided ts.lexemes (l ∷ ls) items → LiesIn ts 0 l.place }
+    ensures at_end { (ts : TextTokens) (items : List Item) →
+        IsDivided ts.lexemes [] items → LiesIn ts (length items + 1) ts.end }
 {}

@@ -1,7 +1,8 @@
 //! The words of a model's text.
-ghost use Rattle.std.specs.Prelude.{◌≡◌, ◌↔◌, IsTrue, codes};
+ghost use Rattle.std.specs.Prelude.{◌≡◌, ◌↔◌, IsTrue, bytes_eq};
+ghost use Rattle.std.specs.List.{list_any};
 ghost use Rattle.polcert_text.specs.Reading.{lexeme_of};
-ghost use Rattle.polcert_model.specs.Words.{topic_of, is_reserved, topic, IsWord};
+ghost use Rattle.polcert_model.specs.Words.{topic_of, is_reserved, inner_words, topic, IsWord};
 
 use crate::Table;
 use polcert_text::{Token, TokenKind};
@@ -19,25 +20,48 @@ pub enum Topic {
 }
 
 /// The topic of an item that begins with this word.
+#[tactic(auto, unfolding(crate::specs::Words::topic_of))]
 fn topic_of(word: &[u8]) -> Option<Topic>
     ensures { result ≡ topic_of word.now }
 {
-    match word {
-        b"discount" => Some(Topic::Discount),
-        b"values" => Some(Topic::Values),
-        b"states" => Some(Topic::States),
-        b"actions" => Some(Topic::Actions),
-        b"observations" => Some(Topic::Observations),
-        b"start" => Some(Topic::Start),
-        b"T" => Some(Topic::Cells(Table::Transition)),
-        b"O" => Some(Topic::Cells(Table::Observation)),
-        b"R" => Some(Topic::Cells(Table::Reward)),
-        _ => None,
+    if is_same(word, b"discount") {
+        return Some(Topic::Discount);
     }
+    if is_same(word, b"values") {
+        return Some(Topic::Values);
+    }
+    if is_same(word, b"states") {
+        return Some(Topic::States);
+    }
+    if is_same(word, b"actions") {
+        return Some(Topic::Actions);
+    }
+    if is_same(word, b"observations") {
+        return Some(Topic::Observations);
+    }
+    if is_same(word, b"start") {
+        return Some(Topic::Start);
+    }
+    if is_same(word, b"T") {
+        return Some(Topic::Cells(Table::Transition));
+    }
+    if is_same(word, b"O") {
+        return Some(Topic::Cells(Table::Observation));
+    }
+    if is_same(word, b"R") {
+        return Some(Topic::Cells(Table::Reward));
+    }
+    None
+}
+
+fn is_same(word: &[u8], other: &[u8]) -> bool
+    ensures { result ≡ bytes_eq word.now other.now }
+{
+    word == other
 }
 
 /// The topic of the item that the token begins, if it begins one.
-pub fn token_topic(token: &Token<'_>) -> Option<Topic>
+pub fn begun_topic(token: &Token<'_>) -> Option<Topic>
     ensures { result ≡ topic (lexeme_of token.now) }
 {
     match token.kind {
@@ -47,16 +71,24 @@ pub fn token_topic(token: &Token<'_>) -> Option<Topic>
 }
 
 /// Whether the word is reserved, so that no element has it as its name.
+#[tactic(auto, unfolding(crate::specs::Words::is_reserved))]
 pub fn is_reserved(word: &[u8]) -> bool
     ensures { result ≡ is_reserved word.now }
 {
-    if topic_of(word).is_some() {
-        return true;
-    }
-    match word {
-        b"reward" | b"cost" | b"include" | b"exclude" | b"uniform" | b"identity" | b"reset" => true,
-        _ => false,
-    }
+    topic_of(word).is_some() || is_inner_word(word)
+}
+
+/// Whether the word is reserved and begins no item.
+fn is_inner_word(word: &[u8]) -> bool
+    ensures { result ≡ list_any (bytes_eq word.now) inner_words }
+{
+    is_same(word, b"reward")
+        || is_same(word, b"cost")
+        || is_same(word, b"include")
+        || is_same(word, b"exclude")
+        || is_same(word, b"uniform")
+        || is_same(word, b"identity")
+        || is_same(word, b"reset")
 }
 
 /// Whether the token is this word.
