@@ -1,7 +1,7 @@
 -- What is read and taken, where the bytes are known.
 use Rattle.std.proofs.Common.{Bool, true, false, ◌≡◌, ◌++◌, ◌∙◌, ap, sym, refl, append_assoc, ℕ, List, [], Option, IfSome, take}
 use Rattle.std.specs.Io.KnownBytes.{Consumes, Appends}
-use Rattle.std.proofs.KnownBytes.{Consumes-nil, Consumes-trans, Appends-nil, Appends-trans, Appends-kept, Consumes-whole}
+use Rattle.std.proofs.KnownBytes.{Consumes-nil, Consumes-trans, Appends-nil, Appends-trans, Consumes-whole}
 use Rattle.std.proofs.lemmas.List.{append-nil}
 use Rattle.polcert_text.specs.Known.{ReadsKnown, WritesKnown}
 use Rattle.polcert_text.specs.Memory.{ReadsSlice, WritesSlice}
@@ -36,7 +36,6 @@ module _ {S : Type 0} (contents : S → Option (List ℕ)) where
   pub took_known : {s t : S} {bytes : List ℕ} → Takes known_writes s bytes t → Appends (contents s) (contents t) bytes
   took_known {s} sink.nothing = Appends-nil (contents s)
   took_known {s} (sink.more took call) = Appends-trans _ _ _ _ _ (took_known took) call
-  took_known {s} (sink.failed took call) = Appends-kept _ _ _ _ (took_known took) call
 
 module _ {S : Type 0} (rest : S → List ℕ) where
   -- the relation of one read of a slice
@@ -72,7 +71,13 @@ module _ {S N : Type 0} (buffer : S → List ℕ) (len : S → ℕ) (name : S �
   took_slice {s} (sink.more {bytes} {front} took call) =
       let before = took_slice took in
       (call.0.0 ∙ ap (λ xs. xs ++ front) before.0 ∙ append_assoc (take (len s) (buffer s)) bytes front, call.1 ∙ before.1)
-  took_slice {s} (sink.failed {bytes} {s = u} {t} took call) =
-      let before = took_slice took in
-      let same : take (len t) (buffer t) ≡ take (len u) (buffer u) = rw (call.0.0, call.0.1) refl in
-      (same ∙ before.0, call.1 ∙ before.1)
+
+-- the same of the relations themselves
+pub slice_text : (rest after text : List ℕ) → IsText ReadsSlice rest text after → text ≡ rest
+slice_text rest after text = text_slice (λ xs. xs)
+
+pub reader_text : (rest after : Option (List ℕ)) (text : List ℕ) → IsText ReadsKnown rest text after → IfSome rest (λ xs. text ≡ xs)
+reader_text rest after text = text_known (λ xs. xs)
+
+pub writer_took : (held after : Option (List ℕ)) (bytes : List ℕ) → Takes WritesKnown held bytes after → Appends held after bytes
+writer_took held after bytes = took_known (λ xs. xs)

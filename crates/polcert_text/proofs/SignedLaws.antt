@@ -3,7 +3,8 @@ use Rattle.std.proofs.Common.{◌≡◌, ◌∙◌, ℕ, suc, zero, ◌+◌, ◌
 use Rattle.std.proofs.lemmas.Int.{ints}
 use Rattle.std.proofs.Math.Nat.{mul-le-mul_right, mul-div_cancel, mul-pos}
 use Rattle.std.proofs.Math.IntN.{pos-*ℤ-pos, negsuc-*ℤ-pos, zero-*ℤ}
-use Rattle.polcert_text.specs.Numbers.{millionth, size_of, signed, ceiling, IsExact, IsFloor, Measures}
+use Rattle.polcert_text.specs.Numbers.{millionth, size_of, signed, IsExact, IsFloor}
+use Rattle.polcert_text.specs.Scaling.{ceiling, Measures}
 
 -- without its sign
 abbrev size_without_sign : ℤ → ℕ

@@ -3,7 +3,7 @@ use Rattle.std.proofs.Common.{subst, IsErr, append_assoc, ap, ◌∙◌, ◌≡�
 use Rattle.std.proofs.lemmas.List.{take-append-drop, append-nil}
 use Rattle.std.proofs.Math.Seq.{take-add}
 use Rattle.polcert_text.specs.Device.{HasFailed}
-use Rattle.polcert_text.specs.Sink.{Takes, TakesFront, WritesText, nothing, more, failed}
+use Rattle.polcert_text.specs.Sink.{Takes, TakesFront, WritesText, nothing, more}
 
 -- what holds anyway holds of an `Err`
 pub on_err : {T E : Type 0} {P : Type 0} (r : Result T E) → P → OnErr r P
@@ -23,7 +23,9 @@ module _ {S : Type 0} {writes : S → Option (List ℕ) → S → Type 0} {from 
     front = take at bytes;
     rest = drop at bytes;
     whole = sym (take-append-drop at bytes);
-    took = failed took call;
+    before = s;
+    took = took;
+    failed = call;
   }
 
   pub took_then : {s t : S} {first second : List ℕ} → Takes writes from first s → Takes writes s second t
@@ -31,7 +33,6 @@ module _ {S : Type 0} {writes : S → Option (List ℕ) → S → Type 0} {from 
   took_then {s} {t} {first} took nothing = rw (append-nil first) took
   took_then {s} {t} {first} took (more {bytes} {front} more_took call) =
       let all = more (took_then took more_took) call in rw (← append_assoc) all
-  took_then {s} {t} {first} took (failed more_took call) = failed (took_then took more_took) call
 
 -- more is written behind what was
 pub front_then : {S : Type 0} {writes : S → Option (List ℕ) → S → Type 0} {from t : S} {first : List ℕ} (second : List ℕ)
@@ -40,7 +41,9 @@ front_then {first = first} second f = record {
   front = f.front;
   rest = f.rest ++ second;
   whole = ap (λ all. all ++ second) f.whole ∙ append_assoc f.front f.rest second;
+  before = f.before;
   took = f.took;
+  failed = f.failed;
 }
 
 pub front_after : {S : Type 0} {writes : S → Option (List ℕ) → S → Type 0} {from s t : S} (first : List ℕ) {second : List ℕ}
@@ -49,7 +52,9 @@ front_after first took f = record {
   front = first ++ f.front;
   rest = f.rest;
   whole = ap (λ all. first ++ all) f.whole ∙ sym (append_assoc first f.front f.rest);
+  before = f.before;
   took = took_then took f.took;
+  failed = f.failed;
 }
 
 module _ {S : Type 0} {writes : S → Option (List ℕ) → S → Type 0} {failures : S → ℕ} {from t : S} where

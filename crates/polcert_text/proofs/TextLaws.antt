@@ -1,10 +1,9 @@
 -- The laws of the definitions that proofs of the crates above may cite. Each is the contract of a public function.
-use Rattle.std.proofs.Common.{◌≡◌, ◌∙◌, ℕ, ◌+◌, ◌*◌, ◌<◌, ◌≤◌, Bool, true, false, ◌⊎◌, inl, inr, ⊎_elim, Option, Some, None, Result, Ok, Err, List, length, refl, sym, ap, subst, arith, ℤ, pos, negsuc, ◌*ℤ◌, ◌≤ℤ◌}
+use Rattle.std.proofs.Common.{◌≡◌, ◌∙◌, ℕ, ◌<◌, ◌≤◌, Bool, true, false, ◌⊎◌, inl, inr, Option, Some, None, Result, Ok, Err, List, length, refl, sym, ap, subst, arith, ℤ, ◌≤ℤ◌}
 use Rattle.std.proofs.lemmas.Int.{ints}
 use Rattle.polcert_text.specs.Cut.{Lexeme, Rest, TakesToken, Ends, IsCut}
-use Rattle.polcert_text.specs.Lexemes.{is_numeral}
 use Rattle.polcert_text.specs.Reading.{GivesNext, lexeme_of}
-use Rattle.polcert_text.specs.Numbers.{millionth, exponent_size, size_of, largest, IsReadable, IsExact, IsFloor, IsRefused, IsRefusedExactly}
+use Rattle.polcert_text.specs.Numbers.{millionth, exponent_size, IsReadable, IsExact, IsFloor, IsRefused, IsRefusedExactly}
 use Rattle.polcert_text.specs.declared.tokens.Token.{Token}
 use Rattle.polcert_text.specs.declared.tokens.TokenFault.{TokenFault}
 use Rattle.polcert_text.specs.declared.number.NumberFault.{NumberFault}

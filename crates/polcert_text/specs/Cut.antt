@@ -1,4 +1,7 @@
--- The cut of a text into tokens.
+-- The cut of a text into tokens: gaps and lexemes by turns, each the longest that can stand at its place.
+-- Source: the POMDP file format page and its grammar (pomdp.org). Where those leave it open what is no text, the
+-- rules here are our own: a lexeme has at most 400 bytes, no letter, `_` or point directly follows a numeral, and a
+-- text ends at its limit.
 use Rattle.std.specs.Prelude.{◌≡◌, ℕ, ◌+◌, ◌<◌, ◌≤◌, Bool, true, false, Option, Some, None, List, [], ◌∷◌, length, take, drop, MatchOption, nat_lt, if◌then◌else◌}
 use Rattle.polcert_text.specs.Bytes.{is_glue}
 use Rattle.polcert_text.specs.Lexemes.{kind_of}

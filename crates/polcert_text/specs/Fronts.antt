@@ -1,4 +1,5 @@
 -- The longest front of some bytes that is a gap, and the longest that is a lexeme.
+-- Source: the rule of the longest match, by which the grammar of the POMDP file format is read.
 use Rattle.std.specs.Prelude.{◌≡◌, ℕ, ◌<◌, ◌≤◌, true, false, Some, None, List, length, take}
 use Rattle.polcert_text.specs.Lexemes.{kind_of}
 use Rattle.polcert_text.specs.Gaps.{is_gap}

@@ -1,3 +1,4 @@
+-- What a reader has to believe: tokens, numbers, devices.
 pub mod Bytes
 pub mod Lexemes
 pub mod Gaps
@@ -11,6 +12,7 @@ pub mod Source
 pub mod Sink
 pub mod Memory
 pub mod Known
+-- what only private functions say of one another
 pub mod Scan
 pub mod ScanOf
 pub mod Scaling

@@ -1,4 +1,6 @@
 -- The value of a numeral, in millionths.
+-- Source: the decimal numbers of the POMDP file format page (pomdp.org), read exactly. The limits are our own: at most
+-- 400 bytes, an exponent of at most 400 in size, a value of at most 10,000,000 in size.
 use Rattle.std.specs.Prelude.{◌≡◌, ℕ, ◌+◌, ◌-◌, ◌*◌, ◌^◌, ◌<◌, ◌≤◌, Bool, true, false, ◌⊎◌, List, [], ◌∷◌, ◌++◌, length, if◌then◌else◌, ℤ, pos, neg_ℤ, ◌*ℤ◌, ◌≤ℤ◌}
 use Rattle.std.specs.Str.Parse.{digits_value}
 use Rattle.polcert_text.specs.Bytes.{class_of, is_point, is_sign, is_exponent_mark}
@@ -94,15 +96,3 @@ IsRefused bs TooFine = ⊥
 abbrev pub IsRefusedExactly : Bool → List ℕ → NumberFault → Type 0
 IsRefusedExactly negative bs TooFine = IsReadable bs × ((h : ℤ) → IsExact negative bs h → ⊥)
 IsRefusedExactly negative bs fault = IsRefused bs fault
-
--- the size is so many whole millionths, and perhaps a part of one more
-pub record Measures (bs : List ℕ) (floor : ℕ) (is_inexact : Bool) : Type 0 where
-  pub part : ℕ
-  pub size : size_of bs ≡ floor * millionth + part
-  pub below : part < millionth
-  pub exact : is_inexact ≡ false → part ≡ 0
-  pub inexact : is_inexact ≡ true → 0 < part
-
--- a size rounded up
-abbrev pub ceiling : ℕ → Bool → ℕ
-ceiling floor is_inexact = if is_inexact then floor + 1 else floor

@@ -1,4 +1,4 @@
--- What the reader of tokens answers, against the cut.
+-- What one call of the reader of tokens answers, against the cut.
 use Rattle.std.specs.Prelude.{◌≡◌, ℕ, ◌+◌, Option, Some, None, Result, Ok, Err, List, length}
 use Rattle.polcert_text.specs.Cut.{Lexeme, Rest, IsTokenAt, TakesToken, Ends}
 use Rattle.polcert_text.specs.declared.tokens.Token.{Token}

@@ -1,4 +1,6 @@
 -- How far the bytes read so far have come in a gap, or in a lexeme.
+-- Nobody has to believe this: only contracts of private functions cite it, and the proofs show that it finds the
+-- longest fronts.
 use Rattle.std.specs.Prelude.{ℕ, Bool, true, false, Option, Some, None, List, [], ◌∷◌}
 use Rattle.polcert_text.specs.Bytes.{class_of}
 use Rattle.polcert_text.specs.declared.bytes.ByteClass.{ByteClass}

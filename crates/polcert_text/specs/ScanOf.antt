@@ -1,4 +1,5 @@
 -- What a scan says of the bytes that it was fed.
+-- Nobody has to believe this: only contracts of private functions cite it.
 use Rattle.std.specs.Prelude.{◌≡◌, ℕ, Bool, true, false, Option, List, length, MatchOption}
 use Rattle.polcert_text.specs.Fronts.{IsLongestLexeme, NoLexeme}
 use Rattle.polcert_text.specs.Scan.{state_through}

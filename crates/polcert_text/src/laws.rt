@@ -1,8 +1,13 @@
 //! Laws of the definitions, each the contract of a function with nothing to do.
-ghost use Rattle.std.specs.Prelude.{◌≡◌, ℕ, Bool, Option, Some, None, Result, Err, List, ℤ};
+ghost use Rattle.std.specs.Prelude.{◌≡◌, ℕ, Bool, Option, Some, None, Result, Err, List, ℤ, IfSome};
+ghost use Rattle.std.specs.Io.KnownBytes.{Appends};
 ghost use Rattle.polcert_text.specs.Cut.{Lexeme, Rest, TakesToken, Ends, IsCut};
 ghost use Rattle.polcert_text.specs.Reading.{GivesNext};
 ghost use Rattle.polcert_text.specs.Numbers.{IsReadable, IsExact, IsFloor, IsRefused, IsRefusedExactly};
+ghost use Rattle.polcert_text.specs.Source.{IsText};
+ghost use Rattle.polcert_text.specs.Sink.{Takes};
+ghost use Rattle.polcert_text.specs.Memory.{ReadsSlice};
+ghost use Rattle.polcert_text.specs.Known.{ReadsKnown, WritesKnown};
 
 use crate::{NumberFault, Token, TokenFault};
 
@@ -10,23 +15,20 @@ use crate::{NumberFault, Token, TokenFault};
 pub fn one_cut()
     ensures { (rest : Rest) (ss ts : List Lexeme) (x y : Option TokenFault) →
         IsCut rest ss x → IsCut rest ts y → (ss ≡ ts) × (x ≡ y) }
-{
-}
+{}
 
 /// At most one token comes next, and it leaves one rest.
 pub fn one_next_token()
     ensures { (rest : Rest) (s t : Lexeme) (x y : Rest) →
         TakesToken rest s x → TakesToken rest t y → (s ≡ t) × (x ≡ y) }
-{
-}
+{}
 
 /// What is still to be cut ends in one way where no token comes next, and does not end where one does.
 pub fn one_end()
     ensures end { (rest : Rest) (x y : Option TokenFault) → Ends rest x → Ends rest y → x ≡ y }
     ensures no_token { (rest : Rest) (t : Lexeme) (behind : Rest) (x : Option TokenFault) →
         TakesToken rest t behind → Ends rest x → ⊥ }
-{
-}
+{}
 
 /// After a refusal or the clean end every further call of `Tokens::next_token` answers the same.
 pub fn same_answer_again()
@@ -35,8 +37,7 @@ pub fn same_answer_again()
         (answer ≡ Some (Err fault)) × (later ≡ new) }
     ensures clean_end { (old new later : Rest) (answer : Option (Result Token TokenFault)) →
         GivesNext old None new → GivesNext new answer later → (answer ≡ None) × (later ≡ new) }
-{
-}
+{}
 
 /// A sign and a numeral denote at most one whole number of millionths exactly, and one rounded down.
 pub fn one_value()
@@ -44,8 +45,7 @@ pub fn one_value()
         IsExact negative bs h → IsExact negative bs k → h ≡ k }
     ensures floor { (negative : Bool) (bs : List ℕ) (h k : ℤ) →
         IsFloor negative bs h → IsFloor negative bs k → h ≡ k }
-{
-}
+{}
 
 /// Bytes are refused for one reason, and only where they are not readable, or have no exact value.
 pub fn one_refusal()
@@ -55,5 +55,21 @@ pub fn one_refusal()
     ensures no_value { (negative : Bool) (bs : List ℕ) (f : NumberFault) (h : ℤ) →
         IsReadable bs → IsExact negative bs h → IsRefusedExactly negative bs f → ⊥ }
     ensures unreadable { (bs : List ℕ) (f : NumberFault) → IsReadable bs → IsRefused bs f → ⊥ }
-{
-}
+{}
+
+/// The text of a slice that is read whole is the slice.
+pub fn text_of_a_slice()
+    ensures { (rest after text : List ℕ) → IsText ReadsSlice rest text after → text ≡ rest }
+{}
+
+/// The text of a reader of std that is read whole is what it had left, where that is known.
+pub fn text_of_a_reader()
+    ensures { (rest after : Option (List ℕ)) (text : List ℕ) →
+        IsText ReadsKnown rest text after → IfSome rest (λ xs. text ≡ xs) }
+{}
+
+/// A writer of std holds, behind what it held, what it took, where that is known.
+pub fn bytes_of_a_writer()
+    ensures { (held after : Option (List ℕ)) (bytes : List ℕ) →
+        Takes WritesKnown held bytes after → Appends held after bytes }
+{}

@@ -10,10 +10,15 @@ mod number;
 mod sink;
 mod source;
 mod std_io;
+#[cfg(test)]
+mod tests;
 mod tokens;
 mod whole;
 
-pub use laws::{one_cut, one_end, one_next_token, one_refusal, one_value, same_answer_again};
+pub use laws::{
+    bytes_of_a_writer, one_cut, one_end, one_next_token, one_refusal, one_value, same_answer_again,
+    text_of_a_reader, text_of_a_slice,
+};
 pub use lexeme::TokenKind;
 pub use memory::{SliceSink, SliceSource};
 pub use millionths::write_scaled;

@@ -56,6 +56,15 @@ impl<'a> SliceSink<'a> {
     }
 }
 
+impl SliceSink<'_> {
+    /// The bytes that it has taken so far.
+    pub fn written(&self) -> &[u8]
+        ensures { result.now ≡ take self.now.len self.now.buffer.now }
+    {
+        &self.buffer[..self.len]
+    }
+}
+
 impl Sink for SliceSink<'_> {
     ghost failures = { λ s. s.failures };
 

@@ -38,11 +38,7 @@ pub trait Source {
 const PIECE: usize = 4096;
 
 /// Reads a source whole, or one byte past the limit (a number of bytes), where it stops.
-pub fn read_all<S: Source>(
-    alloc: Global,
-    source: &mut S,
-    limit: u64,
-) -> Result<Vec<u8>, ReadFault>
+pub fn read_all<S: Source>(alloc: Global, source: &mut S, limit: u64) -> Result<Vec<u8>, ReadFault>
     requires { limit < 2 ^ 64 - 1 }
 
     // Up to the limit, the bytes are the text of the source.

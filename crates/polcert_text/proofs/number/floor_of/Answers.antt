@@ -2,7 +2,8 @@ use Rattle.std.proofs.Common.{◌≡◌, ◌∙◌, pos, neg_ℤ, sym, ap, subst
 use Rattle.std.proofs.lemmas.Int.{to_z-of_z}
 use mir.Val.{SFits, to_z, of_z}
 use mir.Syntax.{w64}
-use Rattle.polcert_text.specs.Numbers.{IsFloor, ceiling}
+use Rattle.polcert_text.specs.Numbers.{IsFloor}
+use Rattle.polcert_text.specs.Scaling.{ceiling}
 use Rattle.polcert_text.proofs.SignedLaws.{floor_positive, floor_negative}
 use Rattle.polcert_text.proofs.number.floor_of.Goals as goal
 

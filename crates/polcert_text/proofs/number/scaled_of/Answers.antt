@@ -1,5 +1,5 @@
 use Rattle.std.proofs.Common.{subst}
-use Rattle.polcert_text.specs.Numbers.{Measures}
+use Rattle.polcert_text.specs.Scaling.{Measures}
 use Rattle.polcert_text.proofs.SignedLaws.{no_exact}
 use Rattle.polcert_text.proofs.number.scaled_of.Goals as goal
 

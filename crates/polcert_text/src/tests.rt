@@ -1,0 +1,6 @@
+//! Tests of what no clause says. The expected values come from the format's worked rows.
+mod numbers;
+mod printing;
+mod reading;
+mod token_rows;
+mod writing;

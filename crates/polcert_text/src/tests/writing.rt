@@ -1,0 +1,97 @@
+//! Sinks that take a byte at a time, fail or take nothing.
+use crate::{Sink, SinkFailed, SliceSink, WriterSink, write_all};
+use std::alloc::Global;
+use std::io;
+use std::io::Write;
+use std::test::Fail;
+
+/// Takes a byte at a time, and fails at the write of number `failing`, from 0 on.
+#[derive(Drop)]
+struct OneByte {
+    taken: Vec<u8>,
+    failing: usize,
+    failures: u64,
+}
+
+impl OneByte {
+    fn new(alloc: Global, failing: usize) -> OneByte {
+        OneByte {
+            taken: Vec::new(alloc),
+            failing,
+            failures: 0,
+        }
+    }
+}
+
+impl Sink for OneByte {
+    ghost failures = { λ s. s.failures };
+
+    ghost writes = { λ s answer t. Unit {0} };
+
+    fn write(&mut self, piece: &[u8]) -> Result<usize, SinkFailed> {
+        let Some(byte) = piece.first() else {
+            return Ok(0);
+        };
+        if self.taken.len() >= self.failing || self.taken.push(*byte).is_err() {
+            self.failures = self.failures.saturating_add(1);
+            return Err(SinkFailed);
+        }
+        Ok(1)
+    }
+}
+
+/// What a sink took before it failed is a beginning of the bytes, and the failed write is not tried again.
+#[test]
+fn fails_at_each_write(rt: HostRuntime) {
+    let text = b"yes: start node 0";
+    for failing in 0..17usize {
+        let mut sink = OneByte::new(rt.alloc(), failing);
+        assert_eq!(rt; write_all(&mut sink, text), Err(SinkFailed));
+        assert_eq!(rt; sink.taken.as_slice(), &text[..failing]);
+        assert_eq!(rt; sink.failures, 1);
+    }
+    let mut sink = OneByte::new(rt.alloc(), 17);
+    assert_eq!(rt; write_all(&mut sink, text), Ok(()));
+    assert_eq!(rt; sink.taken.as_slice(), text.as_slice());
+    assert_eq!(rt; sink.failures, 0);
+}
+
+#[test]
+fn a_full_slice_fails(rt: HostRuntime) {
+    let mut bytes = [0u8; 4];
+    let mut sink = SliceSink::new(&mut bytes);
+    assert_eq!(rt; write_all(&mut sink, b"ab"), Ok(()));
+    assert_eq!(rt; write_all(&mut sink, b"cde"), Err(SinkFailed));
+    assert_eq!(rt; sink.written(), b"abcd".as_slice());
+    assert_eq!(rt; sink.failures, 1);
+    assert_eq!(rt; write_all(&mut sink, b""), Ok(()));
+}
+
+/// A writer of std that takes nothing.
+#[derive(Drop)]
+struct Nothing;
+
+impl Write for Nothing {
+    fn write(&mut self, _piece: &[u8]) -> io::Result<usize> {
+        Ok(0)
+    }
+
+    fn flush(&mut self) -> io::Result<()> {
+        Ok(())
+    }
+}
+
+#[test]
+fn writes_to_a_writer_of_std(rt: HostRuntime) -> Result<(), Fail> {
+    let mut sink = WriterSink::new(Vec::new(rt.alloc()));
+    write_all(&mut sink, b"a line")?;
+    assert_eq!(rt; sink.writer.as_slice(), b"a line".as_slice());
+    assert_eq!(rt; sink.failures, 0);
+
+    let mut nothing = WriterSink::new(Nothing);
+    assert_eq!(rt; write_all(&mut nothing, b"a"), Err(SinkFailed));
+    assert_eq!(rt; write_all(&mut nothing, b"b"), Err(SinkFailed));
+    assert_eq!(rt; nothing.failures, 2);
+    assert_eq!(rt; write_all(&mut nothing, b""), Ok(()));
+    Ok(())
+}
