@@ -3,11 +3,15 @@
 
 mod fault;
 mod lines;
+mod program;
+mod refusal;
 mod runs;
 mod status;
+#[cfg(test)]
+mod tests;
 
 use std::process::ExitCode;
 
-fn main(_rt: HostRuntime) -> ExitCode {
-    ExitCode::from(0)
+fn main(rt: HostRuntime) -> ExitCode {
+    ExitCode::from(program::run_program(&rt))
 }
