@@ -56,6 +56,7 @@ refused_with bytes text fault same says refusal = record { no_model = no_model; 
       cut = subst (λ r. IsCut r ts.lexemes ts.ending) same tokens.cut;
       end_is = tokens.end_is ∙ ap end_place same;
     })
+
     no_model : (m : Meaning) → IsAccepted text m → ⊥
     no_model m accepted =
         let ts = tokens_of accepted.model.lexemes None (end_place (text_rest text most_bytes)) in
