@@ -1,0 +1,100 @@
+-- Tokens that spell an action, and the value 0.
+use Rattle.std.proofs.Common.{◌≡◌, ◌∙◌, ℕ, ◌+◌, ◌*◌, ◌^◌, ◌<◌, ◌≤◌, ◌<◌, Bool, true, false, ◌&&◌, Some, None, List, [], ◌∷◌, length, decimal, pos, refl, ap, subst, arith}
+use Rattle.std.specs.List.{list_all}
+use Rattle.std.proofs.lemmas.Fmt.{decimal_is_IsNumeral, decimal_nonempty}
+use Rattle.polcert_text.specs.Bytes.{class_of, is_digit}
+use Rattle.polcert_text.specs.Lexemes.{is_numeral, are_digits}
+use Rattle.polcert_text.specs.Numbers.{number_of, exponent_size, power_of, size_of, millionth, largest, IsFloor}
+use Rattle.polcert_text.specs.Scaling.{Measures}
+use Rattle.polcert_text.proofs.SignedLaws.{floor_positive, floor_negative}
+use Rattle.polcert_text.proofs.SizeLaws.{millionth_pos}
+use Rattle.polcert_text.proofs.PrintLaws.{decimal_digits}
+use Rattle.polcert_text.specs.Cut.{Lexeme}
+use Rattle.polcert_text.specs.declared.lexeme.TokenKind.TheVariants.{Numeral}
+use Rattle.polcert_policy.specs.Vectors.{Part, sign_kind, is_negative, IsActionPart, IsValuePart}
+
+abbrev pub zero_bytes : List ℕ
+zero_bytes = 48 ∷ []
+
+number_zero : number_of zero_bytes ≡ 0
+unfolding number_of class_of
+number_zero = refl
+
+exponent_zero : exponent_size zero_bytes ≡ 0
+unfolding exponent_size class_of
+exponent_zero = refl
+
+numeral_zero : is_numeral zero_bytes ≡ true
+unfolding class_of
+numeral_zero = refl
+
+none_of : (n : ℕ) → 0 * n ≡ 0
+none_of n = omega arith
+
+size_zero : size_of zero_bytes ≡ 0
+unfolding size_of
+size_zero = ap (λ n. n * 10 ^ power_of zero_bytes) number_zero ∙ none_of (10 ^ power_of zero_bytes)
+
+within_largest : (size most : ℕ) → size ≡ 0 → size ≤ most
+within_largest size most e = omega (arith, e)
+
+abbrev pub part_of : List ℕ → Part
+part_of bs = let t : Lexeme = record { kind = Numeral; place = 0; bytes = bs } in record { sign = None; token = t }
+
+zero_sum : (size d : ℕ) → size ≡ 0 → size ≡ 0 * d + 0
+zero_sum size d e = omega (arith, e)
+
+measured : Measures zero_bytes 0 false
+measured = record {
+  part = 0;
+  size = zero_sum (size_of zero_bytes) millionth size_zero;
+  below = millionth_pos;
+  exact = λ e. refl;
+  inexact = λ e. absurd (cc);
+}
+
+abbrev pub zero_part : Part
+zero_part = part_of zero_bytes
+
+-- the numeral `0` is the value 0
+pub zero_value : IsValuePart zero_part (pos 0)
+zero_value = record {
+  part = record { numeral = refl; signed = λ s e. absurd (cc) };
+  readable = record {
+    numeral = numeral_zero;
+    short = omega arith;
+    exponent = omega (arith, exponent_zero);
+    size = within_largest (size_of zero_bytes) (largest * millionth) size_zero;
+  };
+  floor = floor_positive zero_bytes 0 false measured;
+}
+
+some_digits : (bs : List ℕ) → list_all is_digit bs ≡ true → 0 < length bs → are_digits bs ≡ true
+some_digits [] e l = absurd (omega (arith, l))
+some_digits (b ∷ bs) e l = ap (λ x. x && true) e
+
+-- the decimal digits of an action spell it
+pub action_spelled : (a : ℕ) → a < 2 ^ 64 → IsActionPart a (part_of (decimal a))
+action_spelled a l = record {
+  unsigned = refl;
+  whole = some_digits (decimal a) (decimal_digits a l) (decimal_nonempty a l);
+  value = (decimal_is_IsNumeral a l).1;
+}
+
+abbrev pub signed_zero : Lexeme → Part
+signed_zero s = let t : Lexeme = record { kind = Numeral; place = 0; bytes = zero_bytes } in record { sign = Some s; token = t }
+
+zero_floor : (b : Bool) → IsFloor b zero_bytes (pos 0)
+zero_floor true = floor_negative zero_bytes 0 false measured
+zero_floor false = floor_positive zero_bytes 0 false measured
+
+same_some : (s u : Lexeme) → Some s ≡ Some u → s ≡ u
+same_some s u e = cc
+
+-- so is `0` behind a sign
+pub signed_zero_value : (s : Lexeme) → sign_kind s.kind ≡ true → IsValuePart (signed_zero s) (pos 0)
+signed_zero_value s sign = record {
+  part = record { numeral = refl; signed = λ u e. subst (λ x. sign_kind x.kind ≡ true) (same_some s u e) sign };
+  readable = zero_value.readable;
+  floor = zero_floor (is_negative (Some s));
+}

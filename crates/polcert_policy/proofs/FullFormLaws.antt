@@ -1,0 +1,325 @@
+-- The full form of vectors, read with their graph, gives the vectors back.
+use Rattle.std.proofs.Common.{◌≡◌, ◌∙◌, ℕ, ℤ, suc, zero, ◌+◌, ◌-◌, ◌*◌, ◌^◌, ◌<◌, ◌≤◌, Bool, true, false, cond, pos, negsuc, None, List, [], ◌∷◌, ◌++◌, length, take, decimal, codes, refl, sym, ap, subst, arith, append_assoc, append-nil, length-append, take_all}
+use Rattle.std.specs.List.{list_all, list_any}
+use Rattle.std.specs.Prelude.{◌==◌}
+use Rattle.std.specs.Str.Parse.{digits_value}
+use Rattle.std.proofs.lemmas.Bool.{le-ltb}
+use Rattle.std.proofs.lemmas.Int.{ints}
+use Rattle.std.proofs.lemmas.List.{take_more}
+use Rattle.std.proofs.lemmas.Option.{slice_get-get_or}
+use Rattle.std.proofs.Math.Nat.{mul-le-mul_right}
+use Rattle.std.proofs.Math.IntN.{pos-*ℤ-pos}
+use Rattle.polcert_text.specs.Bytes.{class_of, is_blank, is_exponent_mark}
+use Rattle.polcert_text.specs.Cut.{IsCut, text_rest}
+use Rattle.polcert_text.specs.Millionths.{unsigned_text, scaled_text}
+use Rattle.polcert_text.specs.Numbers.{without_sign, exponent_size, size_of, millionth, largest, IsReadable}
+use Rattle.polcert_text.specs.Scaling.{Measures}
+use Rattle.polcert_text.proofs.PrintLaws.{written_exact}
+use Rattle.polcert_text.proofs.SignedLaws.{floor_positive, floor_negative}
+use Rattle.polcert_text.proofs.SizeLaws.{after-none, millionth_pos}
+use Rattle.polcert_policy.specs.Graphs.{PolicyGraph, nodes, action_of, IsProperGraph}
+use Rattle.polcert_policy.specs.GraphText.{text_limit}
+use Rattle.polcert_policy.specs.Vectors.{PolicyVectors, Part, sign_kind, tokens_of, value_of, IsActionPart, IsValuePart, IsVectors, IsInRange, AreProperVectors}
+use Rattle.polcert_policy.specs.VectorText.{IsVectorsText}
+use Rattle.polcert_policy.specs.VectorsRead.{AreVectorsUpTo}
+use Rattle.polcert_policy.specs.FullForm.{behind_value, values_text, action_text, vectors_text_up_to, vectors_text}
+use Rattle.polcert_policy.proofs.Places.{some_none, same_some, row_above}
+use Rattle.polcert_policy.proofs.Fillers.{action_spelled}
+use Rattle.polcert_policy.proofs.VectorSteps.{step_vector_action, step_value_within, step_value_last}
+use Rattle.polcert_policy.proofs.Numerals.{IsPlain, plain_unsigned, plain_decimal}
+use Rattle.polcert_policy.proofs.PrintedCut.{rest_at, Printed, printed_text, IsPrinted, texts_of, AllPrinted, part_with, parts_from, cut_printed}
+
+-- a number's sign and size as they are written
+abbrev is_below_zero : ℤ → Bool
+is_below_zero (pos n) = false
+is_below_zero (negsuc n) = true
+
+abbrev size_text : ℤ → List ℕ
+size_text (pos n) = unsigned_text n
+size_text (negsuc n) = unsigned_text (suc n)
+
+abbrev number_printed : ℤ → List ℕ → Printed
+number_printed h behind = record { negative = is_below_zero h; numeral = size_text h; behind = behind }
+
+text-number : (h : ℤ) (behind : List ℕ) → printed_text (number_printed h behind) ≡ scaled_text h ++ behind
+text-number (pos n) behind = refl
+text-number (negsuc n) behind = refl
+
+same_pos : (m n : ℕ) → pos m ≡ pos n → m ≡ n
+same_pos m n e = cc
+
+size_written : (n : ℕ) → n ≤ largest → size_of (unsigned_text n) ≡ n * millionth
+size_written n l =
+    let exact = (written_exact n (omega (arith, l)) false).1 in
+    sym (same_pos (n * millionth) (size_of (unsigned_text n)) (sym (pos-*ℤ-pos n millionth) ∙ exact))
+
+exponent_none : (bs : List ℕ) → list_any is_exponent_mark bs ≡ false → exponent_size bs ≡ 0
+unfolding exponent_size
+exponent_none bs e = ap (λ xs. digits_value 10 (without_sign xs)) (after-none is_exponent_mark bs e)
+
+plain_size : (n : ℕ) → n ≤ largest → IsPlain (unsigned_text n)
+plain_size n l = plain_unsigned n (omega (arith, l))
+
+readable_written : (n : ℕ) → n ≤ largest → IsReadable (unsigned_text n)
+readable_written n l =
+    let plain = plain_size n l in
+    let size : n * millionth ≤ largest * millionth = mul-le-mul_right millionth l in
+    record {
+      numeral = (written_exact n (omega (arith, l)) false).0;
+      short = omega (arith, plain.short);
+      exponent = omega (arith, exponent_none (unsigned_text n) plain.unmarked);
+      size = omega (arith, size, size_written n l);
+    }
+
+measures_written : (n : ℕ) → n ≤ largest → Measures (unsigned_text n) n false
+measures_written n l = record {
+  part = 0;
+  size = omega (arith, size_written n l);
+  below = millionth_pos;
+  exact = λ e. refl;
+  inexact = λ e. absurd (cc);
+}
+
+positive_size : (n : ℕ) → IsInRange (pos n) → n ≤ largest
+positive_size n r = omega (arith, ints, r.1)
+
+negative_size : (n : ℕ) → IsInRange (negsuc n) → suc n ≤ largest
+negative_size n r = omega (arith, ints, r.0)
+
+-- the part that is written of a value has that value
+value_part : (place : ℕ) (h : ℤ) → IsInRange h → IsValuePart (part_with place (is_below_zero h) (size_text h)) h
+value_part place (pos n) r =
+    let l = positive_size n r in
+    record {
+      part = record { numeral = refl; signed = λ s e. absurd (some_none s e) };
+      readable = readable_written n l;
+      floor = floor_positive (unsigned_text n) n false (measures_written n l);
+    }
+value_part place (negsuc n) r =
+    let l = negative_size n r in
+    record {
+      part = record { numeral = refl; signed = λ s e. subst (λ x. sign_kind x.kind ≡ true) (same_some _ s e) refl };
+      readable = readable_written (suc n) l;
+      floor = floor_negative (unsigned_text (suc n)) (suc n) false (measures_written (suc n) l);
+    }
+
+action_part : (place a : ℕ) → a < 2 ^ 64 → IsActionPart a (part_with place false (decimal a))
+action_part place a l = let was = action_spelled a l in record { unsigned = refl; whole = was.whole; value = was.value }
+
+-- what stands behind a number
+record Behind (bs : List ℕ) : Type 0 where
+  blank : list_all is_blank bs ≡ true
+  first : ℕ
+  more : List ℕ
+  is : bs ≡ first ∷ more
+  few : length bs ≤ 2
+
+line_end_blank : list_all is_blank (codes "\n") ≡ true
+unfolding class_of
+line_end_blank = refl
+
+blank_blank : list_all is_blank (codes " ") ≡ true
+unfolding class_of
+blank_blank = refl
+
+line_ends_blank : list_all is_blank (codes "\n\n") ≡ true
+unfolding class_of
+line_ends_blank = refl
+
+behind_either : (b : Bool) → Behind (cond b (codes "\n\n") (codes " "))
+behind_either true = record { blank = line_ends_blank; first = 10; more = 10 ∷ []; is = refl; few = omega arith }
+behind_either false = record { blank = blank_blank; first = 32; more = []; is = refl; few = omega arith }
+
+plain_value : (h : ℤ) → IsInRange h → IsPlain (size_text h)
+plain_value (pos n) r = plain_size n (positive_size n r)
+plain_value (negsuc n) r = plain_size (suc n) (negative_size n r)
+
+value_is_printed : (h : ℤ) (o s : ℕ) → IsInRange h → IsPrinted (number_printed h (behind_value o s))
+value_is_printed h o s r =
+    let b = behind_either (suc s == o) in
+    record { plain = plain_value h r; blank = b.blank; first = b.first; more = b.more; behind_is = b.is; few = b.few }
+
+abbrev action_printed : PolicyGraph → ℕ → Printed
+action_printed g n = record { negative = false; numeral = decimal (action_of g n); behind = codes "\n" }
+
+action_is_printed : (g : PolicyGraph) (n : ℕ) → action_of g n < 1_001 → IsPrinted (action_printed g n)
+action_is_printed g n l = record {
+  plain = plain_decimal (action_of g n) (omega (arith, l));
+  blank = line_end_blank;
+  first = 10;
+  more = [];
+  behind_is = refl;
+  few = omega arith;
+}
+
+abbrev value_printed : PolicyVectors → ℕ → ℕ → Printed
+value_printed v n s = number_printed (value_of v n s) (behind_value v.states s)
+
+abbrev values_printed : PolicyVectors → ℕ → ℕ → List Printed
+values_printed v n zero = []
+values_printed v n (suc s) = values_printed v n s ++ value_printed v n s ∷ []
+
+abbrev vector_printed : PolicyGraph → PolicyVectors → ℕ → List Printed
+vector_printed g v n = action_printed g n ∷ values_printed v n v.states
+
+abbrev all_printed : PolicyGraph → PolicyVectors → ℕ → List Printed
+all_printed g v zero = []
+all_printed g v (suc n) = all_printed g v n ++ vector_printed g v n
+
+texts-append : (us ws : List Printed) → texts_of (us ++ ws) ≡ texts_of us ++ texts_of ws
+texts-append [] ws = refl
+texts-append (u ∷ us) ws = ap (λ bs. printed_text u ++ bs) (texts-append us ws) ∙ sym (append_assoc (printed_text u) (texts_of us) (texts_of ws))
+
+text-values : (v : PolicyVectors) (n s : ℕ) → texts_of (values_printed v n s) ≡ values_text v n s
+text-values v n zero = refl
+text-values v n (suc s) =
+    texts-append (values_printed v n s) (value_printed v n s ∷ [])
+    ∙ (λ i. text-values v n s i ++ append-nil (printed_text (value_printed v n s)) i)
+    ∙ ap (λ bs. values_text v n s ++ bs) (text-number (value_of v n s) (behind_value v.states s))
+
+text-all : (g : PolicyGraph) (v : PolicyVectors) (n : ℕ) → texts_of (all_printed g v n) ≡ vectors_text_up_to g v n
+text-all g v zero = refl
+text-all g v (suc n) =
+    texts-append (all_printed g v n) (vector_printed g v n) ∙ (λ i. text-all g v n i ++ (action_text g n ++ text-values v n v.states i))
+
+parts-append : (place : ℕ) (us ws : List Printed) → parts_from place (us ++ ws) ≡ parts_from place us ++ parts_from (place + length (texts_of us)) ws
+parts-append place [] ws = ap (λ p. parts_from p ws) (omega arith)
+parts-append place (u ∷ us) ws =
+    ap (λ ps. part_with place u.negative u.numeral ∷ ps) (parts-append (place + length (printed_text u)) us ws
+    ∙ ap (λ p. parts_from (place + length (printed_text u)) us ++ parts_from p ws) (omega (arith, length-append (printed_text u) (texts_of us))))
+
+all-append : (us ws : List Printed) → AllPrinted us → AllPrinted ws → AllPrinted (us ++ ws)
+all-append [] ws a b = b
+all-append (u ∷ us) ws a b = (a.0, all-append us ws a.1 b)
+
+text_short : (us : List Printed) → AllPrinted us → length (texts_of us) ≤ 33 * length us
+text_short [] a = omega arith
+text_short (u ∷ us) a =
+    let more = text_short us a.1 in
+    let one = signed_short u.negative u.numeral u.behind a.0.plain.short a.0.few in
+    omega (arith, more, one, length-append (printed_text u) (texts_of us))
+  where
+    signed_short : (b : Bool) (w bs : List ℕ) → length w ≤ 30 → length bs ≤ 2 → length (printed_text (record { negative = b; numeral = w; behind = bs })) ≤ 33
+    signed_short true w bs l m = omega (arith, l, m, length-append (45 ∷ w) bs)
+    signed_short false w bs l m = omega (arith, l, m, length-append w bs)
+
+module _ (g : PolicyGraph) (v : PolicyVectors) (proper_g : IsProperGraph g) (proper_v : AreProperVectors v) (same : v.nodes ≡ nodes g) where
+  in_place : (n s : ℕ) → n < nodes g → s < v.states → n * v.states + s < length v.values
+  in_place n s l k =
+      let above = row_above v.states n (nodes g) l in
+      omega (arith, above, k, proper_v.filled, ap (λ c. c * v.states) same)
+
+  value_fits : (n s : ℕ) → n < nodes g → s < v.states → IsInRange (value_of v n s)
+  value_fits n s l k = proper_v.in_range (n * v.states + s) (value_of v n s) (slice_get-get_or v.values (n * v.states + s) (pos 0) (in_place n s l k))
+
+  values_are_printed : (n s : ℕ) → n < nodes g → s ≤ v.states → AllPrinted (values_printed v n s)
+  values_are_printed n zero l k = tt
+  values_are_printed n (suc s) l k =
+      all-append (values_printed v n s) (value_printed v n s ∷ []) (values_are_printed n s l (omega (arith, k))) (value_is_printed (value_of v n s) v.states s (value_fits n s l (omega (arith, k))), tt)
+
+  known_action : (n : ℕ) → n < nodes g → action_of g n < 1_001
+  known_action n l = omega (arith, proper_g.known n l, proper_g.few_actions)
+
+  all_are_printed : (n : ℕ) → n ≤ nodes g → AllPrinted (all_printed g v n)
+  all_are_printed zero l = tt
+  all_are_printed (suc n) l =
+      all-append (all_printed g v n) (vector_printed g v n) (all_are_printed n (omega (arith, l))) (action_is_printed g n (known_action n (omega (arith, l))), values_are_printed n v.states (omega (arith, l)) (omega arith))
+
+  length-values : (n s : ℕ) → length (values_printed v n s) ≡ s
+  length-values n zero = refl
+  length-values n (suc s) = length-append (values_printed v n s) (value_printed v n s ∷ []) ∙ omega (arith, length-values n s)
+
+  length-all : (n : ℕ) → length (all_printed g v n) ≡ n * (1 + v.states)
+  length-all zero = omega arith
+  length-all (suc n) = length-append (all_printed g v n) (vector_printed g v n) ∙ omega (arith, length-all n, length-values n v.states)
+
+  values_more : (n s : ℕ) → n < nodes g → s < v.states → take (n * v.states + s) v.values ++ value_of v n s ∷ [] ≡ take (n * v.states + suc s) v.values
+  values_more n s l k = sym (take_more v.values (n * v.states + s) (pos 0) (in_place n s l k)) ∙ ap (λ m. take m v.values) (omega arith)
+
+  parts_more : (ps : List Part) (n place s : ℕ) → (ps ++ parts_from place (action_printed g n ∷ values_printed v n s)) ++ part_with (place + length (texts_of (action_printed g n ∷ values_printed v n s))) (is_below_zero (value_of v n s)) (size_text (value_of v n s)) ∷ []
+      ≡ ps ++ parts_from place (action_printed g n ∷ values_printed v n (suc s))
+  parts_more ps n place s =
+      append_assoc ps (parts_from place (action_printed g n ∷ values_printed v n s)) (part_with (place + length (texts_of (action_printed g n ∷ values_printed v n s))) (is_below_zero (value_of v n s)) (size_text (value_of v n s)) ∷ [])
+      ∙ ap (λ qs. ps ++ qs) (sym (parts-append place (action_printed g n ∷ values_printed v n s) (value_printed v n s ∷ [])))
+
+  abbrev UpTo : List Part → ℕ → ℕ → List ℤ → Type 0
+  UpTo ps n c vs = AreVectorsUpTo g v.states ps n c vs
+
+  row : (ps : List Part) (n place : ℕ) → n < nodes g → UpTo ps n 0 (take (n * v.states) v.values) → (s : ℕ) → s < v.states
+      → UpTo (ps ++ parts_from place (action_printed g n ∷ values_printed v n s)) n (1 + s) (take (n * v.states + s) v.values)
+  row ps n place l old zero k =
+      let part = part_with place false (decimal (action_of g n)) in
+      subst (λ m. UpTo (ps ++ part ∷ []) n 1 (take m v.values)) (omega arith)
+      (step_vector_action g v.states ps part n (take (n * v.states) v.values) proper_v.some_states old l (action_part place (action_of g n) (omega (arith, known_action n l))))
+  row ps n place l old (suc s) k =
+      let h = value_of v n s in
+      let before = ps ++ parts_from place (action_printed g n ∷ values_printed v n s) in
+      let part = part_with (place + length (texts_of (action_printed g n ∷ values_printed v n s))) (is_below_zero h) (size_text h) in
+      let inside : s < v.states = omega (arith, k) in
+      let stepped = step_value_within g v.states before part h n s (take (n * v.states + s) v.values) k (row ps n place l old s inside) (value_part _ h (value_fits n s l inside)) in
+      subst (λ vs. UpTo (ps ++ parts_from place (action_printed g n ∷ values_printed v n (suc s))) n (1 + suc s) vs) (values_more n s l inside)
+      (subst (λ qs. UpTo qs n (1 + suc s) (take (n * v.states + s) v.values ++ h ∷ [])) (parts_more ps n place s)
+      (subst (λ c. UpTo (before ++ part ∷ []) n c (take (n * v.states + s) v.values ++ h ∷ [])) (omega arith) stepped))
+
+  whole_row : (ps : List Part) (n place : ℕ) → n < nodes g → UpTo ps n 0 (take (n * v.states) v.values)
+      → UpTo (ps ++ parts_from place (vector_printed g v n)) (suc n) 0 (take (suc n * v.states) v.values)
+  whole_row ps n place l old =
+      let s = v.states - 1 in
+      let last : suc s ≡ v.states = omega (arith, proper_v.some_states) in
+      let inside : s < v.states = omega (arith, proper_v.some_states) in
+      let h = value_of v n s in
+      let before = ps ++ parts_from place (action_printed g n ∷ values_printed v n s) in
+      let part = part_with (place + length (texts_of (action_printed g n ∷ values_printed v n s))) (is_below_zero h) (size_text h) in
+      let stepped = step_value_last g v.states before part h n s (take (n * v.states + s) v.values) last (row ps n place l old s inside) (value_part _ h (value_fits n s l inside)) in
+      let filled : take (n * v.states + s) v.values ++ h ∷ [] ≡ take (suc n * v.states) v.values = values_more n s l inside ∙ ap (λ m. take m v.values) (omega (arith, last)) in
+      let joined : before ++ part ∷ [] ≡ ps ++ parts_from place (vector_printed g v n) = parts_more ps n place s ∙ ap (λ c. ps ++ parts_from place (action_printed g n ∷ values_printed v n c)) last in
+      subst (λ vs. UpTo (ps ++ parts_from place (vector_printed g v n)) (suc n) 0 vs) filled (subst (λ qs. UpTo qs (suc n) 0 (take (n * v.states + s) v.values ++ h ∷ [])) joined stepped)
+
+  all_rows : (n : ℕ) → n ≤ nodes g → UpTo (parts_from 0 (all_printed g v n)) n 0 (take (n * v.states) v.values)
+  all_rows zero l =
+      let start : UpTo [] 0 0 [] = record {
+        records = record { action = λ n p e. absurd (some_none p e); value = λ n s p l e. absurd (some_none p e) };
+        count = omega arith;
+        within = omega arith;
+        filled = omega arith;
+        few = omega arith;
+        few_begun = λ l. absurd (omega (arith, l));
+      } in
+      let none : 0 ≡ 0 * v.states = omega arith in
+      subst (λ m. UpTo [] 0 0 (take m v.values)) none start
+  all_rows (suc n) l =
+      let few : n < nodes g = omega (arith, l) in
+      subst (λ qs. UpTo qs (suc n) 0 (take (suc n * v.states) v.values)) (sym (parts-append 0 (all_printed g v n) (vector_printed g v n)))
+      (whole_row (parts_from 0 (all_printed g v n)) n (0 + length (texts_of (all_printed g v n))) few (all_rows n (omega (arith, l))))
+
+  tokens_read_back : IsVectors g v.states (tokens_of (parts_from 0 (all_printed g v (nodes g)))) v
+  tokens_read_back =
+      let at = all_rows (nodes g) (omega arith) in
+      let filled : length v.values ≡ nodes g * v.states = proper_v.filled ∙ ap (λ c. c * v.states) same in
+      let whole : take (nodes g * v.states) v.values ≡ v.values = take_all (nodes g * v.states) v.values (omega (arith, filled)) in
+      record {
+        nodes_are = same;
+        states_are = refl;
+        parts = parts_from 0 (all_printed g v (nodes g));
+        spelled = refl;
+        count = at.count ∙ omega arith;
+        filled = filled;
+        records = (subst (λ vs. UpTo (parts_from 0 (all_printed g v (nodes g))) (nodes g) 0 vs) whole at).records;
+      }
+
+  short_text : length (texts_of (all_printed g v (nodes g))) ≤ text_limit
+  short_text =
+      let bound = text_short (all_printed g v (nodes g)) (all_are_printed (nodes g) (omega arith)) in
+      let count = length-all (nodes g) in
+      let most : nodes g * (1 + v.states) ≤ 10_000 * (1 + v.states) = mul-le-mul_right (1 + v.states) proper_g.few_nodes in
+      omega (arith, bound, count, most, proper_v.few_states)
+
+  -- the full form reads back
+  pub reads_back : IsVectorsText g v.states (vectors_text g v) v
+  reads_back =
+      let us = all_printed g v (nodes g) in
+      let cut = cut_printed us 0 [] (all_are_printed (nodes g) (omega arith)) refl in
+      let below = le-ltb text_limit (length (texts_of us)) short_text in
+      let whole : text_rest (texts_of us) text_limit ≡ rest_at 0 (texts_of us) = simp below in
+      subst (λ text. IsVectorsText g v.states text v) (text-all g v (nodes g))
+      (tokens_of (parts_from 0 us), subst (λ r. IsCut r (tokens_of (parts_from 0 us)) None) (sym whole) cut, tokens_read_back)

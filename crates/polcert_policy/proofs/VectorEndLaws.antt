@@ -1,0 +1,179 @@
+-- What is read of vectors where the text ends.
+use Rattle.std.proofs.Common.{◌≡◌, ◌∙◌, ℕ, ℤ, suc, zero, ◌+◌, ◌*◌, ◌<◌, ◌≤◌, ◌≤ℤ◌, ◌*ℤ◌, ◌⊎◌, ⊎_elim, Bool, true, false, pos, negsuc, neg_ℤ, Option, Some, None, List, [], ◌∷◌, ◌++◌, length, slice_get, get_or, refl, sym, ap, subst, arith, append-nil, length-append}
+use Rattle.std.proofs.lemmas.Int.{ints, to_z-of_z, fits_signed_from_abs}
+use Rattle.std.proofs.lemmas.Option.{slice_get-get_or}
+use Rattle.std.specs.Prelude.{FitsSigned}
+use mir.Syntax.{w64}
+use mir.Val.{to_z, of_z}
+use Rattle.std.proofs.Math.Nat.{mul-le-mul_right}
+use Rattle.std.proofs.Math.IntN.{pos-*ℤ-pos}
+use Rattle.polcert_text.specs.Cut.{Lexeme}
+use Rattle.polcert_text.specs.Numbers.{millionth, size_of, largest, signed, IsReadable, IsFloor}
+use Rattle.polcert_text.proofs.SignedLaws.{signed-mul}
+use Rattle.polcert_text.proofs.SizeLaws.{millionth_pos}
+use Rattle.polcert_policy.specs.Graphs.{PolicyGraph, nodes}
+use Rattle.polcert_policy.specs.Vectors.{PolicyVectors, Part, sign_kind, with_sign, tokens_of, AreVectors, IsVectors, IsInRange, AreProper}
+use Rattle.polcert_policy.specs.VectorsRead.{AreVectorsUpTo, open_of, IsOpenSign, HasVectors, AreUnfinished}
+use Rattle.polcert_policy.specs.declared.vectors_reading.OpenSign.{OpenSign}
+use Rattle.polcert_policy.specs.declared.vectors_reading.VectorsReading.{VectorsReading}
+use Rattle.polcert_policy.proofs.Places.{row_above, row_below, row_of, same_column, get_within, within_get, same_some}
+use Rattle.polcert_policy.proofs.VectorLaws.{head_of, tail_of, cons_not_nil, not_sign, front_parts, vector_parts}
+use Rattle.polcert_policy.proofs.VectorSteps.{tokens-append}
+use Rattle.polcert_policy.proofs.VectorReadLaws.{NextPart, drop_same, next_part, possible_seen}
+
+no_tokens : (ps : List Part) → [] ≡ tokens_of ps → length ps ≡ 0
+no_tokens [] e = refl
+no_tokens (p ∷ ps) e = absurd (at p.sign e)
+  where
+    at : (s : Option Lexeme) → [] ≡ with_sign s p.token ++ tokens_of ps → ⊥
+    at None e = cons_not_nil _ _ (sym e)
+    at (Some s) e = cons_not_nil _ _ (sym e)
+
+-- the parts of whole vectors
+whole_count : (g : PolicyGraph) (o : ℕ) (ps : List Part) (vs : List ℤ) (v : PolicyVectors) → AreVectors g o ps vs → IsVectors g o (tokens_of ps ++ []) v → length ps ≡ nodes g * (1 + o)
+whole_count g o ps vs v old all =
+    let found = front_parts ps all.parts [] (vector_parts g o ps vs old) (vector_parts g o all.parts v.values all.records) all.spelled in
+    let none = no_tokens found.0 (drop_same (tokens_of ps) [] (tokens_of found.0) (all.spelled ∙ ap tokens_of found.1 ∙ tokens-append ps found.0)) in
+    omega (arith, all.count, ap length found.1, length-append ps found.0, none)
+
+-- no vectors end in a sign
+open_ended : (g : PolicyGraph) (o : ℕ) (ps : List Part) (node column : ℕ) (vs : List ℤ) (s : Lexeme) (v : PolicyVectors) → sign_kind s.kind ≡ true
+    → AreVectorsUpTo g o ps node column vs → IsVectors g o (tokens_of ps ++ s ∷ []) v → ⊥
+open_ended g o ps node column vs s v sign old all = at n.part.sign n.tokens
+  where
+    n : NextPart g o ps node column v.values s []
+    n = next_part g o ps node column vs s [] v old all
+
+    at : (u : Option Lexeme) → s ∷ [] ≡ with_sign u n.part.token ++ tokens_of n.rest → ⊥
+    at None e = not_sign s n.part.token (head_of s n.part.token _ _ e) sign n.is_part.numeral
+    at (Some u) e = cons_not_nil _ _ (sym (tail_of s u _ _ e))
+
+pub unfinished_vector : (g : PolicyGraph) (seen : List Lexeme) (r : VectorsReading) → 1 ≤ r.states → 0 < r.column → HasVectors g seen r → AreUnfinished g r.states seen
+unfinished_vector g seen r some begun h = record {
+  possible = possible_seen g seen r some h;
+  unfinished = λ v all. at h.sign r.sign h.sign_is v (subst (λ ts. IsVectors g r.states ts v) h.spelled all);
+}
+  where
+    at : (s : Option Lexeme) (u : Option OpenSign) → IsOpenSign s u r.column → (v : PolicyVectors) → IsVectors g r.states (tokens_of h.parts ++ open_of s) v → ⊥
+    at None u is v all =
+        let count = whole_count g r.states h.parts r.values.items v h.vectors.records all in
+        let zero_is = same_column (1 + r.states) r.node (nodes g) r.column 0 h.vectors.within (omega arith) (omega (arith, count, h.vectors.count)) in
+        omega (arith, zero_is, begun)
+    at (Some s) None is v all = absurd is
+    at (Some s) (Some u) is v all = open_ended g r.states h.parts r.node r.column r.values.items s v is.0.kind h.vectors all
+
+pub at_column : (g : PolicyGraph) (seen : List Lexeme) (r : VectorsReading) → r.column ≤ 0 → (h : HasVectors g seen r) → AreVectorsUpTo g r.states h.parts r.node 0 r.values.items
+at_column g seen r e h =
+    let zero_is : r.column ≡ 0 = omega (arith, e) in
+    subst (λ c. AreVectorsUpTo g r.states h.parts r.node c r.values.items) zero_is h.vectors
+
+-- at a vector's action the tokens are the parts'
+spelled_whole : (g : PolicyGraph) (seen : List Lexeme) (r : VectorsReading) → r.column ≤ 0 → (h : HasVectors g seen r) → seen ≡ tokens_of h.parts ++ []
+spelled_whole g seen r e h = at h.sign r.sign h.sign_is h.spelled
+  where
+    at : (s : Option Lexeme) (u : Option OpenSign) → IsOpenSign s u r.column → seen ≡ tokens_of h.parts ++ open_of s → seen ≡ tokens_of h.parts ++ []
+    at None u is spelled = spelled
+    at (Some s) None is spelled = absurd is
+    at (Some s) (Some u) is spelled = absurd (omega (arith, is.1, e))
+
+pub too_few : (g : PolicyGraph) (seen : List Lexeme) (r : VectorsReading) → 1 ≤ r.states → r.column ≤ 0 → r.node < nodes g → HasVectors g seen r → AreUnfinished g r.states seen
+too_few g seen r some e fewer h = record {
+  possible = possible_seen g seen r some h;
+  unfinished = λ v all.
+      let count = whole_count g r.states h.parts r.values.items v h.vectors.records (subst (λ ts. IsVectors g r.states ts v) (spelled_whole g seen r e h) all) in
+      omega (arith, count, (at_column g seen r e h).count, row_above (1 + r.states) r.node (nodes g) fewer);
+}
+
+at_most : (n most d size : ℕ) → 0 < d → n * d ≤ size → size ≤ most * d → n ≤ most
+at_most n most d size some low high =
+    ⊎_elim (λ l. l) (λ l. let p : (most + 1) * d ≤ n * d = mul-le-mul_right d l in absurd (omega (arith, p, low, high, some))) (order n most)
+  where
+    order : (m n : ℕ) → (m ≤ n) ⊎ (n + 1 ≤ m)
+    order m n = grind arith
+
+low_end : (b : Bool) (size most : ℕ) → size ≤ most → neg_ℤ (pos most) ≤ℤ signed b size
+low_end true size most h = omega (arith, ints)
+low_end false size most h = omega (arith, ints)
+
+high_end : (b : Bool) (n size : ℕ) → pos n ≤ℤ signed b size → n ≤ size
+high_end true n size h = omega (arith, ints)
+high_end false n size h = omega (arith, ints)
+
+negative_below : (n most : ℕ) → negsuc n ≤ℤ pos most
+negative_below n most = omega (arith, ints)
+
+positive_below : (n most : ℕ) → n ≤ most → pos n ≤ℤ pos most
+positive_below n most h = omega (arith, ints)
+
+-- a readable number lies in the range of values
+pub floor_in_range : (b : Bool) (bs : List ℕ) (h : ℤ) → IsReadable bs → IsFloor b bs h → IsInRange h
+floor_in_range b bs h readable floor = (low, high h floor.not_above)
+  where
+    low : neg_ℤ (pos largest) ≤ℤ h
+    low = floor.greatest (neg_ℤ (pos largest)) (subst (λ z. z ≤ℤ signed b (size_of bs)) (sym (signed-mul true largest millionth)) (low_end b (size_of bs) (largest * millionth) readable.size))
+
+    high : (h : ℤ) → (h *ℤ pos millionth) ≤ℤ signed b (size_of bs) → h ≤ℤ pos largest
+    high (pos n) l =
+        let below = high_end b (n * millionth) (size_of bs) (subst (λ z. z ≤ℤ signed b (size_of bs)) (pos-*ℤ-pos n millionth) l) in
+        positive_below n largest (at_most n largest millionth (size_of bs) millionth_pos below readable.size)
+    high (negsuc n) l = negative_below n largest
+
+some_columns : (n o k : ℕ) → k < n * o → 1 ≤ o
+some_columns n zero k h = absurd (omega (arith, h))
+some_columns n (suc o) k h = omega arith
+
+values_in_range : (g : PolicyGraph) (o : ℕ) (ps : List Part) (node : ℕ) (vs : List ℤ) → AreVectors g o ps vs → length ps ≡ node * (1 + o) → length vs ≡ node * o
+    → (k : ℕ) (h : ℤ) → slice_get vs k ≡ Some h → IsInRange h
+values_in_range g o ps node vs records count filled k h e =
+    let row = row_of o k (some_columns node o k (omega (arith, within_get vs k h e, filled))) in
+    let n = row.0 in
+    let s = row.1.0 in
+    let inside : n * o + s < node * o = omega (arith, within_get vs k h e, filled, row.1.1) in
+    let rows = row_above (1 + o) n node (row_below o n s node inside) in
+    let part = get_within ps (n * (1 + o) + (1 + s)) (omega (arith, rows, count, row.1.2)) in
+    let one = records.value n s part.0 row.1.2 part.1 in
+    let same = same_some h one.0 (sym e ∙ ap (λ j. slice_get vs j) row.1.1 ∙ one.1) in
+    subst IsInRange (sym same) (floor_in_range _ _ one.0 one.2.readable one.2.floor)
+
+abbrev pub vectors_of : ℕ → ℕ → List ℤ → PolicyVectors
+vectors_of node o vs = record { nodes = node; states = o; values = vs }
+
+-- whole vectors, one for each node
+pub vectors_read : (g : PolicyGraph) (seen : List Lexeme) (r : VectorsReading) → r.column ≤ 0 → nodes g ≤ r.node → HasVectors g seen r → IsVectors g r.states seen (vectors_of r.node r.states r.values.items)
+vectors_read g seen r e enough h =
+    let at = at_column g seen r e h in
+    let all : r.node ≡ nodes g = omega (arith, enough, at.few) in
+    record {
+      nodes_are = all;
+      states_are = refl;
+      parts = h.parts;
+      spelled = spelled_whole g seen r e h ∙ append-nil (tokens_of h.parts);
+      count = at.count ∙ omega (arith, ap (λ n. n * (1 + r.states)) all);
+      filled = at.filled ∙ omega (arith, ap (λ n. n * r.states) all);
+      records = at.records;
+    }
+
+pub proper_read : (g : PolicyGraph) (seen : List Lexeme) (r : VectorsReading) → 1 ≤ r.states → r.states ≤ 1000 → r.column ≤ 0 → nodes g ≤ r.node → HasVectors g seen r → AreProper r.node r.states r.values.items
+proper_read g seen r some few e enough h =
+    let at = at_column g seen r e h in
+    record {
+      some_nodes = omega (arith, enough, h.proper.some_nodes);
+      few_nodes = omega (arith, at.few, h.proper.few_nodes);
+      some_states = some;
+      few_states = few;
+      filled = at.filled ∙ omega arith;
+      in_range = values_in_range g r.states h.parts r.node r.values.items at.records (at.count ∙ omega arith) (at.filled ∙ omega arith);
+    }
+
+pub in_range_fits : (x : ℤ) → IsInRange x → FitsSigned w64 x
+in_range_fits x h = fits_signed_from_abs w64 x (omega (arith, ints, h.0, h.1))
+
+-- a value in range is kept as it is
+pub kept_in_range : (x : ℤ) → IsInRange x → IsInRange (to_z w64 (of_z w64 x))
+kept_in_range x h = subst IsInRange (sym (to_z-of_z w64 x (in_range_fits x h))) h
+
+pub value_in_range : (count o n s : ℕ) (vs : List ℤ) (x d : ℤ) → AreProper count o vs → n < count → s < o → x ≡ get_or vs (n * o + s) d → IsInRange (to_z w64 (of_z w64 x))
+value_in_range count o n s vs x d proper l k e =
+    let above = row_above o n count l in
+    let inside : n * o + s < length vs = omega (arith, above, k, proper.filled) in
+    kept_in_range x (proper.in_range (n * o + s) x (slice_get-get_or vs (n * o + s) d inside ∙ ap Some (sym e)))

@@ -1,0 +1,123 @@
+-- Tokens are at most one list of vectors.
+use Rattle.std.proofs.Common.{◌≡◌, ◌∙◌, ℕ, ℤ, suc, zero, ◌+◌, ◌*◌, ◌<◌, ◌≤◌, ◌≤ℤ◌, Bool, true, ◌&&◌, Option, Some, None, List, [], ◌∷◌, ◌++◌, length, slice_get, refl, sym, ap, subst, arith, append-nil}
+use Rattle.std.proofs.lemmas.Int.{ints}
+use Rattle.polcert_text.specs.Cut.{Lexeme}
+use Rattle.polcert_text.specs.Numbers.{IsFloor}
+use Rattle.polcert_text.specs.declared.lexeme.TokenKind.{TokenKind}
+use Rattle.polcert_text.specs.declared.lexeme.TokenKind.TheVariants.{Numeral}
+use Rattle.polcert_policy.specs.Words.{numeral_kind}
+use Rattle.polcert_policy.specs.Graphs.{PolicyGraph, nodes}
+use Rattle.polcert_policy.specs.Vectors.{PolicyVectors, Part, sign_kind, with_sign, tokens_of, IsPart, IsActionPart, AreVectors, IsVectors}
+use Rattle.polcert_policy.proofs.Places.{row_above, row_below, row_of, get_within, within_get, same_some, some_none, same_list}
+
+pub head_of : {X : Type 0} (x y : X) (xs ys : List X) → x ∷ xs ≡ y ∷ ys → x ≡ y
+head_of x y xs ys e = cc
+
+pub tail_of : {X : Type 0} (x y : X) (xs ys : List X) → x ∷ xs ≡ y ∷ ys → xs ≡ ys
+tail_of x y xs ys e = cc
+
+pub cons_not_nil : {X : Type 0} (x : X) (xs : List X) → x ∷ xs ≡ [] → ⊥
+cons_not_nil x xs e = cc
+
+pub no_sign_numeral : (k : TokenKind) → numeral_kind k ≡ true → sign_kind k ≡ true → ⊥
+no_sign_numeral Numeral e f = cc
+no_sign_numeral _ e f = cc
+
+abbrev pub AreParts : List Part → Type 0
+AreParts ps = (k : ℕ) (p : Part) → slice_get ps k ≡ Some p → IsPart p
+
+pub not_sign : (s t : Lexeme) → s ≡ t → sign_kind s.kind ≡ true → numeral_kind t.kind ≡ true → ⊥
+not_sign s t e sign numeral = no_sign_numeral t.kind numeral (subst (λ x. sign_kind x.kind ≡ true) e sign)
+
+-- parts that begin the tokens of others begin the others
+pub front_parts : (ps qs : List Part) (more : List Lexeme) → AreParts ps → AreParts qs → tokens_of ps ++ more ≡ tokens_of qs → (rest : List Part) × (qs ≡ ps ++ rest)
+front_parts [] qs more a b e = (qs, refl)
+front_parts (p ∷ ps) [] more a b e = absurd (some_tokens p.sign e)
+  where
+    some_tokens : (sign : Option Lexeme) → (with_sign sign p.token ++ tokens_of ps) ++ more ≡ [] → ⊥
+    some_tokens None e = cons_not_nil _ _ e
+    some_tokens (Some s) e = cons_not_nil _ _ e
+front_parts (p ∷ ps) (q ∷ qs) more a b e = at (λ f. front_parts ps qs more (λ k. a (suc k)) (λ k. b (suc k)) f) p.sign q.sign refl refl e
+  where
+    next : p ≡ q → (rest : List Part) × (qs ≡ ps ++ rest) → (rest : List Part) × (q ∷ qs ≡ (p ∷ ps) ++ rest)
+    next same was = (was.0, λ i. sym same i ∷ was.1 i)
+
+    at : (tokens_of ps ++ more ≡ tokens_of qs → (rest : List Part) × (qs ≡ ps ++ rest)) → (x y : Option Lexeme) → p.sign ≡ x → q.sign ≡ y → (with_sign x p.token ++ tokens_of ps) ++ more ≡ with_sign y q.token ++ tokens_of qs → (rest : List Part) × (q ∷ qs ≡ (p ∷ ps) ++ rest)
+    at onward None None sx sy e =
+        let tokens = head_of p.token q.token _ _ e in
+        let signs = sx ∙ sym sy in
+        next (λ i. record { sign = signs i; token = tokens i }) (onward (tail_of p.token q.token _ _ e))
+    at onward None (Some t) sx sy e =
+        absurd (not_sign t p.token (sym (head_of p.token t _ _ e)) ((b 0 q refl).signed t sy) (a 0 p refl).numeral)
+    at onward (Some s) None sx sy e =
+        absurd (not_sign s q.token (head_of s q.token _ _ e) ((a 0 p refl).signed s sx) (b 0 q refl).numeral)
+    at onward (Some s) (Some t) sx sy e =
+        let behind = tail_of s t _ _ e in
+        let tokens = head_of p.token q.token _ _ behind in
+        let signs = sx ∙ ap Some (head_of s t _ _ e) ∙ sym sy in
+        next (λ i. record { sign = signs i; token = tokens i }) (onward (tail_of p.token q.token _ _ behind))
+
+whole_numeral : (k : TokenKind) (b : Bool) → (numeral_kind k && b) ≡ true → numeral_kind k ≡ true
+whole_numeral Numeral b e = refl
+whole_numeral _ b e = cc
+
+action_part : (a : ℕ) (p : Part) → IsActionPart a p → IsPart p
+action_part a p h = record {
+  numeral = whole_numeral p.token.kind _ h.whole;
+  signed = λ s e. absurd (some_none s (sym h.unsigned ∙ e));
+}
+
+-- the parts of vectors are numerals, perhaps behind a sign
+pub vector_parts : (g : PolicyGraph) (states : ℕ) (ps : List Part) (vs : List ℤ) → AreVectors g states ps vs → AreParts ps
+vector_parts g states ps vs h k p e =
+    let row = row_of (1 + states) k (omega arith) in at row.0 row.1.0 row.1.1 row.1.2
+  where
+    at : (n c : ℕ) → k ≡ n * (1 + states) + c → c < 1 + states → IsPart p
+    at n zero place l = action_part _ p (h.action n p (subst (λ x. slice_get ps x ≡ Some p) (omega (arith, place)) e))
+    at n (suc s) place l = (h.value n s p (omega (arith, l)) (subst (λ x. slice_get ps x ≡ Some p) (omega (arith, place)) e)).2.part
+
+antisym : (h k : ℤ) → h ≤ℤ k → k ≤ℤ h → h ≡ k
+antisym h k l m = omega (arith, ints, l, m)
+
+-- a numeral has one value
+one_floor : (b : Bool) (bs : List ℕ) (h k : ℤ) → IsFloor b bs h → IsFloor b bs k → h ≡ k
+one_floor b bs h k x y = antisym h k (y.greatest h x.not_above) (x.greatest k y.not_above)
+
+pub same_count : {X : Type 0} (xs ys : List X) → length (xs ++ ys) ≡ length xs → xs ++ ys ≡ xs
+same_count [] [] l = refl
+same_count [] (y ∷ ys) l = absurd (omega (arith, l))
+same_count (x ∷ xs) ys l = ap (λ zs. x ∷ zs) (same_count xs ys (omega (arith, l)))
+
+same_parts : (g : PolicyGraph) (states : ℕ) (ts : List Lexeme) (v w : PolicyVectors) (p : IsVectors g states ts v) (q : IsVectors g states ts w) → p.parts ≡ q.parts
+same_parts g states ts v w p q =
+    let found = front_parts p.parts q.parts [] (vector_parts g states p.parts v.values p.records) (vector_parts g states q.parts w.values q.records) (append-nil (tokens_of p.parts) ∙ sym p.spelled ∙ q.spelled) in
+    sym (found.1 ∙ same_count p.parts found.0 (sym (ap length found.1) ∙ q.count ∙ sym p.count))
+
+some_columns : (n o k : ℕ) → k < n * o → 1 ≤ o
+some_columns n zero k h = absurd (omega (arith, h))
+some_columns n (suc o) k h = omega arith
+
+same_value : (g : PolicyGraph) (states : ℕ) (ps : List Part) (vs ws : List ℤ) → length ps ≡ nodes g * (1 + states) → length vs ≡ nodes g * states → AreVectors g states ps vs → AreVectors g states ps ws
+    → (k : ℕ) (x y : ℤ) → slice_get vs k ≡ Some x → slice_get ws k ≡ Some y → x ≡ y
+same_value g states ps vs ws count filled p q k x y ex ey =
+    let row = row_of states k (some_columns (nodes g) states k (omega (arith, within_get vs k x ex, filled))) in
+    let n = row.0 in
+    let s = row.1.0 in
+    let inside : n * states + s < nodes g * states = omega (arith, within_get vs k x ex, filled, row.1.1) in
+    let rows = row_above (1 + states) n (nodes g) (row_below states n s (nodes g) inside) in
+    let part = get_within ps (n * (1 + states) + (1 + s)) (omega (arith, rows, count, row.1.2)) in
+    let one = p.value n s part.0 row.1.2 part.1 in
+    let two = q.value n s part.0 row.1.2 part.1 in
+    let first = same_some x one.0 (sym ex ∙ ap (λ j. slice_get vs j) row.1.1 ∙ one.1) in
+    let second = same_some y two.0 (sym ey ∙ ap (λ j. slice_get ws j) row.1.1 ∙ two.1) in
+    first ∙ one_floor _ _ one.0 two.0 one.2.floor two.2.floor ∙ sym second
+
+-- tokens are at most one list of vectors
+pub one_list : (g : PolicyGraph) (states : ℕ) (ts : List Lexeme) (v w : PolicyVectors) → IsVectors g states ts v → IsVectors g states ts w → v ≡ w
+one_list g states ts v w p q =
+    let parts = same_parts g states ts v w p q in
+    let records = subst (λ ps. AreVectors g states ps v.values) parts p.records in
+    let values = same_list v.values w.values (p.filled ∙ sym q.filled) (same_value g states q.parts v.values w.values q.count p.filled records q.records) in
+    let rows = p.nodes_are ∙ sym q.nodes_are in
+    let columns = p.states_are ∙ sym q.states_are in
+    λ i. record { nodes = rows i; states = columns i; values = values i }

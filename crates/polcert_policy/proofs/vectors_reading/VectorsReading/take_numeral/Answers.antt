@@ -1,0 +1,19 @@
+use Rattle.std.proofs.Common.{refl, subst}
+use Rattle.polcert_text.specs.Numbers.{IsFloor}
+use Rattle.std.proofs.lemmas.Int.{to_z-of_z}
+use mir.Syntax.{w64}
+use Rattle.polcert_policy.proofs.VectorEndLaws.{floor_in_range, in_range_fits}
+use Rattle.polcert_policy.proofs.VectorReadLaws.{refuse_numeral, read_value}
+use Rattle.polcert_policy.proofs.vectors_reading.VectorsReading.take_numeral.Goals as goal
+
+pub returns-in-Err-clause-takes : goal.returns-in-Err-clause-takes
+returns-in-Err-clause-takes c = λ graph seen h.
+    refuse_numeral graph seen c.args.self.now _ c.args.self.now.some_states h c.in-Err.fault _ c.requires.column c.number_place.ensures c.requires.numeral c.in-Err.ensures.fault
+
+pub returns-in_ok-push-in-Ok-clause-takes : goal.returns-in_ok-push-in-Ok-clause-takes
+returns-in_ok-push-in-Ok-clause-takes c = λ graph seen h.
+    let value = c.in-Ok.ensures.value in
+    let fits = in_range_fits c.in-Ok.value (floor_in_range _ _ c.in-Ok.value value.0 value.1) in
+    let pushed = rw (to_z-of_z w64 c.in-Ok.value fits) at c.in_ok-push-in-Ok.ensures in
+    read_value graph c.args.self.now _ _ seen _ c.in-Ok.value c.requires.column c.requires.numeral value.0 (subst (λ b. IsFloor b c.args.token.bytes.now c.in-Ok.value) c.is_negative.ensures value.1)
+    refl refl refl refl pushed c.advance.ensures h

@@ -1,0 +1,103 @@
+-- The token lists of vectors.
+--
+-- Restates the description of pomdp-solve's value function file, https://www.pomdp.org/code/alpha-file-spec.html: for
+-- each vector the number of its action, and then a value for each state. Here vector n belongs to node n of a policy
+-- graph, any line ends may stand between the tokens, and values are rounded down to whole millionths.
+use Rattle.std.specs.Prelude.{◌≡◌, ℕ, ℤ, ◌+◌, ◌*◌, ◌<◌, ◌≤◌, ◌≤ℤ◌, ◌+ℤ◌, neg_ℤ, map, Bool, true, false, Option, Some, None, List, [], ◌∷◌, ◌++◌, length, slice_get, slice_index_or, pos}
+use Rattle.polcert_text.specs.Cut.{Lexeme}
+use Rattle.polcert_text.specs.Numbers.{IsFloor, IsReadable, largest}
+use Rattle.polcert_text.specs.declared.lexeme.TokenKind.{TokenKind}
+use Rattle.polcert_text.specs.declared.lexeme.TokenKind.TheVariants.{Plus, Minus}
+use Rattle.polcert_policy.specs.Words.{numeral_kind, minus_kind, is_whole, whole_of}
+use Rattle.polcert_policy.specs.Graphs.{PolicyGraph, nodes, action_of, most_nodes, most_elements}
+
+-- a value for each node and state, node by node, in millionths
+pub record PolicyVectors : Type 0 where
+  pub nodes : ℕ
+  pub states : ℕ
+  pub values : List ℤ
+
+abbrev pub value_of : PolicyVectors → ℕ → ℕ → ℤ
+value_of v n s = slice_index_or v.values (n * v.states + s) (pos 0)
+
+abbrev pub sign_kind : TokenKind → Bool
+sign_kind Plus = true
+sign_kind Minus = true
+sign_kind _ = false
+
+-- a numeral, and the sign before it, if it has one
+pub record Part : Type 0 where
+  pub sign : Option Lexeme
+  pub token : Lexeme
+
+abbrev pub with_sign : Option Lexeme → Lexeme → List Lexeme
+with_sign None t = t ∷ []
+with_sign (Some s) t = s ∷ t ∷ []
+
+-- the tokens of the parts, one part behind another
+abbrev pub tokens_of : List Part → List Lexeme
+tokens_of [] = []
+tokens_of (p ∷ ps) = with_sign p.sign p.token ++ tokens_of ps
+
+abbrev pub is_negative : Option Lexeme → Bool
+is_negative None = false
+is_negative (Some s) = minus_kind s.kind
+
+pub record IsPart (p : Part) : Type 0 where
+  pub numeral : numeral_kind p.token.kind ≡ true
+  pub signed : (s : Lexeme) → p.sign ≡ Some s → sign_kind s.kind ≡ true
+
+-- digits alone that spell the action
+pub record IsActionPart (action : ℕ) (p : Part) : Type 0 where
+  pub unsigned : p.sign ≡ None
+  pub whole : is_whole p.token ≡ true
+  pub value : whole_of p.token ≡ action
+
+-- a number whose value, rounded down to millionths, is this
+pub record IsValuePart (p : Part) (value : ℤ) : Type 0 where
+  pub part : IsPart p
+  pub readable : IsReadable p.token.bytes
+  pub floor : IsFloor (is_negative p.sign) p.token.bytes value
+
+-- as far as they go, the parts are vectors of the graph with these values
+pub record AreVectors (graph : PolicyGraph) (states : ℕ) (parts : List Part) (values : List ℤ) : Type 0 where
+  pub action : (n : ℕ) (p : Part) → slice_get parts (n * (1 + states)) ≡ Some p → IsActionPart (action_of graph n) p
+  pub value : (n s : ℕ) (p : Part) → s < states → slice_get parts (n * (1 + states) + (1 + s)) ≡ Some p → (h : ℤ) × (slice_get values (n * states + s) ≡ Some h) × IsValuePart p h
+
+-- the tokens are the vectors
+pub record IsVectors (graph : PolicyGraph) (states : ℕ) (ts : List Lexeme) (v : PolicyVectors) : Type 0 where
+  pub nodes_are : v.nodes ≡ nodes graph
+  pub states_are : v.states ≡ states
+  pub parts : List Part
+  pub spelled : ts ≡ tokens_of parts
+  pub count : length parts ≡ nodes graph * (1 + states)
+  pub filled : length v.values ≡ nodes graph * states
+  pub records : AreVectors graph states parts v.values
+
+-- the tokens begin a list that is vectors of the graph
+abbrev pub ArePossible : PolicyGraph → ℕ → List Lexeme → Type 0
+ArePossible graph states ts = (more : List Lexeme) × ((v : PolicyVectors) × IsVectors graph states (ts ++ more) v)
+
+-- from -10,000,000 to 10,000,000, in millionths
+abbrev pub IsInRange : ℤ → Type 0
+IsInRange h = (neg_ℤ (pos largest) ≤ℤ h) × (h ≤ℤ pos largest)
+
+-- what is true of all vectors
+pub record AreProper (nodes states : ℕ) (values : List ℤ) : Type 0 where
+  pub some_nodes : 1 ≤ nodes
+  pub few_nodes : nodes ≤ most_nodes
+  pub some_states : 1 ≤ states
+  pub few_states : states ≤ most_elements
+  pub filled : length values ≡ nodes * states
+  pub in_range : (k : ℕ) (h : ℤ) → slice_get values k ≡ Some h → IsInRange h
+
+abbrev pub AreProperVectors : PolicyVectors → Type 0
+AreProperVectors v = AreProper v.nodes v.states v.values
+
+-- the same vectors with one number added to every value
+abbrev pub shifted_by : PolicyVectors → ℤ → PolicyVectors
+shifted_by v by = record { nodes = v.nodes; states = v.states; values = map (λ h. h +ℤ by) v.values }
+
+-- with this number added every value stays in range
+abbrev pub CanShift : PolicyVectors → ℤ → Type 0
+CanShift v by = (n s : ℕ) → n < v.nodes → s < v.states → IsInRange (value_of v n s +ℤ by)

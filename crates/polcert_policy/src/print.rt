@@ -1,0 +1,92 @@
+//! Writes vectors.
+ghost use Rattle.std.specs.Prelude.{◌≡◌, ◌<◌};
+ghost use Rattle.polcert_text.specs.Sink.{WritesText};
+ghost use Rattle.polcert_policy.specs.Graphs.{nodes};
+ghost use Rattle.polcert_policy.specs.VectorText.{IsVectorsText};
+ghost use Rattle.polcert_policy.specs.FullForm.{behind_value, value_text, values_text, action_text, vector_text, vectors_text};
+
+use crate::graph::Graph;
+use crate::vectors::Vectors;
+use itoa::Buffer;
+use polcert_text::{Sink, SinkFailed, write_all, write_scaled};
+
+/// Writes the vectors of a graph in full form: for each node its action on a line, its values on a line with one blank
+/// between, and an empty line. Values are written as decimal numbers without trailing zeros.
+///
+/// # Errors
+///
+/// Where the sink failed, which then took a beginning of the text.
+pub fn write_vectors<W: Sink>(
+    graph: &Graph,
+    vectors: &Vectors,
+    out: &mut W,
+) -> Result<(), SinkFailed>
+    requires { nodes graph.now ≡ vectors.now.nodes }
+    ensures written { WritesText W.writes W.failures out.old (vectors_text graph.now vectors.now) result out.new }
+
+    // Read with the same graph and number of states, the text is accepted and gives the same vectors.
+    ensures reads_back { IsVectorsText graph.now vectors.now.states (vectors_text graph.now vectors.now) vectors.now }
+{
+    let nodes = graph.nodes();
+    let vector_count = vectors.nodes();
+    prove!(nodes == vector_count);
+    for node in 0..nodes {
+        write_vector(graph, vectors, node, out)?;
+    }
+    Ok(())
+}
+
+fn write_vector<W: Sink>(
+    graph: &Graph,
+    vectors: &Vectors,
+    node: usize,
+    out: &mut W,
+) -> Result<(), SinkFailed>
+    requires node { node < nodes graph.now }
+    requires vector { node < vectors.now.nodes }
+    ensures { WritesText W.writes W.failures out.old (vector_text graph.now vectors.now node) result out.new }
+{
+    write_action(graph, node, out)?;
+    write_values(vectors, node, out)
+}
+
+fn write_action<W: Sink>(graph: &Graph, node: usize, out: &mut W) -> Result<(), SinkFailed>
+    requires { node < nodes graph.now }
+    ensures { WritesText W.writes W.failures out.old (action_text graph.now node) result out.new }
+{
+    let mut buffer = Buffer::new();
+    write_all(out, buffer.format(graph.action(node)).as_bytes())?;
+    write_all(out, b"\n")
+}
+
+fn write_values<W: Sink>(vectors: &Vectors, node: usize, out: &mut W) -> Result<(), SinkFailed>
+    requires { node < vectors.now.nodes }
+    ensures { WritesText W.writes W.failures out.old (values_text vectors.now node vectors.now.states) result out.new }
+{
+    for state in 0..vectors.states() {
+        write_value(vectors, node, state, out)?;
+    }
+    Ok(())
+}
+
+fn write_value<W: Sink>(
+    vectors: &Vectors,
+    node: usize,
+    state: usize,
+    out: &mut W,
+) -> Result<(), SinkFailed>
+    requires node { node < vectors.now.nodes }
+    requires state { state < vectors.now.states }
+    ensures { WritesText W.writes W.failures out.old (value_text vectors.now node state) result out.new }
+{
+    write_scaled(vectors.at(node, state), out)?;
+    write_all(out, separator(vectors.states(), state))
+}
+
+/// What stands behind a value: a blank, or behind the last of a vector its line end and an empty line.
+fn separator(states: usize, state: usize) -> &'static [u8]
+    requires { state < states }
+    ensures { result.now ≡ behind_value states state }
+{
+    if state + 1 == states { b"\n\n" } else { b" " }
+}

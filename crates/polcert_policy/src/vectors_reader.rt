@@ -1,0 +1,210 @@
+//! Reads the vectors of a policy graph.
+ghost use Rattle.std.specs.Prelude.{◌≡◌, ◌+◌, ◌<◌, ◌≤◌, ◌++◌, ◌∷◌, [], ℕ, true, false, List, MatchResult, IfErr};
+ghost use Rattle.polcert_text.specs.Cut.{Lexeme};
+ghost use Rattle.polcert_text.specs.Reading.{lexeme_of};
+ghost use Rattle.polcert_policy.specs.Words.{numeral_kind, minus_kind};
+ghost use Rattle.polcert_policy.specs.Graphs.{PolicyGraph, IsProperGraph, most_elements, most_nodes};
+ghost use Rattle.polcert_policy.specs.Vectors.{sign_kind, IsVectors};
+ghost use Rattle.polcert_policy.specs.VectorText.{IsVectorsText, IsNoVectorsText, IsVectorsRefusal};
+ghost use Rattle.polcert_policy.specs.VectorsRead.{place_behind, is_minus, HasVectors, TakesPart, CheckedAction, AdvancedValue, AreEndRefusal};
+
+use crate::fault::VectorFault;
+use crate::graph::Graph;
+use crate::growth::push;
+use crate::vectors::Vectors;
+use crate::vectors_reading::{OpenSign, VectorsReading};
+use crate::words::whole_of;
+use polcert_text::{TEXT_LIMIT, Token, TokenKind, Tokens, floor_of};
+use std::alloc::Global;
+
+impl VectorsReading {
+    fn new(alloc: Global, states: usize) -> Self
+        requires some_states { 1 ≤ states }
+        requires few_states { states ≤ most_elements }
+        ensures read { (graph : PolicyGraph) → IsProperGraph graph → HasVectors graph [] result }
+        ensures states { result.states ≡ states }
+    {
+        VectorsReading {
+            states,
+            node: 0,
+            column: 0,
+            values: Vec::new(alloc),
+            sign: None,
+        }
+    }
+
+    /// The token in place of a vector's action.
+    fn check_action(&self, graph: &Graph, token: Token<'_>) -> Result<(), VectorFault>
+        ensures { CheckedAction graph.now self.now.node (lexeme_of token.entry) result }
+    {
+        if self.node >= graph.nodes() {
+            return Err(VectorFault::WrongVectorCount(token.place));
+        }
+        match whole_of(token) {
+            None => Err(VectorFault::BadShape(token.place)),
+            Some(action) => {
+                if action == graph.action(self.node) {
+                    Ok(())
+                } else {
+                    Err(VectorFault::ActionMismatch(token.place))
+                }
+            }
+        }
+    }
+
+    fn take_action(&mut self, graph: &Graph, token: Token<'_>) -> Result<(), VectorFault>
+        requires { self.old.column ≡ 0 }
+        ensures takes { TakesPart graph.now (lexeme_of token.entry) self.old result self.new }
+        ensures states { self.new.states ≡ self.old.states }
+    {
+        self.check_action(graph, token)?;
+        self.column = 1;
+        Ok(())
+    }
+
+    /// Goes on to the place of the next value, or to the next vector.
+    fn advance(&mut self)
+        requires { 0 < self.old.column }
+        ensures { AdvancedValue self.old self.new }
+    {
+        if self.column < self.states {
+            self.column += 1;
+        } else {
+            self.column = 0;
+            self.node += 1;
+        }
+    }
+
+    /// Where the number begins to which the token belongs.
+    fn number_place(&self, token: Token<'_>) -> u64
+        ensures { result ≡ place_behind self.now.sign token.entry.place }
+    {
+        match self.sign {
+            None => token.place,
+            Some(sign) => sign.place,
+        }
+    }
+
+    fn is_negative(&self) -> bool
+        ensures { result ≡ is_minus self.now.sign }
+    {
+        match self.sign {
+            None => false,
+            Some(sign) => sign.is_negative,
+        }
+    }
+
+    fn take_sign(&mut self, sign: OpenSign) -> Result<(), VectorFault>
+        requires { 0 < self.old.column }
+        ensures takes { (graph : PolicyGraph) (t : Lexeme) → sign_kind t.kind ≡ true → sign.place ≡ t.place →
+            sign.is_negative ≡ minus_kind t.kind → TakesPart graph t self.old result self.new }
+        ensures states { self.new.states ≡ self.old.states }
+    {
+        match self.sign {
+            Some(before) => Err(VectorFault::BadShape(before.place)),
+            None => {
+                self.sign = Some(sign);
+                Ok(())
+            }
+        }
+    }
+
+    fn take_numeral(&mut self, token: Token<'_>) -> Result<(), VectorFault>
+        requires column { 0 < self.old.column }
+        requires numeral { numeral_kind token.kind ≡ true }
+        ensures takes { (graph : PolicyGraph) → TakesPart graph (lexeme_of token.entry) self.old result self.new }
+        ensures states { self.new.states ≡ self.old.states }
+    {
+        match floor_of(self.is_negative(), token.bytes) {
+            Err(fault) => Err(VectorFault::Number {
+                fault,
+                place: self.number_place(token),
+            }),
+            Ok(value) => {
+                push(&mut self.values, value)?;
+                self.sign = None;
+                self.advance();
+                Ok(())
+            }
+        }
+    }
+
+    fn take_value(&mut self, token: Token<'_>) -> Result<(), VectorFault>
+        requires { 0 < self.old.column }
+        ensures takes { (graph : PolicyGraph) → TakesPart graph (lexeme_of token.entry) self.old result self.new }
+        ensures states { self.new.states ≡ self.old.states }
+    {
+        match token.kind {
+            TokenKind::Numeral => self.take_numeral(token),
+            TokenKind::Plus => self.take_sign(OpenSign {
+                place: token.place,
+                is_negative: false,
+            }),
+            TokenKind::Minus => self.take_sign(OpenSign {
+                place: token.place,
+                is_negative: true,
+            }),
+            _ => Err(VectorFault::BadShape(self.number_place(token))),
+        }
+    }
+
+    /// Reads one more token.
+    fn take(&mut self, graph: &Graph, token: Token<'_>) -> Result<(), VectorFault>
+        ensures takes { TakesPart graph.now (lexeme_of token.entry) self.old result self.new }
+        ensures states { self.new.states ≡ self.old.states }
+    {
+        if self.column == 0 {
+            self.take_action(graph, token)
+        } else {
+            self.take_value(token)
+        }
+    }
+
+    /// The vectors, where the text ends here.
+    fn finish(self, graph: &Graph, end: u64) -> Result<Vectors, VectorFault>
+        requires { (seen : List Lexeme) × HasVectors graph.now seen self }
+        ensures { (seen : List Lexeme) → HasVectors graph.now seen self → MatchResult result
+            (IsVectors graph.now self.states seen)
+            (AreEndRefusal graph.now self.states seen end) }
+    {
+        if self.column > 0 {
+            return Err(VectorFault::Truncated(end));
+        }
+        if self.node < graph.nodes() {
+            return Err(VectorFault::WrongVectorCount(end));
+        }
+        Ok(Vectors::new(self.node, self.states, self.values))
+    }
+}
+
+/// Reads the vectors of a graph, as pomdp-solve writes them into an `.alpha` file: for each node its action and then a
+/// number for each state. Each value is rounded down to whole millionths. `states` is the model's count.
+///
+/// # Errors
+///
+/// The first token or number that can't stand at its place (V1 to V4, V6), or the end of the text where it may not end
+/// (V5, V6). V7 where memory ran out.
+pub fn read_vectors(
+    alloc: Global,
+    text: &[u8],
+    graph: &Graph,
+    states: usize,
+) -> Result<Vectors, VectorFault>
+    requires some_states { 1 ≤ states }
+    requires few_states { states ≤ most_elements }
+    ensures accepted { MatchResult result
+        (IsVectorsText graph.now states text.now)
+        (IsNoVectorsText graph.now states text.now) }
+    ensures refused { IfErr result (IsVectorsRefusal graph.now states text.now) }
+{
+    let mut tokens = Tokens::new(text, TEXT_LIMIT);
+    let _nodes = graph.nodes();
+    let mut reading = VectorsReading::new(alloc, states);
+    while let Some(next) = tokens.next_token() {
+        match next {
+            Ok(token) => reading.take(graph, token)?,
+            Err(fault) => return Err(VectorFault::Token(fault)),
+        }
+    }
+    reading.finish(graph, text.len() as u64)
+}
