@@ -1,0 +1,85 @@
+-- A refused text, and the texts that go on from it.
+use Rattle.std.proofs.Common.{◌≡◌, ◌+◌, ◌<◌, ◌≤◌, ◌++◌, ◌∙◌, ℕ, List, [], ◌∷◌, drop, Option, Some, None, Bool, true, false, length, take, length-append, arith, inl, inr, refl, sym, ap, subst, nat_lt}
+use Rattle.std.proofs.lemmas.Bool.{cases_lt, lt-ltb}
+use Rattle.std.proofs.lemmas.List.{take-append-le}
+use Rattle.polcert_text.specs.Cut.{Lexeme, Rest, text_rest, end_place, IsCut, Ends, EndsAt}
+use Rattle.polcert_text.specs.Source.{Gives, IsText, Fits, EachTextThatFits}
+use Rattle.polcert_text.specs.declared.tokens.TokenFault.{TokenFault}
+use Rattle.polcert_text.specs.declared.tokens.TokenFault.TheVariants.{TextTooLong}
+use Rattle.polcert_model.specs.declared.fault.ModelFault.{ModelFault}
+use Rattle.polcert_model.specs.Meaning.{Meaning}
+use Rattle.polcert_model.specs.Text.{most_bytes}
+use Rattle.polcert_model.specs.Narrow.{IsAccepted}
+use Rattle.polcert_model.specs.FirstWrong.{TextTokens, AreTokensOf, tokens_of}
+use Rattle.polcert_model.specs.Refusals.{IsRefusal, SaysOfText}
+use Rattle.polcert_model.proofs.RefusalLaws.{not_accepted}
+use Rattle.polcert.specs.Run.{IsRefused}
+
+ends_as : (place : ℕ) (bs : List ℕ) (ending : Option TokenFault) → EndsAt place bs ending None → ending ≡ None
+ends_as place [] ending e = sym e
+ends_as place (b ∷ bs) ending e = absurd e
+
+-- a cut that ends cleanly is one of bytes that do
+ends_cleanly : (rest : Rest) (ls : List Lexeme) → IsCut rest ls None → rest.ending ≡ None
+ends_cleanly rest [] cut = ends_as (rest.place + cut.gap) (drop cut.gap rest.bytes) rest.ending cut.ends_at
+ends_cleanly rest (l ∷ ls) cut = ap (λ (r : Rest). r.ending) (sym cut.1.rest) ∙ ends_cleanly cut.0 ls cut.2
+
+some≢none : {A : Type 0} (x : A) → Some x ≡ None → ⊥
+some≢none x e = cc
+
+past_limit : (text : List ℕ) (limit : ℕ) → limit < length text → (text_rest text limit).ending ≡ Some (TextTooLong limit)
+past_limit text limit past = let here = lt-ltb limit (length text) past in rw here refl
+
+-- a model's text lies below the limit
+pub within_limit : (text : List ℕ) (m : Meaning) → IsAccepted text m → length text ≤ most_bytes
+within_limit text m accepted = elim (cases_lt most_bytes (length text)) [
+  | inl past ↦ absurd (some≢none _ (sym (past_limit text most_bytes past) ∙ ends_cleanly (text_rest text most_bytes) accepted.model.lexemes accepted.model.cut))
+  | inr within ↦ within
+]
+
+-- what is cut of a text that goes on past the limit doesn't depend on how it goes on
+pub same_rest : (bytes rest : List ℕ) (limit : ℕ) → limit < length bytes → text_rest (bytes ++ rest) limit ≡ text_rest bytes limit
+same_rest bytes rest limit past =
+    let longer : limit < length (bytes ++ rest) = rw length-append (omega arith) in
+    let short : limit ≤ length bytes = omega arith in
+    let here = lt-ltb limit (length bytes) past in
+    let there = lt-ltb limit (length (bytes ++ rest)) longer in
+    rw (there, here, take-append-le limit bytes rest) refl
+
+-- what a refusal of a text's tokens says of a text with the same tokens
+pub refused_with : (bytes text : List ℕ) (fault : ModelFault) → text_rest text most_bytes ≡ text_rest bytes most_bytes → SaysOfText fault
+    → ((ts : TextTokens) → AreTokensOf bytes ts → IsRefusal ts fault) → IsRefused fault text
+refused_with bytes text fault same says refusal = record { no_model = no_model; refusal = of_text }
+  where
+    of_text : (ts : TextTokens) → AreTokensOf text ts → IsRefusal ts fault
+    of_text ts tokens = refusal ts (record {
+      cut = subst (λ r. IsCut r ts.lexemes ts.ending) same tokens.cut;
+      end_is = tokens.end_is ∙ ap end_place same;
+    })
+
+    no_model : (m : Meaning) → IsAccepted text m → ⊥
+    no_model m accepted =
+        let ts = tokens_of accepted.model.lexemes None (end_place (text_rest text most_bytes)) in
+        let tokens : AreTokensOf text ts = record { cut = accepted.model.cut; end_is = refl } in
+        not_accepted text ts fault m tokens (of_text ts tokens) says accepted
+
+-- where what was read whole, or past the limit, is refused, so is each text that fits it
+pub each_refused : {S : Type 0} (reads : S → ℕ → Option (List ℕ) → S → Type 0) (old new : S) (bytes : List ℕ) (fault : ModelFault)
+    → (length bytes ≤ most_bytes → IsText reads old bytes new)
+    → (most_bytes < length bytes → (length bytes ≡ most_bytes + 1) × Gives reads old bytes new)
+    → SaysOfText fault → ((ts : TextTokens) → AreTokensOf bytes ts → IsRefusal ts fault)
+    → EachTextThatFits reads old new (IsRefused fault)
+each_refused reads old new bytes fault whole beyond says refusal = elim (cases_lt most_bytes (length bytes)) [
+  | inl past ↦ record {
+    bytes = bytes;
+    is_whole = false;
+    was_read = (beyond past).1;
+    each = λ text fits. refused_with bytes text fault (ap (λ t. text_rest t most_bytes) fits.1 ∙ same_rest bytes fits.0 most_bytes past) says refusal;
+  }
+  | inr within ↦ record {
+    bytes = bytes;
+    is_whole = true;
+    was_read = whole within;
+    each = λ text fits. refused_with bytes text fault (ap (λ t. text_rest t most_bytes) fits) says refusal;
+  }
+]

@@ -1,0 +1,17 @@
+//! Reads a model from standard input, and writes the line that sums it up.
+#![tactic(auto)]
+
+mod fault;
+mod lines;
+mod program;
+mod refusal;
+mod runs;
+mod status;
+#[cfg(test)]
+mod tests;
+
+use std::process::ExitCode;
+
+fn main(rt: HostRuntime) -> ExitCode {
+    ExitCode::from(program::run_program(&rt))
+}
