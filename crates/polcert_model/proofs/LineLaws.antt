@@ -10,7 +10,7 @@ use Rattle.polcert_model.specs.declared.lines.DiscountReader.TheVariants as disc
 use Rattle.polcert_model.specs.Numbers.{IsMillionths, AreNumbers, none, one}
 use Rattle.polcert_model.specs.NumberSteps.{AreNumbersBehind, IsInRange, is_negative, IsSignAt, IsNoNumber}
 use Rattle.polcert_model.specs.LineSteps.{Takes, CannotTake, DiscountRest, DiscountGoes}
-use Rattle.polcert_model.proofs.StepLaws.{sign_back, sign_on, value_back, value_on, Behind}
+use Rattle.polcert_model.proofs.StepLaws.{sign_back, sign_on, value_back, value_on}
 
 all_none : (P : ℤ → Type 0) → All P []
 all_none P = λ k d h. absurd (omega arith)

@@ -1,5 +1,5 @@
 -- Lists of numbers, token by token.
-use Rattle.std.proofs.Common.{◌≡◌, ◌∙◌, ℕ, ◌+◌, ◌≤◌, Option, Some, None, List, [], ◌∷◌, ◌++◌, length, map, ℤ, pos, refl, sym, ap, subst, All, arith, append_assoc, length-append, Result, Ok, Err, IfErr}
+use Rattle.std.proofs.Common.{◌≡◌, ◌∙◌, ℕ, ◌+◌, ◌≤◌, Some, None, List, [], ◌∷◌, ◌++◌, length, map, ℤ, pos, refl, sym, ap, subst, All, arith, append_assoc, length-append, Result, Ok, Err, IfErr}
 use lib.IntN.{nat_abs}
 use Rattle.std.proofs.lemmas.List.Elements.{All-cons, All-tail}
 use Rattle.polcert_text.specs.Cut.{Lexeme}
@@ -15,7 +15,7 @@ use Rattle.polcert_model.specs.LineSteps.{Takes, CannotTake}
 use Rattle.polcert_model.specs.EntrySteps.{ProbabilitiesGo, RewardsGo, IsFull, IfRefused}
 use Rattle.polcert_model.specs.declared.entry_reader.Stop.{Stop}
 use Rattle.polcert_model.specs.declared.entry_reader.Stop.TheVariants.{Refused, Memory}
-use Rattle.polcert_model.proofs.StepLaws.{sign_back, sign_on, value_back, value_on, Behind}
+use Rattle.polcert_model.proofs.StepLaws.{sign_back, sign_on, value_back, value_on}
 
 pub all_none : {X : Type 0} (P : X → Type 0) → All P []
 all_none P = λ k d h. absurd (omega arith)

@@ -1,5 +1,5 @@
 -- What a right text says is sound, so that a model may keep it.
-use Rattle.std.proofs.Common.{◌≡◌, ◌∙◌, ℕ, zero, suc, ◌+◌, ◌*◌, ◌<◌, ◌≤◌, ◌==◌, Bool, true, false, List, [], ◌∷◌, ◌++◌, length, drop, map, All, Some, None, Option, ℤ, pos, unsigned_abs, bytes_eq, position, refl, sym, ap, subst, arith}
+use Rattle.std.proofs.Common.{◌≡◌, ◌∙◌, ℕ, zero, suc, ◌<◌, ◌≤◌, ◌==◌, Bool, List, [], ◌∷◌, length, drop, All, Some, None, Option, ℤ, unsigned_abs, bytes_eq, refl, sym, ap, subst, arith}
 use Rattle.std.specs.List.{list_any}
 use Rattle.std.proofs.lemmas.List.Elements.{All-append}
 use Rattle.std.proofs.lemmas.List.Quantifiers.{position-Some}
@@ -9,12 +9,11 @@ use Rattle.polcert_model.specs.declared.entry.Table.{Table}
 use Rattle.polcert_model.specs.declared.entry.Place.{Place}
 use Rattle.polcert_model.specs.declared.entry.Place.TheVariants.{Every, Only}
 use Rattle.polcert_model.specs.declared.entry.Body.{Body}
-use Rattle.polcert_model.specs.declared.entry.Body.TheVariants.{Probabilities, Rewards, Uniform, Identity}
 use Rattle.polcert_model.specs.declared.entry.Entry.{Entry}
 use Rattle.polcert_model.specs.Words.{Topic}
 use Rattle.polcert_model.specs.Numbers.{AreNumbers, one}
 use Rattle.polcert_model.specs.Numbers as numbers
-use Rattle.polcert_model.specs.Elements.{Elements, Count, Names, count_of, number_of, StandsFor, by_number, by_name, most_elements}
+use Rattle.polcert_model.specs.Elements.{Elements, Count, Names, count_of, number_of, StandsFor, by_number, by_name}
 use Rattle.polcert_model.specs.Items.{Item}
 use Rattle.polcert_model.specs.Preamble.{Preamble, dimensions}
 use Rattle.polcert_model.specs.Entry.{IsPlace, ArePlaces, IsBody, IsEntry, forms, cells_in}
@@ -22,11 +21,11 @@ use Rattle.polcert_model.specs.Entry as entries
 use Rattle.polcert_model.specs.Text as texts
 use Rattle.polcert_model.specs.Text.{Known, nothing_known, HasLines, IsComplete, IsInPreamble, IsRight, AreRight, IsRightText, Denotes}
 use Rattle.polcert_model.specs.Start.{Shares}
-use Rattle.polcert_model.specs.Meaning.{Meaning, meaning_of, IsCount, IsSame, HasProperRows}
+use Rattle.polcert_model.specs.Meaning.{Meaning, meaning_of, IsSame, HasProperRows}
 use Rattle.polcert_model.specs.Contents.{Contents, meaning}
 use Rattle.polcert_model.specs.Sound.{IsPlaceIn, ArePlacesIn, Fills, IsSoundEntry, IsSound, numbered, contents_of}
 use Rattle.polcert_model.proofs.Basics.{one_some, some≢none}
-use Rattle.polcert_model.proofs.LimitLaws.{number_within, KnownWithin, CountWithin, DiscountWithin, all_within}
+use Rattle.polcert_model.proofs.LimitLaws.{number_within, CountWithin, DiscountWithin, all_within}
 
 -- ---- one entry
 named_below : (elements : Elements) (name : List ℕ) (index : ℕ) → number_of elements name ≡ Some index → index < count_of elements

@@ -1,18 +1,18 @@
 -- A number of an item, token by token.
-use Rattle.std.proofs.Common.{◌≡◌, ◌∙◌, ℕ, ◌≤◌, Bool, true, false, Option, Some, None, List, [], ◌∷◌, ℤ, pos, refl, sym, ap, subst, All}
+use Rattle.std.proofs.Common.{◌≡◌, ◌∙◌, ℕ, Bool, true, false, Option, Some, None, List, [], ◌∷◌, ℤ, refl, sym, ap, subst, All}
 use Rattle.std.proofs.lemmas.List.Elements.{All-head}
 use Rattle.polcert_text.specs.Cut.{Lexeme}
-use Rattle.polcert_text.specs.Numbers.{IsReadable, IsExact, IsRefusedExactly}
+use Rattle.polcert_text.specs.Numbers.{IsRefusedExactly}
 use Rattle.polcert_text.specs.declared.lexeme.TokenKind.{TokenKind}
 use Rattle.polcert_text.specs.declared.lexeme.TokenKind.TheVariants.{Numeral, Plus, Minus}
 use Rattle.polcert_text.specs.declared.number.NumberFault.{NumberFault}
 use Rattle.polcert_text.proofs.TextLaws.{exact_not_refused}
 use Rattle.polcert_model.specs.declared.fault.ItemFault.{ItemFault}
-use Rattle.polcert_model.specs.declared.fault.ItemFault.TheVariants.{Number, BadShape, ProbabilityRange, DiscountRange, Reset}
+use Rattle.polcert_model.specs.declared.fault.ItemFault.TheVariants.{Number, BadShape, Reset}
 use Rattle.polcert_model.specs.declared.number.Sign.{Sign}
 use Rattle.polcert_model.specs.declared.number.Range.{Range}
 use Rattle.polcert_model.specs.declared.number.Range.TheVariants as ranges
-use Rattle.polcert_model.specs.Numbers.{IsMillionths, AreNumbers, none, unsigned, plus, minus}
+use Rattle.polcert_model.specs.Numbers.{IsMillionths, AreNumbers, unsigned, plus, minus}
 use Rattle.polcert_model.specs.NumberSteps.{AreNumbersBehind, IsInRange, is_negative, number_place, IsSignAt, IsSignKind, IsNoNumber, IsNumberReason, IsMisplaced, RefusesNumber, IsRangeFault}
 use Rattle.polcert_model.specs.NumberSteps as steps
 use Rattle.polcert_model.proofs.NumberLaws.{one_millionths}

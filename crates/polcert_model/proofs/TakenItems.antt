@@ -1,5 +1,5 @@
 -- An item as its reader goes on with it, from its word on: the same as what is right of it.
-use Rattle.std.proofs.Common.{◌≡◌, ◌∙◌, ℕ, ◌≤◌, Bool, true, false, Option, Some, None, unwrap_or, List, [], ◌∷◌, ◌++◌, All, pos, refl, sym, ap, subst, append_assoc}
+use Rattle.std.proofs.Common.{◌≡◌, ◌∙◌, ℕ, ◌≤◌, true, false, Option, Some, None, unwrap_or, List, [], ◌∷◌, ◌++◌, refl, sym, ap, subst, append_assoc}
 use Rattle.std.proofs.lemmas.List.Elements.{All-cons, All-nil}
 use Rattle.polcert_text.specs.Cut.{Lexeme}
 use Rattle.polcert_model.specs.declared.entry.Entry.{Entry}
@@ -7,7 +7,6 @@ use Rattle.polcert_model.specs.declared.entry.Table.{Table}
 use Rattle.polcert_model.specs.declared.entry.Table.TheVariants.{Transition, Observation, Reward}
 use Rattle.polcert_model.specs.declared.item.ItemReader.{ItemReader}
 use Rattle.polcert_model.specs.declared.item.ItemReader.TheVariants as items
-use Rattle.polcert_model.specs.declared.item.Said.TheVariants as said
 use Rattle.polcert_model.specs.declared.lines.DiscountReader.TheVariants as discount
 use Rattle.polcert_model.specs.declared.lines.ValuesReader.TheVariants as values
 use Rattle.polcert_model.specs.declared.lines.CountReader.TheVariants as count
@@ -24,9 +23,8 @@ use Rattle.polcert_model.specs.Reasons.{is_sign, ends_in_sign}
 use Rattle.polcert_model.specs.LineSteps.{Takes, CountRest}
 use Rattle.polcert_model.specs.EntrySteps.{preamble_in, indices_in, IsEntryBehind, EntryGoes, AreSome}
 use Rattle.polcert_model.specs.ItemSteps.{ItemGoes, IsItemWithin, topic_in, sign_in, SignIs, new_item, new_entry, HasElements}
-use Rattle.polcert_model.specs.KnownView.{learned}
 use Rattle.polcert_model.specs.TextSteps.{SignEnds, IsBodyRead}
-use Rattle.polcert_model.proofs.Basics.{one_some, some≢none}
+use Rattle.polcert_model.proofs.Basics.{some≢none}
 use Rattle.polcert_model.proofs.LinesGoOn.{entry_begins}
 use Rattle.polcert_model.proofs.LimitLaws.{CountWithin, counts_within}
 use Rattle.polcert_model.proofs.OrderLaws.{discount_may_stand, values_may_stand, states_may_stand, actions_may_stand, observations_may_stand, entry_may_stand}

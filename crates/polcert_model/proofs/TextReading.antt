@@ -1,5 +1,5 @@
 -- A text's reader, step by step: what it holds behind one more lexeme, and behind an item.
-use Rattle.std.proofs.Common.{◌≡◌, ◌∙◌, ℕ, ◌+◌, false, Option, Some, None, Result, Ok, Err, List, [], ◌∷◌, ◌++◌, length, MatchResult, refl, sym, ap, subst, append_assoc, length-append}
+use Rattle.std.proofs.Common.{◌≡◌, ◌∙◌, ℕ, ◌+◌, false, Option, Some, None, List, [], ◌∷◌, ◌++◌, refl, sym, ap, subst, append_assoc, length-append}
 use Rattle.polcert_text.specs.Cut.{Lexeme}
 use Rattle.polcert_model.specs.declared.fault.ItemFault.{ItemFault}
 use Rattle.polcert_model.specs.declared.fault.ItemFault.TheVariants.{BeforeFirstItem}
@@ -14,12 +14,11 @@ use Rattle.polcert_model.specs.Text.{Known, nothing_known}
 use Rattle.polcert_model.specs.Text as texts
 use Rattle.polcert_model.specs.Narrow.{IsTaken, AreTaken, at_start, narrow_word_fault}
 use Rattle.polcert_model.specs.Order.{word_fault, preamble_fault}
-use Rattle.polcert_model.specs.FirstWrong.{TextTokens, AreTokensOf}
 use Rattle.polcert_model.specs.Refusals.{IsRefusal}
 use Rattle.polcert_model.specs.LineSteps.{Takes, CannotTake, CannotEnd}
 use Rattle.polcert_model.specs.ItemSteps.{ItemGoes, IsItemWithin, IsItemReason, IsEndReason, topic_in, sign_in, SignIs, new_item, HasElements}
 use Rattle.polcert_model.specs.KnownView.{learned}
-use Rattle.polcert_model.specs.TextSteps.{IsTextRead, IsItemRead, IsBodyRead, AreItemsRead, IsWholeRead, IsRefusedBehind, IsRefusedAt, IsRefusedWhole, EndsItem, at_word, at_end, nothing, item}
+use Rattle.polcert_model.specs.TextSteps.{IsTextRead, IsItemRead, IsBodyRead, AreItemsRead, IsRefusedBehind, IsRefusedAt, IsRefusedWhole, at_word, at_end, nothing, item}
 use Rattle.polcert_model.proofs.Basics.{one_some}
 use Rattle.polcert_model.proofs.Dividing.{begins, empty_division, append-nil}
 use Rattle.polcert_model.proofs.NarrowLaws.{nothing_narrow}

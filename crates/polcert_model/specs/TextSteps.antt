@@ -1,6 +1,6 @@
 -- A text, item by item: what its reader holds behind the lexemes so far.
 -- Nobody has to believe this: only contracts of private functions cite it.
-use Rattle.std.specs.Prelude.{◌≡◌, ℕ, ◌+◌, ◌<◌, Bool, true, false, Option, Some, None, List, [], ◌∷◌, ◌++◌, length}
+use Rattle.std.specs.Prelude.{◌≡◌, ℕ, ◌+◌, true, false, Option, Some, None, List, [], ◌∷◌, ◌++◌, length}
 use Rattle.polcert_text.specs.Cut.{Lexeme}
 use Rattle.polcert_text.specs.declared.tokens.TokenFault.{TokenFault}
 use Rattle.polcert_text.specs.declared.tokens.TokenFault.TheVariants as token_faults
@@ -16,7 +16,7 @@ use Rattle.polcert_model.specs.Order.{preamble_fault}
 use Rattle.polcert_model.specs.Narrow.{IsTaken, narrow_word_fault}
 use Rattle.polcert_model.specs.Reading.{AreRightItems, IsWithinItem}
 use Rattle.polcert_model.specs.FirstWrong.{TextTokens, AreTokensOf}
-use Rattle.polcert_model.specs.Reasons.{is_sign, ends_in_sign}
+use Rattle.polcert_model.specs.Reasons.{ends_in_sign}
 use Rattle.polcert_model.specs.Refusals.{IsRefusal}
 use Rattle.polcert_model.specs.Contents.{Contents}
 use Rattle.polcert_model.specs.NumberSteps.{IsSignAt}

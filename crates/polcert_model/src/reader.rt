@@ -13,8 +13,8 @@ ghost use Rattle.polcert_model.specs.TextSteps.{IsTextRead, AreItemsRead, IsWhol
 use crate::entry_reader::Stop;
 use crate::item::ItemReader;
 use crate::known::Known;
-use crate::rows::{WrongRow, first_wrong_row};
 use crate::model::Model;
+use crate::rows::{WrongRow, first_wrong_row};
 use crate::words::{Topic, begun_topic};
 use crate::{ItemFault, ModelFault};
 use polcert_text::{TEXT_LIMIT, Token, TokenFault, Tokens};

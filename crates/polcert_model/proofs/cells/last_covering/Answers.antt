@@ -1,6 +1,4 @@
-use Rattle.std.proofs.Common.{◌+◌, ◌-◌, ◌≡◌, arith, false, drop, ap, sym, subst}
-use Rattle.std.specs.List.{list_any}
-use Rattle.polcert_model.specs.Cells.{none, covers}
+use Rattle.std.proofs.Common.{arith, sym}
 use Rattle.polcert_model.specs.Axes.{indices_of}
 use Rattle.polcert_model.proofs.AxisLaws.{found_last, none_from_start}
 use Rattle.polcert_model.proofs.cells.last_covering.Goals as goal

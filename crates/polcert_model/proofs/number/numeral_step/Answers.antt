@@ -1,4 +1,4 @@
-use Rattle.std.proofs.Common.{◌≡◌, rules, FitsSigned, w64, to_z-of_z, to_z, of_z}
+use Rattle.std.proofs.Common.{rules, FitsSigned, w64, to_z-of_z}
 use Rattle.polcert_text.specs.Reading.{lexeme_of}
 use Rattle.polcert_model.specs.Numbers.{IsMillionths}
 use Rattle.polcert_model.specs.NumberSteps.{is_negative}

@@ -1,4 +1,4 @@
-use Rattle.std.proofs.Common.{◌≡◌, ◌∙◌, ◌+◌, ◌≤◌, ◌++◌, ◌∷◌, [], None, Some, length, sym, ap, subst, arith}
+use Rattle.std.proofs.Common.{◌≡◌, ◌∙◌, ◌≤◌, ◌++◌, ◌∷◌, [], None, Some, length, sym, ap, subst, arith}
 use Rattle.std.proofs.lemmas.Result.{err_from_is_err_and}
 use Rattle.polcert_text.specs.Cut.{Rest, text_rest, end_place}
 use Rattle.polcert_text.specs.Reading.{lexeme_of}
@@ -37,8 +37,8 @@ returns-in_err-take-in-Ok-clause-refused c =
     let gives = rw c.in-Ok.is at c.in-Some.ensures in
     let p = err_from_is_err_and c.from_residual.result c.from_residual.ensures.1 in
     rw (p.1, p.2) (λ ts tokens.
-      let front = tokens_begin c.args.text.now _ _ ts (token _ _ _ was.0 _ was.1 gives.0) tokens in
-      c.in_err-take-in-Ok.ensures.read was.0 was.2 c.args.text.now ts front.0 tokens front.1)
+    let front = tokens_begin c.args.text.now _ _ ts (token _ _ _ was.0 _ was.1 gives.0) tokens in
+    c.in_err-take-in-Ok.ensures.read was.0 was.2 c.args.text.now ts front.0 tokens front.1)
 
 pub returns-in-Err-clause-refused : goal.returns-in-Err-clause-refused
 returns-in-Err-clause-refused c = λ ts tokens.

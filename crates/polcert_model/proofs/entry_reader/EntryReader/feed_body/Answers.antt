@@ -1,10 +1,9 @@
-use Rattle.std.proofs.Common.{◌≡◌, ◌∙◌, ◌≤◌, ℕ, drop, length, sym, ap, subst, rules, arith}
+use Rattle.std.proofs.Common.{◌∙◌, ◌≤◌, drop, length, sym, ap, subst, rules, arith}
 use Rattle.polcert_text.specs.Reading.{lexeme_of}
 use Rattle.polcert_model.specs.Entry.{cells_in}
 use Rattle.polcert_model.specs.KnownView.{least_written}
 use Rattle.polcert_model.specs.EntrySteps.{indices_in, IfRefused, CannotBegin, IsWordBehind}
 use Rattle.polcert_model.specs.declared.entry_reader.EntryState.TheVariants as states
-use Rattle.polcert_model.specs.declared.entry_reader.Stop.{Stop}
 use Rattle.polcert_model.proofs.Basics.{true≢false}
 use Rattle.polcert_model.proofs.GoOnLaws.{begins_no_number}
 use Rattle.polcert_model.proofs.PatternLaws.{colon_takes, colon_stuck, numbers_begin, numbers_stuck, few_stuck, word_takes, nothing_takes, in_state, stuck_in_state, number_not_colon, number_not_name, if_err_map, refused_map}

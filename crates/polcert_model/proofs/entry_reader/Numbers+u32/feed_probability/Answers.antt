@@ -1,7 +1,5 @@
 use Rattle.std.proofs.Common.{refl, rules, FitsSigned, w64, to_z-of_z}
 use Rattle.polcert_text.specs.Reading.{lexeme_of}
-use Rattle.polcert_model.specs.LineSteps.{CannotTake}
-use Rattle.polcert_model.specs.EntrySteps.{ProbabilitiesGo, IfRefused}
 use Rattle.polcert_model.proofs.ListLaws.{no_probability, probabilities_take_sign, probabilities_take_number, if_err, if_refused}
 use Rattle.polcert_model.proofs.entry_reader.Numbers+u32.feed_probability.Goals as goal
 

@@ -1,4 +1,4 @@
-use Rattle.std.proofs.Common.{◌≡◌, ◌∙◌, false, Option, unwrap_or, sym, subst}
+use Rattle.std.proofs.Common.{◌≡◌, ◌∙◌, false, unwrap_or, sym, subst}
 use Rattle.polcert_model.specs.Sound.{IsSound, contents_of}
 use Rattle.polcert_model.proofs.WholeTexts.{whole_sound, kept_is}
 use Rattle.polcert_model.proofs.known.Known.into_model.Goals as goal

@@ -1,5 +1,5 @@
 use Rattle.polcert_model.specs.Axes.{indices_of}
-use Rattle.polcert_model.proofs.SoundLaws.{IsFound, is_found, kept_sound, kept_found, weight_found, weight_nothing}
+use Rattle.polcert_model.proofs.SoundLaws.{is_found, kept_sound, kept_found, weight_found, weight_nothing}
 use Rattle.polcert_model.proofs.model.Model.weight.Goals as goal
 
 pub weight_of-requires-clause-sound : goal.weight_of-requires-clause-sound
