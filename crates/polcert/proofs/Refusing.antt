@@ -1,9 +1,9 @@
 -- A refused text, and the texts that go on from it.
-use Rattle.std.proofs.Common.{◌≡◌, ◌+◌, ◌<◌, ◌≤◌, ◌++◌, ◌∙◌, ℕ, List, [], ◌∷◌, drop, Option, Some, None, Bool, true, false, length, take, length-append, arith, inl, inr, refl, sym, ap, subst, nat_lt}
+use Rattle.std.proofs.Common.{◌≡◌, ◌+◌, ◌<◌, ◌≤◌, ◌++◌, ◌∙◌, ℕ, List, [], ◌∷◌, drop, Option, Some, None, true, false, length, length-append, arith, inl, inr, refl, sym, ap, subst}
 use Rattle.std.proofs.lemmas.Bool.{cases_lt, lt-ltb}
 use Rattle.std.proofs.lemmas.List.{take-append-le}
-use Rattle.polcert_text.specs.Cut.{Lexeme, Rest, text_rest, end_place, IsCut, Ends, EndsAt}
-use Rattle.polcert_text.specs.Source.{Gives, IsText, Fits, EachTextThatFits}
+use Rattle.polcert_text.specs.Cut.{Lexeme, Rest, text_rest, end_place, IsCut, EndsAt}
+use Rattle.polcert_text.specs.Source.{Gives, IsText, EachTextThatFits}
 use Rattle.polcert_text.specs.declared.tokens.TokenFault.{TokenFault}
 use Rattle.polcert_text.specs.declared.tokens.TokenFault.TheVariants.{TextTooLong}
 use Rattle.polcert_model.specs.declared.fault.ModelFault.{ModelFault}

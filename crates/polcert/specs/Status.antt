@@ -2,7 +2,6 @@
 use Rattle.std.specs.Prelude.{ℕ}
 use Rattle.polcert_model.specs.declared.fault.ModelFault.{ModelFault}
 use Rattle.polcert_model.specs.declared.fault.ModelFault.TheVariants.{Memory}
-use Rattle.polcert.specs.declared.fault.Fault.{Fault}
 use Rattle.polcert.specs.declared.fault.Fault.TheVariants.{Model}
 use Rattle.polcert.specs.declared.fault.RunFault.{RunFault}
 use Rattle.polcert.specs.declared.fault.RunFault.TheVariants.{Text, ReadModel, Write}

@@ -1,4 +1,4 @@
-use Rattle.std.proofs.Common.{◌≡◌, ◌∙◌, ◌<◌, ◌^◌, ◌++◌, List, ℕ, ℤ, codes, pos, ap, subst, arith, rules, to_z, w64}
+use Rattle.std.proofs.Common.{◌≡◌, ◌∙◌, ◌<◌, ◌^◌, ◌++◌, List, ℕ, codes, pos, ap, subst, arith, rules, to_z, w64}
 use Rattle.std.proofs.lemmas.Int.{to_z_pos}
 use Rattle.polcert_text.specs.Sink.{Takes, TakesFront}
 use Rattle.polcert_text.specs.Millionths.{scaled_text}

@@ -1,4 +1,4 @@
-use Rattle.std.proofs.Common.{◌≡◌, ap, sym, subst, length, ◌≤◌}
+use Rattle.std.proofs.Common.{◌≡◌, subst}
 use Rattle.polcert_model.specs.Contents.{meaning}
 use Rattle.polcert_model.specs.Narrow.{IsAccepted}
 use Rattle.polcert_model.specs.FirstWrong.{TextTokens, AreTokensOf}
