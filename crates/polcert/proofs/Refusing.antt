@@ -11,7 +11,7 @@ use Rattle.polcert_model.specs.Meaning.{Meaning}
 use Rattle.polcert_model.specs.Text.{most_bytes}
 use Rattle.polcert_model.specs.Narrow.{IsAccepted}
 use Rattle.polcert_model.specs.FirstWrong.{TextTokens, AreTokensOf, tokens_of}
-use Rattle.polcert_model.specs.Refusals.{IsRefusal, SaysOfText}
+use Rattle.polcert_model.specs.Refusals.{IsRefusal, IsPlacedRight, SaysOfText}
 use Rattle.polcert_model.proofs.RefusalLaws.{not_accepted}
 use Rattle.polcert.specs.Run.{IsRefused}
 
@@ -48,14 +48,14 @@ same_rest bytes rest limit past =
 
 -- what a refusal of a text's tokens says of a text with the same tokens
 pub refused_with : (bytes text : List ℕ) (fault : ModelFault) → text_rest text most_bytes ≡ text_rest bytes most_bytes → SaysOfText fault
-    → ((ts : TextTokens) → AreTokensOf bytes ts → IsRefusal ts fault) → IsRefused fault text
-refused_with bytes text fault same says refusal = record { no_model = no_model; refusal = of_text }
+    → ((ts : TextTokens) → AreTokensOf bytes ts → IsRefusal ts fault) → ((ts : TextTokens) → AreTokensOf bytes ts → IsPlacedRight ts fault) → IsRefused fault text
+refused_with bytes text fault same says refusal placed = record { no_model = no_model; refusal = of_text; placed = λ ts tokens. placed ts (of_bytes ts tokens) }
   where
+    of_bytes : (ts : TextTokens) → AreTokensOf text ts → AreTokensOf bytes ts
+    of_bytes ts tokens = record { cut = subst (λ r. IsCut r ts.lexemes ts.ending) same tokens.cut; end_is = tokens.end_is ∙ ap end_place same }
+
     of_text : (ts : TextTokens) → AreTokensOf text ts → IsRefusal ts fault
-    of_text ts tokens = refusal ts (record {
-      cut = subst (λ r. IsCut r ts.lexemes ts.ending) same tokens.cut;
-      end_is = tokens.end_is ∙ ap end_place same;
-    })
+    of_text ts tokens = refusal ts (of_bytes ts tokens)
 
     no_model : (m : Meaning) → IsAccepted text m → ⊥
     no_model m accepted =
@@ -67,19 +67,19 @@ refused_with bytes text fault same says refusal = record { no_model = no_model; 
 pub each_refused : {S : Type 0} (reads : S → ℕ → Option (List ℕ) → S → Type 0) (old new : S) (bytes : List ℕ) (fault : ModelFault)
     → (length bytes ≤ most_bytes → IsText reads old bytes new)
     → (most_bytes < length bytes → (length bytes ≡ most_bytes + 1) × Gives reads old bytes new)
-    → SaysOfText fault → ((ts : TextTokens) → AreTokensOf bytes ts → IsRefusal ts fault)
+    → SaysOfText fault → ((ts : TextTokens) → AreTokensOf bytes ts → IsRefusal ts fault) → ((ts : TextTokens) → AreTokensOf bytes ts → IsPlacedRight ts fault)
     → EachTextThatFits reads old new (IsRefused fault)
-each_refused reads old new bytes fault whole beyond says refusal = elim (cases_lt most_bytes (length bytes)) [
+each_refused reads old new bytes fault whole beyond says refusal placed = elim (cases_lt most_bytes (length bytes)) [
   | inl past ↦ record {
     bytes = bytes;
     is_whole = false;
     was_read = (beyond past).1;
-    each = λ text fits. refused_with bytes text fault (ap (λ t. text_rest t most_bytes) fits.1 ∙ same_rest bytes fits.0 most_bytes past) says refusal;
+    each = λ text fits. refused_with bytes text fault (ap (λ t. text_rest t most_bytes) fits.1 ∙ same_rest bytes fits.0 most_bytes past) says refusal placed;
   }
   | inr within ↦ record {
     bytes = bytes;
     is_whole = true;
     was_read = whole within;
-    each = λ text fits. refused_with bytes text fault (ap (λ t. text_rest t most_bytes) fits) says refusal;
+    each = λ text fits. refused_with bytes text fault (ap (λ t. text_rest t most_bytes) fits) says refusal placed;
   }
 ]

@@ -19,6 +19,7 @@ pub mod GoOnLaws
 pub mod EntryGoesOn
 pub mod LinesGoOn
 pub mod Possible
+pub mod Continuing
 pub mod StartLimits
 pub mod LimitLaws
 pub mod StepLaws

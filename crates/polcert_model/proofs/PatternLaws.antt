@@ -201,10 +201,10 @@ module _ (ds : List Elements) (before : List Place) (l : Lexeme) (no_colon : l.k
           (e.body, (t.on ls e.body go, entry_eta ds Reward before e h.places_are h.table_is e.body refl));
     }
 
-one_to_three : (n : ℕ) → 1 ≤ n → n ≤ 3 → list_any (λ k. k == n) (1 ∷ 2 ∷ 3 ∷ []) ≡ true
+pub one_to_three : (n : ℕ) → 1 ≤ n → n ≤ 3 → list_any (λ k. k == n) (1 ∷ 2 ∷ 3 ∷ []) ≡ true
 one_to_three n low high = grind (arith, nat_tests)
 
-two_to_four : (n : ℕ) → 2 ≤ n → n ≤ 4 → list_any (λ k. k == n) (2 ∷ 3 ∷ 4 ∷ []) ≡ true
+pub two_to_four : (n : ℕ) → 2 ≤ n → n ≤ 4 → list_any (λ k. k == n) (2 ∷ 3 ∷ 4 ∷ []) ≡ true
 two_to_four n low high = grind (arith, nat_tests)
 
 -- the body's numbers were begun

@@ -50,15 +50,15 @@ abbrev pub nothings : ℕ → List ℕ
 nothings zero = []
 nothings (suc n) = 0 ∷ nothings n
 
-zeros_are : (n : ℕ) → AreNumbers (zeros n) (map pos (nothings n))
+pub zeros_are : (n : ℕ) → AreNumbers (zeros n) (map pos (nothings n))
 zeros_are zero = none
 zeros_are (suc n) = unsigned (zero_is false) (zeros_are n)
 
-nothings_count : (n : ℕ) → length (nothings n) ≡ n
+pub nothings_count : (n : ℕ) → length (nothings n) ≡ n
 nothings_count zero = refl
 nothings_count (suc n) = let e = nothings_count n in omega (arith, e)
 
-nothings_in_range : (n : ℕ) → All (λ q. q ≤ one) (nothings n)
+pub nothings_in_range : (n : ℕ) → All (λ q. q ≤ one) (nothings n)
 nothings_in_range zero = All-nil (λ q. q ≤ one)
 nothings_in_range (suc n) = All-cons (λ q. q ≤ one) 0 (nothings n) (omega arith) (nothings_in_range n)
 
@@ -66,7 +66,7 @@ map-append : (qs rs : List ℕ) → map pos (qs ++ rs) ≡ map pos qs ++ map pos
 map-append [] rs = refl
 map-append (q ∷ qs) rs = ap (λ (l : List ℤ). pos q ∷ l) (map-append qs rs)
 
-length-pos : (qs : List ℕ) → length (map pos qs) ≡ length qs
+pub length-pos : (qs : List ℕ) → length (map pos qs) ≡ length qs
 length-pos [] = refl
 length-pos (q ∷ qs) = ap suc (length-pos qs)
 

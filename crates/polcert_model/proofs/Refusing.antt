@@ -1,8 +1,9 @@
 -- What the reader of a text refuses within an item: each refusal is of the first wrong item, lies in it, and has its
 -- reason.
-use Rattle.std.proofs.Common.{◌≡◌, ◌∙◌, ℕ, ◌+◌, false, Bool, Option, Some, None, List, [], ◌∷◌, ◌++◌, length, refl, sym, ap, subst}
+use Rattle.std.proofs.Common.{◌≡◌, ◌∙◌, ℕ, ◌+◌, true, false, Bool, Option, Some, None, List, [], ◌∷◌, ◌++◌, length, refl, sym, ap, subst}
 use Rattle.std.proofs.lemmas.List.{append_assoc}
 use Rattle.polcert_text.specs.Cut.{Lexeme}
+use Rattle.polcert_text.specs.declared.lexeme.TokenKind.TheVariants.{Numeral}
 use Rattle.polcert_model.specs.declared.fault.ItemFault.{ItemFault}
 use Rattle.polcert_model.specs.declared.fault.ItemFault.TheVariants.{Number, BadShape, BadCount, UnknownName, IndexOutOfRange, WrongNumberCount, ProbabilityRange, DiscountRange, Reset}
 use Rattle.polcert_model.specs.declared.fault.ModelFault.TheVariants as model_faults
@@ -12,11 +13,12 @@ use Rattle.polcert_model.specs.Words.{Topic, topic, begins_item}
 use Rattle.polcert_model.specs.Items.{Item, IsDivided}
 use Rattle.polcert_model.specs.Text.{Known, nothing_known}
 use Rattle.polcert_model.specs.Narrow.{IsTaken, AreTaken, narrow_word_fault}
-use Rattle.polcert_model.specs.Reading.{IsWithinItem, IsWrong, CannotGoOn}
+use Rattle.polcert_model.specs.Reading.{IsWithinItem, IsWrong, CannotGoOn, IsPossible}
 use Rattle.polcert_model.specs.FirstWrong.{TextTokens, IsFirstWrong, LiesIn, IsDecided, word_place, wrong_item}
-use Rattle.polcert_model.specs.Reasons.{IsReason, InItem, NumberStandsIn}
+use Rattle.polcert_model.specs.Reasons.{IsReason, InItem, NumberStandsIn, is_sign}
 use Rattle.polcert_model.specs.Reasons as reasons
-use Rattle.polcert_model.specs.Refusals.{place_or}
+use Rattle.polcert_model.specs.Refusals.{place_or, Stops, StopsInBody, in_body}
+use Rattle.polcert_model.specs.Refusals as refusals
 use Rattle.polcert_model.specs.NumberSteps.{is_negative, number_place, IsSignAt}
 use Rattle.polcert_model.specs.NumberSteps as steps
 use Rattle.polcert_model.specs.LineSteps.{CannotTake, CannotEnd}
@@ -29,6 +31,7 @@ use Rattle.polcert_model.proofs.Dividing.{next_division, empty_division, append-
 use Rattle.polcert_model.proofs.ReadLaws.{within_division}
 use Rattle.polcert_model.proofs.PlaceLaws.{Rises, tokens_rise, lies_in_item}
 use Rattle.polcert_model.proofs.DecidedLaws.{nothing_decided}
+use Rattle.polcert_model.proofs.Possible.{possible_front}
 use Rattle.polcert_model.proofs.Within.{within_goes_on}
 
 -- an item of the text with this number, topic and body, behind right ones
@@ -122,41 +125,89 @@ number_lies ts n place k t (Some sign) body more l h rises ends p =
 record Refused (ts : TextTokens) (n place : ℕ) (kind : ItemFault) : Type 0 where
   lies : LiesIn ts n place
   reason : IsReason ts n place kind
+  stops : StopsInBody ts n place
+
+-- a part of the body was taken, and there it stops
+stops_here : (ts : TextTokens) (n place : ℕ) (k : Known) (t : Topic) (body taken rest : List Lexeme) (h : Here ts n k t body) → body ≡ taken ++ rest
+    → IsPossible k t taken → Stops k t taken rest → place ≡ place_or rest (word_place h.after ts.end 0) → StopsInBody ts n place
+stops_here ts n place k t body taken rest h whole possible stops at = record {
+  before = h.before;
+  item = item_here h;
+  after = h.after;
+  divided = h.divided;
+  number_is = h.number_is;
+  k = k;
+  t = t;
+  known = h.taken;
+  topic_is = h.topic_is;
+  taken = taken;
+  rest = rest;
+  whole = whole;
+  possible = possible;
+  stops = stops;
+  place_is = at;
+}
+
+sign_kind : (sign : Sign) (s : Lexeme) → IsSignAt sign s → is_sign s.kind ≡ true
+sign_kind sign s (steps.plus kind negative place) = ap is_sign kind
+sign_kind sign s (steps.minus kind negative place) = ap is_sign kind
+
+number_stops : (ts : TextTokens) (n place : ℕ) (k : Known) (t : Topic) (sign : Option Sign) (body more : List Lexeme) (l : Lexeme) → Here ts n k t ((body ++ l ∷ []) ++ more)
+    → SignEnds sign body → place ≡ number_place sign l → l.kind ≡ Numeral → IsPossible k t body → CannotGoOn k t (body ++ l ∷ []) → StopsInBody ts n place
+number_stops ts n place k t None body more l h ends p kind possible stuck =
+    stops_here ts n place k t ((body ++ l ∷ []) ++ more) body (l ∷ more) h (append_assoc body (l ∷ []) more) possible (refusals.at_lexeme stuck) p
+number_stops ts n place k t (Some sign) body more l h ends p kind possible stuck =
+    let before = ends.0 in
+    let s = ends.1.0 in
+    let whole = ends.1.1.0 in
+    let front : IsPossible k t before = possible_front k t before (s ∷ []) (subst (IsPossible k t) whole possible) in
+    let pair : CannotGoOn k t (before ++ s ∷ l ∷ []) = subst (CannotGoOn k t) (ap (λ (b : List Lexeme). b ++ l ∷ []) whole ∙ append_assoc before (s ∷ []) (l ∷ [])) stuck in
+    stops_here ts n place k t ((body ++ l ∷ []) ++ more) before (s ∷ l ∷ more) h (signed_whole body before more s l whole) front
+    (refusals.at_number (sign_kind sign s ends.1.1.1) kind pair) (p ∙ sign_place sign s ends.1.1.1)
 
 at_number : (ts : TextTokens) (n place : ℕ) (k : Known) (t : Topic) (sign : Option Sign) (body more : List Lexeme) (l : Lexeme) (kind : ItemFault) → Here ts n k t ((body ++ l ∷ []) ++ more)
-    → Rises 0 ts.lexemes ts.end → SignEnds sign body → place ≡ number_place sign l → IsReason ts n place kind → Refused ts n place kind
-at_number ts n place k t sign body more l kind h rises ends p reason = record { lies = number_lies ts n place k t sign body more l h rises ends p; reason = reason }
+    → Rises 0 ts.lexemes ts.end → SignEnds sign body → IsPossible k t body → CannotGoOn k t (body ++ l ∷ []) → l.kind ≡ Numeral → place ≡ number_place sign l → IsReason ts n place kind
+    → Refused ts n place kind
+at_number ts n place k t sign body more l kind h rises ends possible stuck numeral p reason = record {
+  lies = number_lies ts n place k t sign body more l h rises ends p;
+  reason = reason;
+  stops = number_stops ts n place k t sign body more l h ends p numeral possible stuck;
+}
 
 at_lexeme : (ts : TextTokens) (n place : ℕ) (k : Known) (t : Topic) (body more : List Lexeme) (l : Lexeme) (kind : ItemFault) → Here ts n k t ((body ++ l ∷ []) ++ more)
-    → Rises 0 ts.lexemes ts.end → place ≡ l.place → IsReason ts n place kind → Refused ts n place kind
-at_lexeme ts n place k t body more l kind h rises p reason =
-    record { lies = lies_here ts n place k t ((body ++ l ∷ []) ++ more) body (l ∷ more) h rises (append_assoc body (l ∷ []) more) p; reason = reason }
+    → Rises 0 ts.lexemes ts.end → IsPossible k t body → CannotGoOn k t (body ++ l ∷ []) → place ≡ l.place → IsReason ts n place kind → Refused ts n place kind
+at_lexeme ts n place k t body more l kind h rises possible stuck p reason = record {
+  lies = lies_here ts n place k t ((body ++ l ∷ []) ++ more) body (l ∷ more) h rises (append_assoc body (l ∷ []) more) p;
+  reason = reason;
+  stops = stops_here ts n place k t ((body ++ l ∷ []) ++ more) body (l ∷ more) h (append_assoc body (l ∷ []) more) possible (refusals.at_lexeme stuck) p;
+}
 
 stands : (body more : List Lexeme) (l : Lexeme) (place : ℕ) (Is : Lexeme → Type 0) → place ≡ l.place → Is l → reasons.StandsIn ((body ++ l ∷ []) ++ more) place Is
 stands body more l place Is p so = record { before = body; lexeme = l; after = more; whole = append_assoc body (l ∷ []) more; place_is = p; holds = so }
 
 refused_here : (ts : TextTokens) (n place : ℕ) (k : Known) (t : Topic) (sign : Option Sign) (body more : List Lexeme) (l : Lexeme) (kind : ItemFault)
-    → Here ts n k t ((body ++ l ∷ []) ++ more) → Rises 0 ts.lexemes ts.end → SignEnds sign body → IsItemReason t sign l kind place → Refused ts n place kind
-refused_here ts n place k t sign body more l (Number fault) h rises ends m =
-    at_number ts n place k t sign body more l (Number fault) h rises ends m.0
+    → Here ts n k t ((body ++ l ∷ []) ++ more) → Rises 0 ts.lexemes ts.end → SignEnds sign body → IsPossible k t body → CannotGoOn k t (body ++ l ∷ []) → IsItemReason t sign l kind place
+    → Refused ts n place kind
+refused_here ts n place k t sign body more l (Number fault) h rises ends possible stuck m =
+    at_number ts n place k t sign body more l (Number fault) h rises ends possible stuck m.1.0 m.0
     (so_here ts n k t _ _ h (number_stands sign body more l place (reasons.IsRefusedNumber fault) ends m.0 m.1))
-refused_here ts n place k t sign body more l DiscountRange h rises ends m =
-    at_number ts n place k t sign body more l DiscountRange h rises ends m.1
+refused_here ts n place k t sign body more l DiscountRange h rises ends possible stuck m =
+    at_number ts n place k t sign body more l DiscountRange h rises ends possible stuck m.2.1.kind m.1
     (so_here ts n k t _ _ h (m.0, number_stands sign body more l place reasons.IsNoFraction ends m.1 m.2))
-refused_here ts n place k t sign body more l ProbabilityRange h rises ends m =
-    at_number ts n place k t sign body more l ProbabilityRange h rises ends m.1
+refused_here ts n place k t sign body more l ProbabilityRange h rises ends possible stuck m =
+    at_number ts n place k t sign body more l ProbabilityRange h rises ends possible stuck m.2.1.kind m.1
     (so_here ts n k t _ _ h (m.0, number_stands sign body more l place reasons.IsNoFraction ends m.1 m.2))
-refused_here ts n place k t sign body more l Reset h rises ends m =
-    at_lexeme ts n place k t body more l Reset h rises m.0 (so_here ts n k t _ _ h (stands body more l place _ m.0 m.1))
-refused_here ts n place k t sign body more l UnknownName h rises ends m =
-    at_lexeme ts n place k t body more l UnknownName h rises m.0 (so_here ts n k t _ _ h (stands body more l place _ m.0 m.1))
-refused_here ts n place k t sign body more l IndexOutOfRange h rises ends m =
-    at_lexeme ts n place k t body more l IndexOutOfRange h rises m.0 (so_here ts n k t _ _ h (stands body more l place _ m.0 m.1))
-refused_here ts n place k t sign body more l BadCount h rises ends m =
-    at_lexeme ts n place k t body more l BadCount h rises m.0 (so_here ts n k t _ _ h m.1)
-refused_here ts n place k t sign body more l BadShape h rises ends m = at_lexeme ts n place k t body more l BadShape h rises m tt
-refused_here ts n place k t sign body more l WrongNumberCount h rises ends m = at_lexeme ts n place k t body more l WrongNumberCount h rises m tt
-refused_here ts n place k t sign body more l _ h rises ends m = absurd m
+refused_here ts n place k t sign body more l Reset h rises ends possible stuck m =
+    at_lexeme ts n place k t body more l Reset h rises possible stuck m.0 (so_here ts n k t _ _ h (stands body more l place _ m.0 m.1))
+refused_here ts n place k t sign body more l UnknownName h rises ends possible stuck m =
+    at_lexeme ts n place k t body more l UnknownName h rises possible stuck m.0 (so_here ts n k t _ _ h (stands body more l place _ m.0 m.1))
+refused_here ts n place k t sign body more l IndexOutOfRange h rises ends possible stuck m =
+    at_lexeme ts n place k t body more l IndexOutOfRange h rises possible stuck m.0 (so_here ts n k t _ _ h (stands body more l place _ m.0 m.1))
+refused_here ts n place k t sign body more l BadCount h rises ends possible stuck m =
+    at_lexeme ts n place k t body more l BadCount h rises possible stuck m.0 (so_here ts n k t _ _ h m.1)
+refused_here ts n place k t sign body more l BadShape h rises ends possible stuck m = at_lexeme ts n place k t body more l BadShape h rises possible stuck m tt
+refused_here ts n place k t sign body more l WrongNumberCount h rises ends possible stuck m = at_lexeme ts n place k t body more l WrongNumberCount h rises possible stuck m tt
+refused_here ts n place k t sign body more l _ h rises ends possible stuck m = absurd m
 
 -- the item doesn't go on with the lexeme
 stuck : (seen : List Lexeme) (r : TextReader) (w : IsItemRead seen r) (l : Lexeme) → CannotTake (ItemGoes r.known) w.item l
@@ -171,13 +222,17 @@ feed_refused seen r l kind place w inner none reason text ts further tokens e =
     let more : List Lexeme = d.0 in
     let behind = within_goes_on seen l r.known w.t w.body w.within inner in
     let h : Here ts r.number r.known w.t ((w.body ++ l ∷ []) ++ more) = here ts r.number (seen ++ l ∷ []) (w.body ++ l ∷ []) further more r.known w.t d.1 behind e w.number_is d.2 in
-    let refused = refused_here ts r.number place r.known w.t (sign_in w.item) w.body more l kind h (tokens_rise text ts tokens) w.read.sign
+    let refused = refused_here ts r.number place r.known w.t (sign_in w.item) w.body more l kind h (tokens_rise text ts tokens) w.read.sign w.read.possible
+    (stuck seen r w l none)
     (subst (λ t. IsItemReason t (sign_in w.item) l kind place) w.read.topic_is reason) in
     record {
-      first_wrong = first_here ts r.number r.known w.t ((w.body ++ l ∷ []) ++ more) h (stuck seen r w l none more);
-      lies = refused.lies;
-      reason = refused.reason;
-      decided = λ fault at x. absurd (free_here ts r.number r.known w.t ((w.body ++ l ∷ []) ++ more) h w.read.may_stand fault at x);
+      refusal = record {
+        first_wrong = first_here ts r.number r.known w.t ((w.body ++ l ∷ []) ++ more) h (stuck seen r w l none more);
+        lies = refused.lies;
+        reason = refused.reason;
+        decided = λ fault at x. absurd (free_here ts r.number r.known w.t ((w.body ++ l ∷ []) ++ more) h w.read.may_stand fault at x);
+      };
+      placed = in_body refused.stops;
     }
 
 -- ---- an item that cannot end
@@ -210,8 +265,12 @@ pub end_refused : (seen : List Lexeme) (r : TextReader) (kind : ItemFault) (plac
 end_refused seen r kind place w none reason text ts tokens ends =
     let x = ends_here ts r.number place seen w.body r.known w.t w.within w.number_is ends in
     record {
-      first_wrong = first_here ts r.number r.known w.t (w.body ++ []) x.here_is (λ after taken. none after (w.read.on [] after taken));
-      lies = lies_here ts r.number place r.known w.t (w.body ++ []) w.body [] x.here_is (tokens_rise text ts tokens) refl x.place_is;
-      reason = end_reason ts r.number place r.known w.t (w.body ++ []) kind x.here_is (subst (λ t. IsEndReason t kind) w.read.topic_is reason);
-      decided = λ fault at y. absurd (free_here ts r.number r.known w.t (w.body ++ []) x.here_is w.read.may_stand fault at y);
+      refusal = record {
+        first_wrong = first_here ts r.number r.known w.t (w.body ++ []) x.here_is (λ after taken. none after (w.read.on [] after taken));
+        lies = lies_here ts r.number place r.known w.t (w.body ++ []) w.body [] x.here_is (tokens_rise text ts tokens) refl x.place_is;
+        reason = end_reason ts r.number place r.known w.t (w.body ++ []) kind x.here_is (subst (λ t. IsEndReason t kind) w.read.topic_is reason);
+        decided = λ fault at y. absurd (free_here ts r.number r.known w.t (w.body ++ []) x.here_is w.read.may_stand fault at y);
+      };
+      placed = in_body (stops_here ts r.number place r.known w.t (w.body ++ []) w.body [] x.here_is refl w.read.possible
+          (refusals.at_end (λ after taken. none after (w.read.on [] after (subst (λ b. IsTaken r.known w.t b after) (sym (append-nil w.body)) taken)))) x.place_is);
     }

@@ -16,8 +16,8 @@ use Rattle.polcert_model.specs.Order.{is_late, came_before, ends_preamble, has_a
 use Rattle.polcert_model.specs.Narrow.{at_start, narrow_word_fault}
 use Rattle.polcert_model.specs.FirstWrong.{TextTokens, AreTokensOf, LiesIn, IsDecided, wrong_front, wrong_fault, wrong_last, wrong_end, before_items, at_word, at_end}
 use Rattle.polcert_model.specs.Reasons.{IsReason}
-use Rattle.polcert_model.specs.Refusals.{IsItemRefusal, IsRefusal}
-use Rattle.polcert_model.specs.TextSteps.{IsNothingRead, IsItemRead, IsTextRead, AreItemsRead, IsRefusedBehind, fault_kind}
+use Rattle.polcert_model.specs.Refusals.{IsItemRefusal, IsOfTokens, before_body, of_tokens}
+use Rattle.polcert_model.specs.TextSteps.{IsNothingRead, IsItemRead, IsTextRead, AreItemsRead, IsRefusedBehind, Refuses, fault_kind}
 use Rattle.polcert_model.specs.TextSteps as texts
 use Rattle.polcert_model.proofs.Basics.{or_false_from, cons≢nil, some≢none}
 use Rattle.polcert_model.proofs.ItemLaws.{has_division, one_division}
@@ -41,10 +41,13 @@ before_refused seen r l w inner text ts further tokens e =
     let divided : IsDivided ts.lexemes (l ∷ d.0) d.1 = subst (λ ls. IsDivided ls (l ∷ d.0) d.1) (sym whole) (before_division l further d.0 d.1 inner d.2) in
     let decided : IsDecided ts r.number BeforeFirstItem l.place = before_items l d.0 d.1 divided w.number_is refl refl in
     record {
-      first_wrong = wrong_front l d.0 d.1 divided w.number_is;
-      lies = subst (λ n. LiesIn ts n l.place) (sym w.number_is) (lies_before_items ts l d.0 d.1 (tokens_rise text ts tokens) divided);
-      reason = decided;
-      decided = λ fault at x. one_decided ts r.number BeforeFirstItem fault l.place at decided x;
+      refusal = record {
+        first_wrong = wrong_front l d.0 d.1 divided w.number_is;
+        lies = subst (λ n. LiesIn ts n l.place) (sym w.number_is) (lies_before_items ts l d.0 d.1 (tokens_rise text ts tokens) divided);
+        reason = decided;
+        decided = λ fault at x. one_decided ts r.number BeforeFirstItem fault l.place at decided x;
+      };
+      placed = before_body decided;
     }
 
 -- ---- what is decided before a body
@@ -113,24 +116,30 @@ word_refused seen r word t kind w is wrong text ts further tokens e =
     here ts (r.number + 1) (seen ++ word ∷ []) [] further more r.known t d.1 (item_begins seen word r.known t w.items is) e (ap (λ n. n + 1) w.number_is) d.2 in
     let decided : IsDecided ts (r.number + 1) kind word.place = at_word h.before (item_here h) h.after r.known t h.divided h.taken h.topic_is wrong h.number_is refl in
     record {
-      first_wrong = first_here ts (r.number + 1) r.known t more h (wrong_at_word r.known t kind more wrong);
-      lies = subst (λ n. LiesIn ts n word.place) (sym h.number_is) (lies_at_word ts h.before (item_here h) h.after (tokens_rise text ts tokens) h.divided);
-      reason = order_reason ts (r.number + 1) word.place kind (word_order r.known t kind wrong) decided;
-      decided = λ fault at x. one_decided ts (r.number + 1) kind fault word.place at decided x;
+      refusal = record {
+        first_wrong = first_here ts (r.number + 1) r.known t more h (wrong_at_word r.known t kind more wrong);
+        lies = subst (λ n. LiesIn ts n word.place) (sym h.number_is) (lies_at_word ts h.before (item_here h) h.after (tokens_rise text ts tokens) h.divided);
+        reason = order_reason ts (r.number + 1) word.place kind (word_order r.known t kind wrong) decided;
+        decided = λ fault at x. one_decided ts (r.number + 1) kind fault word.place at decided x;
+      };
+      placed = before_body decided;
     }
 
 pub text_end_refused : (seen : List Lexeme) (r : TextReader) (kind : ItemFault) → AreItemsRead seen r → preamble_fault r.known ≡ Some kind
-    → (text : List ℕ) (ts : TextTokens) → AreTokensOf text ts → ts.lexemes ≡ seen → ts.ending ≡ None → IsRefusal ts (model_faults.Item kind (r.number + 1) ts.end)
+    → (text : List ℕ) (ts : TextTokens) → AreTokensOf text ts → ts.lexemes ≡ seen → ts.ending ≡ None → Refuses ts (model_faults.Item kind (r.number + 1) ts.end)
 text_end_refused seen r kind w wrong text ts tokens e clean =
     let items : List Item = w.items.items in
     let divided : IsDivided ts.lexemes [] items = subst (λ ls. IsDivided ls [] items) (sym e) w.items.divided in
     let number : r.number + 1 ≡ length items + 1 = ap (λ n. n + 1) w.number_is in
     let decided : IsDecided ts (r.number + 1) kind ts.end = at_end items r.known divided w.items.right clean wrong number refl in
     record {
-      first_wrong = wrong_end items r.known divided w.items.right clean (λ p complete. not_complete r.known p kind wrong complete) number;
-      lies = subst (λ n. LiesIn ts n ts.end) (sym number) (lies_at_end ts items divided);
-      reason = order_reason ts (r.number + 1) ts.end kind (preamble_order r.known kind wrong) decided;
-      decided = λ fault at x. one_decided ts (r.number + 1) kind fault ts.end at decided x;
+      refusal = record {
+        first_wrong = wrong_end items r.known divided w.items.right clean (λ p complete. not_complete r.known p kind wrong complete) number;
+        lies = subst (λ n. LiesIn ts n ts.end) (sym number) (lies_at_end ts items divided);
+        reason = order_reason ts (r.number + 1) ts.end kind (preamble_order r.known kind wrong) decided;
+        decided = λ fault at x. one_decided ts (r.number + 1) kind fault ts.end at decided x;
+      };
+      placed = before_body decided;
     }
 
 -- ---- a fault of the tokens
@@ -140,6 +149,12 @@ fault_reason ts n (token_faults.TextTooLong at) e = e
 fault_reason ts n (token_faults.BadByte at) e = (e, refl, tt)
 fault_reason ts n (token_faults.TokenTooLong at) e = (e, refl, tt)
 fault_reason ts n (token_faults.Glued at) e = (e, refl, tt)
+
+fault_of_tokens : (f : TokenFault) → IsOfTokens (fault_kind f)
+fault_of_tokens (token_faults.TextTooLong at) = tt
+fault_of_tokens (token_faults.BadByte at) = tt
+fault_of_tokens (token_faults.TokenTooLong at) = tt
+fault_of_tokens (token_faults.Glued at) = tt
 
 no_empty : (xs : List Item) (x : Item) (ys : List Item) → xs ++ x ∷ ys ≡ [] → ⊥
 no_empty [] x ys e = cons≢nil e
@@ -176,6 +191,6 @@ in_item seen r f w text ts tokens e ending =
     }
 
 pub fault_refused : (seen : List Lexeme) (r : TextReader) (f : TokenFault) → IsTextRead seen r → (text : List ℕ) (ts : TextTokens) → AreTokensOf text ts → ts.lexemes ≡ seen
-    → ts.ending ≡ Some f → IsRefusal ts (model_faults.Item (fault_kind f) r.number (fault_place f))
-fault_refused seen r f (texts.nothing w) text ts tokens e ending = at_once seen r f w text ts tokens e ending
-fault_refused seen r f (texts.item w) text ts tokens e ending = in_item seen r f w text ts tokens e ending
+    → ts.ending ≡ Some f → Refuses ts (model_faults.Item (fault_kind f) r.number (fault_place f))
+fault_refused seen r f (texts.nothing w) text ts tokens e ending = record { refusal = at_once seen r f w text ts tokens e ending; placed = of_tokens (fault_of_tokens f) }
+fault_refused seen r f (texts.item w) text ts tokens e ending = record { refusal = in_item seen r f w text ts tokens e ending; placed = of_tokens (fault_of_tokens f) }

@@ -26,6 +26,7 @@ use Rattle.polcert_model.specs.ItemSteps.{ItemGoes, IsItemWithin, topic_in, sign
 use Rattle.polcert_model.specs.TextSteps.{SignEnds, IsBodyRead}
 use Rattle.polcert_model.proofs.Basics.{some≢none}
 use Rattle.polcert_model.proofs.LinesGoOn.{entry_begins}
+use Rattle.polcert_model.proofs.Continuing.{can_end}
 use Rattle.polcert_model.proofs.LimitLaws.{CountWithin, counts_within}
 use Rattle.polcert_model.proofs.OrderLaws.{discount_may_stand, values_may_stand, states_may_stand, actions_may_stand, observations_may_stand, entry_may_stand}
 use Rattle.polcert_model.proofs.PatternLaws.{colon_takes}
@@ -182,6 +183,7 @@ new_is k (Cells table) r e = of_new k (Cells table) r (items.Entry (new_entry ta
 pub item_begun : (k : Known) (t : Topic) (r : ItemReader) → IsNarrow k → narrow_word_fault k t ≡ None → new_item t ≡ Some r → IsBodyRead k t [] r
 item_begun k t r narrow free e =
     let n = new_is k t r e in
+    let last = can_end k r n.within in
     record {
       may_stand = free;
       topic_is = n.topic_is;
@@ -189,6 +191,7 @@ item_begun k t r narrow free e =
       sign = subst (λ s. SignEnds s []) (sym n.no_sign) refl;
       back = λ ls next goes. goes_taken k t r ls next narrow free e goes;
       on = λ ls next taken. taken_goes k t r ls next e taken;
+      possible = record { more = last.more; after = last.after; taken = goes_taken k t r last.more last.after narrow free e last.goes };
     }
 
 last_sign : (body : List Lexeme) (l : Lexeme) → ends_in_sign (body ++ l ∷ []) ≡ is_sign l.kind
@@ -203,14 +206,19 @@ sign_ends (Some sign) body l s = (body, (l, (refl, s)))
 -- one lexeme more
 pub item_goes_on : (k : Known) (t : Topic) (body : List Lexeme) (old new : ItemReader) (l : Lexeme) → IsBodyRead k t body old → topic_in new ≡ topic_in old → IsItemWithin k new
     → Takes (ItemGoes k) old l new → SignIs (sign_in new) l → IsBodyRead k t (body ++ l ∷ []) new
-item_goes_on k t body old new l r same within takes sign = record {
-  may_stand = r.may_stand;
-  topic_is = same ∙ r.topic_is;
-  within = within;
-  sign = sign_ends (sign_in new) body l sign;
-  back = λ ls next goes. subst (λ x. IsTaken k t x next) (sym (append_assoc body (l ∷ []) ls)) (r.back (l ∷ ls) next (takes.back ls next goes));
-  on = λ ls next taken. takes.on ls next (r.on (l ∷ ls) next (subst (λ x. IsTaken k t x next) (append_assoc body (l ∷ []) ls) taken));
-}
+item_goes_on k t body old new l r same within takes sign =
+    let last = can_end k new within in
+    let on : IsTaken k t ((body ++ l ∷ []) ++ last.more) last.after =
+    subst (λ x. IsTaken k t x last.after) (sym (append_assoc body (l ∷ []) last.more)) (r.back (l ∷ last.more) last.after (takes.back last.more last.after last.goes)) in
+    record {
+      may_stand = r.may_stand;
+      topic_is = same ∙ r.topic_is;
+      within = within;
+      sign = sign_ends (sign_in new) body l sign;
+      back = λ ls next goes. subst (λ x. IsTaken k t x next) (sym (append_assoc body (l ∷ []) ls)) (r.back (l ∷ ls) next (takes.back ls next goes));
+      on = λ ls next taken. takes.on ls next (r.on (l ∷ ls) next (subst (λ x. IsTaken k t x next) (append_assoc body (l ∷ []) ls) taken));
+      possible = record { more = last.more; after = last.after; taken = on };
+    }
 
 -- ---- elements
 

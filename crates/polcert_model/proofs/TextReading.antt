@@ -14,11 +14,10 @@ use Rattle.polcert_model.specs.Text.{Known, nothing_known}
 use Rattle.polcert_model.specs.Text as texts
 use Rattle.polcert_model.specs.Narrow.{IsTaken, AreTaken, at_start, narrow_word_fault}
 use Rattle.polcert_model.specs.Order.{word_fault, preamble_fault}
-use Rattle.polcert_model.specs.Refusals.{IsRefusal}
 use Rattle.polcert_model.specs.LineSteps.{Takes, CannotTake, CannotEnd}
 use Rattle.polcert_model.specs.ItemSteps.{ItemGoes, IsItemWithin, IsItemReason, IsEndReason, topic_in, sign_in, SignIs, new_item, HasElements}
 use Rattle.polcert_model.specs.KnownView.{learned}
-use Rattle.polcert_model.specs.TextSteps.{IsTextRead, IsItemRead, IsBodyRead, AreItemsRead, IsRefusedBehind, IsRefusedAt, IsRefusedWhole, at_word, at_end, nothing, item}
+use Rattle.polcert_model.specs.TextSteps.{Refuses, IsTextRead, IsItemRead, IsBodyRead, AreItemsRead, IsRefusedBehind, IsRefusedAt, IsRefusedWhole, at_word, at_end, nothing, item}
 use Rattle.polcert_model.proofs.Basics.{one_some}
 use Rattle.polcert_model.proofs.Dividing.{begins, empty_division, append-nil}
 use Rattle.polcert_model.proofs.NarrowLaws.{nothing_narrow}
@@ -158,4 +157,4 @@ refused_at_end seen place fault refused text ts tokens same clean stop = refused
 pub whole_refused : (seen : List Lexeme) (r : TextReader) (kind : ItemFault) (place : ℕ) → AreItemsRead seen r → preamble_fault r.known ≡ Some kind
     → IsRefusedWhole seen place (model_faults.Item kind (r.number + 1) place)
 whole_refused seen r kind place a fault text ts tokens same clean stop =
-    subst (λ p. IsRefusal ts (model_faults.Item kind (r.number + 1) p)) stop (text_end_refused seen r kind a fault text ts tokens same clean)
+    subst (λ p. Refuses ts (model_faults.Item kind (r.number + 1) p)) stop (text_end_refused seen r kind a fault text ts tokens same clean)

@@ -19,7 +19,7 @@ use Rattle.polcert_model.specs.Refusals.{IsRefusal}
 use Rattle.polcert_model.specs.Contents.{Contents, meaning}
 use Rattle.polcert_model.specs.Sound.{IsSound, contents_of}
 use Rattle.polcert_model.specs.EntrySteps.{preamble_in}
-use Rattle.polcert_model.specs.TextSteps.{IsWholeRead, IsRefusedWhole, kept}
+use Rattle.polcert_model.specs.TextSteps.{IsWholeRead, Refuses, IsRefusedWhole, kept}
 use Rattle.polcert_model.proofs.OrderLaws.{is_complete}
 use Rattle.polcert_model.proofs.SoundTexts.{right_text_sound}
 use Rattle.polcert_model.proofs.TakenItems.{same_preamble}
@@ -76,7 +76,7 @@ read_to_end text (Ok k) seen place cut w = (seen, cut, w)
 read_to_end text (Err fault) seen place cut w = tt
 
 pub refused_at_text_end : (text : List ℕ) (result : Result Known ModelFault) (seen : List Lexeme) (place : ℕ) → IsCut (text_rest text most_bytes) seen None → end_place (text_rest text most_bytes) ≡ place
-    → MatchResult result (IsWholeRead seen) (IsRefusedWhole seen place) → IfErr result (λ fault. (ts : TextTokens) → AreTokensOf text ts → IsRefusal ts fault)
+    → MatchResult result (IsWholeRead seen) (IsRefusedWhole seen place) → IfErr result (λ fault. (ts : TextTokens) → AreTokensOf text ts → Refuses ts fault)
 refused_at_text_end text (Ok k) seen place cut stop w = tt
 refused_at_text_end text (Err fault) seen place cut stop refused = λ ts tokens.
     let these = these_tokens text seen None ts cut tokens in

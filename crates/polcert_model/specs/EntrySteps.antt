@@ -1,6 +1,6 @@
 -- An entry, token by token: what is still to come of an entry that was read so far.
 -- Nobody has to believe this: only contracts of private functions cite it.
-use Rattle.std.specs.Prelude.{◌≡◌, ◌≢◌, ℕ, ◌<◌, ◌≤◌, ◌==◌, true, false, Option, None, List, [], ◌∷◌, ◌++◌, length, drop, map, All, ℤ, pos, unwrap_or, codes}
+use Rattle.std.specs.Prelude.{◌≡◌, ◌≢◌, ℕ, ◌+◌, ◌<◌, ◌≤◌, ◌==◌, true, false, Option, Some, None, List, [], ◌∷◌, ◌++◌, length, drop, map, All, ℤ, pos, unwrap_or, codes}
 use Rattle.std.specs.List.{list_any}
 use Rattle.polcert_text.specs.Cut.{Lexeme}
 use Rattle.polcert_model.specs.declared.fault.ItemFault.{ItemFault}
@@ -106,13 +106,22 @@ StateGoes ds table places (states.Word w) ls entry = (ls ≡ []) × (entry ≡ e
 abbrev pub EntryGoes : List Elements → EntryReader → List Lexeme → Entry → Type 0
 EntryGoes ds r ls entry = StateGoes ds r.table r.places r.state ls entry
 
+-- one more number is awaited behind a sign
+abbrev pub awaited : Option Sign → ℕ
+awaited None = 0
+awaited (Some sign) = 1
+
+-- no more numbers than are needed
+abbrev pub HasRoom : {T : Type 0} → Numbers T → Type 0
+HasRoom n = length n.read + awaited n.sign ≤ n.needed
+
 -- the places so far are within the table's indices, and rewards are read as rewards alone
 abbrev pub IsStateWithin : List Elements → Table → List Place → EntryState → Type 0
 IsStateWithin ds table places states.Colon = places ≡ []
 IsStateWithin ds table places states.Place = length places < length ds
-IsStateWithin ds table places states.Body = length places ≤ length ds
-IsStateWithin ds table places (states.Probabilities n) = table ≢ Reward
-IsStateWithin ds table places (states.Rewards n) = table ≡ Reward
+IsStateWithin ds table places states.Body = (1 ≤ length places) × (length places ≤ length ds)
+IsStateWithin ds table places (states.Probabilities n) = (table ≢ Reward) × HasRoom n
+IsStateWithin ds table places (states.Rewards n) = (table ≡ Reward) × HasRoom n
 IsStateWithin ds table places (states.Word w) = Unit {0}
 
 abbrev pub IsWithinIndices : List Elements → EntryReader → Type 0
@@ -187,3 +196,9 @@ range_of _ = ranges.Probability
 -- each index has some element
 abbrev pub AreSome : List Elements → Type 0
 AreSome ds = All (λ d. 1 ≤ count_of d) ds
+
+-- the numbers of a body have room
+abbrev pub HasRoomIn : EntryState → Type 0
+HasRoomIn (states.Probabilities n) = HasRoom n
+HasRoomIn (states.Rewards n) = HasRoom n
+HasRoomIn _ = Unit {0}

@@ -3,6 +3,7 @@ use Rattle.std.specs.Prelude.{◌≡◌, ℕ, ◌+◌, true, List, [], ◌∷◌
 use Rattle.polcert_text.specs.Cut.{Lexeme}
 use Rattle.polcert_text.specs.declared.lexeme.TokenKind.TheVariants.{Numeral}
 use Rattle.polcert_model.specs.declared.fault.ItemFault.{ItemFault}
+use Rattle.polcert_model.specs.declared.fault.ItemFault.TheVariants.{Token, TextTooLong}
 use Rattle.polcert_model.specs.declared.fault.ModelFault.{ModelFault}
 use Rattle.polcert_model.specs.declared.fault.ModelFault.TheVariants.{RowSum, Memory}
 use Rattle.polcert_model.specs.declared.fault.ModelFault.TheVariants as model_faults
@@ -68,3 +69,20 @@ pub record StopsInBody (ts : TextTokens) (number place : ℕ) : Type 0 where
   pub possible : IsPossible k t taken
   pub stops : Stops k t taken rest
   pub place_is : place ≡ place_or rest (word_place after ts.end 0)
+
+-- the reasons that the tokens give, and not the item
+abbrev pub IsOfTokens : ItemFault → Type 0
+IsOfTokens (Token fault) = Unit {0}
+IsOfTokens TextTooLong = Unit {0}
+IsOfTokens _ = ⊥
+
+-- Where the refusal of an item stands: it is decided before the item's body, or stands in the body as far as that is
+-- possible, or is a fault of the tokens.
+pub data StandsRight (ts : TextTokens) (kind : ItemFault) (number place : ℕ) : Type 0 where
+  before_body : IsDecided ts number kind place → StandsRight ts kind number place
+  in_body : StopsInBody ts number place → StandsRight ts kind number place
+  of_tokens : IsOfTokens kind → StandsRight ts kind number place
+
+abbrev pub IsPlacedRight : TextTokens → ModelFault → Type 0
+IsPlacedRight ts (model_faults.Item kind number place) = StandsRight ts kind number place
+IsPlacedRight ts _ = Unit {0}

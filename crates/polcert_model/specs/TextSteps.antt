@@ -14,10 +14,10 @@ use Rattle.polcert_model.specs.Words.{Topic, begins_item}
 use Rattle.polcert_model.specs.Text.{Known, nothing_known}
 use Rattle.polcert_model.specs.Order.{preamble_fault}
 use Rattle.polcert_model.specs.Narrow.{IsTaken, narrow_word_fault}
-use Rattle.polcert_model.specs.Reading.{AreRightItems, IsWithinItem}
+use Rattle.polcert_model.specs.Reading.{AreRightItems, IsWithinItem, IsPossible}
 use Rattle.polcert_model.specs.FirstWrong.{TextTokens, AreTokensOf}
 use Rattle.polcert_model.specs.Reasons.{ends_in_sign}
-use Rattle.polcert_model.specs.Refusals.{IsRefusal}
+use Rattle.polcert_model.specs.Refusals.{IsRefusal, IsPlacedRight}
 use Rattle.polcert_model.specs.Contents.{Contents}
 use Rattle.polcert_model.specs.NumberSteps.{IsSignAt}
 use Rattle.polcert_model.specs.EntrySteps.{preamble_in}
@@ -36,6 +36,7 @@ pub record IsBodyRead (k : Known) (t : Topic) (body : List Lexeme) (item : ItemR
   pub sign : SignEnds (sign_in item) body
   pub back : (ls : List Lexeme) (next : Known) → ItemGoes k item ls next → IsTaken k t (body ++ ls) next
   pub on : (ls : List Lexeme) (next : Known) → IsTaken k t (body ++ ls) next → ItemGoes k item ls next
+  pub possible : IsPossible k t body
 
 -- within an item, behind right ones
 pub record IsItemRead (seen : List Lexeme) (r : TextReader) : Type 0 where
@@ -64,9 +65,14 @@ pub record AreItemsRead (seen : List Lexeme) (r : TextReader) : Type 0 where
   pub item_is : r.item ≡ None
   pub number_is : r.number ≡ length items.items
 
+-- all that is promised of a refusal
+pub record Refuses (ts : TextTokens) (fault : ModelFault) : Type 0 where
+  pub refusal : IsRefusal ts fault
+  pub placed : IsPlacedRight ts fault
+
 -- a refusal of each text whose lexemes begin with these
 abbrev pub IsRefusedBehind : List Lexeme → ModelFault → Type 0
-IsRefusedBehind seen fault = (text : List ℕ) (ts : TextTokens) (further : List Lexeme) → AreTokensOf text ts → ts.lexemes ≡ seen ++ further → IsRefusal ts fault
+IsRefusedBehind seen fault = (text : List ℕ) (ts : TextTokens) (further : List Lexeme) → AreTokensOf text ts → ts.lexemes ≡ seen ++ further → Refuses ts fault
 
 -- an item ends at this place behind the lexemes: at the next item's word, or at the end of the text
 pub data EndsItem (ts : TextTokens) (seen : List Lexeme) (place : ℕ) : Type 0 where
@@ -75,7 +81,7 @@ pub data EndsItem (ts : TextTokens) (seen : List Lexeme) (place : ℕ) : Type 0 
 
 -- a refusal where an item ends here
 abbrev pub IsRefusedAt : List Lexeme → ℕ → ModelFault → Type 0
-IsRefusedAt seen place fault = (text : List ℕ) (ts : TextTokens) → AreTokensOf text ts → EndsItem ts seen place → IsRefusal ts fault
+IsRefusedAt seen place fault = (text : List ℕ) (ts : TextTokens) → AreTokensOf text ts → EndsItem ts seen place → Refuses ts fault
 
 -- how a fault of the tokens is named
 abbrev pub fault_kind : TokenFault → ItemFault
@@ -89,7 +95,7 @@ pub record IsWholeRead (seen : List Lexeme) (k : Known) : Type 0 where
 
 -- a refusal where the text ends cleanly here
 abbrev pub IsRefusedWhole : List Lexeme → ℕ → ModelFault → Type 0
-IsRefusedWhole seen place fault = (text : List ℕ) (ts : TextTokens) → AreTokensOf text ts → ts.lexemes ≡ seen → ts.ending ≡ None → ts.end ≡ place → IsRefusal ts fault
+IsRefusedWhole seen place fault = (text : List ℕ) (ts : TextTokens) → AreTokensOf text ts → ts.lexemes ≡ seen → ts.ending ≡ None → ts.end ≡ place → Refuses ts fault
 
 -- what is kept of it
 abbrev pub kept : Known → Contents

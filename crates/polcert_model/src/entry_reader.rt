@@ -5,7 +5,7 @@ ghost use Rattle.polcert_model.specs.Elements.{Elements, Count};
 ghost use Rattle.polcert_model.specs.Entry.{IsPlace};
 ghost use Rattle.polcert_model.specs.KnownView.{least_written};
 ghost use Rattle.polcert_model.specs.LineSteps.{Takes, CannotTake, CannotEnd};
-ghost use Rattle.polcert_model.specs.EntrySteps.{indices_in, ProbabilitiesGo, RewardsGo, EntryGoes, IsWithinIndices, IsEntryReason, IsPlaceReason, IfRefused, IsFull, IsListReason, MayStand, IsWordBehind, AreBegun, CannotBegin, range_of, no_numbers, body_of, entry_sign, AreSome};
+ghost use Rattle.polcert_model.specs.EntrySteps.{indices_in, ProbabilitiesGo, RewardsGo, EntryGoes, IsWithinIndices, IsEntryReason, IsPlaceReason, IfRefused, IsFull, IsListReason, MayStand, IsWordBehind, AreBegun, CannotBegin, range_of, HasRoom, HasRoomIn, no_numbers, body_of, entry_sign, AreSome};
 ghost use Rattle.polcert_model.specs.ItemSteps.{SignIs, IsEndReason};
 ghost use Rattle.polcert_model.specs.Text.{Known};
 ghost use Rattle.polcert_model.specs.Words.{Topic};
@@ -88,6 +88,8 @@ impl<T: Copy> Numbers<T> {
 impl Numbers<u32> {
     /// Goes on with a token of a list of probabilities.
     fn feed_probability(&mut self, token: Token<'_>) -> Result<(), Stop>
+        requires { HasRoom self.old }
+        ensures room { OnOk result (HasRoom self.new) }
         ensures takes { OnOk result (Takes ProbabilitiesGo self.old (lexeme_of token.entry) self.new) }
         ensures refused { IfErr result (λ stop. IfRefused stop (λ r. CannotTake ProbabilitiesGo self.old (lexeme_of token.entry))) }
         ensures reason { IfErr result (λ stop. IfRefused stop (λ r.
@@ -111,6 +113,8 @@ impl Numbers<u32> {
 impl Numbers<i64> {
     /// Goes on with a token of a list of rewards.
     fn feed_reward(&mut self, token: Token<'_>) -> Result<(), Stop>
+        requires { HasRoom self.old }
+        ensures room { OnOk result (HasRoom self.new) }
         ensures takes { OnOk result (Takes RewardsGo self.old (lexeme_of token.entry) self.new) }
         ensures refused { IfErr result (λ stop. IfRefused stop (λ r. CannotTake RewardsGo self.old (lexeme_of token.entry))) }
         ensures reason { IfErr result (λ stop. IfRefused stop (λ r.
@@ -312,6 +316,7 @@ fn begin_numbers(
     ensures reason { IfErr result (λ stop. IfRefused stop (λ r.
         IsListReason (range_of table) None (lexeme_of token.entry) r.kind r.place)) }
     ensures sign { IfOk result (λ state. SignIs (entry_sign state) (lexeme_of token.entry)) }
+    ensures room { IfOk result HasRoomIn }
 {
     match table {
         Table::Reward => Ok(EntryState::Rewards(begin_rewards(alloc, needed, token)?)),
@@ -329,6 +334,7 @@ fn begin_rewards(alloc: Global, needed: usize, token: Token<'_>) -> Result<Numbe
     ensures reason { IfErr result (λ stop. IfRefused stop (λ r.
         IsListReason Range.Reward None (lexeme_of token.entry) r.kind r.place)) }
     ensures sign { IfOk result (λ n. SignIs n.sign (lexeme_of token.entry)) }
+    ensures room { IfOk result (λ n. HasRoom n) }
 {
     let mut numbers = Numbers::new(alloc, needed);
     numbers.feed_reward(token)?;
@@ -343,6 +349,7 @@ fn begin_probabilities(alloc: Global, needed: usize, token: Token<'_>) -> Result
     ensures reason { IfErr result (λ stop. IfRefused stop (λ r.
         IsListReason Range.Probability None (lexeme_of token.entry) r.kind r.place)) }
     ensures sign { IfOk result (λ n. SignIs n.sign (lexeme_of token.entry)) }
+    ensures room { IfOk result (λ n. HasRoom n) }
 {
     let mut numbers = Numbers::new(alloc, needed);
     numbers.feed_probability(token)?;

@@ -6,9 +6,9 @@ ghost use Rattle.polcert_model.specs.Words.{topic, begins_item};
 ghost use Rattle.polcert_model.specs.Text.{most_bytes};
 ghost use Rattle.polcert_model.specs.Narrow.{IsAccepted};
 ghost use Rattle.polcert_model.specs.FirstWrong.{TextTokens, AreTokensOf};
-ghost use Rattle.polcert_model.specs.Refusals.{IsRefusal};
+ghost use Rattle.polcert_model.specs.Refusals.{IsRefusal, IsPlacedRight};
 ghost use Rattle.polcert_model.specs.Contents.{meaning};
-ghost use Rattle.polcert_model.specs.TextSteps.{IsTextRead, AreItemsRead, IsWholeRead, IsRefusedBehind, IsRefusedAt, IsRefusedWhole, fault_kind};
+ghost use Rattle.polcert_model.specs.TextSteps.{IsTextRead, AreItemsRead, IsWholeRead, IsRefusedBehind, IsRefusedAt, IsRefusedWhole, Refuses, fault_kind};
 
 use crate::entry_reader::Stop;
 use crate::item::ItemReader;
@@ -153,7 +153,7 @@ impl TextReader {
 /// What the items of a whole text say.
 fn read_text(alloc: Global, text: &[u8]) -> Result<Known, ModelFault>
     ensures read { IfOk result (λ k. (seen : List Lexeme) × IsCut (text_rest text.now most_bytes) seen None × IsWholeRead seen k) }
-    ensures refused { IfErr result (λ fault. (ts : TextTokens) → AreTokensOf text.now ts → IsRefusal ts fault) }
+    ensures refused { IfErr result (λ fault. (ts : TextTokens) → AreTokensOf text.now ts → Refuses ts fault) }
 {
     let mut tokens = Tokens::new(text, TEXT_LIMIT);
     let mut reader = TextReader::new(alloc);
@@ -177,6 +177,7 @@ fn read_text(alloc: Global, text: &[u8]) -> Result<Known, ModelFault>
 pub fn read_model(alloc: Global, text: &[u8]) -> Result<Model, ModelFault>
     ensures accepted { IfOk result (λ m. IsAccepted text.now (meaning m)) }
     ensures refused { IfErr result (λ fault. (ts : TextTokens) → AreTokensOf text.now ts → IsRefusal ts fault) }
+    ensures placed { IfErr result (λ fault. (ts : TextTokens) → AreTokensOf text.now ts → IsPlacedRight ts fault) }
 {
     let model = read_text(alloc, text)?.into_model();
     match first_wrong_row(&model) {

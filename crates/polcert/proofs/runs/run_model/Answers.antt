@@ -2,7 +2,7 @@ use Rattle.std.proofs.Common.{◌≡◌, subst}
 use Rattle.polcert_model.specs.Contents.{meaning}
 use Rattle.polcert_model.specs.Narrow.{IsAccepted}
 use Rattle.polcert_model.specs.FirstWrong.{TextTokens, AreTokensOf}
-use Rattle.polcert_model.specs.Refusals.{IsRefusal}
+use Rattle.polcert_model.specs.Refusals.{IsRefusal, IsPlacedRight}
 use Rattle.polcert.proofs.Refusing.{within_limit, each_refused}
 use Rattle.polcert.proofs.runs.run_model.Goals as goal
 
@@ -32,4 +32,6 @@ pub returns-clause-refused : goal.returns-clause-refused
 returns-clause-refused g c = λ fault same says.
     let is_fault : c.in-Err.fault ≡ fault = cc in
     let refusal : (ts : TextTokens) → AreTokensOf c.in-Ok.text.items ts → IsRefusal ts c.in-Err.fault = rw c.deref.ensures.value at c.in-Err.ensures.refused in
+    let placed : (ts : TextTokens) → AreTokensOf c.in-Ok.text.items ts → IsPlacedRight ts c.in-Err.fault = rw c.deref.ensures.value at c.in-Err.ensures.placed in
     each_refused _ _ _ c.in-Ok.text.items fault c.in-Ok.ensures.whole c.in-Ok.ensures.beyond says (subst (λ f. (ts : TextTokens) → AreTokensOf c.in-Ok.text.items ts → IsRefusal ts f) is_fault refusal)
+    (subst (λ f. (ts : TextTokens) → AreTokensOf c.in-Ok.text.items ts → IsPlacedRight ts f) is_fault placed)

@@ -1,4 +1,5 @@
 use Rattle.std.proofs.Common.{sym, subst}
+use Rattle.std.proofs.lemmas.Result.{err_from_is_err_and}
 use Rattle.polcert_model.specs.Meaning.{HasProperRows}
 use Rattle.polcert_model.specs.Rows.{IsFirstWrongRow}
 use Rattle.polcert_model.specs.Narrow.{IsAccepted}
@@ -19,3 +20,13 @@ returns-in-Some-clause-refused c = λ ts tokens.
     let row = c.in-Some.field-0 in
     row_refused c.args.text.now read.0 c.in_ok-read_text.field-0 row.table row.action row.row read.1 read.2
     (subst (λ m. IsFirstWrongRow (meaning m) row.table row.action row.row) c.into_model-model.ensures c.in-Some.ensures) ts tokens
+
+pub returns-in_err-read_text-clause-refused : goal.returns-in_err-read_text-clause-refused
+returns-in_err-read_text-clause-refused c =
+    let p = err_from_is_err_and c.from_residual.result c.from_residual.ensures.1 in
+    rw (p.1, p.2) (λ ts tokens. (c.in_err-read_text.ensures.refused ts tokens).refusal)
+
+pub returns-in_err-read_text-clause-placed : goal.returns-in_err-read_text-clause-placed
+returns-in_err-read_text-clause-placed c =
+    let p = err_from_is_err_and c.from_residual.result c.from_residual.ensures.1 in
+    rw (p.1, p.2) (λ ts tokens. (c.in_err-read_text.ensures.refused ts tokens).placed)

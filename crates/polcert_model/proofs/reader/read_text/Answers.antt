@@ -4,7 +4,7 @@ use Rattle.polcert_text.specs.Cut.{Rest, text_rest, end_place}
 use Rattle.polcert_text.specs.Reading.{lexeme_of}
 use Rattle.polcert_model.specs.Fronts.{Taken, nothing, token}
 use Rattle.polcert_model.specs.Text.{most_bytes}
-use Rattle.polcert_model.specs.Refusals.{IsRefusal}
+use Rattle.polcert_model.specs.TextSteps.{Refuses}
 use Rattle.polcert_model.proofs.FrontLaws.{taken_end, shorter, tokens_begin, all_taken, these_tokens, text_is_short}
 use Rattle.polcert_model.proofs.RefusingEnds.{fault_refused}
 use Rattle.polcert_model.proofs.WholeTexts.{read_to_end, refused_at_text_end}
@@ -45,7 +45,7 @@ returns-in-Err-clause-refused c = λ ts tokens.
     let was = c.loop-next.invariant.seen in
     let gives = rw c.in-Err.is at c.in-Some.ensures in
     let these = these_tokens c.args.text.now was.0 (Some c.in-Err.fault) ts (all_taken c.args.text.now _ was.0 (Some c.in-Err.fault) was.1 gives.0) tokens in
-    subst (IsRefusal ts) (sym c.token_fault.ensures) (fault_refused was.0 c.loop-next.reader c.in-Err.fault was.2 c.args.text.now ts tokens these.0 these.1)
+    subst (Refuses ts) (sym c.token_fault.ensures) (fault_refused was.0 c.loop-next.reader c.in-Err.fault was.2 c.args.text.now ts tokens these.0 these.1)
 
 pub returns-clause-read : goal.returns-clause-read
 returns-clause-read c =

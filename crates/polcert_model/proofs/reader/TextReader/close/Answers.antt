@@ -1,5 +1,5 @@
 use Rattle.std.proofs.Common.{◌∙◌, sym, subst}
-use Rattle.polcert_model.specs.Refusals.{IsRefusal}
+use Rattle.polcert_model.specs.TextSteps.{Refuses}
 use Rattle.polcert_model.proofs.TextReading.{none_open, open_within, item_ended, item_not_ended}
 use Rattle.polcert_model.proofs.reader.TextReader.close.Goals as goal
 
@@ -21,5 +21,5 @@ returns-in-Ok-learn-clause-items c = λ seen read.
 pub returns-in-Err-clause-items : goal.returns-in-Err-clause-items
 returns-in-Err-clause-items c = λ seen read text ts tokens ends.
     let r = c.args.self.now in
-    subst (IsRefusal ts) (sym c.fault.ensures)
+    subst (Refuses ts) (sym c.fault.ensures)
     (item_not_ended seen r c.in-Some.item c.in-Err.kind c.args.place read (sym c.take.ensures.value ∙ c.in-Some.is) (λ k some. c.in-Err.ensures.refused k some) c.in-Err.ensures.reason text ts tokens ends)

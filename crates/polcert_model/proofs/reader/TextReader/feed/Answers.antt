@@ -1,12 +1,12 @@
 use Rattle.std.proofs.Common.{sym, subst}
 use Rattle.polcert_text.specs.Reading.{lexeme_of}
-use Rattle.polcert_model.specs.Refusals.{IsRefusal}
+use Rattle.polcert_model.specs.TextSteps.{Refuses}
 use Rattle.polcert_model.proofs.TextReading.{not_begun, item_takes, item_refuses}
 use Rattle.polcert_model.proofs.reader.TextReader.feed.Goals as goal
 
 pub returns-in_default-clause-read : goal.returns-in_default-clause-read
 returns-in_default-clause-read c = λ seen read inside text ts further tokens same.
-    subst (IsRefusal ts) (sym c.fault.ensures) (not_begun seen c.args.self.now (lexeme_of c.args.token) read c.in_default.is inside text ts further tokens same)
+    subst (Refuses ts) (sym c.fault.ensures) (not_begun seen c.args.self.now (lexeme_of c.args.token) read c.in_default.is inside text ts further tokens same)
 
 pub returns-in-Ok-clause-read : goal.returns-in-Ok-clause-read
 returns-in-Ok-clause-read c = λ seen read inside.
@@ -17,5 +17,5 @@ pub returns-in-Err-Refused-clause-read : goal.returns-in-Err-Refused-clause-read
 returns-in-Err-Refused-clause-read c = λ seen read inside text ts further tokens same.
     let stuck = rw c.in-Err-Refused.field-0-is at c.in-Err-Refused.ensures.refused in
     let reason = rw c.in-Err-Refused.field-0-is at c.in-Err-Refused.ensures.reason in
-    subst (IsRefusal ts) (sym c.fault-in-Err-Refused.ensures)
+    subst (Refuses ts) (sym c.fault-in-Err-Refused.ensures)
     (item_refuses seen c.args.self.now (lexeme_of c.args.token) c.in-Some.item c.in-Err-Refused.refusal.kind c.in-Err-Refused.refusal.place read c.in-Some.is inside stuck reason text ts further tokens same)

@@ -1,6 +1,6 @@
 use Rattle.std.proofs.Common.{◌∙◌, sym, subst}
 use Rattle.std.proofs.lemmas.Result.{err_from_is_err_and}
-use Rattle.polcert_model.specs.Refusals.{IsRefusal}
+use Rattle.polcert_model.specs.TextSteps.{Refuses}
 use Rattle.polcert_model.proofs.TextReading.{refused_at_end, whole_refused}
 use Rattle.polcert_model.proofs.reader.TextReader.finish.Goals as goal
 
@@ -11,7 +11,7 @@ returns-in_err-close c = λ seen read.
 
 pub returns-in-Some : goal.returns-in-Some
 returns-in-Some c = λ seen read text ts tokens same clean stop.
-    subst (IsRefusal ts) (sym c.fault.ensures)
+    subst (Refuses ts) (sym c.fault.ensures)
     (whole_refused seen c.close.new.self c.in-Some.kind c.args.end (c.in_ok-close.ensures.items seen read) (sym c.preamble_fault.ensures ∙ c.in-Some.is) text ts tokens same clean stop)
 
 pub returns : goal.returns

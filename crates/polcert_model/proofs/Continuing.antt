@@ -1,0 +1,220 @@
+-- What an item's reader holds is still possible: the item can go on, with `: *`, zeros and the like, to its end.
+use Rattle.std.proofs.Common.{◌≡◌, ◌∙◌, ℕ, zero, suc, ◌+◌, ◌-◌, ◌<◌, ◌≤◌, ◌==◌, ◌⊎◌, inl, inr, ⊎_elim, true, false, Option, Some, None, List, [], ◌∷◌, ◌++◌, length, drop, map, ℤ, pos, codes, refl, sym, ap, subst, arith, length-append}
+use Rattle.std.specs.List.{list_any}
+use Rattle.polcert_text.specs.Bytes.{class_of}
+use Rattle.polcert_text.specs.Cut.{Lexeme}
+use Rattle.polcert_text.specs.declared.lexeme.TokenKind.TheVariants.{Name, Numeral, Star}
+use Rattle.polcert_model.specs.declared.entry.Body.TheVariants as bodies
+use Rattle.polcert_model.specs.declared.entry.Entry.{Entry}
+use Rattle.polcert_model.specs.declared.entry.Place.{Place}
+use Rattle.polcert_model.specs.declared.entry.Place.TheVariants.{Every}
+use Rattle.polcert_model.specs.declared.entry.Table.{Table}
+use Rattle.polcert_model.specs.declared.entry.Table.TheVariants.{Transition, Observation, Reward}
+use Rattle.polcert_model.specs.declared.entry_reader.EntryReader.{EntryReader}
+use Rattle.polcert_model.specs.declared.entry_reader.EntryState.{EntryState}
+use Rattle.polcert_model.specs.declared.entry_reader.EntryState.TheVariants as states
+use Rattle.polcert_model.specs.declared.entry_reader.Numbers.{Numbers}
+use Rattle.polcert_model.specs.declared.item.ItemReader.{ItemReader}
+use Rattle.polcert_model.specs.declared.item.ItemReader.TheVariants as items
+use Rattle.polcert_model.specs.declared.item.Said.TheVariants as said
+use Rattle.polcert_model.specs.declared.lines.CountReader.{CountReader}
+use Rattle.polcert_model.specs.declared.lines.CountReader.TheVariants as count
+use Rattle.polcert_model.specs.declared.lines.DiscountReader.TheVariants as discount
+use Rattle.polcert_model.specs.declared.lines.ValuesReader.TheVariants as values
+use Rattle.polcert_model.specs.declared.number.Sign.{Sign}
+use Rattle.polcert_model.specs.Elements.{Elements}
+use Rattle.polcert_model.specs.Entry as entries
+use Rattle.polcert_model.specs.Entry.{forms, cells_in}
+use Rattle.polcert_model.specs.Numbers as numbers
+use Rattle.polcert_model.specs.Numbers.{IsWhole}
+use Rattle.polcert_model.specs.Text.{Known}
+use Rattle.polcert_model.specs.NumberSteps.{AreNumbersBehind}
+use Rattle.polcert_model.specs.LineSteps.{CountGoes}
+use Rattle.polcert_model.specs.EntrySteps.{indices_in, IsEntryBehind, IsFirstPlace, PlaceRest, entry_with, ProbabilitiesGo, RewardsGo, StateGoes, EntryGoes, HasRoom, awaited, IsStateWithin, IsWithinIndices}
+use Rattle.polcert_model.specs.ItemSteps.{ItemGoes, IsItemWithin}
+use Rattle.polcert_model.specs.KnownView.{learned}
+use Rattle.polcert_model.proofs.PatternLaws.{colon_takes, one_to_three, two_to_four}
+use Rattle.polcert_model.proofs.Possible.{a_zero, a_star, a_colon, zero_is, zeros, nothings, zeros_are, nothings_count, nothings_in_range, length-pos, same_form_of_probabilities}
+
+abbrev a_word : List ℕ → Lexeme
+a_word bytes = record { kind = Name; place = 0; bytes = bytes }
+
+abbrev a_one : Lexeme
+a_one = record { kind = Numeral; place = 0; bytes = codes "1" }
+
+one_is : IsWhole a_one 1
+unfolding class_of
+one_is = record { kind = refl; digits = refl; value = refl }
+
+-- ---- numbers
+
+zero_behind : (sign : Option Sign) → AreNumbersBehind sign (a_zero ∷ []) (pos 0 ∷ [])
+zero_behind None = numbers.unsigned (zero_is false) numbers.none
+zero_behind (Some s) = (zero_is s.negative, numbers.none)
+
+zeros_behind : (sign : Option Sign) (m : ℕ) → awaited sign ≤ m → AreNumbersBehind sign (zeros m) (map pos (nothings m))
+zeros_behind None m room = zeros_are m
+zeros_behind (Some s) zero room = absurd (omega (arith, room))
+zeros_behind (Some s) (suc m) room = (zero_is s.negative, zeros_are m)
+
+-- ---- entries
+
+record Continues (ds : List Elements) (table : Table) (places : List Place) (state : EntryState) : Type 0 where
+  more : List Lexeme
+  entry : Entry
+  goes : StateGoes ds table places state more entry
+
+no_further : (ps : List Place) → ps ≡ ps ++ []
+no_further [] = refl
+no_further (p ∷ ps) = ap (λ (qs : List Place). p ∷ qs) (no_further ps)
+
+with_probabilities : (ds : List Elements) (table : Table) (places : List Place) → list_any (λ n. n == length places) (forms table (bodies.Probabilities [])) ≡ true → Continues ds table places states.Body
+with_probabilities ds table places form =
+    let m = cells_in (drop (length places) ds) in
+    record {
+      more = zeros m;
+      entry = entry_with table places (bodies.Probabilities (nothings m));
+      goes = record {
+        further = [];
+        pattern = [];
+        rest = zeros m;
+        whole = refl;
+        places_are = no_further places;
+        table_is = refl;
+        form = subst (λ f. list_any (λ n. n == length places) f ≡ true) (same_form_of_probabilities table [] (nothings m)) form;
+        places = entries.none;
+        body = entries.probabilities (zeros_are m) (nothings_count m) (nothings_in_range m);
+      };
+    }
+
+with_rewards : (ds : List Elements) (places : List Place) → list_any (λ n. n == length places) (forms Reward (bodies.Rewards [])) ≡ true → Continues ds Reward places states.Body
+with_rewards ds places form =
+    let m = cells_in (drop (length places) ds) in
+    record {
+      more = zeros m;
+      entry = entry_with Reward places (bodies.Rewards (map pos (nothings m)));
+      goes = record {
+        further = [];
+        pattern = [];
+        rest = zeros m;
+        whole = refl;
+        places_are = no_further places;
+        table_is = refl;
+        form = form;
+        places = entries.none;
+        body = entries.rewards (zeros_are m) (length-pos (nothings m) ∙ nothings_count m);
+      };
+    }
+
+first_star : (n : ℕ) (ds : List Elements) → n < length ds → IsFirstPlace (drop n ds) a_star Every
+first_star n [] l = absurd (omega (arith, l))
+first_star zero (d ∷ ds) l = refl
+first_star (suc n) (d ∷ ds) l =
+    let more : suc n < suc (length ds) = l in
+    first_star n ds (omega (arith, more))
+
+-- with `*` for the next place
+with_star : (ds : List Elements) (table : Table) (places : List Place) → length places < length ds → Continues ds table (places ++ Every ∷ []) states.Body → Continues ds table places states.Place
+with_star ds table places room c =
+    record { more = a_star ∷ c.more; entry = c.entry; goes = (Every, (first_star (length places) ds room, c.goes)) }
+
+-- with a colon before it
+with_colon : (ds : List Elements) (table : Table) (places : List Place) → Continues ds table places states.Place → Continues ds table places states.Body
+with_colon ds table places c =
+    record { more = a_colon ∷ c.more; entry = c.entry; goes = (colon_takes ds table places a_colon refl).back c.more c.entry c.goes }
+
+one_or_more : (n : ℕ) → 1 ≤ n → (n ≡ 1) ⊎ (2 ≤ n)
+one_or_more n l = grind arith
+
+one_further : (ps : List Place) → length (ps ++ Every ∷ []) ≡ length ps + 1
+one_further ps = length-append ps (Every ∷ [])
+
+body_continues : (k : Known) (table : Table) (places : List Place) → 1 ≤ length places → length places ≤ length (indices_in k table) → Continues (indices_in k table) table places states.Body
+body_continues k Transition places low high = with_probabilities (indices_in k Transition) Transition places (one_to_three (length places) low high)
+body_continues k Observation places low high = with_probabilities (indices_in k Observation) Observation places (one_to_three (length places) low high)
+body_continues k Reward places low high = ⊎_elim
+    (λ (one : length places ≡ 1).
+    let two = one_further places in
+    let ds = indices_in k Reward in
+    with_colon ds Reward places (with_star ds Reward places (omega (arith, one))
+    (with_rewards ds (places ++ Every ∷ []) (two_to_four (length (places ++ Every ∷ [])) (omega (arith, one, two)) (omega (arith, one, two))))))
+    (λ more. with_rewards (indices_in k Reward) places (two_to_four (length places) more high))
+    (one_or_more (length places) low)
+
+place_continues : (k : Known) (table : Table) (places : List Place) → length places < length (indices_in k table) → Continues (indices_in k table) table places states.Place
+place_continues k table places room =
+    let further = one_further places in
+    with_star (indices_in k table) table places room
+    (body_continues k table (places ++ Every ∷ []) (omega (arith, further)) (omega (arith, further, room)))
+
+some_indices : (k : Known) (table : Table) → 0 < length (indices_in k table)
+some_indices k Transition = omega arith
+some_indices k Observation = omega arith
+some_indices k Reward = omega arith
+
+probabilities_continue : (ds : List Elements) (table : Table) (places : List Place) (n : Numbers ℕ) → HasRoom n → Continues ds table places (states.Probabilities n)
+probabilities_continue ds table places n room =
+    let m = n.needed - length n.read in
+    let all : length (n.read ++ nothings m) ≡ length n.read + length (nothings m) = length-append n.read (nothings m) in
+    let rest = nothings_count m in
+    let body = bodies.Probabilities (n.read ++ nothings m) in
+    let go : ProbabilitiesGo n (zeros m) body =
+    record { further = nothings m; numbers = zeros_behind n.sign m (omega (arith, room)); small = nothings_in_range m; enough = omega (arith, all, rest, room); body_is = refl } in
+    record { more = zeros m; entry = entry_with table places body; goes = (body, (go, refl)) }
+
+rewards_continue : (ds : List Elements) (table : Table) (places : List Place) (n : Numbers ℤ) → HasRoom n → Continues ds table places (states.Rewards n)
+rewards_continue ds table places n room =
+    let m = n.needed - length n.read in
+    let further = map pos (nothings m) in
+    let all : length (n.read ++ further) ≡ length n.read + length further = length-append n.read further in
+    let rest = length-pos (nothings m) ∙ nothings_count m in
+    let body = bodies.Rewards (n.read ++ further) in
+    let go : RewardsGo n (zeros m) body =
+    record { further = further; numbers = zeros_behind n.sign m (omega (arith, room)); enough = omega (arith, all, rest, room); body_is = refl } in
+    record { more = zeros m; entry = entry_with table places body; goes = (body, (go, refl)) }
+
+state_continues : (k : Known) (table : Table) (places : List Place) (state : EntryState) → IsStateWithin (indices_in k table) table places state → Continues (indices_in k table) table places state
+state_continues k table places states.Colon within =
+    let c = place_continues k table places (subst (λ (ps : List Place). length ps < length (indices_in k table)) (sym within) (some_indices k table)) in
+    record { more = a_colon ∷ c.more; entry = c.entry; goes = (refl, c.goes) }
+state_continues k table places states.Place within = place_continues k table places within
+state_continues k table places states.Body within = body_continues k table places within.0 within.1
+state_continues k table places (states.Probabilities n) within = probabilities_continue (indices_in k table) table places n within.1
+state_continues k table places (states.Rewards n) within = rewards_continue (indices_in k table) table places n within.1
+state_continues k table places (states.Word w) within = record { more = []; entry = entry_with table places _; goes = (refl, refl) }
+
+-- ---- items
+
+-- an item's reader that can go on to the end of the item
+pub record CanEnd (k : Known) (item : ItemReader) : Type 0 where
+  pub more : List Lexeme
+  pub after : Known
+  pub goes : ItemGoes k item more after
+
+record CountEnds (r : CountReader) : Type 0 where
+  more : List Lexeme
+  number : ℕ
+  goes : CountGoes r more number
+
+count_ends : (r : CountReader) → CountEnds r
+count_ends count.Colon = record { more = a_colon ∷ a_one ∷ []; number = 1; goes = (refl, (refl, (one_is, omega arith, omega arith))) }
+count_ends count.Count = record { more = a_one ∷ []; number = 1; goes = (refl, (one_is, omega arith, omega arith)) }
+count_ends (count.Said n) = record { more = []; number = n; goes = (refl, refl) }
+
+pub can_end : (k : Known) (item : ItemReader) → IsItemWithin k item → CanEnd k item
+can_end k (items.Discount discount.Colon) within =
+    record { more = a_colon ∷ a_zero ∷ []; after = learned k (said.Discount 0); goes = (0, ((refl, (zero_behind None, omega arith)), refl)) }
+can_end k (items.Discount (discount.Number sign)) within =
+    record { more = a_zero ∷ []; after = learned k (said.Discount 0); goes = (0, ((zero_behind sign, omega arith), refl)) }
+can_end k (items.Discount (discount.Said d)) within = record { more = []; after = learned k (said.Discount d); goes = (d, ((refl, refl), refl)) }
+can_end k (items.Values values.Colon) within =
+    record { more = a_colon ∷ a_word (codes "reward") ∷ []; after = learned k (said.Costs false); goes = (false, ((refl, (refl, record { kind = refl; bytes = refl })), refl)) }
+can_end k (items.Values values.Word) within =
+    record { more = a_word (codes "reward") ∷ []; after = learned k (said.Costs false); goes = (false, ((refl, record { kind = refl; bytes = refl }), refl)) }
+can_end k (items.Values (values.Said c)) within = record { more = []; after = learned k (said.Costs c); goes = (c, ((refl, refl), refl)) }
+can_end k (items.States r) within = let c = count_ends r in record { more = c.more; after = learned k (said.States c.number); goes = (c.number, (c.goes, refl)) }
+can_end k (items.Actions r) within = let c = count_ends r in record { more = c.more; after = learned k (said.Actions c.number); goes = (c.number, (c.goes, refl)) }
+can_end k (items.Observations r) within = let c = count_ends r in record { more = c.more; after = learned k (said.Observations c.number); goes = (c.number, (c.goes, refl)) }
+can_end k (items.Entry r) within =
+    let c = state_continues k r.table r.places r.state within in
+    record { more = c.more; after = learned k (said.Entry c.entry); goes = (c.entry, (c.goes, refl)) }
