@@ -25,6 +25,7 @@ pub mod LimitLaws
 pub mod StepLaws
 pub mod LineLaws
 pub mod ListLaws
+pub mod NameLaws
 pub mod PatternLaws
 pub mod TakenItems
 pub mod TextReading

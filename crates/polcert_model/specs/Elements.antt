@@ -3,12 +3,10 @@
 -- list of names"; an element of a list may also be given by its number, from 0 on.
 use Rattle.std.specs.Prelude.{◌≡◌, ◌≢◌, ℕ, ◌<◌, ◌≤◌, List, [], ◌∷◌, length, map, Option, Some, None, All, AllPairs, bytes_eq, position, slice_get}
 use Rattle.polcert_text.specs.Cut.{Lexeme}
+pub use Rattle.polcert_model.specs.declared.elements.Elements.{Elements}
+pub use Rattle.polcert_model.specs.declared.elements.Elements.TheVariants.{Count, Names}
 use Rattle.polcert_model.specs.Words.{IsName}
 use Rattle.polcert_model.specs.Numbers.{IsWhole}
-
-pub data Elements : Type 0 where
-  Count : ℕ → Elements
-  Names : List (List ℕ) → Elements
 
 abbrev pub count_of : Elements → ℕ
 count_of (Count n) = n

@@ -32,4 +32,5 @@ pub mod Contents
 pub mod Sound
 pub mod Axes
 pub mod RowSums
+pub mod ElementSteps
 pub mod Fronts

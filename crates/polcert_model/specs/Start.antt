@@ -6,14 +6,10 @@ use Rattle.std.specs.Prelude.{◌≡◌, ℕ, ◌<◌, ◌||◌, ◌==◌, Bool,
 use Rattle.std.specs.List.{list_any, list_all, range_with_len, count_by, AllZip}
 use Rattle.polcert_text.specs.Cut.{Lexeme}
 use Rattle.polcert_text.specs.declared.lexeme.TokenKind.TheVariants.{Colon}
+pub use Rattle.polcert_model.specs.declared.shares.Shares.{Shares}
 use Rattle.polcert_model.specs.Words.{IsWord, IsName}
 use Rattle.polcert_model.specs.Numbers.{IsWhole, AreNumbers, IsNumber, one}
 use Rattle.polcert_model.specs.Elements.{Elements, count_of, StandsFor, number_of}
-
--- a share for each state, and what they add up to
-pub record Shares : Type 0 where
-  pub weights : List ℕ
-  pub total : ℕ
 
 -- Of n states those that the test picks, alike: a share of 1 for each, and their count as the total.
 abbrev pub alike : ℕ → (ℕ → Bool) → Shares

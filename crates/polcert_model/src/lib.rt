@@ -2,6 +2,7 @@
 #![tactic(auto)]
 
 mod cells;
+mod elements;
 mod entry;
 mod entry_reader;
 mod examples;
@@ -11,10 +12,12 @@ mod known;
 mod laws;
 mod lines;
 mod model;
+mod names;
 mod number;
 mod reader;
 mod row_part;
 mod rows;
+mod shares;
 #[cfg(test)]
 mod tests;
 mod words;
