@@ -3,7 +3,7 @@
 .PHONY: run test
 
 run:
-	@cd crates/polcert && rt run < ../../examples/tiger-numbers.POMDP
+	@cd crates/polcert && rt run < ../../examples/tiger.POMDP
 
 test:
 	@tests/run

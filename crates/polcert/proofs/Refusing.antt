@@ -8,8 +8,7 @@ use Rattle.polcert_text.specs.declared.tokens.TokenFault.{TokenFault}
 use Rattle.polcert_text.specs.declared.tokens.TokenFault.TheVariants.{TextTooLong}
 use Rattle.polcert_model.specs.declared.fault.ModelFault.{ModelFault}
 use Rattle.polcert_model.specs.Meaning.{Meaning}
-use Rattle.polcert_model.specs.Text.{most_bytes}
-use Rattle.polcert_model.specs.Narrow.{IsAccepted}
+use Rattle.polcert_model.specs.Text.{most_bytes, IsModelText}
 use Rattle.polcert_model.specs.FirstWrong.{TextTokens, AreTokensOf, tokens_of}
 use Rattle.polcert_model.specs.Refusals.{IsRefusal, IsPlacedRight, SaysOfText}
 use Rattle.polcert_model.proofs.RefusalLaws.{not_accepted}
@@ -31,9 +30,9 @@ past_limit : (text : List ℕ) (limit : ℕ) → limit < length text → (text_r
 past_limit text limit past = let here = lt-ltb limit (length text) past in rw here refl
 
 -- a model's text lies below the limit
-pub within_limit : (text : List ℕ) (m : Meaning) → IsAccepted text m → length text ≤ most_bytes
+pub within_limit : (text : List ℕ) (m : Meaning) → IsModelText text m → length text ≤ most_bytes
 within_limit text m accepted = elim (cases_lt most_bytes (length text)) [
-  | inl past ↦ absurd (some≢none _ (sym (past_limit text most_bytes past) ∙ ends_cleanly (text_rest text most_bytes) accepted.model.lexemes accepted.model.cut))
+  | inl past ↦ absurd (some≢none _ (sym (past_limit text most_bytes past) ∙ ends_cleanly (text_rest text most_bytes) accepted.lexemes accepted.cut))
   | inr within ↦ within
 ]
 
@@ -57,10 +56,10 @@ refused_with bytes text fault same says refusal placed = record { no_model = no_
     of_text : (ts : TextTokens) → AreTokensOf text ts → IsRefusal ts fault
     of_text ts tokens = refusal ts (of_bytes ts tokens)
 
-    no_model : (m : Meaning) → IsAccepted text m → ⊥
+    no_model : (m : Meaning) → IsModelText text m → ⊥
     no_model m accepted =
-        let ts = tokens_of accepted.model.lexemes None (end_place (text_rest text most_bytes)) in
-        let tokens : AreTokensOf text ts = record { cut = accepted.model.cut; end_is = refl } in
+        let ts = tokens_of accepted.lexemes None (end_place (text_rest text most_bytes)) in
+        let tokens : AreTokensOf text ts = record { cut = accepted.cut; end_is = refl } in
         not_accepted text ts fault m tokens (of_text ts tokens) says accepted
 
 -- where what was read whole, or past the limit, is refused, so is each text that fits it

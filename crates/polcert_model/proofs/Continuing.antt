@@ -1,50 +1,39 @@
 -- What an item's reader holds is still possible: the item can go on, with `: *`, zeros and the like, to its end.
-use Rattle.std.proofs.Common.{◌≡◌, ◌∙◌, ℕ, zero, suc, ◌+◌, ◌-◌, ◌<◌, ◌≤◌, ◌==◌, ◌⊎◌, inl, inr, ⊎_elim, true, false, Option, Some, None, List, [], ◌∷◌, ◌++◌, length, drop, map, ℤ, pos, codes, refl, sym, ap, subst, arith, length-append}
+use Rattle.std.proofs.Common.{◌≡◌, ◌∙◌, ℕ, zero, suc, ◌+◌, ◌-◌, ◌<◌, ◌≤◌, ◌==◌, ◌⊎◌, ⊎_elim, true, false, Option, Some, None, List, [], ◌∷◌, ◌++◌, length, drop, map, ℤ, pos, codes, refl, sym, ap, subst, arith, length-append}
 use Rattle.std.specs.List.{list_any}
-use Rattle.polcert_text.specs.Bytes.{class_of}
 use Rattle.polcert_text.specs.Cut.{Lexeme}
-use Rattle.polcert_text.specs.declared.lexeme.TokenKind.TheVariants.{Name, Numeral, Star}
+use Rattle.polcert_text.specs.declared.lexeme.TokenKind.TheVariants.{Name}
 use Rattle.polcert_model.specs.declared.entry.Body.TheVariants as bodies
 use Rattle.polcert_model.specs.declared.entry.Entry.{Entry}
 use Rattle.polcert_model.specs.declared.entry.Place.{Place}
 use Rattle.polcert_model.specs.declared.entry.Place.TheVariants.{Every}
 use Rattle.polcert_model.specs.declared.entry.Table.{Table}
 use Rattle.polcert_model.specs.declared.entry.Table.TheVariants.{Transition, Observation, Reward}
-use Rattle.polcert_model.specs.declared.entry_reader.EntryReader.{EntryReader}
 use Rattle.polcert_model.specs.declared.entry_reader.EntryState.{EntryState}
 use Rattle.polcert_model.specs.declared.entry_reader.EntryState.TheVariants as states
 use Rattle.polcert_model.specs.declared.entry_reader.Numbers.{Numbers}
 use Rattle.polcert_model.specs.declared.item.ItemReader.{ItemReader}
 use Rattle.polcert_model.specs.declared.item.ItemReader.TheVariants as items
 use Rattle.polcert_model.specs.declared.item.Said.TheVariants as said
-use Rattle.polcert_model.specs.declared.lines.CountReader.{CountReader}
-use Rattle.polcert_model.specs.declared.lines.CountReader.TheVariants as count
 use Rattle.polcert_model.specs.declared.lines.DiscountReader.TheVariants as discount
 use Rattle.polcert_model.specs.declared.lines.ValuesReader.TheVariants as values
 use Rattle.polcert_model.specs.declared.number.Sign.{Sign}
+use Rattle.polcert_model.specs.Words.{Start}
 use Rattle.polcert_model.specs.Elements.{Elements}
 use Rattle.polcert_model.specs.Entry as entries
 use Rattle.polcert_model.specs.Entry.{forms, cells_in}
 use Rattle.polcert_model.specs.Numbers as numbers
-use Rattle.polcert_model.specs.Numbers.{IsWhole}
 use Rattle.polcert_model.specs.Text.{Known}
 use Rattle.polcert_model.specs.NumberSteps.{AreNumbersBehind}
-use Rattle.polcert_model.specs.LineSteps.{CountGoes}
-use Rattle.polcert_model.specs.EntrySteps.{indices_in, IsEntryBehind, IsFirstPlace, PlaceRest, entry_with, ProbabilitiesGo, RewardsGo, StateGoes, EntryGoes, HasRoom, awaited, IsStateWithin, IsWithinIndices}
-use Rattle.polcert_model.specs.ItemSteps.{ItemGoes, IsItemWithin}
+use Rattle.polcert_model.specs.EntrySteps.{indices_in, IsFirstPlace, entry_with, ProbabilitiesGo, RewardsGo, StateGoes, HasRoom, awaited, IsStateWithin}
+use Rattle.polcert_model.specs.ItemSteps.{ItemGoes, IsItemWithin, topic_in}
 use Rattle.polcert_model.specs.KnownView.{learned}
 use Rattle.polcert_model.proofs.PatternLaws.{colon_takes, one_to_three, two_to_four}
+use Rattle.polcert_model.proofs.ElementLaws.{elements_can_end}
 use Rattle.polcert_model.proofs.Possible.{a_zero, a_star, a_colon, zero_is, zeros, nothings, zeros_are, nothings_count, nothings_in_range, length-pos, same_form_of_probabilities}
 
 abbrev a_word : List ℕ → Lexeme
 a_word bytes = record { kind = Name; place = 0; bytes = bytes }
-
-abbrev a_one : Lexeme
-a_one = record { kind = Numeral; place = 0; bytes = codes "1" }
-
-one_is : IsWhole a_one 1
-unfolding class_of
-one_is = record { kind = refl; digits = refl; value = refl }
 
 -- ---- numbers
 
@@ -191,30 +180,21 @@ pub record CanEnd (k : Known) (item : ItemReader) : Type 0 where
   pub after : Known
   pub goes : ItemGoes k item more after
 
-record CountEnds (r : CountReader) : Type 0 where
-  more : List Lexeme
-  number : ℕ
-  goes : CountGoes r more number
-
-count_ends : (r : CountReader) → CountEnds r
-count_ends count.Colon = record { more = a_colon ∷ a_one ∷ []; number = 1; goes = (refl, (refl, (one_is, omega arith, omega arith))) }
-count_ends count.Count = record { more = a_one ∷ []; number = 1; goes = (refl, (one_is, omega arith, omega arith)) }
-count_ends (count.Said n) = record { more = []; number = n; goes = (refl, refl) }
-
-pub can_end : (k : Known) (item : ItemReader) → IsItemWithin k item → CanEnd k item
-can_end k (items.Discount discount.Colon) within =
+pub can_end : (k : Known) (item : ItemReader) → IsItemWithin k item → (topic_in item ≡ Start → ⊥) → CanEnd k item
+can_end k (items.Discount discount.Colon) within other =
     record { more = a_colon ∷ a_zero ∷ []; after = learned k (said.Discount 0); goes = (0, ((refl, (zero_behind None, omega arith)), refl)) }
-can_end k (items.Discount (discount.Number sign)) within =
+can_end k (items.Discount (discount.Number sign)) within other =
     record { more = a_zero ∷ []; after = learned k (said.Discount 0); goes = (0, ((zero_behind sign, omega arith), refl)) }
-can_end k (items.Discount (discount.Said d)) within = record { more = []; after = learned k (said.Discount d); goes = (d, ((refl, refl), refl)) }
-can_end k (items.Values values.Colon) within =
+can_end k (items.Discount (discount.Said d)) within other = record { more = []; after = learned k (said.Discount d); goes = (d, ((refl, refl), refl)) }
+can_end k (items.Values values.Colon) within other =
     record { more = a_colon ∷ a_word (codes "reward") ∷ []; after = learned k (said.Costs false); goes = (false, ((refl, (refl, record { kind = refl; bytes = refl })), refl)) }
-can_end k (items.Values values.Word) within =
+can_end k (items.Values values.Word) within other =
     record { more = a_word (codes "reward") ∷ []; after = learned k (said.Costs false); goes = (false, ((refl, record { kind = refl; bytes = refl }), refl)) }
-can_end k (items.Values (values.Said c)) within = record { more = []; after = learned k (said.Costs c); goes = (c, ((refl, refl), refl)) }
-can_end k (items.States r) within = let c = count_ends r in record { more = c.more; after = learned k (said.States c.number); goes = (c.number, (c.goes, refl)) }
-can_end k (items.Actions r) within = let c = count_ends r in record { more = c.more; after = learned k (said.Actions c.number); goes = (c.number, (c.goes, refl)) }
-can_end k (items.Observations r) within = let c = count_ends r in record { more = c.more; after = learned k (said.Observations c.number); goes = (c.number, (c.goes, refl)) }
-can_end k (items.Entry r) within =
+can_end k (items.Values (values.Said c)) within other = record { more = []; after = learned k (said.Costs c); goes = (c, ((refl, refl), refl)) }
+can_end k (items.States r) within other = let c = elements_can_end r within in record { more = c.0; after = learned k (said.States c.1.0); goes = (c.1.0, (c.1.1, refl)) }
+can_end k (items.Actions r) within other = let c = elements_can_end r within in record { more = c.0; after = learned k (said.Actions c.1.0); goes = (c.1.0, (c.1.1, refl)) }
+can_end k (items.Observations r) within other = let c = elements_can_end r within in record { more = c.0; after = learned k (said.Observations c.1.0); goes = (c.1.0, (c.1.1, refl)) }
+can_end k (items.Start r) within other = absurd (other refl)
+can_end k (items.Entry r) within other =
     let c = state_continues k r.table r.places r.state within in
     record { more = c.more; after = learned k (said.Entry c.entry); goes = (c.entry, (c.goes, refl)) }

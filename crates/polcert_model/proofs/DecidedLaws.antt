@@ -5,8 +5,7 @@ use Rattle.polcert_model.specs.declared.fault.ItemFault.{ItemFault}
 use Rattle.polcert_model.specs.Words.{Topic, topic}
 use Rattle.polcert_model.specs.Items.{Item, IsDivided}
 use Rattle.polcert_model.specs.Text.{Known, nothing_known, AreRight}
-use Rattle.polcert_model.specs.Order.{preamble_fault}
-use Rattle.polcert_model.specs.Narrow.{AreTaken, narrow_word_fault}
+use Rattle.polcert_model.specs.Order.{preamble_fault, word_fault}
 use Rattle.polcert_model.specs.FirstWrong.{TextTokens, IsDecided, before_items, at_word, at_end}
 use Rattle.polcert_model.proofs.Basics.{one_some, same_head, same_tail}
 use Rattle.polcert_model.proofs.ItemLaws.{one_division}
@@ -54,15 +53,15 @@ one_decided ts n f g p q (before_items l ls items a z e c) (at_end ys k b taken 
 one_decided ts n f g p q (at_word xs x us j t a taken tt' fault m c) (before_items l ls others b y d h) = absurd (zero_or_more n (length xs) y m)
 one_decided ts n f g p q (at_word xs x us j t a taken topics fault m c) (at_word ys y vs k u b others topic_is reason l h) =
     let cut = same_cut xs ys us vs x y (one_division ts.lexemes [] [] (xs ++ x ∷ us) (ys ++ y ∷ vs) a b).1 (same_length n xs ys m l) in
-    let known : j ≡ k = one_known nothing_known ys j k (subst (λ v. AreRight nothing_known v j) cut.front taken.0) others.0 in
+    let known : j ≡ k = one_known nothing_known ys j k (subst (λ v. AreRight nothing_known v j) cut.front taken) others in
     let kinds : t ≡ u = one_some (subst (λ (v : Item). topic v.word ≡ Some t) cut.here topics) topic_is in
-    (one_fault (λ i. narrow_word_fault (known i) (kinds i)) fault reason, c ∙ ap (λ (v : Item). v.word.place) cut.here ∙ sym h)
+    (one_fault (λ i. word_fault (known i) (kinds i)) fault reason, c ∙ ap (λ (v : Item). v.word.place) cut.here ∙ sym h)
 one_decided ts n f g p q (at_word xs x us j t a taken topics fault m c) (at_end ys k b others clean reason l h) = absurd (word_or_end ts n xs x us ys a b m l)
 one_decided ts n f g p q (at_end xs j a taken clean fault m c) (before_items l ls others b y d h) = absurd (zero_or_more n (length xs) y m)
 one_decided ts n f g p q (at_end xs j a taken clean fault m c) (at_word ys y vs k u b others topic_is reason l h) = absurd (word_or_end ts n ys y vs xs b a l m)
 one_decided ts n f g p q (at_end xs j a taken clean fault m c) (at_end ys k b others clean' reason l h) =
     let same = (one_division ts.lexemes [] [] xs ys a b).1 in
-    let known : j ≡ k = one_known nothing_known ys j k (subst (λ v. AreRight nothing_known v j) same taken.0) others.0 in
+    let known : j ≡ k = one_known nothing_known ys j k (subst (λ v. AreRight nothing_known v j) same taken) others in
     (one_fault (ap preamble_fault known) fault reason, c ∙ sym h)
 
 none_or_some : {A : Type 0} {o p : Option A} {f : A} → o ≡ p → o ≡ None → p ≡ Some f → ⊥
@@ -70,11 +69,11 @@ none_or_some e a b = cc
 
 -- nothing is decided where the item's word may stand
 pub nothing_decided : (ts : TextTokens) (xs : List Item) (x : Item) (us : List Item) (k : Known) (t : Topic) (f : ItemFault) (p : ℕ) → IsDivided ts.lexemes [] (xs ++ x ∷ us)
-    → AreTaken nothing_known xs k → topic x.word ≡ Some t → narrow_word_fault k t ≡ None → IsDecided ts (length xs + 1) f p → ⊥
+    → AreRight nothing_known xs k → topic x.word ≡ Some t → word_fault k t ≡ None → IsDecided ts (length xs + 1) f p → ⊥
 nothing_decided ts xs x us j t f p a taken topics free (before_items l ls others b y d h) = zero_or_more (length xs + 1) (length xs) y refl
 nothing_decided ts xs x us j t f p a taken topics free (at_word ys y vs k u b others topic_is reason l h) =
     let cut = same_cut xs ys us vs x y (one_division ts.lexemes [] [] (xs ++ x ∷ us) (ys ++ y ∷ vs) a b).1 (same_length (length xs + 1) xs ys refl l) in
-    let known : j ≡ k = one_known nothing_known ys j k (subst (λ v. AreRight nothing_known v j) cut.front taken.0) others.0 in
+    let known : j ≡ k = one_known nothing_known ys j k (subst (λ v. AreRight nothing_known v j) cut.front taken) others in
     let kinds : t ≡ u = one_some (subst (λ (v : Item). topic v.word ≡ Some t) cut.here topics) topic_is in
-    none_or_some (λ i. narrow_word_fault (known i) (kinds i)) free reason
+    none_or_some (λ i. word_fault (known i) (kinds i)) free reason
 nothing_decided ts xs x us j t f p a taken topics free (at_end ys k b others clean reason l h) = word_or_end ts (length xs + 1) xs x us ys a b refl l

@@ -19,7 +19,6 @@ use Rattle.polcert_model.specs.Entry.{ArePlaces, IsEntry}
 use Rattle.polcert_model.specs.Meaning.{HasProperRows, sum_below}
 use Rattle.polcert_model.specs.Text as texts
 use Rattle.polcert_model.specs.Text.{Known, nothing_known, IsInPreamble, IsComplete, AreRight, IsRightText, Denotes}
-use Rattle.polcert_model.specs.Narrow.{IsTakenText}
 use Rattle.polcert_model.specs.Examples.{name, numeral, colon, transition, observation, rewards}
 use Rattle.polcert_model.specs.Tiger.{minus, minus_whole}
 use Rattle.polcert_model.specs.First.{first, first_preamble, first_entries, first_known, first_model}
@@ -178,11 +177,8 @@ right =
     (texts.more (Cells Reward) refl (texts.entry (complete (take 2 first_entries)) pay)
     texts.none)))))))
 
-right_text : IsRightText first first_preamble (first_known first_entries)
-right_text = record { items = first_items; divided = divided; right = right; complete = complete first_entries }
-
-pub first_taken : IsTakenText first first_preamble (first_known first_entries)
-first_taken = (right_text, record { states = tt; actions = tt; observations = tt; no_start = refl })
+pub first_taken : IsRightText first first_preamble (first_known first_entries)
+first_taken = record { items = first_items; divided = divided; right = right; complete = complete first_entries }
 
 below_one : (P : ℕ → Type 0) → P 0 → (n : ℕ) → n < 1 → P n
 below_one P p zero l = p
@@ -209,7 +205,7 @@ pub first_denotes : Denotes first first_model
 first_denotes = record {
   preamble = first_preamble;
   known = first_known first_entries;
-  right = right_text;
+  right = first_taken;
   same = record { preamble = refl; start = refl; t = λ a s e p q r. refl; o = λ a s e p q r. refl; r = λ a s e z p q r v. refl };
   rows = proper;
 }

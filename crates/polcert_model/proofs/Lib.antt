@@ -6,7 +6,7 @@ pub mod CellLaws
 pub mod StartLaws
 pub mod TextLaws
 pub mod Dividing
-pub mod NarrowLaws
+pub mod RightItems
 pub mod ReadLaws
 pub mod OrderLaws
 pub mod RefusalLaws
@@ -16,8 +16,7 @@ pub mod Within
 pub mod Refusing
 pub mod RefusingEnds
 pub mod GoOnLaws
-pub mod EntryGoesOn
-pub mod LinesGoOn
+pub mod FirstPlaces
 pub mod Possible
 pub mod Continuing
 pub mod StartLimits
@@ -40,3 +39,11 @@ pub mod RowSumLaws
 pub mod RowPartLaws
 pub mod FrontLaws
 pub mod WholeTexts
+pub mod ElementLaws
+pub mod StartReading
+pub mod ItemReading
+pub mod TokenTexts
+pub mod StartNumbers
+pub mod StartForms
+pub mod StartShares
+pub mod StartSeen

@@ -13,8 +13,8 @@ use Rattle.polcert_model.specs.Numbers as numbers
 use Rattle.polcert_model.specs.NumberSteps.{AreNumbersBehind, IsInRange, is_negative, IsSignAt, IsNoNumber}
 use Rattle.polcert_model.specs.LineSteps.{Takes, CannotTake}
 use Rattle.polcert_model.specs.EntrySteps.{ProbabilitiesGo, RewardsGo, IsFull, IfRefused}
-use Rattle.polcert_model.specs.declared.entry_reader.Stop.{Stop}
-use Rattle.polcert_model.specs.declared.entry_reader.Stop.TheVariants.{Refused, Memory}
+use Rattle.polcert_model.specs.declared.stop.Stop.{Stop}
+use Rattle.polcert_model.specs.declared.stop.Stop.TheVariants.{Refused, Memory}
 use Rattle.polcert_model.proofs.StepLaws.{sign_back, sign_on, value_back, value_on}
 
 pub all_none : {X : Type 0} (P : X → Type 0) → All P []

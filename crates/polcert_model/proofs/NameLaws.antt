@@ -1,5 +1,5 @@
 -- Names kept as texts, and the list of their bytes.
-use Rattle.std.proofs.Common.{◌≡◌, ◌∙◌, ℕ, ◌+◌, Bool, true, false, not, ◌||◌, List, [], ◌∷◌, ◌++◌, map, position, bytes_eq, slice_get, option_map, Option, Some, None, refl, sym, ap, subst, string_bytes, cond, nat_lt, length, String, if◌then◌else◌}
+use Rattle.std.proofs.Common.{◌≡◌, ◌∙◌, ℕ, ◌+◌, Bool, true, false, not, ◌||◌, List, [], ◌∷◌, ◌++◌, map, position, bytes_eq, Some, None, refl, sym, ap, subst, string_bytes, cond, nat_lt, length, String, if◌then◌else◌}
 use Rattle.std.specs.List.{list_any, position_or_len}
 use Rattle.std.proofs.lemmas.List.{map-append, length-map}
 use Rattle.std.specs.String.{string_eq}

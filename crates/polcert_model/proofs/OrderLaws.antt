@@ -6,13 +6,12 @@ use Rattle.polcert_model.specs.declared.fault.ItemFault.{ItemFault}
 use Rattle.polcert_model.specs.declared.fault.ItemFault.TheVariants.{DuplicateLine, LateLine, MissingLine, TooManyCells}
 use Rattle.polcert_model.specs.declared.entry.Entry.{Entry}
 use Rattle.polcert_model.specs.declared.entry.Table.{Table}
-use Rattle.polcert_model.specs.Words.{Topic, Discount, Values, States, Actions, Observations, Cells}
+use Rattle.polcert_model.specs.Words.{Topic, Discount, Values, States, Actions, Observations, Start, Cells}
 use Rattle.polcert_model.specs.Elements.{Elements, count_of}
 use Rattle.polcert_model.specs.Preamble.{Preamble, observed}
 use Rattle.polcert_model.specs.Text as texts
 use Rattle.polcert_model.specs.Text.{Known, IsInPreamble, HasLines, IsWithinCells, IsComplete, IsRight, most_cells}
-use Rattle.polcert_model.specs.Order.{has_entries, has_all_lines, count_in, cells_are_too_many, preamble_fault}
-use Rattle.polcert_model.specs.Narrow.{IsTaken, at_start, narrow_word_fault}
+use Rattle.polcert_model.specs.Order.{has_entries, has_all_lines, count_in, cells_are_too_many, preamble_fault, word_fault}
 use Rattle.polcert_model.specs.Reading.{IsWrong}
 use Rattle.polcert_model.proofs.Basics.{or_false}
 
@@ -111,20 +110,23 @@ line_stands k came p e = λ i. fault_at (early k p i) (e i) false (preamble_faul
 cells_stand : (k : Known) (p : Preamble) → IsComplete k p → fault_at false false true (preamble_fault k) ≡ None
 cells_stand k p c = complete_fault k p c
 
+start_stands : (k : Known) (p : Preamble) → IsInPreamble k → IsComplete k p → fault_at (has_entries k.entries) (is_some k.start) true (preamble_fault k) ≡ None
+start_stands k p i c = (λ j. fault_at (has_entries (i.no_entry j)) (is_some (i.no_start j)) true (preamble_fault k)) ∙ complete_fault k p c
+
 some≢none : {A : Type 0} {x : A} → Some x ≡ None → ⊥
 some≢none e = cc
 
-no_word_fault : (k next : Known) (t : Topic) (body : List Lexeme) → IsTaken k t body next → narrow_word_fault k t ≡ None
-no_word_fault k next t body (texts.discount p e c n l, narrow) = ap (at_start Discount) (line_stands k (is_some k.discount) p (absent k.discount e))
-no_word_fault k next t body (texts.rewards p e c w, narrow) = ap (at_start Values) (line_stands k (is_some k.costs) p (absent k.costs e))
-no_word_fault k next t body (texts.costs p e c w, narrow) = ap (at_start Values) (line_stands k (is_some k.costs) p (absent k.costs e))
-no_word_fault k next t body (texts.states p e c a, narrow) = ap (at_start States) (line_stands k (is_some k.states) p (absent k.states e))
-no_word_fault k next t body (texts.actions p e c a, narrow) = ap (at_start Actions) (line_stands k (is_some k.actions) p (absent k.actions e))
-no_word_fault k next t body (texts.observations p e c a, narrow) = ap (at_start Observations) (line_stands k (is_some k.observations) p (absent k.observations e))
-no_word_fault k next t body (texts.start i c a, narrow) = absurd (some≢none narrow.no_start)
-no_word_fault k next t body (texts.entry {p = p} {table = table} c a, narrow) = ap (at_start (Cells table)) (cells_stand k p c)
+no_word_fault : (k next : Known) (t : Topic) (body : List Lexeme) → IsRight k t body next → word_fault k t ≡ None
+no_word_fault k next t body (texts.discount p e c n l) = line_stands k (is_some k.discount) p (absent k.discount e)
+no_word_fault k next t body (texts.rewards p e c w) = line_stands k (is_some k.costs) p (absent k.costs e)
+no_word_fault k next t body (texts.costs p e c w) = line_stands k (is_some k.costs) p (absent k.costs e)
+no_word_fault k next t body (texts.states p e c a) = line_stands k (is_some k.states) p (absent k.states e)
+no_word_fault k next t body (texts.actions p e c a) = line_stands k (is_some k.actions) p (absent k.actions e)
+no_word_fault k next t body (texts.observations p e c a) = line_stands k (is_some k.observations) p (absent k.observations e)
+no_word_fault k next t body (texts.start {p = p} i c a) = start_stands k p i c
+no_word_fault k next t body (texts.entry {p = p} {table = table} c a) = cells_stand k p c
 
-pub wrong_at_word : (k : Known) (t : Topic) (fault : ItemFault) (body : List Lexeme) → narrow_word_fault k t ≡ Some fault → IsWrong k t body
+pub wrong_at_word : (k : Known) (t : Topic) (fault : ItemFault) (body : List Lexeme) → word_fault k t ≡ Some fault → IsWrong k t body
 wrong_at_word k t fault body e after taken = none≢some (no_word_fault k after t body taken) e
 
 -- ---- a topic without a fault at its word may stand
@@ -148,29 +150,31 @@ in_preamble k e =
     let both = or_false _ _ e in
     record { no_start = no_some k.start both.0; no_entry = no_entries k.entries both.1 }
 
-at_start_none : (t : Topic) (o : Option ItemFault) → at_start t o ≡ None → o ≡ None
-at_start_none t None e = refl
-at_start_none t (Some fault) e = absurd cc
-
 -- a line of the preamble: it comes first, and early
 pub line_may_stand : (k : Known) (came : Bool) → fault_at (is_some k.start || has_entries k.entries) came false (preamble_fault k) ≡ None → IsInPreamble k × (came ≡ false)
 line_may_stand k came e = let all = no_fault_at _ came false (preamble_fault k) e in (in_preamble k all.0, all.1)
 
-pub discount_may_stand : (k : Known) → narrow_word_fault k Discount ≡ None → IsInPreamble k × (k.discount ≡ None)
-discount_may_stand k e = let both = line_may_stand k (is_some k.discount) (at_start_none Discount _ e) in (both.0, no_some k.discount both.1)
+pub discount_may_stand : (k : Known) → word_fault k Discount ≡ None → IsInPreamble k × (k.discount ≡ None)
+discount_may_stand k e = let both = line_may_stand k (is_some k.discount) e in (both.0, no_some k.discount both.1)
 
-pub values_may_stand : (k : Known) → narrow_word_fault k Values ≡ None → IsInPreamble k × (k.costs ≡ None)
-values_may_stand k e = let both = line_may_stand k (is_some k.costs) (at_start_none Values _ e) in (both.0, no_some k.costs both.1)
+pub values_may_stand : (k : Known) → word_fault k Values ≡ None → IsInPreamble k × (k.costs ≡ None)
+values_may_stand k e = let both = line_may_stand k (is_some k.costs) e in (both.0, no_some k.costs both.1)
 
-pub states_may_stand : (k : Known) → narrow_word_fault k States ≡ None → IsInPreamble k × (k.states ≡ None)
-states_may_stand k e = let both = line_may_stand k (is_some k.states) (at_start_none States _ e) in (both.0, no_some k.states both.1)
+pub states_may_stand : (k : Known) → word_fault k States ≡ None → IsInPreamble k × (k.states ≡ None)
+states_may_stand k e = let both = line_may_stand k (is_some k.states) e in (both.0, no_some k.states both.1)
 
-pub actions_may_stand : (k : Known) → narrow_word_fault k Actions ≡ None → IsInPreamble k × (k.actions ≡ None)
-actions_may_stand k e = let both = line_may_stand k (is_some k.actions) (at_start_none Actions _ e) in (both.0, no_some k.actions both.1)
+pub actions_may_stand : (k : Known) → word_fault k Actions ≡ None → IsInPreamble k × (k.actions ≡ None)
+actions_may_stand k e = let both = line_may_stand k (is_some k.actions) e in (both.0, no_some k.actions both.1)
 
-pub observations_may_stand : (k : Known) → narrow_word_fault k Observations ≡ None → IsInPreamble k × (k.observations ≡ None)
-observations_may_stand k e = let both = line_may_stand k (is_some k.observations) (at_start_none Observations _ e) in (both.0, no_some k.observations both.1)
+pub observations_may_stand : (k : Known) → word_fault k Observations ≡ None → IsInPreamble k × (k.observations ≡ None)
+observations_may_stand k e = let both = line_may_stand k (is_some k.observations) e in (both.0, no_some k.observations both.1)
 
 -- an entry: the preamble is complete
-pub entry_may_stand : (k : Known) (table : Table) → narrow_word_fault k (Cells table) ≡ None → (p : Preamble) × IsComplete k p
-entry_may_stand k table e = is_complete k (at_start_none (Cells table) _ e)
+pub entry_may_stand : (k : Known) (table : Table) → word_fault k (Cells table) ≡ None → (p : Preamble) × IsComplete k p
+entry_may_stand k table e = is_complete k e
+
+-- a start item: nothing but a complete preamble came before
+pub start_may_stand : (k : Known) → word_fault k Start ≡ None → IsInPreamble k × ((p : Preamble) × IsComplete k p)
+start_may_stand k e =
+    let all = no_fault_at (has_entries k.entries) (is_some k.start) true (preamble_fault k) e in
+    (record { no_start = no_some k.start all.1; no_entry = no_entries k.entries all.0 }, is_complete k (all.2 refl))

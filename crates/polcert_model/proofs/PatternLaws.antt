@@ -8,10 +8,11 @@ use Rattle.std.proofs.lemmas.List.Elements.{All-tail}
 use Rattle.std.proofs.Math.Nat.{mul-pos}
 use Rattle.polcert_text.specs.Cut.{Lexeme}
 use Rattle.polcert_text.specs.declared.lexeme.TokenKind.{TokenKind}
-use Rattle.polcert_text.specs.declared.lexeme.TokenKind.TheVariants.{Name, Numeral, Colon, Plus, Minus}
+use Rattle.polcert_text.specs.declared.lexeme.TokenKind.TheVariants.{Name, Numeral, Colon, Plus, Minus, Star}
 use Rattle.polcert_model.specs.declared.entry.Table.{Table}
 use Rattle.polcert_model.specs.declared.entry.Table.TheVariants.{Transition, Observation, Reward}
 use Rattle.polcert_model.specs.declared.entry.Place.{Place}
+use Rattle.polcert_model.specs.declared.entry.Place.TheVariants.{Every, Only}
 use Rattle.polcert_model.specs.declared.entry.Body.{Body}
 use Rattle.polcert_model.specs.declared.entry.Body.TheVariants as bodies
 use Rattle.polcert_model.specs.declared.entry.Entry.{Entry}
@@ -25,12 +26,12 @@ use Rattle.polcert_model.specs.declared.fault.ItemFault.{ItemFault}
 use Rattle.polcert_model.specs.declared.number.Refusal.{Refusal}
 use Rattle.polcert_model.specs.declared.number.Sign.{Sign}
 use Rattle.polcert_model.specs.declared.number.Range.TheVariants.{Probability}
-use Rattle.polcert_model.specs.declared.entry_reader.Stop.{Stop}
-use Rattle.polcert_model.specs.declared.entry_reader.Stop.TheVariants.{Refused, Memory}
+use Rattle.polcert_model.specs.declared.stop.Stop.{Stop}
+use Rattle.polcert_model.specs.declared.stop.Stop.TheVariants.{Refused, Memory}
 use Rattle.polcert_model.specs.Words.{IsWord}
 use Rattle.polcert_model.specs.Numbers.{AreNumbers, one}
 use Rattle.polcert_model.specs.Numbers as numbers
-use Rattle.polcert_model.specs.Elements.{Elements, count_of}
+use Rattle.polcert_model.specs.Elements.{Elements, count_of, StandsFor}
 use Rattle.polcert_model.specs.Entry.{forms, cells_in, IsPlace, ArePlaces, IsBody}
 use Rattle.polcert_model.specs.Entry as entries
 use Rattle.polcert_model.specs.Text.{Known}
@@ -498,3 +499,8 @@ probabilities_stuck ds r old l is stuck = stuck_in_state ds r (states.Probabilit
 
 pub rewards_stuck : (ds : List Elements) (r : EntryReader) (old : Numbers ℤ) (l : Lexeme) → r.state ≡ states.Rewards old → CannotTake RewardsGo old l → CannotTake (EntryGoes ds) r l
 rewards_stuck ds r old l is stuck = stuck_in_state ds r (states.Rewards old) l is (λ ls e g. stuck ls g.0 g.1.0)
+
+-- what is no `*` and stands for no element is no place
+pub no_place : (d : Elements) (l : Lexeme) → (l.kind ≡ Star → ⊥) → ((index : ℕ) → StandsFor d l index → ⊥) → (p : Place) → IsPlace d l p → ⊥
+no_place d l star none Every h = star h
+no_place d l star none (Only index) h = none index h

@@ -6,18 +6,17 @@ use Rattle.polcert_text.specs.declared.tokens.TokenFault.{TokenFault}
 use Rattle.polcert_model.specs.Words.{Topic, topic, begins_item}
 use Rattle.polcert_model.specs.Items.{Item, IsDivided}
 use Rattle.polcert_model.specs.Preamble.{Preamble}
-use Rattle.polcert_model.specs.Text.{Known, nothing_known, IsComplete, IsRight, AreRight, none, more}
-use Rattle.polcert_model.specs.Narrow.{IsTaken, AreTaken, IsTakenText}
+use Rattle.polcert_model.specs.Text.{Known, nothing_known, IsComplete, IsRight, AreRight, none, more, IsRightText}
 use Rattle.polcert_model.specs.Reading.{AreRightItems, IsWithinItem, CannotGoOn, IsWrong}
 use Rattle.polcert_model.specs.FirstWrong.{TextTokens, tokens_of, IsFirstWrong, wrong_front, wrong_fault, wrong_item, wrong_last, wrong_end}
 use Rattle.polcert_model.proofs.Basics.{one_some, or_false_from, cons≢nil, same_head, same_tail}
 use Rattle.polcert_model.proofs.ItemLaws.{one_division, has_division}
 use Rattle.polcert_model.proofs.TextLaws.{one_right, one_known}
 use Rattle.polcert_model.proofs.Dividing.{begins, append_division, next_division, empty_division, append-nil}
-use Rattle.polcert_model.proofs.NarrowLaws.{append_right, nothing_narrow, no_wrong_next, no_wrong_item}
+use Rattle.polcert_model.proofs.RightItems.{append_right, no_wrong_next, no_wrong_item}
 
 pub starts_right : AreRightItems [] nothing_known
-starts_right = record { items = []; divided = empty_division; right = (none, nothing_narrow) }
+starts_right = record { items = []; divided = empty_division; right = none }
 
 -- the lexemes, cut as the item is that was begun
 pub within_division : (seen body tail f : List Lexeme) (k : Known) (t : Topic) (ys : List Item) (w : IsWithinItem seen k t body) → IsDivided tail f ys
@@ -34,13 +33,13 @@ seen_division seen body k t w =
     (subst (λ b. IsDivided (seen ++ []) [] (w.items.items ++ (record { word = w.word; body = b }) ∷ [])) (append-nil body) (within_division seen body [] [] k t [] w empty_division))
 
 -- where the item is right with the lexemes so far, they are right items again
-abbrev pub item_ends : (seen body : List Lexeme) (k after : Known) (t : Topic) → IsWithinItem seen k t body → IsTaken k t body after → AreRightItems seen after
+abbrev pub item_ends : (seen body : List Lexeme) (k after : Known) (t : Topic) → IsWithinItem seen k t body → IsRight k t body after → AreRightItems seen after
 item_ends seen body k after t w r =
     let item : Item = record { word = w.word; body = body } in
     record {
       items = w.items.items ++ item ∷ [];
       divided = seen_division seen body k t w;
-      right = (append_right nothing_known k after w.items.items (item ∷ []) w.items.right.0 (more t w.topic_is r.0 none), r.1);
+      right = append_right nothing_known k after w.items.items (item ∷ []) w.items.right (more t w.topic_is r none);
     }
 
 -- a wrong item, whatever topic its word is said to have
@@ -91,32 +90,32 @@ nil≢cons : {A : Type 0} {x : A} {xs : List A} → [] ≡ x ∷ xs → ⊥
 nil≢cons e = cc
 
 -- no text with a first wrong item is taken
-pub not_taken : (ts : TextTokens) (n : ℕ) (p : Preamble) (last : Known) → IsFirstWrong ts n → ts.ending ≡ None → IsTakenText ts.lexemes p last → ⊥
-not_taken ts n p last (wrong_front l ls items d e) clean (text, narrow) = nil≢cons (one_division ts.lexemes [] (l ∷ ls) text.items items text.divided d).0
-not_taken ts n p last (wrong_fault f empty e z) clean (text, narrow) = none≢some clean e
-not_taken ts n p last (wrong_item before wrong after k d right is_wrong e) clean (text, narrow) =
+pub not_taken : (ts : TextTokens) (n : ℕ) (p : Preamble) (last : Known) → IsFirstWrong ts n → ts.ending ≡ None → IsRightText ts.lexemes p last → ⊥
+not_taken ts n p last (wrong_front l ls items d e) clean text = nil≢cons (one_division ts.lexemes [] (l ∷ ls) text.items items text.divided d).0
+not_taken ts n p last (wrong_fault f empty e z) clean text = none≢some clean e
+not_taken ts n p last (wrong_item before wrong after k d right is_wrong e) clean text =
     let items = one_division ts.lexemes [] [] text.items (before ++ wrong ∷ after) text.divided d in
-    no_wrong_item nothing_known k last before after wrong is_wrong right (subst (λ x. AreRight nothing_known x last) items.1 text.right, narrow)
-not_taken ts n p last (wrong_last before item k f d right e z) clean (text, narrow) = none≢some clean e
-not_taken ts n p last (wrong_end items k d right e lacking z) clean (text, narrow) =
+    no_wrong_item nothing_known k last before after wrong is_wrong right (subst (λ x. AreRight nothing_known x last) items.1 text.right)
+not_taken ts n p last (wrong_last before item k f d right e z) clean text = none≢some clean e
+not_taken ts n p last (wrong_end items k d right e lacking z) clean text =
     let same = one_division ts.lexemes [] [] text.items items text.divided d in
-    let known : last ≡ k = one_known nothing_known items last k (subst (λ x. AreRight nothing_known x last) same.1 text.right) right.0 in
+    let known : last ≡ k = one_known nothing_known items last k (subst (λ x. AreRight nothing_known x last) same.1 text.right) right in
     lacking p (subst (λ x. IsComplete x p) known text.complete)
 
 -- items behind right ones, of which the first isn't taken, begin at one place
-same_place : (k m n : Known) (xs ys : List Item) (x y : Item) (us vs : List Item) → AreTaken k xs m → AreTaken k ys n
+same_place : (k m n : Known) (xs ys : List Item) (x y : Item) (us vs : List Item) → AreRight k xs m → AreRight k ys n
     → ((t : Topic) → topic x.word ≡ Some t → IsWrong m t x.body) → ((t : Topic) → topic y.word ≡ Some t → IsWrong n t y.body) → xs ++ x ∷ us ≡ ys ++ y ∷ vs → length xs ≡ length ys
 same_place k m n [] [] x y us vs a b wrong other e = refl
-same_place k m n [] (z ∷ ys) x y us vs (none, nx) b wrong other e =
+same_place k m n [] (z ∷ ys) x y us vs none b wrong other e =
     absurd (no_wrong_next k n z ys (subst (λ (w : Item). (t : Topic) → topic w.word ≡ Some t → IsWrong k t w.body) (same_head e) wrong) b)
-same_place k m n (z ∷ xs) [] x y us vs a (none, ny) wrong other e =
+same_place k m n (z ∷ xs) [] x y us vs a none wrong other e =
     absurd (no_wrong_next k m z xs (subst (λ (w : Item). (t : Topic) → topic w.word ≡ Some t → IsWrong k t w.body) (sym (same_head e)) other) a)
-same_place k m n (z ∷ xs) (w ∷ ys) x y us vs (more {next = p} t f a behind, na) (more {next = q} u g b after, nb) wrong other e =
+same_place k m n (z ∷ xs) (w ∷ ys) x y us vs (more {next = p} t f a behind) (more {next = q} u g b after) wrong other e =
     let items : w ≡ z = sym (same_head e) in
     let topics : u ≡ t = one_some (subst (λ (i : Item). topic i.word ≡ Some u) items g) f in
     let right : IsRight k t z.body q = subst (λ (i : Item). IsRight k t i.body q) items (subst (λ v. IsRight k v w.body q) topics b) in
     let known : q ≡ p = one_right k t z.body q p right a in
-    let rest = same_place p m n xs ys x y us vs (behind, na) (subst (λ v. AreRight v ys n) known after, nb) wrong other (same_tail e) in
+    let rest = same_place p m n xs ys x y us vs behind (subst (λ v. AreRight v ys n) known after) wrong other (same_tail e) in
     ap suc rest
 
 no_empty : (xs : List Item) (x : Item) (ys : List Item) → xs ++ x ∷ ys ≡ [] → ⊥
@@ -124,18 +123,18 @@ no_empty [] x ys e = cons≢nil e
 no_empty (z ∷ xs) x ys e = cons≢nil e
 
 -- the last item of the text, behind right ones, where one of the items isn't taken
-place_of_last : (k m n : Known) (xs ys : List Item) (x y : Item) (us : List Item) → AreTaken k xs m → AreTaken k ys n
+place_of_last : (k m n : Known) (xs ys : List Item) (x y : Item) (us : List Item) → AreRight k xs m → AreRight k ys n
     → ((t : Topic) → topic x.word ≡ Some t → IsWrong m t x.body) → xs ++ x ∷ us ≡ ys ++ y ∷ [] → length xs ≡ length ys
 place_of_last k m n [] [] x y us a b wrong e = refl
-place_of_last k m n [] (z ∷ ys) x y us (none, nx) b wrong e =
+place_of_last k m n [] (z ∷ ys) x y us none b wrong e =
     absurd (no_wrong_next k n z ys (subst (λ (w : Item). (t : Topic) → topic w.word ≡ Some t → IsWrong k t w.body) (same_head e) wrong) b)
 place_of_last k m n (z ∷ xs) [] x y us a b wrong e = absurd (no_empty xs x us (same_tail e))
-place_of_last k m n (z ∷ xs) (w ∷ ys) x y us (more {next = p} t f a behind, na) (more {next = q} u g b after, nb) wrong e =
+place_of_last k m n (z ∷ xs) (w ∷ ys) x y us (more {next = p} t f a behind) (more {next = q} u g b after) wrong e =
     let items : w ≡ z = sym (same_head e) in
     let topics : u ≡ t = one_some (subst (λ (i : Item). topic i.word ≡ Some u) items g) f in
     let right : IsRight k t z.body q = subst (λ (i : Item). IsRight k t i.body q) items (subst (λ v. IsRight k v w.body q) topics b) in
     let known : q ≡ p = one_right k t z.body q p right a in
-    let rest = place_of_last p m n xs ys x y us (behind, na) (subst (λ v. AreRight v ys n) known after, nb) wrong (same_tail e) in
+    let rest = place_of_last p m n xs ys x y us behind (subst (λ v. AreRight v ys n) known after) wrong (same_tail e) in
     ap suc rest
 
 last_place : (xs ys : List Item) (x y : Item) → xs ++ x ∷ [] ≡ ys ++ y ∷ [] → length xs ≡ length ys
@@ -150,10 +149,10 @@ front_or_empty ls l fs items a e = nil≢cons (sym e ∙ a.whole)
 item_or_empty : (ls : List Lexeme) (xs : List Item) (x : Item) (ys : List Item) → IsDivided ls [] (xs ++ x ∷ ys) → ls ≡ [] → ⊥
 item_or_empty ls xs x ys a e = no_empty xs x ys (one_division [] [] [] (xs ++ x ∷ ys) [] (subst (λ s. IsDivided s [] (xs ++ x ∷ ys)) e a) empty_division).1
 
-item_or_end : (ls : List Lexeme) (xs : List Item) (x : Item) (ys items : List Item) (k last : Known) → IsDivided ls [] (xs ++ x ∷ ys) → AreTaken nothing_known xs k
-    → ((t : Topic) → topic x.word ≡ Some t → IsWrong k t x.body) → IsDivided ls [] items → AreTaken nothing_known items last → ⊥
-item_or_end ls xs x ys items k last a taken wrong b (all, narrow) =
-    no_wrong_item nothing_known k last xs ys x wrong taken (subst (λ v. AreRight nothing_known v last) (one_division ls [] [] items (xs ++ x ∷ ys) b a).1 all, narrow)
+item_or_end : (ls : List Lexeme) (xs : List Item) (x : Item) (ys items : List Item) (k last : Known) → IsDivided ls [] (xs ++ x ∷ ys) → AreRight nothing_known xs k
+    → ((t : Topic) → topic x.word ≡ Some t → IsWrong k t x.body) → IsDivided ls [] items → AreRight nothing_known items last → ⊥
+item_or_end ls xs x ys items k last a taken wrong b all =
+    no_wrong_item nothing_known k last xs ys x wrong taken (subst (λ v. AreRight nothing_known v last) (one_division ls [] [] items (xs ++ x ∷ ys) b a).1 all)
 
 zeros : (m n : ℕ) → m ≡ 0 → n ≡ 0 → m ≡ n
 zeros m n a b = a ∙ sym b

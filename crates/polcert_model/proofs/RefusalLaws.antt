@@ -9,8 +9,7 @@ use Rattle.polcert_model.specs.declared.fault.ModelFault.TheVariants.{Item, RowS
 use Rattle.polcert_model.specs.Preamble.{Preamble}
 use Rattle.polcert_model.specs.Meaning.{Meaning, meaning_of, sum_below, states_of, actions_of, observations_of, t_scale, o_scale, IsSame, HasProperRows}
 use Rattle.polcert_model.specs.Rows.{IsProperRow, IsFirstWrongRow}
-use Rattle.polcert_model.specs.Text.{most_bytes}
-use Rattle.polcert_model.specs.Narrow.{IsTakenText, IsAccepted}
+use Rattle.polcert_model.specs.Text.{most_bytes, IsRightText, IsModelText}
 use Rattle.polcert_model.specs.FirstWrong.{TextTokens, AreTokensOf}
 use Rattle.polcert_model.specs.Refusals.{IsRefusal, SaysOfText}
 use Rattle.polcert_model.proofs.TextLaws.{one_right_text}
@@ -48,16 +47,16 @@ no_wrong_row m n Observation a s same rows w =
     (subst (λ (r : Preamble). a < actions_of (record m { preamble = r })) (sym same.preamble) w.action)
     (subst (λ (r : Preamble). s < states_of (record m { preamble = r })) (sym same.preamble) w.state))
 
-pub not_accepted : (text : List ℕ) (ts : TextTokens) (fault : ModelFault) (m : Meaning) → AreTokensOf text ts → IsRefusal ts fault → SaysOfText fault → IsAccepted text m → ⊥
+pub not_accepted : (text : List ℕ) (ts : TextTokens) (fault : ModelFault) (m : Meaning) → AreTokensOf text ts → IsRefusal ts fault → SaysOfText fault → IsModelText text m → ⊥
 not_accepted text ts (Item kind number place) m tokens refusal says accepted =
-    let cut = one_cut (text_rest text most_bytes) ts.lexemes accepted.model.lexemes ts.ending None tokens.cut accepted.model.cut in
-    let d = accepted.model.denotes in
+    let cut = one_cut (text_rest text most_bytes) ts.lexemes accepted.lexemes ts.ending None tokens.cut accepted.cut in
+    let d = accepted.denotes in
     not_taken ts number d.preamble d.known refusal.first_wrong cut.1
-    (subst (λ ls. IsTakenText ls d.preamble d.known) (sym cut.0) (d.right, accepted.narrow))
+    (subst (λ ls. IsRightText ls d.preamble d.known) (sym cut.0) d.right)
 not_accepted text ts (RowSum table action row) m tokens refusal says accepted =
-    let cut = one_cut (text_rest text most_bytes) ts.lexemes accepted.model.lexemes ts.ending None tokens.cut accepted.model.cut in
-    let d = accepted.model.denotes in
-    let same = one_right_text accepted.model.lexemes d.preamble refusal.1.0 d.known refusal.1.1 d.right (subst (λ ls. IsTakenText ls refusal.1.0 refusal.1.1) cut.0 refusal.1.2).0 in
+    let cut = one_cut (text_rest text most_bytes) ts.lexemes accepted.lexemes ts.ending None tokens.cut accepted.cut in
+    let d = accepted.denotes in
+    let same = one_right_text accepted.lexemes d.preamble refusal.1.0 d.known refusal.1.1 d.right (subst (λ ls. IsRightText ls refusal.1.0 refusal.1.1) cut.0 refusal.1.2) in
     let known : meaning_of d.preamble d.known.start d.known.entries ≡ meaning_of refusal.1.0 refusal.1.1.start refusal.1.1.entries =
     λ i. meaning_of (same.0 i) ((same.1 i).start) ((same.1 i).entries) in
     no_wrong_row m (meaning_of refusal.1.0 refusal.1.1.start refusal.1.1.entries) table action row (subst (IsSame m) known d.same) d.rows refusal.1.3

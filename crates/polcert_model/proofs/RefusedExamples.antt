@@ -9,8 +9,7 @@ use Rattle.polcert_model.specs.Words.{Discount, topic, topic_of}
 use Rattle.polcert_model.specs.Numbers.{IsMillionths, none, unsigned, one}
 use Rattle.polcert_model.specs.Items.{Item, IsItem, IsDivided}
 use Rattle.polcert_model.specs.Text as texts
-use Rattle.polcert_model.specs.Text.{Known, nothing_known, IsInPreamble, IsComplete, IsRight}
-use Rattle.polcert_model.specs.Narrow.{AreTaken}
+use Rattle.polcert_model.specs.Text.{Known, nothing_known, IsInPreamble, IsComplete, IsRight, AreRight}
 use Rattle.polcert_model.specs.Reading.{IsWrong, CannotGoOn, IsPossible}
 use Rattle.polcert_model.specs.FirstWrong.{wrong_front, wrong_item, wrong_last, wrong_end, IsDecided, before_items, at_word, at_end}
 use Rattle.polcert_model.specs.Reasons.{unsigned as unsigned_number}
@@ -21,13 +20,12 @@ use Rattle.polcert_model.proofs.NumberLaws.{one_list}
 use Rattle.polcert_model.proofs.GoOnLaws.{numbers_go_on}
 use Rattle.polcert_model.proofs.Possible.{a_zero, zero_is}
 use Rattle.polcert_model.proofs.Dividing.{empty_division}
-use Rattle.polcert_model.proofs.NarrowLaws.{nothing_narrow}
 use Rattle.polcert_model.proofs.OrderLaws.{not_complete, wrong_at_word}
 use Rattle.polcert_model.proofs.PlaceLaws.{lies_before_items, lies_at_word, lies_in_item, lies_at_end, lies_at_fault}
 use Rattle.polcert_model.proofs.DecidedLaws.{one_decided, nothing_decided}
 
-starts : AreTaken nothing_known [] nothing_known
-starts = (texts.none, nothing_narrow)
+starts : AreRight nothing_known [] nothing_known
+starts = texts.none
 
 -- ---- the empty text
 
@@ -79,11 +77,9 @@ discount_topic place = refl
 abbrev discount_known : Known
 discount_known = record nothing_known { discount = Some 1_000_000 }
 
-first_taken : AreTaken nothing_known (one_item 0 8 10 (codes "1") ∷ []) discount_known
-first_taken = (
-  texts.more Discount (discount_topic 0) (texts.discount (let k : IsInPreamble nothing_known = record { no_start = refl; no_entry = refl } in k) refl refl (unsigned (numeral_one 10) none) (lit≤ tt)) texts.none,
-  record { states = tt; actions = tt; observations = tt; no_start = refl },
-)
+first_taken : AreRight nothing_known (one_item 0 8 10 (codes "1") ∷ []) discount_known
+first_taken =
+    texts.more Discount (discount_topic 0) (texts.discount (let k : IsInPreamble nothing_known = record { no_start = refl; no_entry = refl } in k) refl refl (unsigned (numeral_one 10) none) (lit≤ tt)) texts.none
 
 twice_divided : IsDivided twice.lexemes [] (one_item 0 8 10 (codes "1") ∷ one_item 12 20 22 (codes "1") ∷ [])
 twice_divided = record {
@@ -116,7 +112,7 @@ no_fraction : (p : ℕ) → pos 2_000_000 ≡ pos p → p ≤ one → ⊥
 no_fraction p e l = let f : ◌≡◌ {A = ℕ} 2_000_000 p = cc in omega (arith, f, l)
 
 two_is_wrong : IsWrong nothing_known Discount (colon_at 8 ∷ numeral_at 10 (codes "2") ∷ [])
-two_is_wrong after (texts.discount {g = g} p e c n l, narrow) = no_fraction g (same_head (one_list (unsigned (two 10) none) n)) l
+two_is_wrong after (texts.discount {g = g} p e c n l) = no_fraction g (same_head (one_list (unsigned (two 10) none) n)) l
 
 above_divided : IsDivided above_one.lexemes [] (one_item 0 8 10 (codes "2") ∷ [])
 above_divided = record { whole = refl; no_word = refl; each = All-from_recursion IsItem (one_item 0 8 10 (codes "2") ∷ []) (is_item 0 8 10 (codes "2"), tt) }
@@ -165,14 +161,11 @@ colon_possible : IsPossible nothing_known Discount (colon_at 8 ∷ [])
 colon_possible = record {
   more = a_zero ∷ [];
   after = record nothing_known { discount = Some 0 };
-  taken = (
-    texts.discount (let k : IsInPreamble nothing_known = record { no_start = refl; no_entry = refl } in k) refl refl (unsigned (zero_is false) none) (lit≤ tt),
-    record { states = tt; actions = tt; observations = tt; no_start = refl },
-  );
+  taken = texts.discount (let k : IsInPreamble nothing_known = record { no_start = refl; no_entry = refl } in k) refl refl (unsigned (zero_is false) none) (lit≤ tt);
 }
 
 two_stuck : CannotGoOn nothing_known Discount (colon_at 8 ∷ numeral_at 10 (codes "2") ∷ [])
-two_stuck further after (texts.discount {g = g} p e c n l, narrow) =
+two_stuck further after (texts.discount {g = g} p e c n l) =
     let r = numbers_go_on further (unsigned (two 10) none) n refl in
     no_fraction g (sym (same_head r.joined)) l
 

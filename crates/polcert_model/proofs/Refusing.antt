@@ -1,29 +1,33 @@
 -- What the reader of a text refuses within an item: each refusal is of the first wrong item, lies in it, and has its
 -- reason.
-use Rattle.std.proofs.Common.{◌≡◌, ◌∙◌, ℕ, ◌+◌, true, false, Bool, Option, Some, None, List, [], ◌∷◌, ◌++◌, length, refl, sym, ap, subst}
+use Rattle.std.proofs.Common.{◌≡◌, ◌∙◌, ℕ, ◌+◌, ◌⊎◌, inl, inr, ⊎_elim, true, false, Bool, Option, Some, None, List, [], ◌∷◌, ◌++◌, length, refl, sym, ap, subst}
 use Rattle.std.proofs.lemmas.List.{append_assoc}
 use Rattle.polcert_text.specs.Cut.{Lexeme}
 use Rattle.polcert_text.specs.declared.lexeme.TokenKind.TheVariants.{Numeral}
 use Rattle.polcert_model.specs.declared.fault.ItemFault.{ItemFault}
-use Rattle.polcert_model.specs.declared.fault.ItemFault.TheVariants.{Number, BadShape, BadCount, UnknownName, IndexOutOfRange, WrongNumberCount, ProbabilityRange, DiscountRange, Reset}
+use Rattle.polcert_model.specs.declared.fault.ItemFault.TheVariants.{Number, BadShape, BadCount, DuplicateName, UnknownName, IndexOutOfRange, WrongNumberCount, ProbabilityRange, DiscountRange, Reset, StartSum, StartEmpty}
 use Rattle.polcert_model.specs.declared.fault.ModelFault.TheVariants as model_faults
+use Rattle.polcert_model.specs.declared.item.ItemReader.{ItemReader}
+use Rattle.polcert_model.specs.declared.item.ItemReader.TheVariants as items
 use Rattle.polcert_model.specs.declared.number.Sign.{Sign}
 use Rattle.polcert_model.specs.declared.reader.TextReader.{TextReader}
-use Rattle.polcert_model.specs.Words.{Topic, topic, begins_item}
+use Rattle.polcert_model.specs.Words.{Topic, Discount, Values, States, Actions, Observations, Start, Cells, topic, begins_item}
 use Rattle.polcert_model.specs.Items.{Item, IsDivided}
-use Rattle.polcert_model.specs.Text.{Known, nothing_known}
-use Rattle.polcert_model.specs.Narrow.{IsTaken, AreTaken, narrow_word_fault}
+use Rattle.polcert_model.specs.Text.{Known, nothing_known, IsRight, AreRight}
+use Rattle.polcert_model.specs.Order.{word_fault}
 use Rattle.polcert_model.specs.Reading.{IsWithinItem, IsWrong, CannotGoOn, IsPossible}
-use Rattle.polcert_model.specs.FirstWrong.{TextTokens, IsFirstWrong, LiesIn, IsDecided, word_place, wrong_item}
-use Rattle.polcert_model.specs.Reasons.{IsReason, InItem, NumberStandsIn, is_sign}
+use Rattle.polcert_model.specs.FirstWrong.{TextTokens, AreTokensOf, IsFirstWrong, LiesIn, IsDecided, word_place, wrong_item}
+use Rattle.polcert_model.specs.Reasons.{IsReason, InItem, StandsIn, NumberStandsIn, IsRepeated, is_sign}
 use Rattle.polcert_model.specs.Reasons as reasons
-use Rattle.polcert_model.specs.Refusals.{place_or, Stops, StopsInBody, in_body}
+use Rattle.polcert_model.specs.Refusals.{place_or, Stops, StopsInBody, in_body, in_start}
 use Rattle.polcert_model.specs.Refusals as refusals
-use Rattle.polcert_model.specs.NumberSteps.{is_negative, number_place, IsSignAt}
+use Rattle.polcert_model.specs.NumberSteps.{is_negative, number_place, IsSignAt, SignEnds}
 use Rattle.polcert_model.specs.NumberSteps as steps
 use Rattle.polcert_model.specs.LineSteps.{CannotTake, CannotEnd}
-use Rattle.polcert_model.specs.ItemSteps.{ItemGoes, topic_in, sign_in, IsItemReason, IsEndReason}
-use Rattle.polcert_model.specs.TextSteps.{SignEnds, IsItemRead, EndsItem, IsRefusedBehind, IsRefusedAt}
+use Rattle.polcert_model.specs.StartSteps.{IsReasonIn, IsStartReason}
+use Rattle.polcert_model.specs.ItemSteps.{ItemGoes, topic_in, sign_in, IsSeen, IsTokenReason, IsItemReason, IsEndReason}
+use Rattle.polcert_model.specs.ItemSteps as steps_of
+use Rattle.polcert_model.specs.TextSteps.{IsItemRead, EndsItem, IsRefusedBehind, IsRefusedAt, Refuses}
 use Rattle.polcert_model.specs.TextSteps as texts
 use Rattle.polcert_model.proofs.Basics.{one_some}
 use Rattle.polcert_model.proofs.ItemLaws.{has_division}
@@ -40,7 +44,7 @@ pub record Here (ts : TextTokens) (n : ℕ) (k : Known) (t : Topic) (body : List
   pub word : Lexeme
   pub after : List Item
   pub divided : IsDivided ts.lexemes [] (before ++ (record { word = word; body = body }) ∷ after)
-  pub taken : AreTaken nothing_known before k
+  pub taken : AreRight nothing_known before k
   pub topic_is : topic word ≡ Some t
   pub number_is : n ≡ length before + 1
 
@@ -86,7 +90,7 @@ so_here ts n k t body Is h so = record {
 }
 
 -- nothing is decided where its word may stand
-pub free_here : (ts : TextTokens) (n : ℕ) (k : Known) (t : Topic) (body : List Lexeme) (h : Here ts n k t body) → narrow_word_fault k t ≡ None
+pub free_here : (ts : TextTokens) (n : ℕ) (k : Known) (t : Topic) (body : List Lexeme) (h : Here ts n k t body) → word_fault k t ≡ None
     → (fault : ItemFault) (at : ℕ) → IsDecided ts n fault at → ⊥
 free_here ts n k t body h free fault at d =
     nothing_decided ts h.before (item_here h) h.after k t fault at h.divided h.taken h.topic_is free (subst (λ m. IsDecided ts m fault at) h.number_is d)
@@ -186,7 +190,7 @@ stands : (body more : List Lexeme) (l : Lexeme) (place : ℕ) (Is : Lexeme → T
 stands body more l place Is p so = record { before = body; lexeme = l; after = more; whole = append_assoc body (l ∷ []) more; place_is = p; holds = so }
 
 refused_here : (ts : TextTokens) (n place : ℕ) (k : Known) (t : Topic) (sign : Option Sign) (body more : List Lexeme) (l : Lexeme) (kind : ItemFault)
-    → Here ts n k t ((body ++ l ∷ []) ++ more) → Rises 0 ts.lexemes ts.end → SignEnds sign body → IsPossible k t body → CannotGoOn k t (body ++ l ∷ []) → IsItemReason t sign l kind place
+    → Here ts n k t ((body ++ l ∷ []) ++ more) → Rises 0 ts.lexemes ts.end → SignEnds sign body → IsPossible k t body → CannotGoOn k t (body ++ l ∷ []) → IsTokenReason t sign body l kind place
     → Refused ts n place kind
 refused_here ts n place k t sign body more l (Number fault) h rises ends possible stuck m =
     at_number ts n place k t sign body more l (Number fault) h rises ends possible stuck m.1.0 m.0
@@ -199,6 +203,9 @@ refused_here ts n place k t sign body more l ProbabilityRange h rises ends possi
     (so_here ts n k t _ _ h (m.0, number_stands sign body more l place reasons.IsNoFraction ends m.1 m.2))
 refused_here ts n place k t sign body more l Reset h rises ends possible stuck m =
     at_lexeme ts n place k t body more l Reset h rises possible stuck m.0 (so_here ts n k t _ _ h (stands body more l place _ m.0 m.1))
+refused_here ts n place k t sign body more l DuplicateName h rises ends possible stuck m =
+    at_lexeme ts n place k t body more l DuplicateName h rises possible stuck m.0
+    (so_here ts n k t _ _ h (m.1, subst (λ b. IsRepeated b place) (sym (append_assoc body (l ∷ []) more)) (m.2 more)))
 refused_here ts n place k t sign body more l UnknownName h rises ends possible stuck m =
     at_lexeme ts n place k t body more l UnknownName h rises possible stuck m.0 (so_here ts n k t _ _ h (stands body more l place _ m.0 m.1))
 refused_here ts n place k t sign body more l IndexOutOfRange h rises ends possible stuck m =
@@ -213,27 +220,93 @@ refused_here ts n place k t sign body more l _ h rises ends possible stuck m = a
 stuck : (seen : List Lexeme) (r : TextReader) (w : IsItemRead seen r) (l : Lexeme) → CannotTake (ItemGoes r.known) w.item l
     → CannotGoOn r.known w.t (w.body ++ l ∷ [])
 stuck seen r w l none more after taken =
-    none more after (w.read.on (l ∷ more) after (subst (λ b. IsTaken r.known w.t b after) (append_assoc w.body (l ∷ []) more) taken))
+    none more after (w.read.on (l ∷ more) after (subst (λ b. IsRight r.known w.t b after) (append_assoc w.body (l ∷ []) more) taken))
+
+-- what stands in a body stands in it with more behind
+stands_further : (body more : List Lexeme) (place : ℕ) (Is : Lexeme → Type 0) → StandsIn body place Is → StandsIn (body ++ more) place Is
+stands_further body more place Is s = record {
+  before = s.before;
+  lexeme = s.lexeme;
+  after = s.after ++ more;
+  whole = ap (λ (b : List Lexeme). b ++ more) s.whole ∙ append_assoc s.before (s.lexeme ∷ s.after) more;
+  place_is = s.place_is;
+  holds = s.holds;
+}
+
+number_further : (body more : List Lexeme) (place : ℕ) (Is : Bool → Lexeme → Type 0) → NumberStandsIn body place Is → NumberStandsIn (body ++ more) place Is
+number_further body more place Is (reasons.unsigned before l after e free p so) =
+    reasons.unsigned before l (after ++ more) (ap (λ (b : List Lexeme). b ++ more) e ∙ append_assoc before (l ∷ after) more) free p so
+number_further body more place Is (reasons.plus before s l after e kind p so) =
+    reasons.plus before s l (after ++ more) (ap (λ (b : List Lexeme). b ++ more) e ∙ append_assoc before (s ∷ l ∷ after) more) kind p so
+number_further body more place Is (reasons.minus before s l after e kind p so) =
+    reasons.minus before s l (after ++ more) (ap (λ (b : List Lexeme). b ++ more) e ∙ append_assoc before (s ∷ l ∷ after) more) kind p so
+
+-- a refusal in a start item, at some lexeme of its body
+start_lies : (ts : TextTokens) (n place : ℕ) (k : Known) (t : Topic) (body : List Lexeme) → Here ts n k t body → Rises 0 ts.lexemes ts.end → StandsIn body place (λ l. Unit {0}) → LiesIn ts n place
+start_lies ts n place k t body h rises s = lies_here ts n place k t body s.before (s.lexeme ∷ s.after) h rises s.whole s.place_is
+
+start_reason : (ts : TextTokens) (n place : ℕ) (k : Known) (t : Topic) (body more : List Lexeme) (kind : ItemFault) → Here ts n k t (body ++ more) → t ≡ Start → IsReasonIn body kind place
+    → IsReason ts n place kind
+start_reason ts n place k t body more (Number fault) h e m = so_here ts n k t _ _ h (number_further body more place _ m)
+start_reason ts n place k t body more ProbabilityRange h e m =
+    so_here ts n k t _ _ h (subst reasons.IsOfProbabilities (sym e) tt, number_further body more place _ m)
+start_reason ts n place k t body more Reset h e m = so_here ts n k t _ _ h (stands_further body more place _ m)
+start_reason ts n place k t body more UnknownName h e m = so_here ts n k t _ _ h (stands_further body more place _ m)
+start_reason ts n place k t body more IndexOutOfRange h e m = so_here ts n k t _ _ h (stands_further body more place _ m)
+start_reason ts n place k t body more WrongNumberCount h e m = tt
+start_reason ts n place k t body more BadShape h e m = tt
+start_reason ts n place k t body more _ h e m = absurd m
+
+start_refused : (text : List ℕ) (ts : TextTokens) (n place : ℕ) (k : Known) (t : Topic) (body more : List Lexeme) (kind : ItemFault) → AreTokensOf text ts → Here ts n k t (body ++ more) → word_fault k t ≡ None
+    → IsWrong k t (body ++ more) → t ≡ Start → IsStartReason body kind place → Refuses ts (model_faults.Item kind n place)
+start_refused text ts n place k t body more kind tokens h free wrong e r = record {
+  refusal = record {
+    first_wrong = first_here ts n k t (body ++ more) h wrong;
+    lies = start_lies ts n place k t (body ++ more) h (tokens_rise text ts tokens) (stands_further body more place _ r.stands);
+    reason = start_reason ts n place k t body more kind h e r.reason;
+    decided = λ fault at x. absurd (free_here ts n k t (body ++ more) h free fault at x);
+  };
+  placed = in_start (so_here ts n k t _ _ h e);
+}
+
+-- the sign that waits for its numeral ends the body
+pub seen_sign : (body : List Lexeme) (item : ItemReader) → (topic_in item ≡ Start → ⊥) → IsSeen body item → SignEnds (sign_in item) body
+seen_sign body (items.Discount r) other s = s
+seen_sign body (items.Values r) other s = s
+seen_sign body (items.States r) other s = s.0
+seen_sign body (items.Actions r) other s = s.0
+seen_sign body (items.Observations r) other s = s.0
+seen_sign body (items.Start r) other s = absurd (other refl)
+seen_sign body (items.Entry r) other s = s
 
 pub feed_refused : (seen : List Lexeme) (r : TextReader) (l : Lexeme) (kind : ItemFault) (place : ℕ) (w : IsItemRead seen r) → begins_item l ≡ false
-    → CannotTake (ItemGoes r.known) w.item l → IsItemReason (topic_in w.item) (sign_in w.item) l kind place → IsRefusedBehind (seen ++ l ∷ []) (model_faults.Item kind r.number place)
+    → CannotTake (ItemGoes r.known) w.item l → IsItemReason w.item w.body l kind place → IsRefusedBehind (seen ++ l ∷ []) (model_faults.Item kind r.number place)
 feed_refused seen r l kind place w inner none reason text ts further tokens e =
     let d = has_division further in
     let more : List Lexeme = d.0 in
     let behind = within_goes_on seen l r.known w.t w.body w.within inner in
     let h : Here ts r.number r.known w.t ((w.body ++ l ∷ []) ++ more) = here ts r.number (seen ++ l ∷ []) (w.body ++ l ∷ []) further more r.known w.t d.1 behind e w.number_is d.2 in
-    let refused = refused_here ts r.number place r.known w.t (sign_in w.item) w.body more l kind h (tokens_rise text ts tokens) w.read.sign w.read.possible
-    (stuck seen r w l none)
-    (subst (λ t. IsItemReason t (sign_in w.item) l kind place) w.read.topic_is reason) in
-    record {
-      refusal = record {
-        first_wrong = first_here ts r.number r.known w.t ((w.body ++ l ∷ []) ++ more) h (stuck seen r w l none more);
-        lies = refused.lies;
-        reason = refused.reason;
-        decided = λ fault at x. absurd (free_here ts r.number r.known w.t ((w.body ++ l ∷ []) ++ more) h w.read.may_stand fault at x);
-      };
-      placed = in_body refused.stops;
-    }
+    at reason more h
+  where
+    of_one : (more : List Lexeme) → Here ts r.number r.known w.t ((w.body ++ l ∷ []) ++ more) → (topic_in w.item ≡ Start → ⊥) → IsTokenReason (topic_in w.item) (sign_in w.item) w.body l kind place
+        → Refuses ts (model_faults.Item kind r.number place)
+    of_one more h other m =
+        let refused = refused_here ts r.number place r.known w.t (sign_in w.item) w.body more l kind h (tokens_rise text ts tokens) (seen_sign w.body w.item other w.read.seen)
+        (w.read.possible (λ s. other (w.read.topic_is ∙ s))) (stuck seen r w l none) (subst (λ t. IsTokenReason t (sign_in w.item) w.body l kind place) w.read.topic_is m) in
+        record {
+          refusal = record {
+            first_wrong = first_here ts r.number r.known w.t ((w.body ++ l ∷ []) ++ more) h (stuck seen r w l none more);
+            lies = refused.lies;
+            reason = refused.reason;
+            decided = λ fault at x. absurd (free_here ts r.number r.known w.t ((w.body ++ l ∷ []) ++ more) h w.read.may_stand fault at x);
+          };
+          placed = in_body refused.stops;
+        }
+
+    at : IsItemReason w.item w.body l kind place → (more : List Lexeme) → Here ts r.number r.known w.t ((w.body ++ l ∷ []) ++ more) → Refuses ts (model_faults.Item kind r.number place)
+    at (steps_of.of_token other m) more h = of_one more h other m
+    at (steps_of.of_start start m) more h =
+        start_refused text ts r.number place r.known w.t (w.body ++ l ∷ []) more kind tokens h w.read.may_stand (stuck seen r w l none more) (sym w.read.topic_is ∙ start) m
 
 -- ---- an item that cannot end
 
@@ -256,9 +329,20 @@ ends_here ts n place seen body k t w number (texts.at_end e p) =
 
 end_reason : (ts : TextTokens) (n place : ℕ) (k : Known) (t : Topic) (body : List Lexeme) (kind : ItemFault) → Here ts n k t body → IsEndReason t kind → IsReason ts n place kind
 end_reason ts n place k t body BadCount h m = so_here ts n k t body _ h m
+end_reason ts n place k t body StartSum h m = so_here ts n k t body _ h m
+end_reason ts n place k t body StartEmpty h m = so_here ts n k t body _ h m
 end_reason ts n place k t body BadShape h m = tt
 end_reason ts n place k t body WrongNumberCount h m = tt
 end_reason ts n place k t body _ h m = absurd m
+
+is_start : (t : Topic) → (t ≡ Start) ⊎ (t ≡ Start → ⊥)
+is_start Start = inl refl
+is_start Discount = inr (λ e. cc)
+is_start Values = inr (λ e. cc)
+is_start States = inr (λ e. cc)
+is_start Actions = inr (λ e. cc)
+is_start Observations = inr (λ e. cc)
+is_start (Cells table) = inr (λ e. cc)
 
 pub end_refused : (seen : List Lexeme) (r : TextReader) (kind : ItemFault) (place : ℕ) (w : IsItemRead seen r) → CannotEnd (ItemGoes r.known) w.item
     → IsEndReason (topic_in w.item) kind → IsRefusedAt seen place (model_faults.Item kind r.number place)
@@ -271,6 +355,16 @@ end_refused seen r kind place w none reason text ts tokens ends =
         reason = end_reason ts r.number place r.known w.t (w.body ++ []) kind x.here_is (subst (λ t. IsEndReason t kind) w.read.topic_is reason);
         decided = λ fault at y. absurd (free_here ts r.number r.known w.t (w.body ++ []) x.here_is w.read.may_stand fault at y);
       };
-      placed = in_body (stops_here ts r.number place r.known w.t (w.body ++ []) w.body [] x.here_is refl w.read.possible
-          (refusals.at_end (λ after taken. none after (w.read.on [] after (subst (λ b. IsTaken r.known w.t b after) (sym (append-nil w.body)) taken)))) x.place_is);
+      placed = ⊎_elim
+          (λ (start : w.t ≡ Start). in_start (so_here ts r.number r.known w.t _ _ x.here_is start))
+          (λ (other : w.t ≡ Start → ⊥). in_body (stops_here ts r.number place r.known w.t (w.body ++ []) w.body [] x.here_is refl (w.read.possible other)
+          (refusals.at_end (λ after taken. none after (w.read.on [] after (subst (λ b. IsRight r.known w.t b after) (sym (append-nil w.body)) taken)))) x.place_is))
+          (is_start w.t);
     }
+
+-- a start item that cannot end, for the number before its end
+pub end_refused_before : (seen : List Lexeme) (r : TextReader) (kind : ItemFault) (at place : ℕ) (w : IsItemRead seen r) → CannotEnd (ItemGoes r.known) w.item
+    → topic_in w.item ≡ Start → IsStartReason w.body kind at → IsRefusedAt seen place (model_faults.Item kind r.number at)
+end_refused_before seen r kind at place w none start reason text ts tokens ends =
+    let x = ends_here ts r.number place seen w.body r.known w.t w.within w.number_is ends in
+    start_refused text ts r.number at r.known w.t w.body [] kind tokens x.here_is w.read.may_stand (λ after taken. none after (w.read.on [] after taken)) (sym w.read.topic_is ∙ start) reason

@@ -6,14 +6,13 @@ use Rattle.polcert_text.specs.Reading.{fault_place}
 use Rattle.polcert_text.specs.declared.tokens.TokenFault.{TokenFault}
 use Rattle.polcert_text.specs.declared.tokens.TokenFault.TheVariants as token_faults
 use Rattle.polcert_model.specs.declared.fault.ItemFault.{ItemFault}
-use Rattle.polcert_model.specs.declared.fault.ItemFault.TheVariants.{BeforeFirstItem, BadShape, DuplicateLine, LateLine, MissingLine, TooManyCells}
+use Rattle.polcert_model.specs.declared.fault.ItemFault.TheVariants.{BeforeFirstItem, DuplicateLine, LateLine, MissingLine, TooManyCells}
 use Rattle.polcert_model.specs.declared.fault.ModelFault.TheVariants as model_faults
 use Rattle.polcert_model.specs.declared.reader.TextReader.{TextReader}
-use Rattle.polcert_model.specs.Words.{Topic, Discount, Values, States, Actions, Observations, Start, Cells, topic, begins_item}
+use Rattle.polcert_model.specs.Words.{Topic, topic, begins_item}
 use Rattle.polcert_model.specs.Items.{Item, IsDivided}
 use Rattle.polcert_model.specs.Text.{Known}
 use Rattle.polcert_model.specs.Order.{is_late, came_before, ends_preamble, has_all_lines, cells_are_too_many, count_in, preamble_fault, word_fault}
-use Rattle.polcert_model.specs.Narrow.{at_start, narrow_word_fault}
 use Rattle.polcert_model.specs.FirstWrong.{TextTokens, AreTokensOf, LiesIn, IsDecided, wrong_front, wrong_fault, wrong_last, wrong_end, before_items, at_word, at_end}
 use Rattle.polcert_model.specs.Reasons.{IsReason}
 use Rattle.polcert_model.specs.Refusals.{IsItemRefusal, IsOfTokens, before_body, of_tokens}
@@ -54,7 +53,6 @@ before_refused seen r l w inner text ts further tokens e =
 
 -- the reasons that are decided there
 abbrev IsOrderFault : ItemFault → Type 0
-IsOrderFault BadShape = Unit {0}
 IsOrderFault DuplicateLine = Unit {0}
 IsOrderFault LateLine = Unit {0}
 IsOrderFault MissingLine = Unit {0}
@@ -62,7 +60,6 @@ IsOrderFault TooManyCells = Unit {0}
 IsOrderFault _ = ⊥
 
 order_reason : (ts : TextTokens) (n place : ℕ) (kind : ItemFault) → IsOrderFault kind → IsDecided ts n kind place → IsReason ts n place kind
-order_reason ts n place BadShape o d = tt
 order_reason ts n place DuplicateLine o d = d
 order_reason ts n place LateLine o d = d
 order_reason ts n place MissingLine o d = d
@@ -94,21 +91,11 @@ fault_order false true ends fault kind behind e = subst IsOrderFault (some_once 
 fault_order false false true fault kind behind e = behind kind e
 fault_order false false false fault kind behind e = absurd (none≢some e)
 
-start_order : (t : Topic) (fault : Option ItemFault) (kind : ItemFault) → ((f : ItemFault) → fault ≡ Some f → IsOrderFault f) → at_start t fault ≡ Some kind → IsOrderFault kind
-start_order t (Some f) kind behind e = behind kind e
-start_order Start None kind behind e = subst IsOrderFault (some_once e) tt
-start_order Discount None kind behind e = absurd (none≢some e)
-start_order Values None kind behind e = absurd (none≢some e)
-start_order States None kind behind e = absurd (none≢some e)
-start_order Actions None kind behind e = absurd (none≢some e)
-start_order Observations None kind behind e = absurd (none≢some e)
-start_order (Cells table) None kind behind e = absurd (none≢some e)
-
-word_order : (k : Known) (t : Topic) (kind : ItemFault) → narrow_word_fault k t ≡ Some kind → IsOrderFault kind
-word_order k t kind e = start_order t (word_fault k t) kind (λ f g. fault_order (is_late k t) (came_before k t) (ends_preamble t) (preamble_fault k) f (preamble_order k) g) e
+word_order : (k : Known) (t : Topic) (kind : ItemFault) → word_fault k t ≡ Some kind → IsOrderFault kind
+word_order k t kind e = fault_order (is_late k t) (came_before k t) (ends_preamble t) (preamble_fault k) kind (preamble_order k) e
 
 pub word_refused : (seen : List Lexeme) (r : TextReader) (word : Lexeme) (t : Topic) (kind : ItemFault) → AreItemsRead seen r → topic word ≡ Some t
-    → narrow_word_fault r.known t ≡ Some kind → IsRefusedBehind (seen ++ word ∷ []) (model_faults.Item kind (r.number + 1) word.place)
+    → word_fault r.known t ≡ Some kind → IsRefusedBehind (seen ++ word ∷ []) (model_faults.Item kind (r.number + 1) word.place)
 word_refused seen r word t kind w is wrong text ts further tokens e =
     let d = has_division further in
     let more : List Lexeme = d.0 in

@@ -1,6 +1,7 @@
 -- What a right text says is sound, so that a model may keep it.
 use Rattle.std.proofs.Common.{◌≡◌, ◌∙◌, ℕ, zero, suc, ◌<◌, ◌≤◌, ◌==◌, Bool, List, [], ◌∷◌, length, drop, All, Some, None, Option, ℤ, unsigned_abs, bytes_eq, refl, sym, ap, subst, arith}
 use Rattle.std.specs.List.{list_any}
+use Rattle.std.specs.Option.{ForSome}
 use Rattle.std.proofs.lemmas.List.Elements.{All-append}
 use Rattle.std.proofs.lemmas.List.Quantifiers.{position-Some}
 use Rattle.polcert_text.specs.Cut.{Lexeme}
@@ -21,11 +22,9 @@ use Rattle.polcert_model.specs.Entry as entries
 use Rattle.polcert_model.specs.Text as texts
 use Rattle.polcert_model.specs.Text.{Known, nothing_known, HasLines, IsComplete, IsInPreamble, IsRight, AreRight, IsRightText, Denotes}
 use Rattle.polcert_model.specs.Start.{Shares}
-use Rattle.polcert_model.specs.Meaning.{Meaning, meaning_of, IsSame, HasProperRows}
-use Rattle.polcert_model.specs.Contents.{Contents, meaning}
-use Rattle.polcert_model.specs.Sound.{IsPlaceIn, ArePlacesIn, Fills, IsSoundEntry, IsSound, numbered, contents_of}
+use Rattle.polcert_model.specs.Sound.{IsPlaceIn, ArePlacesIn, Fills, IsSoundEntry, IsSound}
 use Rattle.polcert_model.proofs.Basics.{one_some, some≢none}
-use Rattle.polcert_model.proofs.LimitLaws.{number_within, CountWithin, DiscountWithin, all_within}
+use Rattle.polcert_model.proofs.LimitLaws.{number_within, CountWithin, DiscountWithin, StartWithin, all_within}
 
 -- ---- one entry
 named_below : (elements : Elements) (name : List ℕ) (index : ℕ) → number_of elements name ≡ Some index → index < count_of elements
@@ -109,6 +108,10 @@ all_sound : (k : Known) (items : List Item) (end : Known) → HasSoundEntries k 
 all_sound k items end h texts.none = h
 all_sound k (item ∷ items) end h (texts.more {next = next} t e here behind) = all_sound next items end (next_sound k t item.body next h here) behind
 
+a_share_each : (states : Elements) (start : Option Shares) → StartWithin (Some states) start → ForSome start (λ found. length found.weights ≡ count_of states)
+a_share_each states None w = λ x e. absurd (some≢none refl (sym e))
+a_share_each states (Some found) w = λ x e. subst (λ (y : Shares). length y.weights ≡ count_of states) (one_some refl e) w.count
+
 -- what a right text says is sound
 pub right_text_sound : (ls : List Lexeme) (p : Preamble) (k : Known) → IsRightText ls p k → IsSound (record { preamble = p; start = k.start; entries = k.entries })
 right_text_sound ls p k r =
@@ -118,49 +121,6 @@ right_text_sound ls p k r =
       actions = subst CountWithin r.complete.lines.actions w.actions;
       observations = subst CountWithin r.complete.lines.observations w.observations;
       discount = subst DiscountWithin r.complete.lines.discount w.discount;
+      start = a_share_each p.states k.start (subst (λ o. StartWithin o k.start) r.complete.lines.states w.start);
       entries = all_sound nothing_known r.items k (λ q a. no_entries nothing_known q refl) r.right p r.complete.lines;
-    }
-
--- ---- what a reader that keeps counts makes of it
-abbrev contents_with : Preamble → Option Shares → List Entry → Contents
-contents_with p start es = record { preamble = p; start = start; entries = es }
-
-same_as_itself : (m : Meaning) → IsSame m m
-same_as_itself m = record { preamble = refl; start = refl; t = λ a s e i j k. refl; o = λ a e z i j k. refl; r = λ a s e z i j k l. refl }
-
--- the counts, and no start, that what is known says
-pub record KeepsCounts (k : Known) (discount : ℕ) (costs : Bool) (states actions observations : ℕ) : Type 0 where
-  pub discount_is : k.discount ≡ Some discount
-  pub costs_are : k.costs ≡ Some costs
-  pub states_are : k.states ≡ Some (Count states)
-  pub actions_are : k.actions ≡ Some (Count actions)
-  pub observations_are : k.observations ≡ Some (Count observations)
-  pub no_start : k.start ≡ None
-
-same_contents : (ls : List Lexeme) (p : Preamble) (k : Known) (discount : ℕ) (costs : Bool) (states actions observations : ℕ) → IsRightText ls p k
-    → KeepsCounts k discount costs states actions observations → contents_of discount costs states actions observations k.entries ≡ record { preamble = p; start = k.start; entries = k.entries }
-same_contents ls p k discount costs states actions observations r c =
-    let lines : HasLines k (numbered discount costs states actions observations) =
-    record { discount = c.discount_is; costs = c.costs_are; states = c.states_are; actions = c.actions_are; observations = c.observations_are } in
-    let same : numbered discount costs states actions observations ≡ p = one_preamble k (numbered discount costs states actions observations) p lines r.complete.lines in
-    ap (λ (q : Preamble). contents_with q None k.entries) same ∙ ap (λ o. contents_with p o k.entries) (sym c.no_start)
-
--- it may be kept
-pub kept_text_sound : (ls : List Lexeme) (p : Preamble) (k : Known) (discount : ℕ) (costs : Bool) (states actions observations : ℕ) → IsRightText ls p k
-    → KeepsCounts k discount costs states actions observations → IsSound (contents_of discount costs states actions observations k.entries)
-kept_text_sound ls p k discount costs states actions observations r c =
-    subst IsSound (sym (same_contents ls p k discount costs states actions observations r c)) (right_text_sound ls p k r)
-
--- and where its rows are proper, the text denotes it
-pub kept_text_denotes : (ls : List Lexeme) (p : Preamble) (k : Known) (discount : ℕ) (costs : Bool) (states actions observations : ℕ) → IsRightText ls p k
-    → KeepsCounts k discount costs states actions observations → HasProperRows (meaning (contents_of discount costs states actions observations k.entries))
-    → Denotes ls (meaning (contents_of discount costs states actions observations k.entries))
-kept_text_denotes ls p k discount costs states actions observations r c rows =
-    let same = same_contents ls p k discount costs states actions observations r c in
-    record {
-      preamble = p;
-      known = k;
-      right = r;
-      same = subst (λ (x : Contents). IsSame (meaning x) (meaning_of p k.start k.entries)) (sym same) (same_as_itself (meaning_of p k.start k.entries));
-      rows = rows;
     }

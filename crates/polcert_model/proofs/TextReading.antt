@@ -8,23 +8,22 @@ use Rattle.polcert_model.specs.declared.fault.ModelFault.TheVariants as model_fa
 use Rattle.polcert_model.specs.declared.item.ItemReader.{ItemReader}
 use Rattle.polcert_model.specs.declared.item.Said.{Said}
 use Rattle.polcert_model.specs.declared.reader.TextReader.{TextReader}
-use Rattle.polcert_model.specs.Words.{Topic, Discount, Values, States, Actions, Observations, Start, Cells, topic, begins_item}
+use Rattle.polcert_model.specs.Words.{Topic, Start, topic, begins_item}
 use Rattle.polcert_model.specs.Items.{IsDivided}
-use Rattle.polcert_model.specs.Text.{Known, nothing_known}
+use Rattle.polcert_model.specs.Text.{Known, nothing_known, IsRight, AreRight}
 use Rattle.polcert_model.specs.Text as texts
-use Rattle.polcert_model.specs.Narrow.{IsTaken, AreTaken, at_start, narrow_word_fault}
 use Rattle.polcert_model.specs.Order.{word_fault, preamble_fault}
 use Rattle.polcert_model.specs.LineSteps.{Takes, CannotTake, CannotEnd}
-use Rattle.polcert_model.specs.ItemSteps.{ItemGoes, IsItemWithin, IsItemReason, IsEndReason, topic_in, sign_in, SignIs, new_item, HasElements}
+use Rattle.polcert_model.specs.StartSteps.{IsStartReason}
+use Rattle.polcert_model.specs.ItemSteps.{ItemGoes, IsItemWithin, IsItemReason, IsEndReason, IsSeen, topic_in, new_item, HasElements}
 use Rattle.polcert_model.specs.KnownView.{learned}
 use Rattle.polcert_model.specs.TextSteps.{Refuses, IsTextRead, IsItemRead, IsBodyRead, AreItemsRead, IsRefusedBehind, IsRefusedAt, IsRefusedWhole, at_word, at_end, nothing, item}
 use Rattle.polcert_model.proofs.Basics.{one_some}
 use Rattle.polcert_model.proofs.Dividing.{begins, empty_division, append-nil}
-use Rattle.polcert_model.proofs.NarrowLaws.{nothing_narrow}
 use Rattle.polcert_model.proofs.ReadLaws.{item_ends}
 use Rattle.polcert_model.proofs.TakenItems.{item_begun, item_goes_on, has_elements}
 use Rattle.polcert_model.proofs.Within.{within_goes_on, item_begins}
-use Rattle.polcert_model.proofs.Refusing.{feed_refused, end_refused}
+use Rattle.polcert_model.proofs.Refusing.{feed_refused, end_refused, end_refused_before}
 use Rattle.polcert_model.proofs.RefusingEnds.{before_refused, word_refused, text_end_refused}
 
 none≢some : {A : Type 0} {o : Option A} {x : A} → o ≡ None → o ≡ Some x → ⊥
@@ -38,7 +37,7 @@ reader_of known held number = record { known = known; item = held; number = numb
 -- no item is open
 pub none_open : (seen : List Lexeme) (r : TextReader) (held : Option ItemReader) → IsTextRead seen r → r.item ≡ None → held ≡ None → AreItemsRead seen (reader_of r.known held r.number)
 none_open seen r held (nothing n) e f = record {
-  items = record { items = []; divided = subst (λ s. IsDivided s [] []) (sym n.nothing) empty_division; right = subst (AreTaken nothing_known []) (sym n.known_is) (texts.none, nothing_narrow) };
+  items = record { items = []; divided = subst (λ s. IsDivided s [] []) (sym n.nothing) empty_division; right = subst (AreRight nothing_known []) (sym n.known_is) texts.none };
   item_is = f;
   number_is = n.number_is;
 }
@@ -58,23 +57,38 @@ pub item_ended : (seen : List Lexeme) (r : TextReader) (held : Option ItemReader
 item_ended seen r held i known said (nothing n) e none goes e' = absurd (none≢some n.item_is e)
 item_ended seen r held i known said (item w) e none goes same =
     let after = learned r.known said in
-    let taken : IsTaken r.known w.t w.body after =
-    subst (λ b. IsTaken r.known w.t b after) (append-nil w.body) (w.read.back [] after (subst (λ j. ItemGoes r.known j [] after) (sym (same_item seen r i e w)) goes)) in
+    let taken : IsRight r.known w.t w.body after =
+    subst (λ b. IsRight r.known w.t b after) (append-nil w.body) (w.read.back [] after (subst (λ j. ItemGoes r.known j [] after) (sym (same_item seen r i e w)) goes)) in
     subst (λ k. AreItemsRead seen (reader_of k held r.number)) (sym same) (record {
       items = item_ends seen w.body r.known after w.t w.within taken;
       item_is = none;
       number_is = w.number_is ∙ sym (length-append w.within.items.items (record { word = w.within.word; body = w.body } ∷ []));
     })
 
+cannot_end : (seen : List Lexeme) (r : TextReader) (i : ItemReader) (w : IsItemRead seen r) → r.item ≡ Some i → (HasElements r.known (topic_in i) → CannotEnd (ItemGoes r.known) i) → CannotEnd (ItemGoes r.known) w.item
+cannot_end seen r i w e stuck =
+    let same = same_item seen r i e w in
+    let some : HasElements r.known (topic_in w.item) = subst (HasElements r.known) (sym w.read.topic_is) (has_elements w.within.items.items r.known w.t w.within.items.right w.read.may_stand) in
+    subst (λ j. HasElements r.known (topic_in j) → CannotEnd (ItemGoes r.known) j) (sym same) stuck some
+
 -- the open item cannot end
 pub item_not_ended : (seen : List Lexeme) (r : TextReader) (i : ItemReader) (kind : ItemFault) (place : ℕ) → IsTextRead seen r → r.item ≡ Some i
-    → ((k : Known) → HasElements k (topic_in i) → CannotEnd (ItemGoes k) i) → IsEndReason (topic_in i) kind → IsRefusedAt seen place (model_faults.Item kind r.number place)
+    → (HasElements r.known (topic_in i) → CannotEnd (ItemGoes r.known) i) → ((body : List Lexeme) → IsSeen body i → IsEndReason (topic_in i) kind)
+    → IsRefusedAt seen place (model_faults.Item kind r.number place)
 item_not_ended seen r i kind place (nothing n) e stuck reason = absurd (none≢some n.item_is e)
 item_not_ended seen r i kind place (item w) e stuck reason =
     let same = same_item seen r i e w in
-    let some : HasElements r.known (topic_in w.item) = subst (HasElements r.known) (sym w.read.topic_is) (has_elements w.within.items.items r.known w.t w.within.items.right.0 w.read.may_stand) in
-    let cannot : CannotEnd (ItemGoes r.known) w.item = subst (λ j. HasElements r.known (topic_in j) → CannotEnd (ItemGoes r.known) j) (sym same) (stuck r.known) some in
-    end_refused seen r kind place w cannot (subst (λ j. IsEndReason (topic_in j) kind) (sym same) reason)
+    end_refused seen r kind place w (cannot_end seen r i w e stuck) (subst (λ j. IsEndReason (topic_in j) kind) (sym same) (reason w.body (subst (IsSeen w.body) same w.read.seen)))
+
+-- nor for the number before its end
+pub item_not_ended_before : (seen : List Lexeme) (r : TextReader) (i : ItemReader) (kind : ItemFault) (at place : ℕ) → IsTextRead seen r → r.item ≡ Some i
+    → (HasElements r.known (topic_in i) → CannotEnd (ItemGoes r.known) i) → ((body : List Lexeme) → IsSeen body i → (topic_in i ≡ Start) × IsStartReason body kind at)
+    → IsRefusedAt seen place (model_faults.Item kind r.number at)
+item_not_ended_before seen r i kind at place (nothing n) e stuck reason = absurd (none≢some n.item_is e)
+item_not_ended_before seen r i kind at place (item w) e stuck reason =
+    let same = same_item seen r i e w in
+    let why = reason w.body (subst (IsSeen w.body) same w.read.seen) in
+    end_refused_before seen r kind at place w (cannot_end seen r i w e stuck) (ap topic_in same ∙ why.0) why.1
 
 -- ---- one lexeme more
 
@@ -86,9 +100,9 @@ not_begun seen r l (item w) e inside = absurd (none≢some e w.item_is)
 
 -- the open item takes it
 pub item_takes : (seen : List Lexeme) (r : TextReader) (l : Lexeme) (old new : ItemReader) → IsTextRead seen r → r.item ≡ Some old → begins_item l ≡ false
-    → topic_in new ≡ topic_in old → IsItemWithin r.known new → Takes (ItemGoes r.known) old l new → SignIs (sign_in new) l → IsTextRead (seen ++ l ∷ []) (reader_of r.known (Some new) r.number)
-item_takes seen r l old new (nothing n) e inside same within takes sign = absurd (none≢some n.item_is e)
-item_takes seen r l old new (item w) e inside same within takes sign =
+    → topic_in new ≡ topic_in old → IsItemWithin r.known new → Takes (ItemGoes r.known) old l new → ((body : List Lexeme) → IsSeen body old → IsSeen (body ++ l ∷ []) new) → IsTextRead (seen ++ l ∷ []) (reader_of r.known (Some new) r.number)
+item_takes seen r l old new (nothing n) e inside same within takes goes_on = absurd (none≢some n.item_is e)
+item_takes seen r l old new (item w) e inside same within takes goes_on =
     let read : IsBodyRead r.known w.t w.body old = subst (IsBodyRead r.known w.t w.body) (same_item seen r old e w) w.read in
     item (record {
       t = w.t;
@@ -97,51 +111,34 @@ item_takes seen r l old new (item w) e inside same within takes sign =
       within = within_goes_on seen l r.known w.t w.body w.within inside;
       item_is = refl;
       number_is = w.number_is;
-      read = item_goes_on r.known w.t w.body old new l read same within takes sign;
+      read = item_goes_on r.known w.t w.body old new l read same within takes (goes_on w.body read.seen);
     })
 
 -- it cannot
 pub item_refuses : (seen : List Lexeme) (r : TextReader) (l : Lexeme) (i : ItemReader) (kind : ItemFault) (place : ℕ) → IsTextRead seen r → r.item ≡ Some i → begins_item l ≡ false
-    → CannotTake (ItemGoes r.known) i l → IsItemReason (topic_in i) (sign_in i) l kind place → IsRefusedBehind (seen ++ l ∷ []) (model_faults.Item kind r.number place)
+    → CannotTake (ItemGoes r.known) i l → ((body : List Lexeme) → IsSeen body i → IsItemReason i body l kind place) → IsRefusedBehind (seen ++ l ∷ []) (model_faults.Item kind r.number place)
 item_refuses seen r l i kind place (nothing n) e inside stuck reason = absurd (none≢some n.item_is e)
 item_refuses seen r l i kind place (item w) e inside stuck reason =
     let same = sym (same_item seen r i e w) in
-    feed_refused seen r l kind place w inside (subst (λ j. CannotTake (ItemGoes r.known) j l) same stuck) (subst (λ j. IsItemReason (topic_in j) (sign_in j) l kind place) same reason)
+    feed_refused seen r l kind place w inside (subst (λ j. CannotTake (ItemGoes r.known) j l) same stuck) (subst (λ j. IsItemReason j w.body l kind place) same (reason w.body (subst (IsSeen w.body) (sym same) w.read.seen)))
 
 -- ---- an item's word
 
-at_start_none : (t : Topic) (o : Option ItemFault) → at_start t o ≡ None → t ≡ Start → ⊥
-at_start_none t o e s = at o (subst (λ x. at_start x o ≡ None) s e)
-  where
-    at : (o : Option ItemFault) → at_start Start o ≡ None → ⊥
-    at None e = cc
-    at (Some f) e = cc
-
-new_some : (k : Known) (t : Topic) → narrow_word_fault k t ≡ None → (j : ItemReader) × (new_item t ≡ Some j)
-new_some k Discount e = (_, refl)
-new_some k Values e = (_, refl)
-new_some k States e = (_, refl)
-new_some k Actions e = (_, refl)
-new_some k Observations e = (_, refl)
-new_some k Start e = absurd (at_start_none Start (word_fault k Start) e refl)
-new_some k (Cells table) e = (_, refl)
-
-pub item_opened : (seen : List Lexeme) (r : TextReader) (word : Lexeme) (t : Topic) (held : Option ItemReader) → AreItemsRead seen r → topic word ≡ Some t → narrow_word_fault r.known t ≡ None
-    → held ≡ new_item t → IsTextRead (seen ++ word ∷ []) (reader_of r.known held (r.number + 1))
-item_opened seen r word t held a e free same =
-    let j = new_some r.known t free in
+pub item_opened : (seen : List Lexeme) (r : TextReader) (word : Lexeme) (t : Topic) (new : ItemReader) → AreItemsRead seen r → topic word ≡ Some t → word_fault r.known t ≡ None
+    → new ≡ new_item t → IsTextRead (seen ++ word ∷ []) (reader_of r.known (Some new) (r.number + 1))
+item_opened seen r word t new a e free same =
     item (record {
       t = t;
       body = [];
-      item = j.0;
+      item = new_item t;
       within = item_begins seen word r.known t a.items e;
-      item_is = same ∙ j.1;
+      item_is = ap Some same;
       number_is = ap (λ n. n + 1) a.number_is;
-      read = item_begun r.known t j.0 a.items.right.1 free j.1;
+      read = item_begun r.known t free;
     })
 
 pub item_not_opened : (seen : List Lexeme) (r : TextReader) (word : Lexeme) (t : Topic) (kind : ItemFault) (place : ℕ) → AreItemsRead seen r → topic word ≡ Some t
-    → narrow_word_fault r.known t ≡ Some kind → word.place ≡ place → IsRefusedBehind (seen ++ word ∷ []) (model_faults.Item kind (r.number + 1) place)
+    → word_fault r.known t ≡ Some kind → word.place ≡ place → IsRefusedBehind (seen ++ word ∷ []) (model_faults.Item kind (r.number + 1) place)
 item_not_opened seen r word t kind place a e fault at =
     subst (λ p. IsRefusedBehind (seen ++ word ∷ []) (model_faults.Item kind (r.number + 1) p)) at (word_refused seen r word t kind a e fault)
 

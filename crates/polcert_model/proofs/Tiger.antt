@@ -22,7 +22,7 @@ use Rattle.polcert_model.specs.Entry as entries
 use Rattle.polcert_model.specs.Entry.{ArePlaces, IsEntry, IsBody}
 use Rattle.polcert_model.specs.Preamble.{dimensions}
 use Rattle.polcert_model.proofs.Basics.{true≢false}
-use Rattle.polcert_model.proofs.NarrowLaws.{append_right}
+use Rattle.polcert_model.proofs.RightItems.{append_right}
 use Rattle.polcert_model.specs.Meaning.{HasProperRows, sum_below}
 use Rattle.polcert_model.specs.Text as texts
 use Rattle.polcert_model.specs.Text.{Known, nothing_known, IsInPreamble, IsComplete, IsRight, AreRight, Denotes}

@@ -1,9 +1,77 @@
--- Elements, token by token.
+-- Elements, token by token: what is still to come of a count or of names that were read so far.
 -- Nobody has to believe this: only contracts of private functions cite it.
-use Rattle.std.specs.Prelude.{◌≡◌, IsAscii}
+use Rattle.std.specs.Prelude.{◌≡◌, ◌≢◌, ℕ, ◌≤◌, true, List, [], ◌∷◌, ◌++◌, length, map, All, AllPairs, bytes_eq, IsAscii}
+use Rattle.std.specs.List.{list_any}
 use Rattle.polcert_text.specs.Cut.{Lexeme}
 use Rattle.polcert_text.specs.declared.lexeme.TokenKind.TheVariants.{Name}
+use Rattle.polcert_model.specs.declared.fault.ItemFault.{ItemFault}
+use Rattle.polcert_model.specs.declared.fault.ItemFault.TheVariants.{BadCount, DuplicateName}
+use Rattle.polcert_model.specs.declared.elements_reader.ElementsReader.{ElementsReader}
+use Rattle.polcert_model.specs.declared.elements_reader.ElementsReader.TheVariants as readers
+use Rattle.polcert_model.specs.Words.{IsName}
+use Rattle.polcert_model.specs.Numbers.{IsWhole}
+use Rattle.polcert_model.specs.Elements.{Elements, Count, Names, AreElements, most_elements}
+use Rattle.polcert_model.specs.Meaning.{IsCount}
+use Rattle.polcert_model.specs.NumberSteps.{IsMisplaced}
+use Rattle.polcert_model.specs.LineSteps.{BehindColon}
 
 -- a name is ASCII text
 abbrev pub IsText : Lexeme → Type 0
 IsText l = l.kind ≡ Name → IsAscii l.bytes
+
+-- a count within its limits
+abbrev pub IsCountOf : Lexeme → ℕ → Type 0
+IsCountOf l n = IsWhole l n × (1 ≤ n) × (n ≤ most_elements)
+
+-- these names, and the further ones
+abbrev pub names_with : List (List ℕ) → List Lexeme → List (List ℕ)
+names_with names ls = names ++ map (λ l. l.bytes) ls
+
+-- further names, which all differ from one another and from these
+pub record NamesGo (names : List (List ℕ)) (ls : List Lexeme) (elements : Elements) : Type 0 where
+  pub all : All IsName ls
+  pub most : length (names_with names ls) ≤ most_elements
+  pub apart : AllPairs (λ x y. x ≢ y) (names_with names ls)
+  pub elements_are : elements ≡ Names (names_with names ls)
+
+abbrev pub ElementsGo : ElementsReader → List Lexeme → Elements → Type 0
+ElementsGo readers.Colon ls elements = BehindColon AreElements ls elements
+ElementsGo readers.First ls elements = AreElements ls elements
+ElementsGo (readers.Counted n) ls elements = (ls ≡ []) × (elements ≡ Count n)
+ElementsGo (readers.Named names) ls elements = NamesGo names ls elements
+
+-- names that were read: not too many, and all different
+pub record AreNamesRead (names : List (List ℕ)) : Type 0 where
+  pub most : length names ≤ most_elements
+  pub apart : AllPairs (λ x y. x ≢ y) names
+
+-- a count that was read is within its limits, and so are names
+abbrev pub IsElementsRead : ElementsReader → Type 0
+IsElementsRead (readers.Counted n) = IsCount most_elements n
+IsElementsRead (readers.Named names) = (1 ≤ length names) × AreNamesRead names
+IsElementsRead _ = Unit {0}
+
+-- the lexeme's bytes are among the names that were read
+abbrev pub IsAmong : ElementsReader → Lexeme → Type 0
+IsAmong (readers.Named names) l = list_any (bytes_eq l.bytes) names ≡ true
+IsAmong _ l = ⊥
+
+-- why a token is refused in a line of elements
+abbrev pub ElementsReason : ElementsReader → Lexeme → ItemFault → ℕ → Type 0
+ElementsReason old l DuplicateName place = (place ≡ l.place) × IsName l × IsAmong old l
+ElementsReason old l BadCount place = place ≡ l.place
+ElementsReason old l kind place = IsMisplaced l kind place
+
+-- a colon, and behind it these names
+pub record AreNamesSeen (body : List Lexeme) (names : List (List ℕ)) : Type 0 where
+  pub colon : Lexeme
+  pub further : List Lexeme
+  pub whole : body ≡ colon ∷ further
+  pub names_are : names ≡ map (λ l. l.bytes) further
+
+-- the lexemes behind the item's word, as far as the reader keeps them
+abbrev pub AreElementsSeen : List Lexeme → ElementsReader → Type 0
+AreElementsSeen body readers.Colon = body ≡ []
+AreElementsSeen body readers.First = (colon : Lexeme) × (body ≡ colon ∷ [])
+AreElementsSeen body (readers.Counted n) = Unit {0}
+AreElementsSeen body (readers.Named names) = AreNamesSeen body names

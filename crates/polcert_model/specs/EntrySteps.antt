@@ -11,8 +11,8 @@ use Rattle.polcert_model.specs.declared.entry.Place.{Place}
 use Rattle.polcert_model.specs.declared.entry.Body.{Body}
 use Rattle.polcert_model.specs.declared.entry.Body.TheVariants as bodies
 use Rattle.polcert_model.specs.declared.entry.Entry.{Entry}
-use Rattle.polcert_model.specs.declared.entry_reader.Stop.{Stop}
-use Rattle.polcert_model.specs.declared.entry_reader.Stop.TheVariants.{Refused, Memory}
+use Rattle.polcert_model.specs.declared.stop.Stop.{Stop}
+use Rattle.polcert_model.specs.declared.stop.Stop.TheVariants.{Refused, Memory}
 use Rattle.polcert_model.specs.declared.entry_reader.Word.{Word}
 use Rattle.polcert_model.specs.declared.entry_reader.Word.TheVariants as words
 use Rattle.polcert_model.specs.declared.entry_reader.EntryState.{EntryState}

@@ -1,4 +1,4 @@
--- A small text by numbers alone, such as the narrow stage takes: two states, one action and two observations.
+-- A small text by numbers alone: two states, one action and two observations.
 use Rattle.std.specs.Prelude.{false, List, [], ◌∷◌, Some, None, codes}
 use Rattle.polcert_text.specs.Cut.{Lexeme}
 use Rattle.polcert_model.specs.declared.entry.Place.TheVariants.{Only}

@@ -10,7 +10,6 @@ pub mod Meaning
 pub mod Rows
 pub mod Text
 pub mod Order
-pub mod Narrow
 pub mod Laws
 pub mod Reading
 pub mod FirstWrong
@@ -33,4 +32,5 @@ pub mod Sound
 pub mod Axes
 pub mod RowSums
 pub mod ElementSteps
+pub mod StartSteps
 pub mod Fronts

@@ -4,18 +4,14 @@ use Rattle.std.specs.Prelude.{◌≡◌, ℕ, ◌≤◌, Bool, true, false, Opti
 use Rattle.polcert_text.specs.Cut.{Lexeme}
 use Rattle.polcert_text.specs.declared.lexeme.TokenKind.TheVariants as kinds
 use Rattle.polcert_model.specs.declared.fault.ItemFault.{ItemFault}
-use Rattle.polcert_model.specs.declared.fault.ItemFault.TheVariants.{BadCount}
 use Rattle.polcert_model.specs.declared.lines.DiscountReader.{DiscountReader}
 use Rattle.polcert_model.specs.declared.lines.DiscountReader.TheVariants as discount
 use Rattle.polcert_model.specs.declared.lines.ValuesReader.{ValuesReader}
 use Rattle.polcert_model.specs.declared.lines.ValuesReader.TheVariants as values
-use Rattle.polcert_model.specs.declared.lines.CountReader.{CountReader}
-use Rattle.polcert_model.specs.declared.lines.CountReader.TheVariants as count
 use Rattle.polcert_model.specs.declared.number.Range.TheVariants.{Discount}
 use Rattle.polcert_model.specs.declared.number.Sign.{Sign}
 use Rattle.polcert_model.specs.Words.{IsWord}
-use Rattle.polcert_model.specs.Numbers.{IsWhole, one}
-use Rattle.polcert_model.specs.Elements.{most_elements}
+use Rattle.polcert_model.specs.Numbers.{one}
 use Rattle.polcert_model.specs.NumberSteps.{AreNumbersBehind, IsNumberReason, IsBehindNumbers, IsMisplaced}
 
 -- A reader's state goes on as lexemes that end its item, with what the item says: `Goes state lexemes said`.
@@ -67,21 +63,3 @@ abbrev pub ValuesGoes : ValuesReader → List Lexeme → Bool → Type 0
 ValuesGoes values.Colon ls b = BehindColon WordRest ls b
 ValuesGoes values.Word ls b = WordRest ls b
 ValuesGoes (values.Said c) ls b = (ls ≡ []) × (b ≡ c)
-
-abbrev pub IsCountOf : Lexeme → ℕ → Type 0
-IsCountOf l n = IsWhole l n × (1 ≤ n) × (n ≤ most_elements)
-
--- a count
-abbrev pub CountRest : List Lexeme → ℕ → Type 0
-CountRest [] n = ⊥
-CountRest (l ∷ ls) n = (ls ≡ []) × IsCountOf l n
-
-abbrev pub CountGoes : CountReader → List Lexeme → ℕ → Type 0
-CountGoes count.Colon ls n = BehindColon CountRest ls n
-CountGoes count.Count ls n = CountRest ls n
-CountGoes (count.Said m) ls n = (ls ≡ []) × (n ≡ m)
-
--- why a token is refused in a line with a count
-abbrev pub CountReason : Lexeme → ItemFault → ℕ → Type 0
-CountReason l BadCount place = place ≡ l.place
-CountReason l kind place = IsMisplaced l kind place

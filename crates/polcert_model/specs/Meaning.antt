@@ -5,7 +5,9 @@
 use Rattle.std.specs.Prelude.{◌≡◌, ℕ, zero, suc, ◌+◌, ◌*◌, ◌<◌, ◌≤◌, List, [], ◌∷◌, ℤ, unsigned_abs, Option, unwrap_or, length, get_or, sum}
 use Rattle.polcert_text.specs.Numbers.{largest}
 use Rattle.polcert_model.specs.declared.entry.Table.TheVariants.{Transition, Observation}
-use Rattle.polcert_model.specs.Elements.{count_of, most_elements}
+use Rattle.polcert_model.specs.declared.elements.Kind.{Kind}
+use Rattle.polcert_model.specs.declared.elements.Kind.TheVariants as kinds
+use Rattle.polcert_model.specs.Elements.{Elements, count_of, most_elements}
 use Rattle.polcert_model.specs.Numbers.{one}
 use Rattle.polcert_model.specs.Preamble.{Preamble, observed}
 use Rattle.polcert_model.specs.declared.entry.Entry.{Entry}
@@ -29,6 +31,12 @@ actions_of m = count_of m.preamble.actions
 
 abbrev pub observations_of : Meaning → ℕ
 observations_of m = count_of (observed m.preamble)
+
+-- the elements of this kind
+abbrev pub elements_of : Meaning → Kind → Elements
+elements_of m kinds.State = m.preamble.states
+elements_of m kinds.Action = m.preamble.actions
+elements_of m kinds.Observation = observed m.preamble
 
 abbrev pub t_scale : Meaning → ℕ
 t_scale m = one * states_of m

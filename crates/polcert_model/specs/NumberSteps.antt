@@ -1,7 +1,7 @@
 -- A number of an item, token by token: what is still to come of a list of numbers behind a sign, and what a token says
 -- in a number's place.
 -- Nobody has to believe this: only contracts of private functions cite it.
-use Rattle.std.specs.Prelude.{◌≡◌, ℕ, ◌≤◌, Bool, true, false, Option, Some, None, List, ◌∷◌, ℤ, pos, codes, All}
+use Rattle.std.specs.Prelude.{◌≡◌, ℕ, ◌≤◌, Bool, true, false, Option, Some, None, List, [], ◌∷◌, ◌++◌, ℤ, pos, codes, All}
 use Rattle.polcert_text.specs.Cut.{Lexeme}
 use Rattle.polcert_text.specs.declared.lexeme.TokenKind.{TokenKind}
 use Rattle.polcert_text.specs.declared.lexeme.TokenKind.TheVariants.{Plus, Minus}
@@ -14,7 +14,7 @@ use Rattle.polcert_model.specs.declared.number.Range.{Range}
 use Rattle.polcert_model.specs.declared.number.Range.TheVariants as ranges
 use Rattle.polcert_model.specs.Words.{IsWord}
 use Rattle.polcert_model.specs.Numbers.{IsMillionths, AreNumbers, one}
-use Rattle.polcert_model.specs.Reasons.{IsRefusedNumber, IsNoFraction}
+use Rattle.polcert_model.specs.Reasons.{IsRefusedNumber, IsNoFraction, is_sign, ends_in_sign}
 
 -- behind a sign, if there is one, the lexemes go on as these numbers
 abbrev pub AreNumbersBehind : Option Sign → List Lexeme → List ℤ → Type 0
@@ -83,3 +83,13 @@ abbrev pub IsRangeFault : Range → ItemFault → Type 0
 IsRangeFault ranges.Discount kind = kind ≡ DiscountRange
 IsRangeFault ranges.Probability kind = kind ≡ ProbabilityRange
 IsRangeFault ranges.Reward kind = ⊥
+
+-- the sign that waits for its numeral is this lexeme, and otherwise it is no sign
+abbrev pub SignIs : Option Sign → Lexeme → Type 0
+SignIs None l = is_sign l.kind ≡ false
+SignIs (Some sign) l = IsSignAt sign l
+
+-- the sign that waits for its numeral ends the body, and otherwise no sign does
+abbrev pub SignEnds : Option Sign → List Lexeme → Type 0
+SignEnds None body = ends_in_sign body ≡ false
+SignEnds (Some sign) body = (before : List Lexeme) × ((l : Lexeme) × ((body ≡ before ++ l ∷ []) × IsSignAt sign l))

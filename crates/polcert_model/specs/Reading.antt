@@ -5,14 +5,13 @@ use Rattle.polcert_text.specs.Cut.{Lexeme}
 use Rattle.polcert_model.specs.Words.{Topic, topic, begins_item}
 use Rattle.polcert_model.specs.Items.{Item, IsDivided}
 use Rattle.polcert_model.specs.Preamble.{Preamble}
-use Rattle.polcert_model.specs.Text.{Known, nothing_known}
-use Rattle.polcert_model.specs.Narrow.{IsTaken, AreTaken, IsTakenText}
+use Rattle.polcert_model.specs.Text.{Known, nothing_known, IsRight, AreRight, IsRightText}
 
 -- The lexemes are whole items, each right, and this is known behind them.
 pub record AreRightItems (seen : List Lexeme) (k : Known) : Type 0 where
   pub items : List Item
   pub divided : IsDivided seen [] items
-  pub right : AreTaken nothing_known items k
+  pub right : AreRight nothing_known items k
 
 -- behind right items an item has begun, and these are its lexemes so far
 pub record IsWithinItem (seen : List Lexeme) (k : Known) (t : Topic) (body : List Lexeme) : Type 0 where
@@ -25,7 +24,7 @@ pub record IsWithinItem (seen : List Lexeme) (k : Known) (t : Topic) (body : Lis
 
 -- an item of this topic isn't right with just this body
 abbrev pub IsWrong : Known → Topic → List Lexeme → Type 0
-IsWrong k t body = (after : Known) → IsTaken k t body after → ⊥
+IsWrong k t body = (after : Known) → IsRight k t body after → ⊥
 
 -- an item of this topic isn't right, however its body goes on
 abbrev pub CannotGoOn : Known → Topic → List Lexeme → Type 0
@@ -35,8 +34,8 @@ CannotGoOn k t body = (more : List Lexeme) → IsWrong k t (body ++ more)
 pub record IsPossible (k : Known) (t : Topic) (body : List Lexeme) : Type 0 where
   pub more : List Lexeme
   pub after : Known
-  pub taken : IsTaken k t (body ++ more) after
+  pub taken : IsRight k t (body ++ more) after
 
 -- no text that begins with these lexemes is right
 abbrev pub IsLost : List Lexeme → Type 0
-IsLost seen = (more : List Lexeme) (p : Preamble) (k : Known) → IsTakenText (seen ++ more) p k → ⊥
+IsLost seen = (more : List Lexeme) (p : Preamble) (k : Known) → IsRightText (seen ++ more) p k → ⊥

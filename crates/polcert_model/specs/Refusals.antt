@@ -7,16 +7,15 @@ use Rattle.polcert_model.specs.declared.fault.ItemFault.TheVariants.{Token, Text
 use Rattle.polcert_model.specs.declared.fault.ModelFault.{ModelFault}
 use Rattle.polcert_model.specs.declared.fault.ModelFault.TheVariants.{RowSum, Memory}
 use Rattle.polcert_model.specs.declared.fault.ModelFault.TheVariants as model_faults
-use Rattle.polcert_model.specs.Words.{Topic, topic}
+use Rattle.polcert_model.specs.Words.{Topic, Start, topic}
 use Rattle.polcert_model.specs.Items.{Item, IsDivided}
 use Rattle.polcert_model.specs.Preamble.{Preamble}
 use Rattle.polcert_model.specs.Meaning.{meaning_of}
 use Rattle.polcert_model.specs.Rows.{IsFirstWrongRow}
-use Rattle.polcert_model.specs.Text.{Known, nothing_known}
-use Rattle.polcert_model.specs.Narrow.{AreTaken, IsTakenText}
+use Rattle.polcert_model.specs.Text.{Known, nothing_known, AreRight, IsRightText}
 use Rattle.polcert_model.specs.Reading.{IsWrong, CannotGoOn, IsPossible}
 use Rattle.polcert_model.specs.FirstWrong.{TextTokens, IsFirstWrong, LiesIn, IsDecided, word_place}
-use Rattle.polcert_model.specs.Reasons.{IsReason, is_sign}
+use Rattle.polcert_model.specs.Reasons.{IsReason, InItem, is_sign}
 
 pub record IsItemRefusal (ts : TextTokens) (kind : ItemFault) (number place : ℕ) : Type 0 where
   pub first_wrong : IsFirstWrong ts number
@@ -30,7 +29,7 @@ pub record IsItemRefusal (ts : TextTokens) (kind : ItemFault) (number place : �
 abbrev pub IsRefusal : TextTokens → ModelFault → Type 0
 IsRefusal ts (model_faults.Item kind item place) = IsItemRefusal ts kind item place
 IsRefusal ts (RowSum table action row) =
-    (ts.ending ≡ None) × ((p : Preamble) × (k : Known) × IsTakenText ts.lexemes p k × IsFirstWrongRow (meaning_of p k.start k.entries) table action row)
+    (ts.ending ≡ None) × ((p : Preamble) × (k : Known) × IsRightText ts.lexemes p k × IsFirstWrongRow (meaning_of p k.start k.entries) table action row)
 IsRefusal ts Memory = Unit {0}
 
 -- want of memory says nothing of the text, and every other refusal that it is wrong
@@ -52,7 +51,6 @@ pub data Stops (k : Known) (t : Topic) (taken : List Lexeme) : List Lexeme → T
   at_end : IsWrong k t taken → Stops k t taken []
 
 -- The place stands in the item where its lexemes so far are still possible, and with what stands there they aren't.
--- (A start item's numbers are tested only once it has more than one, so that its refusals may stand further on.)
 pub record StopsInBody (ts : TextTokens) (number place : ℕ) : Type 0 where
   pub before : List Item
   pub item : Item
@@ -61,7 +59,7 @@ pub record StopsInBody (ts : TextTokens) (number place : ℕ) : Type 0 where
   pub number_is : number ≡ length before + 1
   pub k : Known
   pub t : Topic
-  pub known : AreTaken nothing_known before k
+  pub known : AreRight nothing_known before k
   pub topic_is : topic item.word ≡ Some t
   pub taken : List Lexeme
   pub rest : List Lexeme
@@ -77,10 +75,12 @@ IsOfTokens TextTooLong = Unit {0}
 IsOfTokens _ = ⊥
 
 -- Where the refusal of an item stands: it is decided before the item's body, or stands in the body as far as that is
--- possible, or is a fault of the tokens.
+-- possible, or is a fault of the tokens. (Of a start item this isn't said: its numbers are tested only once it has more
+-- than one, so that a refusal may stand behind a number that is already out of range.)
 pub data StandsRight (ts : TextTokens) (kind : ItemFault) (number place : ℕ) : Type 0 where
   before_body : IsDecided ts number kind place → StandsRight ts kind number place
   in_body : StopsInBody ts number place → StandsRight ts kind number place
+  in_start : InItem ts number (λ t body. t ≡ Start) → StandsRight ts kind number place
   of_tokens : IsOfTokens kind → StandsRight ts kind number place
 
 abbrev pub IsPlacedRight : TextTokens → ModelFault → Type 0

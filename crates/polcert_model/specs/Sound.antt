@@ -1,7 +1,8 @@
 -- What is known of the contents that a model keeps, so that looking a cell up stays within bounds.
 -- Nobody has to believe this file: only private functions cite it, and what a right text says is shown to meet it.
-use Rattle.std.specs.Prelude.{◌≡◌, ℕ, ◌<◌, ◌≤◌, ◌==◌, Bool, true, None, List, [], ◌∷◌, length, drop, All, unsigned_abs}
+use Rattle.std.specs.Prelude.{◌≡◌, ℕ, ◌<◌, ◌≤◌, ◌==◌, Bool, true, Option, List, [], ◌∷◌, length, drop, All, unsigned_abs}
 use Rattle.std.specs.List.{list_any}
+use Rattle.std.specs.Option.{ForSome}
 use Rattle.polcert_text.specs.Numbers.{largest}
 use Rattle.polcert_model.specs.declared.entry.Place.{Place}
 use Rattle.polcert_model.specs.declared.entry.Place.TheVariants.{Every, Only}
@@ -9,9 +10,10 @@ use Rattle.polcert_model.specs.declared.entry.Body.{Body}
 use Rattle.polcert_model.specs.declared.entry.Body.TheVariants.{Probabilities, Rewards, Uniform, Identity}
 use Rattle.polcert_model.specs.declared.entry.Entry.{Entry}
 use Rattle.polcert_model.specs.Numbers.{one}
-use Rattle.polcert_model.specs.Elements.{Elements, Count, count_of, most_elements}
+use Rattle.polcert_model.specs.Elements.{Elements, count_of, most_elements}
 use Rattle.polcert_model.specs.Preamble.{Preamble, dimensions}
 use Rattle.polcert_model.specs.Entry.{forms, cells_in}
+use Rattle.polcert_model.specs.Start.{Shares}
 use Rattle.polcert_model.specs.Meaning.{IsCount}
 use Rattle.polcert_model.specs.Contents.{Contents}
 
@@ -39,20 +41,19 @@ pub record IsSoundEntry (p : Preamble) (entry : Entry) : Type 0 where
   pub places : ArePlacesIn (dimensions p entry.table) entry.places
   pub body : Fills (cells_in (drop (length entry.places) (dimensions p entry.table))) entry.body
 
--- counts, a discount of at most one, and sound entries
+-- counts, a discount of at most one, a share for each state, and sound entries
 pub record IsSound (c : Contents) : Type 0 where
   pub states : IsCount most_elements (count_of c.preamble.states)
   pub actions : IsCount most_elements (count_of c.preamble.actions)
   pub observations : IsCount most_elements (count_of c.preamble.observations)
   pub discount : c.preamble.discount ≤ one
+  pub start : ForSome c.start (λ found. length found.weights ≡ count_of c.preamble.states)
   pub entries : All (IsSoundEntry c.preamble) c.entries
 
--- the preamble of a model whose elements have no names
-abbrev pub numbered : ℕ → Bool → ℕ → ℕ → ℕ → Preamble
-numbered discount costs states actions observations =
-    record { discount = discount; costs = costs; states = Count states; actions = Count actions; observations = Count observations }
-
--- the contents of a model whose elements have no names and whose text has no start item
-abbrev pub contents_of : ℕ → Bool → ℕ → ℕ → ℕ → List Entry → Contents
-contents_of discount costs states actions observations entries =
-    record { preamble = numbered discount costs states actions observations; start = None; entries = entries }
+-- the contents of a model with these lines
+abbrev pub contents_of : ℕ → Bool → Elements → Elements → Elements → Option Shares → List Entry → Contents
+contents_of discount costs states actions observations start entries = record {
+  preamble = record { discount = discount; costs = costs; states = states; actions = actions; observations = observations };
+  start = start;
+  entries = entries;
+}

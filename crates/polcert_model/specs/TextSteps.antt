@@ -1,6 +1,6 @@
 -- A text, item by item: what its reader holds behind the lexemes so far.
 -- Nobody has to believe this: only contracts of private functions cite it.
-use Rattle.std.specs.Prelude.{◌≡◌, ℕ, ◌+◌, true, false, Option, Some, None, List, [], ◌∷◌, ◌++◌, length}
+use Rattle.std.specs.Prelude.{◌≡◌, ℕ, ◌+◌, true, Some, None, List, [], ◌∷◌, ◌++◌, length}
 use Rattle.polcert_text.specs.Cut.{Lexeme}
 use Rattle.polcert_text.specs.declared.tokens.TokenFault.{TokenFault}
 use Rattle.polcert_text.specs.declared.tokens.TokenFault.TheVariants as token_faults
@@ -8,35 +8,26 @@ use Rattle.polcert_model.specs.declared.fault.ItemFault.{ItemFault}
 use Rattle.polcert_model.specs.declared.fault.ItemFault.TheVariants.{Token, TextTooLong}
 use Rattle.polcert_model.specs.declared.fault.ModelFault.{ModelFault}
 use Rattle.polcert_model.specs.declared.item.ItemReader.{ItemReader}
-use Rattle.polcert_model.specs.declared.number.Sign.{Sign}
 use Rattle.polcert_model.specs.declared.reader.TextReader.{TextReader}
-use Rattle.polcert_model.specs.Words.{Topic, begins_item}
-use Rattle.polcert_model.specs.Text.{Known, nothing_known}
-use Rattle.polcert_model.specs.Order.{preamble_fault}
-use Rattle.polcert_model.specs.Narrow.{IsTaken, narrow_word_fault}
+use Rattle.polcert_model.specs.Words.{Topic, Start, begins_item}
+use Rattle.polcert_model.specs.Text.{Known, nothing_known, IsRight}
+use Rattle.polcert_model.specs.Order.{preamble_fault, word_fault}
 use Rattle.polcert_model.specs.Reading.{AreRightItems, IsWithinItem, IsPossible}
 use Rattle.polcert_model.specs.FirstWrong.{TextTokens, AreTokensOf}
-use Rattle.polcert_model.specs.Reasons.{ends_in_sign}
 use Rattle.polcert_model.specs.Refusals.{IsRefusal, IsPlacedRight}
 use Rattle.polcert_model.specs.Contents.{Contents}
-use Rattle.polcert_model.specs.NumberSteps.{IsSignAt}
 use Rattle.polcert_model.specs.EntrySteps.{preamble_in}
-use Rattle.polcert_model.specs.ItemSteps.{ItemGoes, IsItemWithin, topic_in, sign_in}
-
--- the sign that waits for its numeral ends the body, and otherwise no sign does
-abbrev pub SignEnds : Option Sign → List Lexeme → Type 0
-SignEnds None body = ends_in_sign body ≡ false
-SignEnds (Some sign) body = (before : List Lexeme) × ((l : Lexeme) × ((body ≡ before ++ l ∷ []) × IsSignAt sign l))
+use Rattle.polcert_model.specs.ItemSteps.{ItemGoes, IsItemWithin, IsSeen, topic_in}
 
 -- the item's body so far, and what its reader makes of what is still to come of it
 pub record IsBodyRead (k : Known) (t : Topic) (body : List Lexeme) (item : ItemReader) : Type 0 where
-  pub may_stand : narrow_word_fault k t ≡ None
+  pub may_stand : word_fault k t ≡ None
   pub topic_is : topic_in item ≡ t
   pub within : IsItemWithin k item
-  pub sign : SignEnds (sign_in item) body
-  pub back : (ls : List Lexeme) (next : Known) → ItemGoes k item ls next → IsTaken k t (body ++ ls) next
-  pub on : (ls : List Lexeme) (next : Known) → IsTaken k t (body ++ ls) next → ItemGoes k item ls next
-  pub possible : IsPossible k t body
+  pub seen : IsSeen body item
+  pub back : (ls : List Lexeme) (next : Known) → ItemGoes k item ls next → IsRight k t (body ++ ls) next
+  pub on : (ls : List Lexeme) (next : Known) → IsRight k t (body ++ ls) next → ItemGoes k item ls next
+  pub possible : (t ≡ Start → ⊥) → IsPossible k t body
 
 -- within an item, behind right ones
 pub record IsItemRead (seen : List Lexeme) (r : TextReader) : Type 0 where
@@ -99,4 +90,4 @@ IsRefusedWhole seen place fault = (text : List ℕ) (ts : TextTokens) → AreTok
 
 -- what is kept of it
 abbrev pub kept : Known → Contents
-kept k = record { preamble = preamble_in k; start = None; entries = k.entries }
+kept k = record { preamble = preamble_in k; start = k.start; entries = k.entries }

@@ -11,6 +11,14 @@ use crate::number::{Refusal, misplaced};
 use crate::words::is_reserved;
 use polcert_text::{Token, TokenKind, whole_number};
 
+/// What the elements of a model are: what an index of its cells numbers.
+#[derive(Clone, Copy, Debug, PartialEq, Eq)]
+pub enum Kind {
+    State,
+    Action,
+    Observation,
+}
+
 /// The elements of one kind: so many, or names in order. An element's number counts from 0.
 ///
 /// Source: the POMDP file format page at pomdp.org, "states:", "actions:" and "observations:".

@@ -1,5 +1,5 @@
 //! Entries: the lines of T, O and R, as a model keeps them.
-ghost use Rattle.std.specs.Prelude.{◌≡◌, ◌<◌, ◌++◌, ◌∷◌, [], length, slice_get, OnOk, OnErr};
+ghost use Rattle.std.specs.Prelude.{◌≡◌, ◌<◌, ◌++◌, ◌∷◌, [], length, slice_get, slice_set, OnOk, OnErr};
 
 use std::alloc::{AllocError, Global};
 use std::fmt;
@@ -89,6 +89,14 @@ impl<T: Copy + Drop> Sequence<T> {
     {
         self.items[index]
     }
+
+    /// Puts the item in the place of the one of this number, counted from 0.
+    pub fn set(&mut self, number: usize, item: T)
+        requires { number < length self.old }
+        ensures { self.new ≡ slice_set self.old number item }
+    {
+        self.items[number] = item;
+    }
 }
 
 /// What fills the cells that an entry's places leave open, row after row: numbers in millionths, or a word.
@@ -143,6 +151,11 @@ mod tests {
         assert_eq!(rt;
             places.as_slice(),
             [Place::Every, Place::Only(7)].as_slice()
+        );
+        places.set(0, Place::Only(1));
+        assert_eq!(rt;
+            places.as_slice(),
+            [Place::Only(1), Place::Only(7)].as_slice()
         );
         Ok(())
     }

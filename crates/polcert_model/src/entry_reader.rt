@@ -1,51 +1,29 @@
 //! An entry, read token by token behind the word of its table.
-ghost use Rattle.std.specs.Prelude.{◌≡◌, ◌<◌, ◌≤◌, ◌↔◌, [], List, length, IsTrue, IfOk, OnOk, IfErr, OnErr, IfSome, IfNone, MatchOption, None};
+ghost use Rattle.std.specs.Prelude.{◌≡◌, ◌<◌, ◌≤◌, ◌↔◌, [], List, length, IsTrue, IfOk, OnOk, IfErr, OnErr, IfSome, IfNone, MatchOption, None, unwrap_or};
 ghost use Rattle.polcert_text.specs.Reading.{lexeme_of};
-ghost use Rattle.polcert_model.specs.Elements.{Elements, Count};
+ghost use Rattle.std.specs.Option.{option_copied};
+ghost use Rattle.polcert_model.specs.Elements.{Elements, Count, count_of, most_elements};
+ghost use Rattle.polcert_model.specs.ElementSteps.{IsText};
 ghost use Rattle.polcert_model.specs.Entry.{IsPlace};
 ghost use Rattle.polcert_model.specs.KnownView.{least_written};
 ghost use Rattle.polcert_model.specs.LineSteps.{Takes, CannotTake, CannotEnd};
 ghost use Rattle.polcert_model.specs.EntrySteps.{indices_in, ProbabilitiesGo, RewardsGo, EntryGoes, IsWithinIndices, IsEntryReason, IsPlaceReason, IfRefused, IsFull, IsListReason, MayStand, IsWordBehind, AreBegun, CannotBegin, range_of, HasRoom, HasRoomIn, no_numbers, body_of, entry_sign, AreSome};
-ghost use Rattle.polcert_model.specs.ItemSteps.{SignIs, IsEndReason};
+ghost use Rattle.polcert_model.specs.NumberSteps.{SignIs};
+ghost use Rattle.polcert_model.specs.ItemSteps.{IsEndReason};
 ghost use Rattle.polcert_model.specs.Text.{Known};
 ghost use Rattle.polcert_model.specs.Words.{Topic};
 ghost use Rattle.polcert_model.specs.declared.entry.Place.{Place};
 ghost use Rattle.polcert_model.specs.declared.entry_reader.Word.{Word};
 
+use crate::elements::{Elements, element_of};
 use crate::known::Known;
 use crate::lines::colon;
 use crate::number::{Range, Refusal, Sign, Step, behind_numbers, misplaced, number_step};
-use crate::words::{Topic, is_reserved, is_word};
+use crate::stop::Stop;
+use crate::words::{Topic, is_word};
 use crate::{Body, Entry, ItemFault, Place, Sequence, Table};
-use polcert_text::{Token, TokenKind, whole_number};
-use std::alloc::{AllocError, Global};
-
-/// Why an item's reader stops: the item is refused, or a growth of memory was.
-#[derive(Clone, Copy, Debug, PartialEq, Eq)]
-pub enum Stop {
-    Refused(Refusal),
-    Memory,
-}
-
-impl From<AllocError> for Stop {
-    ghost use Rattle.polcert_model.specs.declared.entry_reader.Stop.TheVariants.{Memory};
-
-    ghost from_gives = { λ _ stop. stop ≡ Memory };
-
-    fn from(_e: AllocError) -> Stop {
-        Stop::Memory
-    }
-}
-
-impl From<Refusal> for Stop {
-    ghost use Rattle.polcert_model.specs.declared.entry_reader.Stop.TheVariants as stops;
-
-    ghost from_gives = { λ refusal stop. stop ≡ stops.Refused refusal };
-
-    fn from(refusal: Refusal) -> Stop {
-        Stop::Refused(refusal)
-    }
-}
+use polcert_text::{Token, TokenKind};
+use std::alloc::Global;
 
 /// A list of so many numbers, as far as it has been read.
 #[derive(Debug, Drop)]
@@ -56,7 +34,7 @@ pub struct Numbers<T: Copy> {
 }
 
 impl<T: Copy> Numbers<T> {
-    fn new(alloc: Global, needed: usize) -> Numbers<T>
+    pub fn new(alloc: Global, needed: usize) -> Numbers<T>
         ensures { result ≡ no_numbers needed }
     {
         Numbers {
@@ -73,7 +51,7 @@ impl<T: Copy> Numbers<T> {
     }
 
     /// Why the list cannot end here, if it cannot.
-    fn end_fault(&self) -> Option<ItemFault>
+    pub fn end_fault(&self) -> Option<ItemFault>
         ensures full { MatchOption result (IsFull self.now) (λ _. IsFull self.now → ⊥) }
         ensures reason { IfSome result (λ fault. (t : Topic) → IsEndReason t fault) }
     {
@@ -87,8 +65,9 @@ impl<T: Copy> Numbers<T> {
 
 impl Numbers<u32> {
     /// Goes on with a token of a list of probabilities.
-    fn feed_probability(&mut self, token: Token<'_>) -> Result<(), Stop>
+    pub fn feed_probability(&mut self, token: Token<'_>) -> Result<(), Stop>
         requires { HasRoom self.old }
+        ensures needed { self.new.needed ≡ self.old.needed }
         ensures room { OnOk result (HasRoom self.new) }
         ensures takes { OnOk result (Takes ProbabilitiesGo self.old (lexeme_of token.entry) self.new) }
         ensures refused { IfErr result (λ stop. IfRefused stop (λ r. CannotTake ProbabilitiesGo self.old (lexeme_of token.entry))) }
@@ -179,7 +158,8 @@ impl EntryReader {
 
     /// Goes on with a token that begins no item.
     pub fn feed(&mut self, alloc: Global, known: &Known, token: Token<'_>) -> Result<(), Stop>
-        requires { IsWithinIndices (indices_in known.now self.old.table) self.old }
+        requires within { IsWithinIndices (indices_in known.now self.old.table) self.old }
+        requires text { IsText (lexeme_of token) }
         ensures table { self.new.table ≡ self.old.table }
         ensures within { OnOk result (IsWithinIndices (indices_in known.now self.old.table) self.new) }
         ensures takes { OnOk result (Takes (EntryGoes (indices_in known.now self.old.table))
@@ -208,6 +188,7 @@ impl EntryReader {
     fn feed_place(&mut self, known: &Known, token: Token<'_>) -> Result<(), Stop>
         requires state { self.old.state ≡ EntryState.Place }
         requires within { length self.old.places < length (indices_in known.now self.old.table) }
+        requires text { IsText (lexeme_of token) }
         ensures table { self.new.table ≡ self.old.table }
         ensures within { OnOk result (IsWithinIndices (indices_in known.now self.old.table) self.new) }
         ensures takes { OnOk result (Takes (EntryGoes (indices_in known.now self.old.table))
@@ -218,8 +199,8 @@ impl EntryReader {
             IsPlaceReason (lexeme_of token.entry) r.kind r.place)) }
         ensures sign { OnOk result (SignIs (entry_sign self.new.state) (lexeme_of token.entry)) }
     {
-        let count = known.dimension(self.table, self.places.len());
-        let place = place_of(token, count)?;
+        let elements = known.elements(self.table, self.places.len());
+        let place = place_of(token, elements)?;
         self.places.push(place)?;
         self.state = EntryState::Body;
         Ok(())
@@ -356,50 +337,18 @@ fn begin_probabilities(alloc: Global, needed: usize, token: Token<'_>) -> Result
     Ok(numbers)
 }
 
-/// The place that the token is, where there are so many elements.
-fn place_of(token: Token<'_>, count: usize) -> Result<Place, Refusal>
-    requires { count ≤ 1000 }
-    ensures place { IfOk result (IsPlace (Count count) (lexeme_of token.entry)) }
-    ensures refused { OnErr result ((p : Place) → IsPlace (Count count) (lexeme_of token.entry) p → ⊥) }
+/// The place that the token is: `*`, or one of these elements.
+fn place_of(token: Token<'_>, elements: Option<&Elements>) -> Result<Place, Refusal>
+    requires few { count_of (unwrap_or (option_copied elements) (Count 0)) ≤ most_elements }
+    requires text { IsText (lexeme_of token) }
+    ensures place { IfOk result (IsPlace (unwrap_or (option_copied elements.entry) (Count 0)) (lexeme_of token.entry)) }
+    ensures refused { OnErr result ((p : Place) → IsPlace (unwrap_or (option_copied elements.entry) (Count 0)) (lexeme_of token.entry) p → ⊥) }
     ensures reason { IfErr result (λ r. IsPlaceReason (lexeme_of token.entry) r.kind r.place) }
 {
-    match token.kind {
-        TokenKind::Star => Ok(Place::Every),
-        TokenKind::Numeral => index_of(token, count),
-        TokenKind::Name => Err(name_refused(token)),
-        _ => Err(misplaced(token)),
-    }
-}
-
-/// A name where no element has one.
-fn name_refused(token: Token<'_>) -> Refusal
-    requires { token.kind ≡ TokenKind.Name }
-    ensures { IsPlaceReason (lexeme_of token.entry) result.kind result.place }
-{
-    if is_reserved(token.bytes) {
-        return misplaced(token);
-    }
-    Refusal {
-        kind: ItemFault::UnknownName,
-        place: token.place,
-    }
-}
-
-/// The element of this number, where there are so many.
-fn index_of(token: Token<'_>, count: usize) -> Result<Place, Refusal>
-    requires few { count ≤ 1000 }
-    requires numeral { token.kind ≡ TokenKind.Numeral }
-    ensures place { IfOk result (IsPlace (Count count) (lexeme_of token.entry)) }
-    ensures refused { OnErr result ((p : Place) → IsPlace (Count count) (lexeme_of token.entry) p → ⊥) }
-    ensures reason { IfErr result (λ r. IsPlaceReason (lexeme_of token.entry) r.kind r.place) }
-{
-    match whole_number(count + 1, token.bytes) {
-        Some(index) if index < count => Ok(Place::Only(index)),
-        Some(_) => Err(Refusal {
-            kind: ItemFault::IndexOutOfRange,
-            place: token.place,
-        }),
-        None => Err(misplaced(token)),
+    match (token.kind, elements) {
+        (TokenKind::Star, _) => Ok(Place::Every),
+        (_, Some(elements)) => Ok(Place::Only(element_of(token, elements)?)),
+        (_, None) => Err(misplaced(token)),
     }
 }
 

@@ -4,13 +4,12 @@ ghost use Rattle.polcert_model.specs.Meaning.{t_scale, HasProperRows, sum_below,
 ghost use Rattle.polcert_model.specs.Examples.{first_row, thirds, decimal_thirds, sixths, patterns, reward_table, whole, reward_cells, general_first, general_last, name, numeral};
 ghost use Rattle.polcert_model.specs.Start.{Shares, IsStart};
 ghost use Rattle.polcert_model.specs.StartExamples.{a_b, shares, uniform_start, halves_start, quarters_start, name_start, number_start, include_start, exclude_start, exclude_none, exclude_all, unsummed_start, third_start, pointed_start, alone, zero_start};
-ghost use Rattle.polcert_model.specs.Text.{Denotes};
+ghost use Rattle.polcert_model.specs.Text.{Denotes, IsRightText};
 ghost use Rattle.polcert_model.specs.Tiger.{tiger, tiger_model, star};
 ghost use Rattle.polcert_text.specs.declared.tokens.TokenFault.TheVariants.{Glued};
 ghost use Rattle.polcert_model.specs.declared.fault.ItemFault.TheVariants.{Token, BadShape, WrongNumberCount, Reset, MissingLine, BeforeFirstItem, DuplicateLine, DiscountRange};
 ghost use Rattle.polcert_model.specs.Refusals.{IsItemRefusal, StopsInBody};
 ghost use Rattle.polcert_model.specs.RefusedExamples.{empty_text, hello, twice, above_one, glued};
-ghost use Rattle.polcert_model.specs.Narrow.{IsTakenText};
 ghost use Rattle.polcert_model.specs.First.{first, first_preamble, first_entries, first_known, first_model};
 ghost use Rattle.polcert_model.specs.Misfits.{misfit, Mark, Index, Number, Digits, EndOfNumbers};
 
@@ -95,9 +94,9 @@ pub fn refused_texts()
     ensures glued { IsItemRefusal glued (Token (Glued 10)) 1 10 }
 {}
 
-/// A small text by numbers alone is taken by the narrow stage, and denotes its model.
+/// A small text by numbers alone is right, and denotes its model.
 pub fn first_text()
-    ensures taken { IsTakenText first first_preamble (first_known first_entries) }
+    ensures taken { IsRightText first first_preamble (first_known first_entries) }
     ensures denotes { Denotes first first_model }
     ensures stays { first_model.t 0 0 0 ≡ 2_000_000 }
     ensures heard { first_model.o 0 1 0 ≡ 300_000 }

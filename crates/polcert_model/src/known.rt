@@ -1,16 +1,20 @@
 //! What the items of a text have said so far.
-ghost use Rattle.std.specs.Prelude.{◌≡◌, ◌<◌, ◌≤◌, length, drop, get_or, List, OnOk, OnErr, if◌then◌else◌};
-ghost use Rattle.polcert_model.specs.Elements.{Count};
+ghost use Rattle.std.specs.Prelude.{◌≡◌, ◌<◌, ◌≤◌, length, drop, get_or, List, Some, unwrap_or, OnOk, OnErr, if◌then◌else◌};
+ghost use Rattle.std.specs.Option.{option_copied};
+ghost use Rattle.polcert_model.specs.Elements.{Elements, Count, count_of, most_elements};
 ghost use Rattle.polcert_model.specs.Entry.{cells_in};
 ghost use Rattle.polcert_model.specs.EntrySteps.{indices_in};
 ghost use Rattle.polcert_model.specs.KnownView.{least_written, learned, IsSaidWithin};
-ghost use Rattle.polcert_model.specs.Narrow.{narrow_word_fault};
-ghost use Rattle.polcert_model.specs.Order.{preamble_fault, is_late, came_before, cells_are_too_many};
+ghost use Rattle.polcert_model.specs.Meaning.{IsCount};
+ghost use Rattle.polcert_model.specs.Order.{word_fault};
+ghost use Rattle.polcert_model.specs.Order.{count_in, preamble_fault, is_late, came_before, cells_are_too_many};
 ghost use Rattle.polcert_model.specs.Text.{nothing_known};
 ghost use Rattle.polcert_model.specs.TextSteps.{IsWholeRead, kept};
 ghost use Rattle.polcert_text.specs.Cut.{Lexeme};
 
+use crate::elements::Elements;
 use crate::item::Said;
+use crate::shares::Shares;
 use crate::words::Topic;
 use crate::{Entries, ItemFault, Table, model};
 use std::alloc::{AllocError, Global};
@@ -18,14 +22,16 @@ use std::marker::Model;
 
 const MOST_CELLS: usize = 16_777_216;
 
-/// What the items so far say: the lines of the preamble that came, and the entries. Counts are from 1 to 1,000.
-#[derive(Debug, Drop)]
+/// What the items so far say: the lines of the preamble that came, the start item, and the entries. There are 1 to 1,000
+/// elements of each kind.
+#[derive(Drop)]
 pub struct Known {
     discount: Option<u32>,
     costs: Option<bool>,
-    states: Option<usize>,
-    actions: Option<usize>,
-    observations: Option<usize>,
+    states: Option<Elements>,
+    actions: Option<Elements>,
+    observations: Option<Elements>,
+    start: Option<Shares>,
     entries: Entries,
 }
 
@@ -35,7 +41,7 @@ impl Model for Known {
 
     ghost Value = { text.Known };
 
-    ghost view = { λ k. known_of k.discount k.costs k.states k.actions k.observations k.entries };
+    ghost view = { λ k. known_of k.discount k.costs k.states k.actions k.observations k.start k.entries };
 
     ghost invariant = { λ k. IsCountIn k.states × IsCountIn k.actions × IsCountIn k.observations };
 }
@@ -51,6 +57,7 @@ impl Known {
             states: None,
             actions: None,
             observations: None,
+            start: None,
             entries: Entries::new(alloc),
         }
     }
@@ -64,9 +71,10 @@ impl Known {
         match said {
             Said::Discount(discount) => self.discount = Some(discount),
             Said::Costs(costs) => self.costs = Some(costs),
-            Said::States(count) => self.states = Some(count),
-            Said::Actions(count) => self.actions = Some(count),
-            Said::Observations(count) => self.observations = Some(count),
+            Said::States(states) => self.states = Some(states),
+            Said::Actions(actions) => self.actions = Some(actions),
+            Said::Observations(observations) => self.observations = Some(observations),
+            Said::Start(shares) => self.start = Some(shares),
             Said::Entry(entry) => self.entries.push(entry)?,
         }
         Ok(())
@@ -83,29 +91,40 @@ impl Known {
             states,
             actions,
             observations,
+            start,
             entries,
         } = self;
         model::Model::of(
             discount.unwrap_or(0),
             costs.unwrap_or(false),
-            states.unwrap_or(0),
-            actions.unwrap_or(0),
-            observations.unwrap_or(0),
+            states.unwrap_or(Elements::Count(0)),
+            actions.unwrap_or(Elements::Count(0)),
+            observations.unwrap_or(Elements::Count(0)),
+            start,
             entries,
         )
     }
 
-    /// How many elements the index of this number has in a table's cells.
-    pub fn dimension(&self, table: Table, number: usize) -> usize
+    /// The elements that the index of this number has in a table's cells, where the line came that says them.
+    pub fn elements(&self, table: Table, number: usize) -> Option<&Elements>
         requires { number < length (indices_in self.now table) }
-        ensures elements { get_or (indices_in self.now table) number (Count 0) ≡ Count result }
-        ensures few { result ≤ 1000 }
+        ensures elements { get_or (indices_in self.now table) number (Count 0) ≡ unwrap_or (option_copied result) (Count 0) }
+        ensures few { count_of (unwrap_or (option_copied result) (Count 0)) ≤ most_elements }
     {
         match (table, number) {
-            (_, 0) => self.actions.unwrap_or(0),
-            (Table::Observation, 2) | (Table::Reward, 3) => self.observations.unwrap_or(0),
-            _ => self.states.unwrap_or(0),
+            (_, 0) => self.actions.as_ref(),
+            (Table::Observation, 2) | (Table::Reward, 3) => self.observations.as_ref(),
+            _ => self.states.as_ref(),
         }
+    }
+
+    /// The states of a complete preamble.
+    pub fn states(&self) -> &Elements
+        requires { (states : Elements) × (self.now.states ≡ Some states) }
+        ensures states { self.now.states ≡ Some result.now }
+        ensures count { IsCount most_elements (count_of result.now) }
+    {
+        self.states.as_ref().unwrap()
     }
 
     /// How many cells so many places leave open.
@@ -113,8 +132,8 @@ impl Known {
         requires { least_written table ≤ written }
         ensures { result ≡ cells_in (drop written (indices_in self.now table)) }
     {
-        let states = self.states.unwrap_or(0);
-        let observations = self.observations.unwrap_or(0);
+        let states = count_in(&self.states);
+        let observations = count_in(&self.observations);
         match (table, written) {
             (Table::Transition, 1) => states * states,
             (Table::Transition, 2) => states,
@@ -126,7 +145,7 @@ impl Known {
 
     /// Why an item of this topic cannot stand here, whatever its body.
     pub fn word_fault(&self, topic: Topic) -> Option<ItemFault>
-        ensures { result ≡ narrow_word_fault self.now topic }
+        ensures { result ≡ word_fault self.now topic }
     {
         if self.is_late(topic) {
             return Some(ItemFault::LateLine);
@@ -135,8 +154,7 @@ impl Known {
             return Some(ItemFault::DuplicateLine);
         }
         match topic {
-            Topic::Start => Some(self.preamble_fault().unwrap_or(ItemFault::BadShape)),
-            Topic::Cells(_) => self.preamble_fault(),
+            Topic::Start | Topic::Cells(_) => self.preamble_fault(),
             _ => None,
         }
     }
@@ -146,7 +164,8 @@ impl Known {
     {
         match topic {
             Topic::Cells(_) => false,
-            _ => self.entries.len() > 0,
+            Topic::Start => self.entries.len() > 0,
+            _ => self.start.is_some() || self.entries.len() > 0,
         }
     }
 
@@ -159,7 +178,8 @@ impl Known {
             Topic::States => self.states.is_some(),
             Topic::Actions => self.actions.is_some(),
             Topic::Observations => self.observations.is_some(),
-            Topic::Start | Topic::Cells(_) => false,
+            Topic::Start => self.start.is_some(),
+            Topic::Cells(_) => false,
         }
     }
 
@@ -170,12 +190,21 @@ impl Known {
         if self.discount.is_none() || self.costs.is_none() {
             return Some(ItemFault::MissingLine);
         }
-        match (self.states, self.actions, self.observations) {
+        match (&self.states, &self.actions, &self.observations) {
             (Some(states), Some(actions), Some(observations)) => {
-                cells_fault(states, actions, observations)
+                cells_fault(states.count(), actions.count(), observations.count())
             }
             _ => Some(ItemFault::MissingLine),
         }
+    }
+}
+
+fn count_in(elements: &Option<Elements>) -> usize
+    ensures { result ≡ count_in elements.now }
+{
+    match elements {
+        Some(elements) => elements.count(),
+        None => 0,
     }
 }
 

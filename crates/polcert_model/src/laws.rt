@@ -11,16 +11,15 @@ ghost use Rattle.polcert_model.specs.Entry.{IsEntry};
 ghost use Rattle.polcert_model.specs.declared.entry.Entry.{Entry};
 ghost use Rattle.polcert_model.specs.Start.{Shares, IsStart};
 ghost use Rattle.polcert_model.specs.Meaning.{Meaning, IsSame, IsWithinLimits};
-ghost use Rattle.polcert_model.specs.Text.{Denotes, IsModelText, Known, nothing_known, IsComplete};
+ghost use Rattle.polcert_model.specs.Text.{Denotes, IsModelText, Known, nothing_known, IsComplete, IsRight, AreRight, IsRightText};
 ghost use Rattle.polcert_model.specs.declared.entry.Table.TheVariants.{Reward};
 ghost use Rattle.polcert_model.specs.Cells.{covers, weight, reward};
 ghost use Rattle.polcert_model.specs.Laws.{HasDivision, HasOneDivision, GivesLastCovering, OneMoreWeight, OneMoreReward, UniformRowSums};
 ghost use Rattle.polcert_model.specs.Words.{Topic, topic, begins_item};
-ghost use Rattle.polcert_model.specs.Narrow.{IsTaken, AreTaken, IsTakenText, IsNarrow, narrow_word_fault, IsAccepted};
 ghost use Rattle.polcert_model.specs.Reading.{AreRightItems, IsWithinItem, CannotGoOn, IsWrong};
 ghost use Rattle.polcert_model.specs.FirstWrong.{TextTokens, tokens_of, IsFirstWrong, IsDecided, AreTokensOf, word_place, LiesIn};
 ghost use Rattle.polcert_model.specs.declared.fault.ItemFault.{ItemFault};
-ghost use Rattle.polcert_model.specs.Order.{preamble_fault};
+ghost use Rattle.polcert_model.specs.Order.{preamble_fault, word_fault};
 ghost use Rattle.polcert_model.specs.declared.fault.ModelFault.{ModelFault};
 ghost use Rattle.polcert_model.specs.Refusals.{IsRefusal, SaysOfText, place_or};
 ghost use Rattle.polcert_model.specs.Items.{Item, IsDivided};
@@ -93,7 +92,7 @@ pub fn within_limits()
 /// An item that is right with its lexemes so far makes them right items.
 pub fn right_item_ends()
     ensures { (seen body : List Lexeme) (k after : Known) (t : Topic) →
-        IsWithinItem seen k t body → IsTaken k t body after → AreRightItems seen after }
+        IsWithinItem seen k t body → IsRight k t body after → AreRightItems seen after }
 {}
 
 /// Behind right items, the item that is the first wrong one is settled by the lexemes taken so far, however the text
@@ -127,7 +126,7 @@ pub fn first_wrong_outside_items()
 /// A text with a first wrong item isn't right.
 pub fn first_wrong_is_not_right()
     ensures { (ts : TextTokens) (n : ℕ) (p : Preamble) (k : Known) →
-        IsFirstWrong ts n → ts.ending ≡ None → IsTakenText ts.lexemes p k → ⊥ }
+        IsFirstWrong ts n → ts.ending ≡ None → IsRightText ts.lexemes p k → ⊥ }
 {}
 
 /// At most one item is the first that isn't right.
@@ -139,7 +138,7 @@ pub fn one_first_wrong()
 /// preamble isn't complete; without one the preamble is complete.
 pub fn order_is_decided()
     ensures at_word { (k : Known) (t : Topic) (fault : ItemFault) (body : List Lexeme) →
-        narrow_word_fault k t ≡ Some fault → IsWrong k t body }
+        word_fault k t ≡ Some fault → IsWrong k t body }
     ensures incomplete { (k : Known) (p : Preamble) (fault : ItemFault) → preamble_fault k ≡ Some fault → IsComplete k p → ⊥ }
     ensures complete { (k : Known) → preamble_fault k ≡ None → ((p : Preamble) × IsComplete k p) }
 {}
@@ -150,14 +149,14 @@ pub fn one_decision()
     ensures one { (ts : TextTokens) (n : ℕ) (f g : ItemFault) (p q : ℕ) →
         IsDecided ts n f p → IsDecided ts n g q → (f ≡ g) × (p ≡ q) }
     ensures nothing { (ts : TextTokens) (before : List Item) (item : Item) (after : List Item) (k : Known) (t : Topic)
-        (f : ItemFault) (p : ℕ) → IsDivided ts.lexemes [] (before ++ item ∷ after) → AreTaken nothing_known before k →
-        topic item.word ≡ Some t → narrow_word_fault k t ≡ None → IsDecided ts (length before + 1) f p → ⊥ }
+        (f : ItemFault) (p : ℕ) → IsDivided ts.lexemes [] (before ++ item ∷ after) → AreRight nothing_known before k →
+        topic item.word ≡ Some t → word_fault k t ≡ None → IsDecided ts (length before + 1) f p → ⊥ }
 {}
 
 /// A text that is refused, but for want of memory, isn't the text of a model.
 pub fn refused_is_not_accepted()
     ensures { (text : List ℕ) (ts : TextTokens) (fault : ModelFault) (m : Meaning) →
-        AreTokensOf text ts → IsRefusal ts fault → SaysOfText fault → IsAccepted text m → ⊥ }
+        AreTokensOf text ts → IsRefusal ts fault → SaysOfText fault → IsModelText text m → ⊥ }
 {}
 
 /// The places of a text's tokens rise. So the place where a part of an item's body was taken lies in the item, and so

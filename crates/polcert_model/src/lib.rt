@@ -3,6 +3,7 @@
 
 mod cells;
 mod elements;
+mod elements_reader;
 mod entry;
 mod entry_reader;
 mod examples;
@@ -18,10 +19,13 @@ mod reader;
 mod row_part;
 mod rows;
 mod shares;
+mod start_reader;
+mod stop;
 #[cfg(test)]
 mod tests;
 mod words;
 
+pub use elements::Kind;
 pub use entry::{Body, Entries, Entry, Place, Sequence, Table};
 pub use examples::{
     decimals_of_thirds, first_text, kinds_of_misfits, refused_texts, reward_order, reward_patterns,

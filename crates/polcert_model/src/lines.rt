@@ -2,17 +2,15 @@
 ghost use Rattle.std.specs.Prelude.{◌≡◌, false, OnOk, OnErr, IfOk, IfErr, [], ◌∷◌, ◌≢◌};
 ghost use Rattle.polcert_text.specs.Reading.{lexeme_of};
 ghost use Rattle.polcert_model.specs.NumberSteps.{IsMisplaced};
-ghost use Rattle.polcert_model.specs.LineSteps.{Takes, CannotTake, CannotEnd, DiscountGoes, DiscountReason, ValuesGoes, WordRest, CountGoes, IsCountOf, CountReason, discount_sign};
-ghost use Rattle.polcert_model.specs.ItemSteps.{SignIs, IsCountRead, IsEndReason};
-ghost use Rattle.polcert_model.specs.KnownView.{IsCountWithin};
+ghost use Rattle.polcert_model.specs.LineSteps.{Takes, CannotTake, CannotEnd, DiscountGoes, DiscountReason, ValuesGoes, WordRest, discount_sign};
+ghost use Rattle.polcert_model.specs.NumberSteps.{SignIs};
+ghost use Rattle.polcert_model.specs.ItemSteps.{IsEndReason};
 ghost use Rattle.polcert_model.specs.Reasons.{is_sign};
 
 use crate::ItemFault;
 use crate::number::{Range, Refusal, Sign, Step, behind_numbers, misplaced, number_step};
 use crate::words::{Topic, is_word};
-use polcert_text::{Token, TokenKind, whole_number};
-
-const MOST_ELEMENTS: usize = 1000;
+use polcert_text::{Token, TokenKind};
 
 /// `discount:` and a number, in millionths.
 #[derive(Clone, Copy, Debug, PartialEq, Eq)]
@@ -118,71 +116,6 @@ fn costs_of(token: Token<'_>) -> Result<bool, Refusal>
         return Ok(true);
     }
     Err(misplaced(token))
-}
-
-/// `states:`, `actions:` or `observations:` and a count.
-#[derive(Clone, Copy, Debug, PartialEq, Eq)]
-pub enum CountReader {
-    Colon,
-    Count,
-    Said(usize),
-}
-
-impl CountReader {
-    /// Goes on with a token of the line.
-    pub fn feed(&mut self, token: Token<'_>) -> Result<(), Refusal>
-        ensures takes { OnOk result (Takes CountGoes self.old (lexeme_of token.entry) self.new) }
-        ensures refused { OnErr result (CannotTake CountGoes self.old (lexeme_of token.entry)) }
-        ensures reason { IfErr result (λ r. CountReason (lexeme_of token.entry) r.kind r.place) }
-        ensures within { OnOk result (IsCountRead self.new) }
-        ensures sign { OnOk result (is_sign (lexeme_of token.entry).kind ≡ false) }
-    {
-        match *self {
-            CountReader::Colon => {
-                colon(token)?;
-                *self = CountReader::Count;
-                Ok(())
-            }
-            CountReader::Count => {
-                *self = CountReader::Said(count_of(token)?);
-                Ok(())
-            }
-            CountReader::Said(_) => Err(misplaced(token)),
-        }
-    }
-
-    /// What the line says, or why it cannot end here.
-    pub fn end(self) -> Result<usize, ItemFault>
-        ensures said { IfOk result (CountGoes self []) }
-        ensures within { IsCountRead self → IfOk result IsCountWithin }
-        ensures reason { IfErr result (IsEndReason Topic.States) }
-        ensures refused { OnErr result (CannotEnd CountGoes self) }
-    {
-        match self {
-            CountReader::Said(count) => Ok(count),
-            CountReader::Count => Err(ItemFault::BadCount),
-            CountReader::Colon => Err(ItemFault::BadShape),
-        }
-    }
-}
-
-/// The count that the token is.
-fn count_of(token: Token<'_>) -> Result<usize, Refusal>
-    ensures count { IfOk result (IsCountOf (lexeme_of token.entry)) }
-    ensures refused { OnErr result (CannotTake CountGoes CountReader.Count (lexeme_of token.entry)) }
-    ensures reason { IfErr result (λ r. CountReason (lexeme_of token.entry) r.kind r.place) }
-    ensures sign { OnOk result (is_sign (lexeme_of token.entry).kind ≡ false) }
-{
-    match token.kind {
-        TokenKind::Numeral => match whole_number(MOST_ELEMENTS + 1, token.bytes) {
-            Some(count) if 1 <= count && count <= MOST_ELEMENTS => Ok(count),
-            _ => Err(Refusal {
-                kind: ItemFault::BadCount,
-                place: token.place,
-            }),
-        },
-        _ => Err(misplaced(token)),
-    }
 }
 
 /// The colon behind an item's word.

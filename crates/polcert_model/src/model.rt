@@ -1,10 +1,10 @@
 //! A model, as it was read.
-ghost use Rattle.std.specs.Prelude.{◌≡◌, ◌<◌, ◌≤◌, ◌*◌, true, [], ◌∷◌, All};
+ghost use Rattle.std.specs.Prelude.{◌≡◌, ◌<◌, ◌≤◌, ◌*◌, true, [], ◌∷◌, All, option_map};
 ghost use Rattle.polcert_model.specs.Numbers.{one};
-ghost use Rattle.polcert_model.specs.Elements.{most_elements};
+ghost use Rattle.polcert_model.specs.Elements.{most_elements, count_of, name_of};
 ghost use Rattle.polcert_model.specs.Preamble.{dimensions, columns as columns_in};
 ghost use Rattle.polcert_model.specs.Cells.{covers, weight_of, weight, reward};
-ghost use Rattle.polcert_model.specs.Meaning.{IsCount, states_of, actions_of, observations_of, t_scale, o_scale, start_weight, start_total};
+ghost use Rattle.polcert_model.specs.Meaning.{IsCount, states_of, actions_of, observations_of, t_scale, o_scale, start_weight, start_total, elements_of};
 ghost use Rattle.polcert_model.specs.Contents.{meaning};
 ghost use Rattle.polcert_model.specs.Sound.{IsSoundEntry};
 ghost use Rattle.polcert_model.specs.RowSums.{IsWeighted};
@@ -12,6 +12,8 @@ ghost use Rattle.polcert_model.specs.Axes.{indices_of, IsInRange, AreAxes};
 ghost use Rattle.polcert_model.specs.declared.entry.Table.TheVariants.{Reward as RewardTable};
 
 use crate::cells::{Axis, ONE, last_covering, left_open, reward_in, weight_in};
+use crate::elements::{Elements, Kind};
+use crate::shares::Shares;
 use crate::{Entries, Entry, Table};
 use std::marker;
 
@@ -25,13 +27,14 @@ const ALIKE: u64 = 1;
 /// and rewards are in millionths.
 ///
 /// Source: the POMDP file format page at pomdp.org.
-#[derive(Debug, Drop)]
+#[derive(Drop)]
 pub struct Model {
     discount: u32,
     costs: bool,
-    states: usize,
-    actions: usize,
-    observations: usize,
+    states: Elements,
+    actions: Elements,
+    observations: Elements,
+    start: Option<Shares>,
     entries: Entries,
 }
 
@@ -41,25 +44,26 @@ impl marker::Model for Model {
 
     ghost Value = { Contents };
 
-    ghost view = { λ m. contents_of m.discount m.costs m.states m.actions m.observations m.entries };
+    ghost view = { λ m. contents_of m.discount m.costs m.states m.actions m.observations m.start m.entries };
 
-    ghost invariant = { λ m. IsSound (contents_of m.discount m.costs m.states m.actions m.observations m.entries) };
+    ghost invariant = { λ m. IsSound (contents_of m.discount m.costs m.states m.actions m.observations m.start m.entries) };
 }
 
 impl Model {
     ghost use Rattle.polcert_model.specs.Sound.{contents_of, IsSound};
 
-    /// The model of a text that has these lines in its preamble, names no element, and has no start item.
+    /// The model of a text that has these lines in its preamble, this start item or none, and these entries.
     pub(crate) fn of(
         discount: u32,
         costs: bool,
-        states: usize,
-        actions: usize,
-        observations: usize,
+        states: Elements,
+        actions: Elements,
+        observations: Elements,
+        start: Option<Shares>,
         entries: Entries,
     ) -> Model
-        requires { IsSound (contents_of discount costs states actions observations entries) }
-        ensures { result ≡ contents_of discount costs states actions observations entries }
+        requires { IsSound (contents_of discount costs states actions observations start entries) }
+        ensures { result ≡ contents_of discount costs states actions observations start entries }
     {
         Model {
             discount,
@@ -67,29 +71,46 @@ impl Model {
             states,
             actions,
             observations,
+            start,
             entries,
         }
     }
 
     /// How many states there are: 1 to 1,000.
     pub fn states(&self) -> usize
-        ensures { result ≡ states_of (meaning self.now) }
+        ensures elements { result ≡ states_of (meaning self.now) }
+        ensures count { IsCount most_elements result }
     {
-        self.states
+        self.states.count()
     }
 
     /// How many actions there are: 1 to 1,000.
     pub fn actions(&self) -> usize
-        ensures { result ≡ actions_of (meaning self.now) }
+        ensures elements { result ≡ actions_of (meaning self.now) }
+        ensures count { IsCount most_elements result }
     {
-        self.actions
+        self.actions.count()
     }
 
     /// How many observations there are: 1 to 1,000.
     pub fn observations(&self) -> usize
-        ensures { result ≡ observations_of (meaning self.now) }
+        ensures elements { result ≡ observations_of (meaning self.now) }
+        ensures count { IsCount most_elements result }
     {
-        self.observations
+        self.observations.count()
+    }
+
+    /// The name of the state, action or observation of this number, where the text gives names and not a count.
+    pub fn name_of(&self, kind: Kind, index: usize) -> Option<&str>
+        requires { index < count_of (elements_of (meaning self.now) kind) }
+        ensures { option_map (λ name. name.now) result ≡ name_of (elements_of (meaning self.now) kind) index }
+    {
+        let elements = match kind {
+            Kind::State => &self.states,
+            Kind::Action => &self.actions,
+            Kind::Observation => &self.observations,
+        };
+        elements.name_of(index)
     }
 
     /// Whether the text gives costs in place of rewards. `r` gives rewards in either case.
@@ -110,31 +131,36 @@ impl Model {
     pub fn t_scale(&self) -> u64
         ensures { result ≡ t_scale (meaning self.now) }
     {
-        ONE * self.states as u64
+        ONE * self.states() as u64
     }
 
     /// What each row of O sums to: 1,000,000 for each observation.
     pub fn o_scale(&self) -> u64
         ensures { result ≡ o_scale (meaning self.now) }
     {
-        ONE * self.observations as u64
+        ONE * self.observations() as u64
     }
 
-    /// The share of state `s` in the start, out of `start_total`: each state has the same where the text has no start
-    /// item. `s` is a state's number.
+    /// The share of state `s` in the start, out of `start_total`: each state has a share of 1 where the text has no
+    /// start item. `s` is a state's number.
     pub fn start_weight(&self, s: usize) -> u64
         requires { s < states_of (meaning self.now) }
         ensures { result ≡ start_weight (meaning self.now) s }
     {
-        prove!(s < self.states);
-        ALIKE
+        match &self.start {
+            Some(shares) => u64::from(shares.weights.at(s)),
+            None => ALIKE,
+        }
     }
 
     /// What the shares of all states in the start sum to.
     pub fn start_total(&self) -> u64
         ensures { result ≡ start_total (meaning self.now) }
     {
-        ALIKE * self.states as u64
+        match &self.start {
+            Some(shares) => u64::from(shares.total),
+            None => ALIKE * self.states() as u64,
+        }
     }
 
     /// T: the weight of the end state `e` where action `a` is taken in state `s`, out of `t_scale`. `a` is an action's
@@ -197,8 +223,8 @@ impl Model {
         ensures count { IsCount most_elements result }
     {
         match table {
-            Table::Transition => self.states,
-            Table::Observation => self.observations,
+            Table::Transition => self.states(),
+            Table::Observation => self.observations(),
             Table::Reward => 1,
         }
     }
@@ -230,7 +256,7 @@ impl Model {
     {
         Axis {
             index,
-            count: self.actions,
+            count: self.actions(),
         }
     }
 
@@ -242,7 +268,7 @@ impl Model {
     {
         Axis {
             index,
-            count: self.states,
+            count: self.states(),
         }
     }
 
@@ -254,7 +280,7 @@ impl Model {
     {
         Axis {
             index,
-            count: self.observations,
+            count: self.observations(),
         }
     }
 

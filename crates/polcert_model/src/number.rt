@@ -101,7 +101,7 @@ fn is_negative(sign: Option<Sign>) -> bool
 }
 
 /// Where a number stands: at its sign, if it has one.
-fn number_place(sign: Option<Sign>, token: Token<'_>) -> u64
+pub fn number_place(sign: Option<Sign>, token: Token<'_>) -> u64
     ensures { result ≡ number_place sign (lexeme_of token.entry) }
 {
     match sign {

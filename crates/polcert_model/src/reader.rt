@@ -3,18 +3,18 @@ ghost use Rattle.std.specs.Prelude.{None, IfOk, IfErr, ◌≡◌, ◌+◌, ◌<�
 ghost use Rattle.polcert_text.specs.Cut.{Lexeme, IsCut, text_rest};
 ghost use Rattle.polcert_text.specs.Reading.{lexeme_of, fault_place};
 ghost use Rattle.polcert_model.specs.Words.{topic, begins_item};
-ghost use Rattle.polcert_model.specs.Text.{most_bytes};
-ghost use Rattle.polcert_model.specs.Narrow.{IsAccepted};
+ghost use Rattle.polcert_model.specs.ElementSteps.{IsText};
+ghost use Rattle.polcert_model.specs.Text.{most_bytes, IsModelText};
 ghost use Rattle.polcert_model.specs.FirstWrong.{TextTokens, AreTokensOf};
 ghost use Rattle.polcert_model.specs.Refusals.{IsRefusal, IsPlacedRight};
 ghost use Rattle.polcert_model.specs.Contents.{meaning};
 ghost use Rattle.polcert_model.specs.TextSteps.{IsTextRead, AreItemsRead, IsWholeRead, IsRefusedBehind, IsRefusedAt, IsRefusedWhole, Refuses, fault_kind};
 
-use crate::entry_reader::Stop;
 use crate::item::ItemReader;
 use crate::known::Known;
 use crate::model::Model;
 use crate::rows::{WrongRow, first_wrong_row};
+use crate::stop::{ItemEnd, Stop};
 use crate::words::{Topic, begun_topic};
 use crate::{ItemFault, ModelFault};
 use polcert_text::{TEXT_LIMIT, Token, TokenFault, Tokens};
@@ -54,6 +54,7 @@ impl TextReader {
     fn take(&mut self, alloc: Global, token: Token<'_>) -> Result<(), ModelFault>
         requires read { (seen : List Lexeme) × IsTextRead seen self.old }
         requires few { self.old.number < 2 ^ 63 }
+        requires text { IsText (lexeme_of token) }
         ensures number { self.new.number ≤ self.old.number + 1 }
         ensures read { let l = lexeme_of token.entry in (seen : List Lexeme) → IsTextRead seen self.old → MatchResult result
             (λ _. IsTextRead (seen ++ l ∷ []) self.new)
@@ -61,7 +62,7 @@ impl TextReader {
     {
         match begun_topic(&token) {
             Some(topic) => {
-                self.close(token.place)?;
+                self.close(alloc, token.place)?;
                 self.open(alloc, topic, token.place)
             }
             None => self.feed(alloc, token),
@@ -70,7 +71,8 @@ impl TextReader {
 
     /// Goes on with a token that begins no item.
     fn feed(&mut self, alloc: Global, token: Token<'_>) -> Result<(), ModelFault>
-        requires { (seen : List Lexeme) × IsTextRead seen self.old }
+        requires read { (seen : List Lexeme) × IsTextRead seen self.old }
+        requires text { IsText (lexeme_of token) }
         ensures number { self.new.number ≡ self.old.number }
         ensures read { let l = lexeme_of token.entry in (seen : List Lexeme) → IsTextRead seen self.old → begins_item l ≡ false → MatchResult result
             (λ _. IsTextRead (seen ++ l ∷ []) self.new)
@@ -87,7 +89,7 @@ impl TextReader {
     }
 
     /// Ends the item that is open, where the next begins or the text ends.
-    fn close(&mut self, place: u64) -> Result<(), ModelFault>
+    fn close(&mut self, alloc: Global, place: u64) -> Result<(), ModelFault>
         requires { (seen : List Lexeme) × IsTextRead seen self.old }
         ensures number { self.new.number ≡ self.old.number }
         ensures items { (seen : List Lexeme) → IsTextRead seen self.old → MatchResult result
@@ -97,12 +99,14 @@ impl TextReader {
         let Some(item) = self.item.take() else {
             return Ok(());
         };
-        match item.end() {
+        match item.end(alloc, &self.known) {
             Ok(said) => match self.known.learn(said) {
                 Ok(()) => Ok(()),
                 Err(AllocError) => Err(ModelFault::Memory),
             },
-            Err(kind) => Err(self.fault(kind, place)),
+            Err(ItemEnd::AtEnd(kind)) => Err(self.fault(kind, place)),
+            Err(ItemEnd::At(refusal)) => Err(self.fault(refusal.kind, refusal.place)),
+            Err(ItemEnd::Memory) => Err(ModelFault::Memory),
         }
     }
 
@@ -118,7 +122,7 @@ impl TextReader {
         if let Some(kind) = self.known.word_fault(about) {
             return Err(self.fault(kind, place));
         }
-        self.item = ItemReader::new(alloc, about);
+        self.item = Some(ItemReader::new(alloc, about));
         Ok(())
     }
 
@@ -133,7 +137,7 @@ impl TextReader {
     }
 
     /// Ends the text.
-    fn finish(self, end: u64) -> Result<Known, ModelFault>
+    fn finish(self, alloc: Global, end: u64) -> Result<Known, ModelFault>
         requires read { (seen : List Lexeme) × IsTextRead seen self }
         requires few { self.number < 2 ^ 63 }
         ensures { (seen : List Lexeme) → IsTextRead seen self → MatchResult result
@@ -141,7 +145,7 @@ impl TextReader {
             (IsRefusedWhole seen end) }
     {
         let mut reader = self;
-        reader.close(end)?;
+        reader.close(alloc, end)?;
         reader.number += 1;
         if let Some(kind) = reader.known.preamble_fault() {
             return Err(reader.fault(kind, end));
@@ -163,7 +167,7 @@ fn read_text(alloc: Global, text: &[u8]) -> Result<Known, ModelFault>
             Err(fault) => return Err(reader.token_fault(fault)),
         }
     }
-    reader.finish(tokens.end())
+    reader.finish(alloc, tokens.end())
 }
 
 /// Reads the text of a model, and tests that each row of its tables sums to its scale.
@@ -175,7 +179,7 @@ fn read_text(alloc: Global, text: &[u8]) -> Result<Known, ModelFault>
 ///
 /// Source: the POMDP file format page and its grammar at pomdp.org.
 pub fn read_model(alloc: Global, text: &[u8]) -> Result<Model, ModelFault>
-    ensures accepted { IfOk result (λ m. IsAccepted text.now (meaning m)) }
+    ensures accepted { IfOk result (λ m. IsModelText text.now (meaning m)) }
     ensures refused { IfErr result (λ fault. (ts : TextTokens) → AreTokensOf text.now ts → IsRefusal ts fault) }
     ensures placed { IfErr result (λ fault. (ts : TextTokens) → AreTokensOf text.now ts → IsPlacedRight ts fault) }
 {

@@ -31,7 +31,7 @@ returns-in_err-write_count g c =
     let e = c.from_residual-in_err-write_count.ensures.0 in
     fails_before (head ++ states m ++ actions m) (observations m) _ e (fails_before (head ++ states m) (actions m) _ e
     (fails_at head (states m) _ e (wrote c.in_ok-write_all.ensures.ok c.in_ok-write_all.ensures.same_count)
-    (rw c.states.ensures at c.in_err-write_count.ensures.err) c.in_err-write_count.ensures.count))
+    (rw c.states.ensures.elements at c.in_err-write_count.ensures.err) c.in_err-write_count.ensures.count))
 
 pub returns-in_err-write_count-2 : goal.returns-in_err-write_count-2
 returns-in_err-write_count-2 g c =
@@ -40,8 +40,8 @@ returns-in_err-write_count-2 g c =
     fails_before (head ++ states m ++ actions m) (observations m) _ e
     (fails_at (head ++ states m) (actions m) _ e
     (one_more head (states m) (wrote c.in_ok-write_all.ensures.ok c.in_ok-write_all.ensures.same_count)
-    (wrote (rw c.states.ensures at c.in_ok-write_count.ensures.ok) c.in_ok-write_count.ensures.same_count))
-    (rw c.actions.ensures at c.in_err-write_count-2.ensures.err) c.in_err-write_count-2.ensures.count)
+    (wrote (rw c.states.ensures.elements at c.in_ok-write_count.ensures.ok) c.in_ok-write_count.ensures.same_count))
+    (rw c.actions.ensures.elements at c.in_err-write_count-2.ensures.err) c.in_err-write_count-2.ensures.count)
 
 pub returns : goal.returns
 returns g c =
@@ -49,6 +49,6 @@ returns g c =
     ends_with (head ++ states m ++ actions m) (observations m) _
     (one_more (head ++ states m) (actions m)
     (one_more head (states m) (wrote c.in_ok-write_all.ensures.ok c.in_ok-write_all.ensures.same_count)
-    (wrote (rw c.states.ensures at c.in_ok-write_count.ensures.ok) c.in_ok-write_count.ensures.same_count))
-    (wrote (rw c.actions.ensures at c.in_ok-write_count-2.ensures.ok) c.in_ok-write_count-2.ensures.same_count))
-    (rw c.observations.ensures at c.write_count-3.ensures)
+    (wrote (rw c.states.ensures.elements at c.in_ok-write_count.ensures.ok) c.in_ok-write_count.ensures.same_count))
+    (wrote (rw c.actions.ensures.elements at c.in_ok-write_count-2.ensures.ok) c.in_ok-write_count-2.ensures.same_count))
+    (rw c.observations.ensures.elements at c.write_count-3.ensures)

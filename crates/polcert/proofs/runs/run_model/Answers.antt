@@ -1,6 +1,6 @@
 use Rattle.std.proofs.Common.{◌≡◌, subst}
 use Rattle.polcert_model.specs.Contents.{meaning}
-use Rattle.polcert_model.specs.Narrow.{IsAccepted}
+use Rattle.polcert_model.specs.Text.{IsModelText}
 use Rattle.polcert_model.specs.FirstWrong.{TextTokens, AreTokensOf}
 use Rattle.polcert_model.specs.Refusals.{IsRefusal, IsPlacedRight}
 use Rattle.polcert.proofs.Refusing.{within_limit, each_refused}
@@ -8,7 +8,7 @@ use Rattle.polcert.proofs.runs.run_model.Goals as goal
 
 pub returns-in-Ok-write_summary-clause-summed_up : goal.returns-in-Ok-write_summary-clause-summed_up
 returns-in-Ok-write_summary-clause-summed_up g c =
-    let accepted : IsAccepted c.in-Ok.text.items (meaning c.in-Ok-read_model.model) = rw c.deref.ensures.value at c.in-Ok-read_model.ensures.accepted in
+    let accepted : IsModelText c.in-Ok.text.items (meaning c.in-Ok-read_model.model) = rw c.deref.ensures.value at c.in-Ok-read_model.ensures.accepted in
     record {
       text = c.in-Ok.text.items;
       model = meaning c.in-Ok-read_model.model;
@@ -19,7 +19,7 @@ returns-in-Ok-write_summary-clause-summed_up g c =
 
 pub returns-in-Ok-read_model-clause-begun : goal.returns-in-Ok-read_model-clause-begun
 returns-in-Ok-read_model-clause-begun g c = λ same.
-    let accepted : IsAccepted c.in-Ok.text.items (meaning c.in-Ok-read_model.model) = rw c.deref.ensures.value at c.in-Ok-read_model.ensures.accepted in
+    let accepted : IsModelText c.in-Ok.text.items (meaning c.in-Ok-read_model.model) = rw c.deref.ensures.value at c.in-Ok-read_model.ensures.accepted in
     record {
       text = c.in-Ok.text.items;
       model = meaning c.in-Ok-read_model.model;

@@ -2,7 +2,7 @@ use Rattle.std.proofs.Common.{sym, subst}
 use Rattle.std.proofs.lemmas.Result.{err_from_is_err_and}
 use Rattle.polcert_model.specs.Meaning.{HasProperRows}
 use Rattle.polcert_model.specs.Rows.{IsFirstWrongRow}
-use Rattle.polcert_model.specs.Narrow.{IsAccepted}
+use Rattle.polcert_model.specs.Text.{IsModelText}
 use Rattle.polcert_model.specs.Contents.{meaning}
 use Rattle.polcert_model.proofs.WholeTexts.{whole_accepted, row_refused}
 use Rattle.polcert_model.proofs.reader.read_model.Goals as goal
@@ -11,7 +11,7 @@ pub returns-in-None-clause-accepted : goal.returns-in-None-clause-accepted
 returns-in-None-clause-accepted c =
     let read = c.in_ok-read_text.ensures.read in
     let kept = c.into_model-model.ensures in
-    subst (λ m. IsAccepted c.args.text.now (meaning m)) (sym kept)
+    subst (λ m. IsModelText c.args.text.now (meaning m)) (sym kept)
     (whole_accepted c.args.text.now read.0 c.in_ok-read_text.field-0 read.1 read.2 (subst (λ m. HasProperRows (meaning m)) kept c.in-None.ensures))
 
 pub returns-in-Some-clause-refused : goal.returns-in-Some-clause-refused

@@ -6,6 +6,7 @@ use Rattle.polcert_model.specs.Fronts.{Taken, nothing, token}
 use Rattle.polcert_model.specs.Text.{most_bytes}
 use Rattle.polcert_model.specs.TextSteps.{Refuses}
 use Rattle.polcert_model.proofs.FrontLaws.{taken_end, shorter, tokens_begin, all_taken, these_tokens, text_is_short}
+use Rattle.polcert_model.proofs.TokenTexts.{token_is_text}
 use Rattle.polcert_model.proofs.RefusingEnds.{fault_refused}
 use Rattle.polcert_model.proofs.WholeTexts.{read_to_end, refused_at_text_end}
 use Rattle.polcert_model.proofs.reader.read_text.Goals as goal
@@ -18,6 +19,11 @@ loop-next-init c =
       seen = ([], subst (λ r. Taken (text_rest c.args.text.now most_bytes) [] r) (sym c.new-tokens.ensures) (nothing _), c.new-reader.ensures.read);
       few = omega (arith, short, none);
     }
+
+pub take-requires-clause-text : goal.take-requires-clause-text
+take-requires-clause-text c =
+    let gives = rw c.in-Ok.is at c.in-Some.ensures in
+    token_is_text _ (lexeme_of c.in-Ok.token) _ gives.0
 
 pub loop-next-preserved : goal.loop-next-preserved
 loop-next-preserved c =

@@ -19,7 +19,7 @@ pub returns-in-Probabilities-clause-reason : goal.returns-in-Probabilities-claus
 returns-in-Probabilities-clause-reason c =
     let r = c.args.self.now in
     let ds = indices_in c.args.known.now r.table in
-    let not_reward = subst (λ s. IsStateWithin ds r.table r.places s) c.in-Probabilities.is c.requires in
+    let not_reward = subst (λ s. IsStateWithin ds r.table r.places s) c.in-Probabilities.is c.requires.within in
     if_err_map _ _ _ (λ stop h. each_refused_map stop (λ f x. probability_reason r c.in-Probabilities.numbers (lexeme_of c.args.token) f.kind f.place c.in-Probabilities.is not_reward.0 x) h) c.feed_probability.ensures.reason
 
 pub returns-in-Rewards-clause-takes : goal.returns-in-Rewards-clause-takes

@@ -1,10 +1,15 @@
-use Rattle.std.proofs.Common.{◌≡◌, ◌∙◌, ap, arith}
+use Rattle.std.proofs.Common.{◌≡◌, ◌∙◌, sym, ap, arith}
 use Rattle.polcert_model.specs.Contents.{Contents, meaning}
+use Rattle.polcert_model.specs.Elements.{count_of}
 use Rattle.polcert_model.specs.Meaning.{states_of, start_weight}
+use Rattle.polcert_model.specs.Sound.{contents_of}
 use Rattle.polcert_model.proofs.SoundLaws.{alike_weight}
 use Rattle.polcert_model.proofs.model.Model.start_weight.Goals as goal
 
-pub returns : goal.returns
-returns c =
-    let same : c.self.inside.states ≡ states_of (meaning c.args.self.now) = ap (λ (k : Contents). states_of (meaning k)) c.self.view_is in
-    alike_weight c.self.inside.states c.args.s (omega (arith, same, c.requires)) ∙ ap (λ (k : Contents). start_weight (meaning k) c.args.s) c.self.view_is
+pub returns-in-None : goal.returns-in-None
+returns-in-None c =
+    let i = c.self.inside in
+    let same : count_of i.states ≡ states_of (meaning c.args.self.now) = ap (λ (k : Contents). states_of (meaning k)) c.self.view_is in
+    alike_weight (count_of i.states) c.args.s (omega (arith, same, c.requires))
+    ∙ ap (λ o. start_weight (meaning (contents_of i.discount i.costs i.states i.actions i.observations o i.entries)) c.args.s) (sym c.in-None.is)
+    ∙ ap (λ (k : Contents). start_weight (meaning k) c.args.s) c.self.view_is

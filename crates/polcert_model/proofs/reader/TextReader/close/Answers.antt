@@ -1,25 +1,35 @@
 use Rattle.std.proofs.Common.{◌∙◌, sym, subst}
 use Rattle.polcert_model.specs.TextSteps.{Refuses}
-use Rattle.polcert_model.proofs.TextReading.{none_open, open_within, item_ended, item_not_ended}
+use Rattle.polcert_model.proofs.TextReading.{none_open, open_within, item_ended, item_not_ended, item_not_ended_before}
 use Rattle.polcert_model.proofs.reader.TextReader.close.Goals as goal
 
 pub returns-in_default-clause-items : goal.returns-in_default-clause-items
 returns-in_default-clause-items c = λ seen read.
     none_open seen c.args.self.now c.take.new.self read (sym c.take.ensures.value ∙ c.in_default.is) c.take.ensures.after
 
-pub learn-requires : goal.learn-requires
-learn-requires c =
-    let r = c.args.self.now in
-    c.in-Ok.ensures.within r.known (open_within c.requires.0 r c.in-Some.item c.requires.1 (sym c.take.ensures.value ∙ c.in-Some.is))
+pub end-requires : goal.end-requires
+end-requires c =
+    open_within c.requires.0 c.args.self.now c.in-Some.item c.requires.1 (sym c.take.ensures.value ∙ c.in-Some.is)
 
 pub returns-in-Ok-learn-clause-items : goal.returns-in-Ok-learn-clause-items
 returns-in-Ok-learn-clause-items c = λ seen read.
     let r = c.args.self.now in
     item_ended seen r c.take.new.self c.in-Some.item c.learn.new.self c.in-Ok.said read (sym c.take.ensures.value ∙ c.in-Some.is) c.take.ensures.after
-    (c.in-Ok.ensures.said r.known) c.in-Ok-learn.ensures.ok
+    c.in-Ok.ensures.said c.in-Ok-learn.ensures.ok
 
-pub returns-in-Err-clause-items : goal.returns-in-Err-clause-items
-returns-in-Err-clause-items c = λ seen read text ts tokens ends.
+pub returns-in-Err-AtEnd-clause-items : goal.returns-in-Err-AtEnd-clause-items
+returns-in-Err-AtEnd-clause-items c = λ seen read text ts tokens ends.
     let r = c.args.self.now in
+    let refused = rw c.in-Err-AtEnd.field-0-is at c.in-Err-AtEnd.ensures.refused in
+    let reason = rw c.in-Err-AtEnd.field-0-is at c.in-Err-AtEnd.ensures.reason in
     subst (Refuses ts) (sym c.fault.ensures)
-    (item_not_ended seen r c.in-Some.item c.in-Err.kind c.args.place read (sym c.take.ensures.value ∙ c.in-Some.is) (λ k some. c.in-Err.ensures.refused k some) c.in-Err.ensures.reason text ts tokens ends)
+    (item_not_ended seen r c.in-Some.item c.in-Err-AtEnd.kind c.args.place read (sym c.take.ensures.value ∙ c.in-Some.is) refused reason text ts tokens ends)
+
+pub returns-in-Err-At-clause-items : goal.returns-in-Err-At-clause-items
+returns-in-Err-At-clause-items c = λ seen read text ts tokens ends.
+    let r = c.args.self.now in
+    let f = c.in-Err-At.refusal in
+    let refused = rw c.in-Err-At.field-0-is at c.in-Err-At.ensures.refused in
+    let reason = rw c.in-Err-At.field-0-is at c.in-Err-At.ensures.reason in
+    subst (Refuses ts) (sym c.fault-in-Err-At.ensures)
+    (item_not_ended_before seen r c.in-Some.item f.kind f.place c.args.place read (sym c.take.ensures.value ∙ c.in-Some.is) refused reason text ts tokens ends)

@@ -11,7 +11,7 @@ returns-in_default-clause-read c = λ seen read inside text ts further tokens sa
 pub returns-in-Ok-clause-read : goal.returns-in-Ok-clause-read
 returns-in-Ok-clause-read c = λ seen read inside.
     let e = c.in-Ok.ensures in
-    item_takes seen c.args.self.now (lexeme_of c.args.token) c.in-Some.item c.feed.new.self read c.in-Some.is inside e.topic e.within e.takes e.sign
+    item_takes seen c.args.self.now (lexeme_of c.args.token) c.in-Some.item c.feed.new.self read c.in-Some.is inside e.topic e.within e.takes e.seen
 
 pub returns-in-Err-Refused-clause-read : goal.returns-in-Err-Refused-clause-read
 returns-in-Err-Refused-clause-read c = λ seen read inside text ts further tokens same.

@@ -1,0 +1,18 @@
+-- A start item as its reader goes on with it.
+use Rattle.std.proofs.Common.{List, [], refl}
+use Rattle.polcert_text.specs.Cut.{Lexeme}
+use Rattle.polcert_model.specs.Elements.{Elements}
+use Rattle.polcert_model.specs.Start.{Shares, IsStart}
+use Rattle.polcert_model.specs.StartSteps.{StartGoes, new_start, IsStartWithin, IsStartSeen}
+
+pub new_start_on : (states : Elements) (ls : List Lexeme) (found : Shares) → IsStart states ls found → StartGoes states new_start ls found
+new_start_on states ls found a = a
+
+pub new_start_back : (states : Elements) (ls : List Lexeme) (found : Shares) → StartGoes states new_start ls found → IsStart states ls found
+new_start_back states ls found a = a
+
+pub new_start_within : (states : Elements) → IsStartWithin states new_start
+new_start_within states = tt
+
+pub new_start_seen : IsStartSeen [] new_start
+new_start_seen = record { sign = refl; first = tt }
