@@ -25,7 +25,7 @@ use Rattle.polcert_model.specs.Preamble.{Preamble, dimensions, columns}
 use Rattle.polcert_model.specs.Cells.{row_major, fits_place, fit_places, is_table, covers, weight_in, reward_in, weight_of, reward_of, weight, reward, value_or, IsLastCovering, last}
 use Rattle.polcert_model.specs.Start.{alike}
 use Rattle.polcert_model.specs.Meaning.{IsCount}
-use Rattle.polcert_model.specs.Contents.{Contents}
+use Rattle.polcert_model.specs.Drafts.{Draft}
 use Rattle.polcert_model.specs.Axes.{indices_of, cells_of, place_of, IsInRange, AreAxes}
 use Rattle.polcert_model.proofs.Basics.{same_head, same_tail, and_true, true≢false}
 use Rattle.polcert_model.proofs.CellLaws.{last_is_one}
@@ -223,25 +223,25 @@ reward_found p entries axes entry found t =
 pub reward_nothing : (p : Preamble) (entries : List Entry) (indices : List ℕ) → IsLastCovering entries Reward indices None → pos 0 ≡ reward p entries indices
 reward_nothing p entries indices found = ap (value_or (pos 0) (reward_of p indices)) (last_is_one entries Reward indices None found)
 
-pub columns_count : (c : Contents) (table : Table) → IsSound c → IsCount most_elements (columns c.preamble table)
+pub columns_count : (c : Draft) (table : Table) → IsSound c → IsCount most_elements (columns c.preamble table)
 columns_count c Transition s = s.states
 columns_count c Observation s = s.observations
 columns_count c Reward s = (omega arith, omega arith)
 
 -- ---- as the readers use them
 -- what holds of the entries that a model keeps holds of its contents
-pub kept_sound : (inside kept : Contents) (entries : List Entry) (table : Table) (indices : List ℕ) (entry : Entry) → inside ≡ kept → entries ≡ inside.entries → IsSound inside
+pub kept_sound : (inside kept : Draft) (entries : List Entry) (table : Table) (indices : List ℕ) (entry : Entry) → inside ≡ kept → entries ≡ inside.entries → IsSound inside
     → IsLastCovering entries table indices (Some entry) → IsSoundEntry kept.preamble entry
 kept_sound inside kept entries table indices entry view same s f =
-    subst (λ (k : Contents). IsSoundEntry k.preamble entry) view
+    subst (λ (k : Draft). IsSoundEntry k.preamble entry) view
     (found_sound inside.preamble entries table indices entry (subst (All (IsSoundEntry inside.preamble)) (sym same) s.entries) (is_found entries table indices entry f))
 
-pub kept_found : (inside kept : Contents) (entries : List Entry) (table : Table) (indices : List ℕ) (found : Option Entry) → inside ≡ kept → entries ≡ inside.entries
+pub kept_found : (inside kept : Draft) (entries : List Entry) (table : Table) (indices : List ℕ) (found : Option Entry) → inside ≡ kept → entries ≡ inside.entries
     → IsLastCovering entries table indices found → IsLastCovering kept.entries table indices found
-kept_found inside kept entries table indices found view same f = subst (λ es. IsLastCovering es table indices found) (same ∙ ap (λ (k : Contents). k.entries) view) f
+kept_found inside kept entries table indices found view same f = subst (λ es. IsLastCovering es table indices found) (same ∙ ap (λ (k : Draft). k.entries) view) f
 
 -- the body fills the cells that are left rest
-pub kept_fills : (kept : Contents) (table : Table) (axes rest : List Axis) (entry : Entry) → IsSound kept → AreAxes (dimensions kept.preamble table) axes
+pub kept_fills : (kept : Draft) (table : Table) (axes rest : List Axis) (entry : Entry) → IsSound kept → AreAxes (dimensions kept.preamble table) axes
     → IsLastCovering kept.entries table (indices_of axes) (Some entry) → rest ≡ drop (length entry.places) axes → Fills (cells_of rest) entry.body
 kept_fills kept table axes rest entry s a found o =
     let f = is_found kept.entries table (indices_of axes) entry found in
@@ -265,7 +265,7 @@ entry_weight p table axes rest entry width w covered a c o given =
     ∙ ap (λ u. weight_in (columns p u) entry.body (drop n (dimensions p u)) (indices_of (drop n axes))) (sym t)
     ∙ ap (λ is. weight_in (columns p entry.table) entry.body (drop n (dimensions p entry.table)) is) (drop_map (λ (x : Axis). x.index) n axes)
 
-pub kept_reward : (kept : Contents) (axes rest : List Axis) (entry : Entry) (costs : Bool) (h : ℤ) → AreAxes (dimensions kept.preamble Reward) axes → costs ≡ kept.preamble.costs
+pub kept_reward : (kept : Draft) (axes rest : List Axis) (entry : Entry) (costs : Bool) (h : ℤ) → AreAxes (dimensions kept.preamble Reward) axes → costs ≡ kept.preamble.costs
     → IsLastCovering kept.entries Reward (indices_of axes) (Some entry) → rest ≡ drop (length entry.places) axes
     → ((ds : List Elements) → AreAxes ds rest → h ≡ reward_in costs entry.body ds (indices_of rest)) → h ≡ reward kept.preamble kept.entries (indices_of axes)
 kept_reward kept axes rest entry costs h a c found o given =

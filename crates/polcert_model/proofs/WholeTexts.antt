@@ -8,15 +8,16 @@ use Rattle.polcert_model.specs.declared.fault.ModelFault.TheVariants as model_fa
 use Rattle.polcert_model.specs.Elements.{Elements, Count}
 use Rattle.polcert_model.specs.KnownView.{known_of}
 use Rattle.polcert_model.specs.Start.{Shares}
-use Rattle.polcert_model.specs.Meaning.{Meaning, IsSame, HasProperRows}
+use Rattle.polcert_model.specs.Meaning.{Meaning, IsSame, HasProperRows, IsWithinLimits}
 use Rattle.polcert_model.specs.Rows.{IsFirstWrongRow}
-use Rattle.polcert_model.specs.Text.{Known, IsComplete, IsRightText, most_bytes, IsModelText}
+use Rattle.polcert_model.specs.Text.{Known, IsComplete, IsRightText, Denotes, most_bytes, IsModelText}
 use Rattle.polcert_model.specs.FirstWrong.{TextTokens, AreTokensOf}
 use Rattle.polcert_model.specs.Refusals.{IsRefusal}
-use Rattle.polcert_model.specs.Contents.{meaning}
-use Rattle.polcert_model.specs.Sound.{IsSound, contents_of}
+use Rattle.polcert_model.specs.Drafts.{meaning}
+use Rattle.polcert_model.specs.Sound.{IsSound, draft_of}
 use Rattle.polcert_model.specs.EntrySteps.{preamble_in}
 use Rattle.polcert_model.specs.TextSteps.{IsWholeRead, Refuses, IsRefusedWhole, kept}
+use Rattle.polcert_model.proofs.LimitLaws.{within_limits}
 use Rattle.polcert_model.proofs.OrderLaws.{is_complete}
 use Rattle.polcert_model.proofs.SoundTexts.{right_text_sound}
 use Rattle.polcert_model.proofs.TakenItems.{same_preamble}
@@ -34,19 +35,22 @@ whole_sound seen k w = right_text_sound seen (preamble_in k) k (whole_right seen
 same_as_itself : (m : Meaning) → IsSame m m
 same_as_itself m = record { preamble = refl; start = refl; t = λ a s e i j k. refl; o = λ a e z i j k. refl; r = λ a s e z i j k l. refl }
 
--- where its rows are proper, the text is the text of this model
-pub whole_accepted : (text : List ℕ) (seen : List Lexeme) (k : Known) → IsCut (text_rest text most_bytes) seen None → IsWholeRead seen k → HasProperRows (meaning (kept k)) → IsModelText text (meaning (kept k))
-whole_accepted text seen k cut w rows = record {
-  lexemes = seen;
-  cut = cut;
-  denotes = record {
-    preamble = preamble_in k;
-    known = k;
-    right = whole_right seen k w;
-    same = same_as_itself (meaning (kept k));
-    rows = rows;
-  };
+-- where its rows are proper, it denotes this model, which is within the limits
+whole_denotes : (seen : List Lexeme) (k : Known) → IsWholeRead seen k → HasProperRows (meaning (kept k)) → Denotes seen (meaning (kept k))
+whole_denotes seen k w rows = record {
+  preamble = preamble_in k;
+  known = k;
+  right = whole_right seen k w;
+  same = same_as_itself (meaning (kept k));
+  rows = rows;
 }
+
+pub whole_within : (seen : List Lexeme) (k : Known) → IsWholeRead seen k → HasProperRows (meaning (kept k)) → IsWithinLimits (meaning (kept k))
+whole_within seen k w rows = within_limits seen (meaning (kept k)) (whole_denotes seen k w rows)
+
+-- and the text is the text of this model
+pub whole_accepted : (text : List ℕ) (seen : List Lexeme) (k : Known) → IsCut (text_rest text most_bytes) seen None → IsWholeRead seen k → HasProperRows (meaning (kept k)) → IsModelText text (meaning (kept k))
+whole_accepted text seen k cut w rows = record { lexemes = seen; cut = cut; denotes = whole_denotes seen k w rows }
 
 -- and otherwise the first row that isn't is refused
 pub row_refused : (text : List ℕ) (seen : List Lexeme) (k : Known) (table : Table) (a s : ℕ) → IsCut (text_rest text most_bytes) seen None → IsWholeRead seen k
@@ -74,5 +78,5 @@ refused_at_text_end text (Err fault) seen place cut stop refused = λ ts tokens.
 -- what is kept, of the lines as they are held
 pub kept_is : (k : Known) (discount : Option ℕ) (costs : Option Bool) (states actions observations : Option Elements) (start : Option Shares) (es : List Entry)
     → known_of discount costs states actions observations start es ≡ k
-    → kept k ≡ contents_of (unwrap_or discount 0) (unwrap_or costs false) (unwrap_or states (Count 0)) (unwrap_or actions (Count 0)) (unwrap_or observations (Count 0)) start es
+    → kept k ≡ draft_of (unwrap_or discount 0) (unwrap_or costs false) (unwrap_or states (Count 0)) (unwrap_or actions (Count 0)) (unwrap_or observations (Count 0)) start es
 kept_is k discount costs states actions observations start es e = ap kept (sym e)

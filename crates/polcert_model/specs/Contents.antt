@@ -1,17 +1,15 @@
 -- What a model keeps of its text, and what that means.
 -- Source: the POMDP file format page at pomdp.org: the preamble, a start item or none, and the lines of T, O and R.
-use Rattle.std.specs.Prelude.{List, Option}
-use Rattle.polcert_model.specs.Preamble.{Preamble}
-use Rattle.polcert_model.specs.Start.{Shares}
-use Rattle.polcert_model.specs.declared.entry.Entry.{Entry}
-use Rattle.polcert_model.specs.Meaning.{Meaning, meaning_of}
+use Rattle.polcert_model.specs.Meaning.{Meaning, HasProperRows, IsWithinLimits}
+use Rattle.polcert_model.specs.Drafts as drafts
+use Rattle.polcert_model.specs.Drafts.{Draft}
 
--- the preamble, the start item if there was one, and the entries in the order of the text
+-- what the items of the text say, where each row sums to its scale and all lies within limits
 pub record Contents : Type 0 where
-  pub preamble : Preamble
-  pub start : Option Shares
-  pub entries : List Entry
+  pub draft : Draft
+  pub rows : HasProperRows (drafts.meaning draft)
+  pub limits : IsWithinLimits (drafts.meaning draft)
 
 -- what they denote
 abbrev pub meaning : Contents → Meaning
-meaning c = meaning_of c.preamble c.start c.entries
+meaning c = drafts.meaning c.draft

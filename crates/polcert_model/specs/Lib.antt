@@ -33,4 +33,6 @@ pub mod Axes
 pub mod RowSums
 pub mod ElementSteps
 pub mod StartSteps
+pub mod Tables
 pub mod Fronts
+pub mod Drafts

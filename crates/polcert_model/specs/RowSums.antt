@@ -12,7 +12,7 @@ use Rattle.polcert_model.specs.Elements.{most_elements}
 use Rattle.polcert_model.specs.Preamble.{Preamble}
 use Rattle.polcert_model.specs.Cells.{fits_place, is_table, covers, weight_of, weight}
 use Rattle.polcert_model.specs.Meaning.{Meaning, states_of, actions_of, sum_below}
-use Rattle.polcert_model.specs.Contents.{Contents}
+use Rattle.polcert_model.specs.Drafts.{Draft}
 use Rattle.polcert_model.specs.Rows.{IsProperRow, AreProperBefore}
 
 -- a table of weights
@@ -21,8 +21,8 @@ IsWeighted Reward = ⊥
 IsWeighted _ = Unit {0}
 
 -- the weights of a row, by column
-abbrev pub row_of : Contents → Table → ℕ → ℕ → ℕ → ℕ
-row_of c table action state column = weight c.preamble c.entries table (action ∷ state ∷ column ∷ [])
+abbrev pub row_of : Draft → Table → ℕ → ℕ → ℕ → ℕ
+row_of d table action state column = weight d.preamble d.entries table (action ∷ state ∷ column ∷ [])
 
 -- each row of the table sums to its scale
 abbrev pub AreProper : Meaning → Table → Type 0

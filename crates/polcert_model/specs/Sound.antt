@@ -1,4 +1,4 @@
--- What is known of the contents that a model keeps, so that looking a cell up stays within bounds.
+-- What is known of a draft, so that looking a cell up stays within bounds.
 -- Nobody has to believe this file: only private functions cite it, and what a right text says is shown to meet it.
 use Rattle.std.specs.Prelude.{◌≡◌, ℕ, ◌<◌, ◌≤◌, ◌==◌, Bool, true, Option, List, [], ◌∷◌, length, drop, All, unsigned_abs}
 use Rattle.std.specs.List.{list_any}
@@ -15,7 +15,7 @@ use Rattle.polcert_model.specs.Preamble.{Preamble, dimensions}
 use Rattle.polcert_model.specs.Entry.{forms, cells_in}
 use Rattle.polcert_model.specs.Start.{Shares}
 use Rattle.polcert_model.specs.Meaning.{IsCount}
-use Rattle.polcert_model.specs.Contents.{Contents}
+use Rattle.polcert_model.specs.Drafts.{Draft}
 
 -- a place is `*`, or one of the elements
 abbrev pub IsPlaceIn : Elements → Place → Type 0
@@ -42,17 +42,17 @@ pub record IsSoundEntry (p : Preamble) (entry : Entry) : Type 0 where
   pub body : Fills (cells_in (drop (length entry.places) (dimensions p entry.table))) entry.body
 
 -- counts, a discount of at most one, a share for each state, and sound entries
-pub record IsSound (c : Contents) : Type 0 where
-  pub states : IsCount most_elements (count_of c.preamble.states)
-  pub actions : IsCount most_elements (count_of c.preamble.actions)
-  pub observations : IsCount most_elements (count_of c.preamble.observations)
-  pub discount : c.preamble.discount ≤ one
-  pub start : ForSome c.start (λ found. length found.weights ≡ count_of c.preamble.states)
-  pub entries : All (IsSoundEntry c.preamble) c.entries
+pub record IsSound (d : Draft) : Type 0 where
+  pub states : IsCount most_elements (count_of d.preamble.states)
+  pub actions : IsCount most_elements (count_of d.preamble.actions)
+  pub observations : IsCount most_elements (count_of d.preamble.observations)
+  pub discount : d.preamble.discount ≤ one
+  pub start : ForSome d.start (λ found. length found.weights ≡ count_of d.preamble.states)
+  pub entries : All (IsSoundEntry d.preamble) d.entries
 
--- the contents of a model with these lines
-abbrev pub contents_of : ℕ → Bool → Elements → Elements → Elements → Option Shares → List Entry → Contents
-contents_of discount costs states actions observations start entries = record {
+-- the draft of a text with these lines, this start item or none, and these entries
+abbrev pub draft_of : ℕ → Bool → Elements → Elements → Elements → Option Shares → List Entry → Draft
+draft_of discount costs states actions observations start entries = record {
   preamble = record { discount = discount; costs = costs; states = states; actions = actions; observations = observations };
   start = start;
   entries = entries;

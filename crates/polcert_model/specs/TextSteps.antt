@@ -15,7 +15,7 @@ use Rattle.polcert_model.specs.Order.{preamble_fault, word_fault}
 use Rattle.polcert_model.specs.Reading.{AreRightItems, IsWithinItem, IsPossible}
 use Rattle.polcert_model.specs.FirstWrong.{TextTokens, AreTokensOf}
 use Rattle.polcert_model.specs.Refusals.{IsRefusal, IsPlacedRight}
-use Rattle.polcert_model.specs.Contents.{Contents}
+use Rattle.polcert_model.specs.Drafts.{Draft}
 use Rattle.polcert_model.specs.EntrySteps.{preamble_in}
 use Rattle.polcert_model.specs.ItemSteps.{ItemGoes, IsItemWithin, IsSeen, topic_in}
 
@@ -89,5 +89,5 @@ abbrev pub IsRefusedWhole : List Lexeme → ℕ → ModelFault → Type 0
 IsRefusedWhole seen place fault = (text : List ℕ) (ts : TextTokens) → AreTokensOf text ts → ts.lexemes ≡ seen → ts.ending ≡ None → ts.end ≡ place → Refuses ts fault
 
 -- what is kept of it
-abbrev pub kept : Known → Contents
+abbrev pub kept : Known → Draft
 kept k = record { preamble = preamble_in k; start = k.start; entries = k.entries }

@@ -12,11 +12,12 @@ ghost use Rattle.polcert_model.specs.Text.{nothing_known};
 ghost use Rattle.polcert_model.specs.TextSteps.{IsWholeRead, kept};
 ghost use Rattle.polcert_text.specs.Cut.{Lexeme};
 
+use crate::draft::Draft;
 use crate::elements::Elements;
 use crate::item::Said;
 use crate::shares::Shares;
 use crate::words::Topic;
-use crate::{Entries, ItemFault, Table, model};
+use crate::{Entries, ItemFault, Table};
 use std::alloc::{AllocError, Global};
 use std::marker::Model;
 
@@ -80,8 +81,8 @@ impl Known {
         Ok(())
     }
 
-    /// The model that a complete preamble and entries denote.
-    pub fn into_model(self) -> model::Model
+    /// The draft of a complete preamble, start item and entries.
+    pub(crate) fn into_draft(self) -> Draft
         requires { (seen : List Lexeme) × IsWholeRead seen self }
         ensures { result ≡ kept self }
     {
@@ -94,7 +95,7 @@ impl Known {
             start,
             entries,
         } = self;
-        model::Model::of(
+        Draft::of(
             discount.unwrap_or(0),
             costs.unwrap_or(false),
             states.unwrap_or(Elements::Count(0)),

@@ -2,6 +2,7 @@
 #![tactic(auto)]
 
 mod cells;
+mod draft;
 mod elements;
 mod elements_reader;
 mod entry;
@@ -21,6 +22,7 @@ mod rows;
 mod shares;
 mod start_reader;
 mod stop;
+mod table;
 #[cfg(test)]
 mod tests;
 mod words;
@@ -41,4 +43,5 @@ pub use laws::{
 };
 pub use model::Model;
 pub use reader::read_model;
+pub use table::Cells;
 pub use words::Topic;

@@ -1,24 +1,13 @@
 //! A model, as it was read.
-ghost use Rattle.std.specs.Prelude.{◌≡◌, ◌<◌, ◌≤◌, ◌*◌, true, [], ◌∷◌, All, option_map};
-ghost use Rattle.polcert_model.specs.Numbers.{one};
+ghost use Rattle.std.specs.Prelude.{◌≡◌, ◌<◌, option_map};
 ghost use Rattle.polcert_model.specs.Elements.{most_elements, count_of, name_of};
-ghost use Rattle.polcert_model.specs.Preamble.{dimensions, columns as columns_in};
-ghost use Rattle.polcert_model.specs.Cells.{covers, weight_of, weight, reward};
-ghost use Rattle.polcert_model.specs.Meaning.{IsCount, states_of, actions_of, observations_of, t_scale, o_scale, start_weight, start_total, elements_of};
+ghost use Rattle.polcert_model.specs.Meaning.{HasProperRows, IsWithinLimits, IsCount, states_of, actions_of, observations_of, t_scale, o_scale, start_weight, start_total, elements_of};
+ghost use Rattle.polcert_model.specs.Drafts as drafts;
 ghost use Rattle.polcert_model.specs.Contents.{meaning};
-ghost use Rattle.polcert_model.specs.Sound.{IsSoundEntry};
-ghost use Rattle.polcert_model.specs.RowSums.{IsWeighted};
-ghost use Rattle.polcert_model.specs.Axes.{indices_of, IsInRange, AreAxes};
-ghost use Rattle.polcert_model.specs.declared.entry.Table.TheVariants.{Reward as RewardTable};
 
-use crate::cells::{Axis, ONE, last_covering, left_open, reward_in, weight_in};
-use crate::elements::{Elements, Kind};
-use crate::shares::Shares;
-use crate::{Entries, Entry, Table};
+use crate::draft::Draft;
+use crate::elements::Kind;
 use std::marker;
-
-/// The share of each state in a start where all states are alike.
-const ALIKE: u64 = 1;
 
 /// A model of a partially observable Markov decision process: what its text says.
 ///
@@ -29,51 +18,27 @@ const ALIKE: u64 = 1;
 /// Source: the POMDP file format page at pomdp.org.
 #[derive(Drop)]
 pub struct Model {
-    discount: u32,
-    costs: bool,
-    states: Elements,
-    actions: Elements,
-    observations: Elements,
-    start: Option<Shares>,
-    entries: Entries,
+    draft: Draft,
+    ghost rows: { HasProperRows (drafts.meaning draft) },
+    ghost limits: { IsWithinLimits (drafts.meaning draft) },
 }
 
 impl marker::Model for Model {
     ghost use Rattle.polcert_model.specs.Contents.{Contents};
-    ghost use Rattle.polcert_model.specs.Sound.{contents_of, IsSound};
 
     ghost Value = { Contents };
 
-    ghost view = { λ m. contents_of m.discount m.costs m.states m.actions m.observations m.start m.entries };
-
-    ghost invariant = { λ m. IsSound (contents_of m.discount m.costs m.states m.actions m.observations m.start m.entries) };
+    ghost view = { λ m. record { draft = m.draft; rows = m.rows; limits = m.limits } };
 }
 
 impl Model {
-    ghost use Rattle.polcert_model.specs.Sound.{contents_of, IsSound};
-
-    /// The model of a text that has these lines in its preamble, this start item or none, and these entries.
-    pub(crate) fn of(
-        discount: u32,
-        costs: bool,
-        states: Elements,
-        actions: Elements,
-        observations: Elements,
-        start: Option<Shares>,
-        entries: Entries,
-    ) -> Model
-        requires { IsSound (contents_of discount costs states actions observations start entries) }
-        ensures { result ≡ contents_of discount costs states actions observations start entries }
+    /// The model of a draft whose rows sum to their scales.
+    pub(crate) fn of(draft: Draft) -> Model
+        requires rows { HasProperRows (drafts.meaning draft) }
+        requires limits { IsWithinLimits (drafts.meaning draft) }
+        ensures { result.draft ≡ draft }
     {
-        Model {
-            discount,
-            costs,
-            states,
-            actions,
-            observations,
-            start,
-            entries,
-        }
+        Model { draft }
     }
 
     /// How many states there are: 1 to 1,000.
@@ -81,7 +46,7 @@ impl Model {
         ensures elements { result ≡ states_of (meaning self.now) }
         ensures count { IsCount most_elements result }
     {
-        self.states.count()
+        self.draft.states()
     }
 
     /// How many actions there are: 1 to 1,000.
@@ -89,7 +54,7 @@ impl Model {
         ensures elements { result ≡ actions_of (meaning self.now) }
         ensures count { IsCount most_elements result }
     {
-        self.actions.count()
+        self.draft.actions()
     }
 
     /// How many observations there are: 1 to 1,000.
@@ -97,7 +62,7 @@ impl Model {
         ensures elements { result ≡ observations_of (meaning self.now) }
         ensures count { IsCount most_elements result }
     {
-        self.observations.count()
+        self.draft.observations()
     }
 
     /// The name of the state, action or observation of this number, where the text gives names and not a count.
@@ -105,40 +70,35 @@ impl Model {
         requires { index < count_of (elements_of (meaning self.now) kind) }
         ensures { option_map (λ name. name.now) result ≡ name_of (elements_of (meaning self.now) kind) index }
     {
-        let elements = match kind {
-            Kind::State => &self.states,
-            Kind::Action => &self.actions,
-            Kind::Observation => &self.observations,
-        };
-        elements.name_of(index)
+        self.draft.name_of(kind, index)
     }
 
     /// Whether the text gives costs in place of rewards. `r` gives rewards in either case.
     pub fn is_cost(&self) -> bool
         ensures { result ≡ (meaning self.now).preamble.costs }
     {
-        self.costs
+        self.draft.is_cost()
     }
 
     /// The discount, in millionths: 0 to 1,000,000.
     pub fn discount(&self) -> u32
         ensures { result ≡ (meaning self.now).preamble.discount }
     {
-        self.discount
+        self.draft.discount()
     }
 
     /// What each row of T sums to: 1,000,000 for each state.
     pub fn t_scale(&self) -> u64
         ensures { result ≡ t_scale (meaning self.now) }
     {
-        ONE * self.states() as u64
+        self.draft.t_scale()
     }
 
     /// What each row of O sums to: 1,000,000 for each observation.
     pub fn o_scale(&self) -> u64
         ensures { result ≡ o_scale (meaning self.now) }
     {
-        ONE * self.observations() as u64
+        self.draft.o_scale()
     }
 
     /// The share of state `s` in the start, out of `start_total`: each state has a share of 1 where the text has no
@@ -147,20 +107,14 @@ impl Model {
         requires { s < states_of (meaning self.now) }
         ensures { result ≡ start_weight (meaning self.now) s }
     {
-        match &self.start {
-            Some(shares) => u64::from(shares.weights.at(s)),
-            None => ALIKE,
-        }
+        self.draft.start_weight(s)
     }
 
     /// What the shares of all states in the start sum to.
     pub fn start_total(&self) -> u64
         ensures { result ≡ start_total (meaning self.now) }
     {
-        match &self.start {
-            Some(shares) => u64::from(shares.total),
-            None => ALIKE * self.states() as u64,
-        }
+        self.draft.start_total()
     }
 
     /// T: the weight of the end state `e` where action `a` is taken in state `s`, out of `t_scale`. `a` is an action's
@@ -171,10 +125,7 @@ impl Model {
         requires end { e < states_of (meaning self.now) }
         ensures { result ≡ (meaning self.now).t a s e }
     {
-        self.weight(
-            Table::Transition,
-            &[self.action(a), self.state(s), self.state(e)],
-        )
+        self.draft.t(a, s, e)
     }
 
     /// O: the weight of observation `z` where action `a` ends in state `e`, out of `o_scale`. `a`, `e` and `z` are the
@@ -185,10 +136,7 @@ impl Model {
         requires observation { z < observations_of (meaning self.now) }
         ensures { result ≡ (meaning self.now).o a e z }
     {
-        self.weight(
-            Table::Observation,
-            &[self.action(a), self.state(e), self.observation(z)],
-        )
+        self.draft.o(a, e, z)
     }
 
     /// R: the reward, in millionths, where action `a` is taken in state `s`, ends in state `e` and observation `z` is
@@ -201,119 +149,6 @@ impl Model {
         requires observation { z < observations_of (meaning self.now) }
         ensures { result ≡ (meaning self.now).r a s e z }
     {
-        self.reward(&[
-            self.action(a),
-            self.state(s),
-            self.state(e),
-            self.observation(z),
-        ])
-    }
-
-    /// The entries, in the order of the text.
-    pub(crate) fn entries(&self) -> &[Entry]
-        ensures entries { result.now ≡ self.now.entries }
-        ensures sound { All (IsSoundEntry self.now.preamble) result.now }
-    {
-        self.entries.as_slice()
-    }
-
-    /// How many columns a row of the table has: those of R have one.
-    pub(crate) fn columns(&self, table: Table) -> usize
-        ensures columns { result ≡ columns_in self.now.preamble table }
-        ensures count { IsCount most_elements result }
-    {
-        match table {
-            Table::Transition => self.states(),
-            Table::Observation => self.observations(),
-            Table::Reward => 1,
-        }
-    }
-
-    /// The indices of a cell of T or O.
-    pub(crate) fn cell(&self, table: Table, action: usize, state: usize, column: usize) -> [Axis; 3]
-        requires weighted { IsWeighted table }
-        requires action { action < actions_of (meaning self.now) }
-        requires state { state < states_of (meaning self.now) }
-        requires column { column < columns_in self.now.preamble table }
-        ensures axes { AreAxes (dimensions self.now.preamble table) result }
-        ensures indices { indices_of result ≡ action ∷ state ∷ column ∷ [] }
-    {
-        [
-            self.action(action),
-            self.state(state),
-            Axis {
-                index: column,
-                count: self.columns(table),
-            },
-        ]
-    }
-
-    fn action(&self, index: usize) -> Axis
-        requires { index < actions_of (meaning self.now) }
-        ensures index { result.index ≡ index }
-        ensures count { result.count ≡ actions_of (meaning self.now) }
-        ensures in_range { IsInRange result }
-    {
-        Axis {
-            index,
-            count: self.actions(),
-        }
-    }
-
-    fn state(&self, index: usize) -> Axis
-        requires { index < states_of (meaning self.now) }
-        ensures index { result.index ≡ index }
-        ensures count { result.count ≡ states_of (meaning self.now) }
-        ensures in_range { IsInRange result }
-    {
-        Axis {
-            index,
-            count: self.states(),
-        }
-    }
-
-    fn observation(&self, index: usize) -> Axis
-        requires { index < observations_of (meaning self.now) }
-        ensures index { result.index ≡ index }
-        ensures count { result.count ≡ observations_of (meaning self.now) }
-        ensures in_range { IsInRange result }
-    {
-        Axis {
-            index,
-            count: self.observations(),
-        }
-    }
-
-    /// The weight of a cell of T or O.
-    fn weight(&self, table: Table, axes: &[Axis]) -> u64
-        requires { AreAxes (dimensions self.now.preamble table) axes.now }
-        ensures { result ≡ weight self.now.preamble self.now.entries table (indices_of axes.now) }
-    {
-        match last_covering(self.entries.as_slice(), table, axes) {
-            Some(entry) => self.weight_of(entry, table, axes),
-            None => 0,
-        }
-    }
-
-    /// What an entry of T or O gives a cell that it covers.
-    pub(crate) fn weight_of(&self, entry: &Entry, table: Table, axes: &[Axis]) -> u64
-        requires sound { IsSoundEntry self.now.preamble entry.now }
-        requires covered { covers table (indices_of axes.now) entry.now ≡ true }
-        requires axes { AreAxes (dimensions self.now.preamble table) axes.now }
-        ensures weight { result ≡ weight_of self.now.preamble (indices_of axes.now) entry.now }
-        ensures small { result ≤ one * columns_in self.now.preamble table }
-    {
-        weight_in(&entry.body, left_open(entry, axes), self.columns(table))
-    }
-
-    /// The reward of a cell of R.
-    fn reward(&self, axes: &[Axis]) -> i64
-        requires { AreAxes (dimensions self.now.preamble RewardTable) axes.now }
-        ensures { result ≡ reward self.now.preamble self.now.entries (indices_of axes.now) }
-    {
-        match last_covering(self.entries.as_slice(), Table::Reward, axes) {
-            Some(entry) => reward_in(self.costs, &entry.body, left_open(entry, axes)),
-            None => 0,
-        }
+        self.draft.r(a, s, e, z)
     }
 }

@@ -183,9 +183,9 @@ pub fn read_model(alloc: Global, text: &[u8]) -> Result<Model, ModelFault>
     ensures refused { IfErr result (λ fault. (ts : TextTokens) → AreTokensOf text.now ts → IsRefusal ts fault) }
     ensures placed { IfErr result (λ fault. (ts : TextTokens) → AreTokensOf text.now ts → IsPlacedRight ts fault) }
 {
-    let model = read_text(alloc, text)?.into_model();
-    match first_wrong_row(&model) {
-        None => Ok(model),
+    let draft = read_text(alloc, text)?.into_draft();
+    match first_wrong_row(&draft) {
+        None => Ok(Model::of(draft)),
         Some(WrongRow { table, action, row }) => Err(ModelFault::RowSum { table, action, row }),
     }
 }

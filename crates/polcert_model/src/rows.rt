@@ -4,14 +4,15 @@ ghost use Rattle.polcert_model.specs.Numbers.{one};
 ghost use Rattle.polcert_model.specs.Elements.{most_elements};
 ghost use Rattle.polcert_model.specs.Preamble.{columns as columns_in};
 ghost use Rattle.polcert_model.specs.Meaning.{states_of, actions_of, sum_below, HasProperRows};
-ghost use Rattle.polcert_model.specs.Contents.{meaning};
+ghost use Rattle.polcert_model.specs.Drafts.{meaning};
 ghost use Rattle.polcert_model.specs.Rows.{IsProperRow, IsFirstWrongRow};
 ghost use Rattle.polcert_model.specs.Sound.{IsSoundEntry};
 ghost use Rattle.polcert_model.specs.declared.row_part.RowPart.TheVariants.{Whole as WholeRow};
 ghost use Rattle.polcert_model.specs.RowSums.{IsWeighted, row_of, AreProper, IsFirstWrongIn, IsPartOf, unseen};
 
+use crate::draft::Draft;
 use crate::row_part::{RowPart, row_part};
-use crate::{Entry, Model, Table};
+use crate::{Entry, Table};
 
 /// The most columns that a row may have.
 const MOST_COLUMNS: usize = 1000;
@@ -26,23 +27,23 @@ pub(crate) struct WrongRow {
 
 /// The first row that does not sum to its scale: those of T come before those of O, and go by action and then by
 /// state.
-pub(crate) fn first_wrong_row(model: &Model) -> Option<WrongRow>
-    ensures { MatchOption result (HasProperRows (meaning model.now))
-        (λ w. IsFirstWrongRow (meaning model.now) w.table w.action w.row) }
+pub(crate) fn first_wrong_row(draft: &Draft) -> Option<WrongRow>
+    ensures { MatchOption result (HasProperRows (meaning draft.now))
+        (λ w. IsFirstWrongRow (meaning draft.now) w.table w.action w.row) }
 {
-    match first_wrong_in(model, Table::Transition) {
+    match first_wrong_in(draft, Table::Transition) {
         Some(row) => Some(row),
-        None => first_wrong_in(model, Table::Observation),
+        None => first_wrong_in(draft, Table::Observation),
     }
 }
 
-fn first_wrong_in(model: &Model, table: Table) -> Option<WrongRow>
-    ensures { MatchOption result (AreProper (meaning model.now) table)
-        (λ w. (w.table ≡ table) × IsFirstWrongIn (meaning model.now) table w.action w.row) }
+fn first_wrong_in(draft: &Draft, table: Table) -> Option<WrongRow>
+    ensures { MatchOption result (AreProper (meaning draft.now) table)
+        (λ w. (w.table ≡ table) × IsFirstWrongIn (meaning draft.now) table w.action w.row) }
 {
-    for action in 0..model.actions() {
-        for row in 0..model.states() {
-            if !is_proper_row(model, table, action, row) {
+    for action in 0..draft.actions() {
+        for row in 0..draft.states() {
+            if !is_proper_row(draft, table, action, row) {
                 return Some(WrongRow { table, action, row });
             }
         }
@@ -51,28 +52,28 @@ fn first_wrong_in(model: &Model, table: Table) -> Option<WrongRow>
 }
 
 /// Whether a row sums to its scale. Rewards have no scale.
-fn is_proper_row(model: &Model, table: Table, action: usize, row: usize) -> bool
-    requires action { action < actions_of (meaning model.now) }
-    requires row { row < states_of (meaning model.now) }
-    ensures { IsTrue result ↔ IsProperRow (meaning model.now) table action row }
+fn is_proper_row(draft: &Draft, table: Table, action: usize, row: usize) -> bool
+    requires action { action < actions_of (meaning draft.now) }
+    requires row { row < states_of (meaning draft.now) }
+    ensures { IsTrue result ↔ IsProperRow (meaning draft.now) table action row }
 {
     match table {
-        Table::Transition => row_sum(model, table, action, row) == model.t_scale(),
-        Table::Observation => row_sum(model, table, action, row) == model.o_scale(),
+        Table::Transition => row_sum(draft, table, action, row) == draft.t_scale(),
+        Table::Observation => row_sum(draft, table, action, row) == draft.o_scale(),
         Table::Reward => false,
     }
 }
 
 /// What a row of T or O sums to. The entries are gone through once, from the last one back: each column counts where
 /// it is first met, and an entry that covers the whole row is the last to look at.
-fn row_sum(model: &Model, table: Table, action: usize, row: usize) -> u64
+fn row_sum(draft: &Draft, table: Table, action: usize, row: usize) -> u64
     requires weighted { IsWeighted table }
-    requires action { action < actions_of (meaning model.now) }
-    requires row { row < states_of (meaning model.now) }
-    ensures { result ≡ sum_below (row_of model.now table action row) (columns_in model.now.preamble table) }
+    requires action { action < actions_of (meaning draft.now) }
+    requires row { row < states_of (meaning draft.now) }
+    ensures { result ≡ sum_below (row_of draft.now table action row) (columns_in draft.now.preamble table) }
 {
-    let columns = model.columns(table);
-    let entries = model.entries();
+    let columns = draft.columns(table);
+    let entries = draft.entries();
     let mut seen = [false; MOST_COLUMNS];
     let mut sum = 0;
     for number in (0..entries.len()).rev() {
@@ -81,9 +82,9 @@ fn row_sum(model: &Model, table: Table, action: usize, row: usize) -> u64
             RowPart::Nothing => {}
             RowPart::Column(column) => if !seen[column] {
                 seen[column] = true;
-                sum += model.weight_of(entry, table, &model.cell(table, action, row, column));
+                sum += draft.weight_of(entry, table, &draft.cell(table, action, row, column));
             },
-            RowPart::Whole => return sum + unseen_sum(model, table, action, row, entry, &seen),
+            RowPart::Whole => return sum + unseen_sum(draft, table, action, row, entry, &seen),
         }
     }
     sum
@@ -91,7 +92,7 @@ fn row_sum(model: &Model, table: Table, action: usize, row: usize) -> u64
 
 /// What an entry that covers the whole row gives the columns that are not met yet.
 fn unseen_sum(
-    model: &Model,
+    draft: &Draft,
     table: Table,
     action: usize,
     row: usize,
@@ -99,20 +100,20 @@ fn unseen_sum(
     seen: &[bool],
 ) -> u64
     requires weighted { IsWeighted table }
-    requires action { action < actions_of (meaning model.now) }
-    requires row { row < states_of (meaning model.now) }
-    requires sound { IsSoundEntry model.now.preamble entry.now }
+    requires action { action < actions_of (meaning draft.now) }
+    requires row { row < states_of (meaning draft.now) }
+    requires sound { IsSoundEntry draft.now.preamble entry.now }
     requires whole { IsPartOf WholeRow table action row entry.now }
     requires size { length seen.now ≡ most_elements }
-    ensures sum { result ≡ sum_below (unseen model.now.preamble action row entry.now seen.now)
-        (columns_in model.now.preamble table) }
-    ensures small { result ≤ (one * columns_in model.now.preamble table) * most_elements }
+    ensures sum { result ≡ sum_below (unseen draft.now.preamble action row entry.now seen.now)
+        (columns_in draft.now.preamble table) }
+    ensures small { result ≤ (one * columns_in draft.now.preamble table) * most_elements }
 {
-    let columns = model.columns(table);
+    let columns = draft.columns(table);
     let mut sum = 0;
     for column in 0..columns {
         if !seen[column] {
-            sum += model.weight_of(entry, table, &model.cell(table, action, row, column));
+            sum += draft.weight_of(entry, table, &draft.cell(table, action, row, column));
         }
     }
     sum

@@ -1,25 +1,31 @@
-use Rattle.std.proofs.Common.{sym, subst}
+use Rattle.std.proofs.Common.{◌∙◌, sym, subst}
 use Rattle.std.proofs.lemmas.Result.{err_from_is_err_and}
-use Rattle.polcert_model.specs.Meaning.{HasProperRows}
+use Rattle.polcert_model.specs.Meaning.{HasProperRows, IsWithinLimits}
 use Rattle.polcert_model.specs.Rows.{IsFirstWrongRow}
 use Rattle.polcert_model.specs.Text.{IsModelText}
-use Rattle.polcert_model.specs.Contents.{meaning}
-use Rattle.polcert_model.proofs.WholeTexts.{whole_accepted, row_refused}
+use Rattle.polcert_model.specs.Drafts.{meaning}
+use Rattle.polcert_model.proofs.WholeTexts.{whole_accepted, whole_within, row_refused}
 use Rattle.polcert_model.proofs.reader.read_model.Goals as goal
+
+pub of-requires-clause-limits : goal.of-requires-clause-limits
+of-requires-clause-limits c =
+    let read = c.in_ok-read_text.ensures.read in
+    let kept = c.into_draft-draft.ensures in
+    subst (λ d. IsWithinLimits (meaning d)) (sym kept) (whole_within read.0 c.in_ok-read_text.field-0 read.2 (subst (λ d. HasProperRows (meaning d)) kept c.in-None.ensures))
 
 pub returns-in-None-clause-accepted : goal.returns-in-None-clause-accepted
 returns-in-None-clause-accepted c =
     let read = c.in_ok-read_text.ensures.read in
-    let kept = c.into_model-model.ensures in
-    subst (λ m. IsModelText c.args.text.now (meaning m)) (sym kept)
-    (whole_accepted c.args.text.now read.0 c.in_ok-read_text.field-0 read.1 read.2 (subst (λ m. HasProperRows (meaning m)) kept c.in-None.ensures))
+    let kept = c.into_draft-draft.ensures in
+    subst (λ d. IsModelText c.args.text.now (meaning d)) (sym (c.of.ensures ∙ kept))
+    (whole_accepted c.args.text.now read.0 c.in_ok-read_text.field-0 read.1 read.2 (subst (λ d. HasProperRows (meaning d)) kept c.in-None.ensures))
 
 pub returns-in-Some-clause-refused : goal.returns-in-Some-clause-refused
 returns-in-Some-clause-refused c = λ ts tokens.
     let read = c.in_ok-read_text.ensures.read in
     let row = c.in-Some.field-0 in
     row_refused c.args.text.now read.0 c.in_ok-read_text.field-0 row.table row.action row.row read.1 read.2
-    (subst (λ m. IsFirstWrongRow (meaning m) row.table row.action row.row) c.into_model-model.ensures c.in-Some.ensures) ts tokens
+    (subst (λ d. IsFirstWrongRow (meaning d) row.table row.action row.row) c.into_draft-draft.ensures c.in-Some.ensures) ts tokens
 
 pub returns-in_err-read_text-clause-refused : goal.returns-in_err-read_text-clause-refused
 returns-in_err-read_text-clause-refused c =

@@ -14,17 +14,17 @@ loop-number-preserved-in-Nothing c =
 
 pub bounds-seen-column : goal.bounds-seen-column
 bounds-seen-column c =
-    let below = laws.column_in c.args.model.now.preamble c.args.table _ _ _ _ _ _ c.requires.weighted c.entries-entries.ensures.sound c.loop-number-test.true c.loop-number.auto.number c.index-entries-number.is c.in-Column.ensures.part (c.in-Column.ensures.column _ refl) in
+    let below = laws.column_in c.args.draft.now.preamble c.args.table _ _ _ _ _ _ c.requires.weighted c.entries-entries.ensures.sound c.loop-number-test.true c.loop-number.auto.number c.index-entries-number.is c.in-Column.ensures.part (c.in-Column.ensures.column _ refl) in
     omega (arith, below, c.columns-columns.ensures.columns, c.columns-columns.ensures.count)
 
 pub bounds-seen-column-then-not-seen-column : goal.bounds-seen-column-then-not-seen-column
 bounds-seen-column-then-not-seen-column c =
-    let below = laws.column_in c.args.model.now.preamble c.args.table _ _ _ _ _ _ c.requires.weighted c.entries-entries.ensures.sound c.loop-number-test.true c.loop-number.auto.number c.index-entries-number.is c.in-Column.ensures.part (c.in-Column.ensures.column _ refl) in
+    let below = laws.column_in c.args.draft.now.preamble c.args.table _ _ _ _ _ _ c.requires.weighted c.entries-entries.ensures.sound c.loop-number-test.true c.loop-number.auto.number c.index-entries-number.is c.in-Column.ensures.part (c.in-Column.ensures.column _ refl) in
     omega (arith, below, c.columns-columns.ensures.columns, c.columns-columns.ensures.count)
 
 pub cell-requires-clause-column : goal.cell-requires-clause-column
 cell-requires-clause-column c =
-    laws.column_in c.args.model.now.preamble c.args.table _ _ _ _ _ _ c.requires.weighted c.entries-entries.ensures.sound c.loop-number-test.true c.loop-number.auto.number c.index-entries-number.is c.in-Column.ensures.part (c.in-Column.ensures.column _ refl)
+    laws.column_in c.args.draft.now.preamble c.args.table _ _ _ _ _ _ c.requires.weighted c.entries-entries.ensures.sound c.loop-number-test.true c.loop-number.auto.number c.index-entries-number.is c.in-Column.ensures.part (c.in-Column.ensures.column _ refl)
 
 pub overflow_add-sum : goal.overflow_add-sum
 overflow_add-sum c =
@@ -33,14 +33,14 @@ overflow_add-sum c =
 
 pub loop-number-preserved-then-not-seen-column : goal.loop-number-preserved-then-not-seen-column
 loop-number-preserved-then-not-seen-column c =
-    let below = laws.column_in c.args.model.now.preamble c.args.table _ _ _ _ _ _ c.requires.weighted c.entries-entries.ensures.sound c.loop-number-test.true c.loop-number.auto.number c.index-entries-number.is c.in-Column.ensures.part (c.in-Column.ensures.column _ refl) in
-    let worth = c.weight_of-sum.ensures.weight ∙ ap (λ is. weight_of c.args.model.now.preamble is c.index-entries-number.result) c.cell.ensures.indices in
+    let below = laws.column_in c.args.draft.now.preamble c.args.table _ _ _ _ _ _ c.requires.weighted c.entries-entries.ensures.sound c.loop-number-test.true c.loop-number.auto.number c.index-entries-number.is c.in-Column.ensures.part (c.in-Column.ensures.column _ refl) in
+    let worth = c.weight_of-sum.ensures.weight ∙ ap (λ is. weight_of c.args.draft.now.preamble is c.index-entries-number.result) c.cell.ensures.indices in
     laws.tally_at _ _ _ _ _ _ _ _ _ _ c.loop-number-test.true c.loop-number.auto.number c.index-entries-number.is
     (laws.tally_column _ _ _ _ _ _ _ _ _ _ _ (subst (λ n. c.in-Column.column < n) (sym c.columns-columns.ensures.columns) below) c.columns-columns.ensures.count.1 c.in-Column.ensures.part c.if-not-seen-column.true worth c.loop-number.invariant)
 
 pub loop-number-preserved : goal.loop-number-preserved
 loop-number-preserved c =
-    let below = laws.column_in c.args.model.now.preamble c.args.table _ _ _ _ _ _ c.requires.weighted c.entries-entries.ensures.sound c.loop-number-test.true c.loop-number.auto.number c.index-entries-number.is c.in-Column.ensures.part (c.in-Column.ensures.column _ refl) in
+    let below = laws.column_in c.args.draft.now.preamble c.args.table _ _ _ _ _ _ c.requires.weighted c.entries-entries.ensures.sound c.loop-number-test.true c.loop-number.auto.number c.index-entries-number.is c.in-Column.ensures.part (c.in-Column.ensures.column _ refl) in
     laws.tally_at _ _ _ _ _ _ _ _ _ _ c.loop-number-test.true c.loop-number.auto.number c.index-entries-number.is
     (laws.tally_seen _ _ _ _ _ _ _ _ _ _ (subst (λ n. c.in-Column.column < n) (sym c.columns-columns.ensures.columns) below) c.in-Column.ensures.part c.if-not-seen-column.false c.loop-number.invariant)
 

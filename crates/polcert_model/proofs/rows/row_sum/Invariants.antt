@@ -3,4 +3,4 @@ use Rattle.polcert_model.specs.RowSums.{IsTally}
 use Rattle.polcert_model.proofs.rows.row_sum.Given as goal
 
 abbrev pub invariant-loop-number : goal.invariant-loop-number
-invariant-loop-number l = IsTally l.model.preamble l.table l.action l.row l.columns (drop l.number l.entries) l.seen l.sum
+invariant-loop-number l = IsTally l.draft.preamble l.table l.action l.row l.columns (drop l.number l.entries) l.seen l.sum

@@ -6,6 +6,6 @@ use Rattle.polcert_model.proofs.rows.unseen_sum.Given as goal
 
 abbrev pub invariant-loop-column : goal.invariant-loop-column
 invariant-loop-column l = record {
-  sum_so_far : l.sum ≡ sum_below (unseen l.model.preamble l.action l.row l.entry l.seen) l.column;
+  sum_so_far : l.sum ≡ sum_below (unseen l.draft.preamble l.action l.row l.entry l.seen) l.column;
   small : l.sum ≤ (one * l.columns) * l.column;
 }

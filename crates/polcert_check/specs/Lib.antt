@@ -1,0 +1,9 @@
+pub mod Horizon
+pub mod Shortfall
+pub mod Verdict
+pub mod Rows
+pub mod Lower
+pub mod Worst
+pub mod Examples
+pub mod StartWorth
+pub mod SameCells

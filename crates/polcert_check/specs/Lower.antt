@@ -1,0 +1,44 @@
+-- What lowering every vector value by one constant does, and the least constant by which the vectors pass.
+use Rattle.std.specs.Prelude.{◌≡◌, ℕ, ◌<◌, ℤ, pos, neg_ℤ, ◌-ℤ◌, ◌≤ℤ◌, ◌<ℤ◌, Some, None}
+use Rattle.polcert_policy.specs.Vectors.{PolicyVectors, CanShift}
+use Rattle.polcert_check.specs.declared.fault.LowerFault.{LowerFault}
+use Rattle.polcert_check.specs.declared.fault.LowerFault.TheVariants.{NoSuccessor, NoConstant, OutOfRange, Memory}
+use Rattle.polcert_check.specs.Horizon.{Controller}
+use Rattle.polcert_check.specs.Shortfall.{short, Passes}
+use Rattle.polcert_check.specs.Verdict.{IsBefore, IsLeastLacking}
+
+-- the controller with every vector value less `by`
+abbrev pub lowered_by : Controller → ℕ → Controller
+lowered_by c by = record c { value = λ n s. c.value n s -ℤ pos by }
+
+-- lowered by `by` every pair passes, and lowered by less not every pair does
+abbrev pub IsLeast : Controller → ℕ → Type 0
+IsLeast c by = Passes (lowered_by c by) × ((d : ℕ) → d < by → Passes (lowered_by c d) → ⊥)
+
+-- every vector value less `by` is in range
+abbrev pub CanLower : PolicyVectors → ℕ → Type 0
+CanLower v by = CanShift v (neg_ℤ (pos by))
+
+-- no pair lacks an observation
+abbrev pub NoneLacks : Controller → Type 0
+NoneLacks c = (n s : ℕ) → n < c.nodes → s < c.cells.states → IsLeastLacking c n s None
+
+-- the first pair that lacks an observation, and the least that it lacks
+abbrev pub IsFirstLack : Controller → ℕ → ℕ → ℕ → Type 0
+IsFirstLack c n s z = (n < c.nodes) × (s < c.cells.states) × IsLeastLacking c n s (Some z) × ((m t : ℕ) → m < c.nodes → t < c.cells.states → IsBefore m t n s → IsLeastLacking c m t None)
+
+-- the first pair that is short, and by how much
+abbrev pub IsFirstShort : Controller → ℕ → ℕ → ℤ → Type 0
+IsFirstShort c n s amount = (n < c.nodes) × (s < c.cells.states) × (amount ≡ short c n s) × (pos 0 <ℤ amount) × ((m t : ℕ) → m < c.nodes → t < c.cells.states → IsBefore m t n s → short c m t ≤ℤ pos 0)
+
+-- Why no constant serves: a pair lacks an observation, which no lowering mends; or none does, but no constant makes the
+-- vectors pass, or the least that does takes a value out of range.
+abbrev pub IsNotLowered : Controller → PolicyVectors → LowerFault → Type 0
+IsNotLowered c v (NoSuccessor n s z) = IsFirstLack c n s z
+IsNotLowered c v (NoConstant n s amount) = NoneLacks c × ((by : ℕ) → Passes (lowered_by c by) → ⊥) × IsFirstShort c n s amount
+IsNotLowered c v OutOfRange = NoneLacks c × ((by : ℕ) × IsLeast c by × (CanLower v by → ⊥))
+IsNotLowered c v Memory = ⊥
+
+-- the least constant, which leaves every value in range
+abbrev pub IsLeastConstant : Controller → PolicyVectors → ℤ → Type 0
+IsLeastConstant c v x = (by : ℕ) × (x ≡ pos by) × IsLeast c by × CanLower v by

@@ -1,0 +1,21 @@
+//! The check of a policy certificate: whether a policy graph earns what its vectors say.
+#![tactic(auto)]
+
+mod fault;
+mod laws;
+mod lower;
+mod parts;
+mod shortfall;
+mod start;
+mod verdict;
+
+pub use fault::LowerFault;
+pub use laws::{one_list_of_runs, same_cells_same_answers, same_models_same_answers};
+pub use lower::{least_constant, lowered};
+pub use parts::fits;
+pub use shortfall::amount_short;
+pub use start::start_worth;
+pub use verdict::{Verdict, check};
+
+#[cfg(test)]
+mod tests;

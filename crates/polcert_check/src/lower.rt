@@ -1,0 +1,211 @@
+//! The least constant by which all vectors can be lowered to pass.
+ghost use Rattle.std.specs.Prelude.{◌≡◌, ℕ, ◌+◌, ◌*◌, ◌^◌, ◌<◌, ◌≤◌, pos, neg_ℤ, ◌+ℤ◌, ◌≤ℤ◌, ◌⊎◌, ◌↔◌, IsTrue, IfOk, IfErr, unsigned_abs};
+ghost use Rattle.polcert_text.specs.Numbers.{largest};
+ghost use Rattle.polcert_policy.specs.Vectors.{IsInRange, shifted_by};
+ghost use Rattle.polcert_check.specs.Horizon.{Fits, controller_of, one};
+ghost use Rattle.polcert_check.specs.Shortfall.{Passes};
+ghost use Rattle.polcert_check.specs.Rows.{IsController};
+ghost use Rattle.polcert_check.specs.Lower.{NoneLacks, IsLeast, CanLower, IsLeastConstant, IsNotLowered};
+ghost use Rattle.polcert_check.specs.Worst.{IsWorst, IsFirstLacking};
+ghost use Rattle.polcert_check.specs.declared.fault.LowerFault.TheVariants.{Memory};
+
+use crate::fault::LowerFault;
+use crate::shortfall::amount_short;
+use crate::verdict::{Verdict, check, lacking};
+use polcert_model::Cells;
+use polcert_policy::{Graph, Vectors};
+use std::alloc::Global;
+
+/// A quotient, rounded up.
+fn ceil_quotient(amount: u128, divisor: u128) -> u128
+    requires some { 0 < divisor }
+    requires room { amount + divisor ≤ 2 ^ 127 }
+    ensures enough { amount ≤ divisor * result }
+    ensures least { (d : ℕ) → d < result → divisor * d < amount }
+{
+    (amount + (divisor - 1)) / divisor
+}
+
+/// The number itself, or 0 where it is below 0.
+fn positive_part(amount: i128) -> u128
+    ensures above { amount ≤ℤ pos result }
+    ensures is_reached { (result ≡ 0) ⊎ (pos result ≡ amount) }
+    ensures small { result ≤ unsigned_abs amount }
+{
+    if amount > 0 { amount as u128 } else { 0 }
+}
+
+/// The greatest shortfall of all pairs, or 0 where none is above 0.
+fn worst_short<C: Cells>(cells: &C, graph: &Graph, vectors: &Vectors) -> u128
+    requires fits { Fits (C.table cells.now) graph.now vectors.now }
+    ensures worst { IsWorst (controller_of (C.table cells.now) graph.now vectors.now) result }
+    ensures small { result ≤ 3 * 10 ^ 37 }
+{
+    let mut worst: u128 = 0;
+    for n in 0..graph.nodes() {
+        for s in 0..cells.states() {
+            let amount = positive_part(amount_short(cells, graph, vectors, n, s));
+            if amount > worst {
+                worst = amount;
+            }
+        }
+    }
+    worst
+}
+
+/// An observation that a node lacks at a state.
+#[derive(Clone, Copy)]
+struct Lack {
+    node: usize,
+    state: usize,
+    observation: usize,
+}
+
+/// The first pair of a node and a state that lacks an observation, and the least that it lacks.
+fn first_lacking<C: Cells>(cells: &C, graph: &Graph, vectors: &Vectors) -> Option<Lack>
+    requires fits { Fits (C.table cells.now) graph.now vectors.now }
+    ensures { IsFirstLacking (controller_of (C.table cells.now) graph.now vectors.now) result }
+{
+    for n in 0..graph.nodes() {
+        for s in 0..cells.states() {
+            if let Some(observation) = lacking(cells, graph, n, s) {
+                return Some(Lack {
+                    node: n,
+                    state: s,
+                    observation,
+                });
+            }
+        }
+    }
+    None
+}
+
+/// Whether the value less `by` is in range.
+fn is_low_enough(value: i64, by: u128) -> bool
+    requires { IsInRange value }
+    ensures { IsTrue result ↔ IsInRange (value +ℤ neg_ℤ (pos by)) }
+{
+    (value as i128 + 10_000_000_000_000) as u128 >= by
+}
+
+/// Whether every value less `by` is in range.
+fn stays_in_range(vectors: &Vectors, by: u128) -> bool
+    ensures { IsTrue result ↔ CanLower vectors.now by }
+{
+    for n in 0..vectors.nodes() {
+        for s in 0..vectors.states() {
+            if !is_low_enough(vectors.at(n, s), by) {
+                return false;
+            }
+        }
+    }
+    true
+}
+
+/// The least constant where the discount is below 1, whether or not it leaves the values in range.
+fn candidate<C: Cells>(cells: &C, graph: &Graph, vectors: &Vectors) -> u128
+    requires fits { Fits (C.table cells.now) graph.now vectors.now }
+    requires proper { IsController (controller_of (C.table cells.now) graph.now vectors.now) }
+    requires none { NoneLacks (controller_of (C.table cells.now) graph.now vectors.now) }
+    requires discount { (C.table cells.now).discount < one }
+    ensures { IsLeast (controller_of (C.table cells.now) graph.now vectors.now) result }
+{
+    let scale = (cells.t_scale() * cells.o_scale()) as u128;
+    ceil_quotient(
+        worst_short(cells, graph, vectors),
+        scale * (1_000_000 - cells.discount()) as u128,
+    )
+}
+
+/// The least constant by which the vectors pass, whether or not it leaves the values in range.
+fn least_passing<C: Cells>(cells: &C, graph: &Graph, vectors: &Vectors) -> Result<u128, LowerFault>
+    requires fits { Fits (C.table cells.now) graph.now vectors.now }
+    requires proper { IsController (controller_of (C.table cells.now) graph.now vectors.now) }
+    requires none { NoneLacks (controller_of (C.table cells.now) graph.now vectors.now) }
+    ensures least { IfOk result (IsLeast (controller_of (C.table cells.now) graph.now vectors.now)) }
+    ensures refused { IfErr result
+        (IsNotLowered (controller_of (C.table cells.now) graph.now vectors.now) vectors.now) }
+{
+    if cells.discount() < 1_000_000 {
+        return Ok(candidate(cells, graph, vectors));
+    }
+    match check(cells, graph, vectors) {
+        Verdict::Yes => Ok(0),
+        Verdict::Short {
+            node,
+            state,
+            amount,
+        } => Err(LowerFault::NoConstant {
+            node,
+            state,
+            amount,
+        }),
+        Verdict::NoSuccessor { .. } => unreachable!(),
+    }
+}
+
+/// The least constant, in millionths, by which all vectors can be lowered so that they pass the check.
+///
+/// # Errors
+///
+/// Where an observation that can be received has no successor, where the discount is 1 and a value is short, and where the
+/// least constant takes a value out of range. It takes no memory.
+pub fn least_constant<C: Cells>(
+    cells: &C,
+    graph: &Graph,
+    vectors: &Vectors,
+) -> Result<i64, LowerFault>
+    requires fits { Fits (C.table cells.now) graph.now vectors.now }
+    ensures least { IfOk result
+        (IsLeastConstant (controller_of (C.table cells.now) graph.now vectors.now) vectors.now) }
+    ensures refused { IfErr result
+        (IsNotLowered (controller_of (C.table cells.now) graph.now vectors.now) vectors.now) }
+{
+    let nodes = graph.nodes();
+    let vector_count = vectors.nodes();
+    prove!(nodes == vector_count);
+    if let Some(lack) = first_lacking(cells, graph, vectors) {
+        return Err(LowerFault::NoSuccessor {
+            node: lack.node,
+            state: lack.state,
+            observation: lack.observation,
+        });
+    }
+    let by = least_passing(cells, graph, vectors)?;
+    if stays_in_range(vectors, by) {
+        Ok(by as i64)
+    } else {
+        Err(LowerFault::OutOfRange)
+    }
+}
+
+/// The least constant, in millionths, by which all vectors can be lowered so that they pass the check, and the vectors
+/// lowered by it.
+///
+/// # Errors
+///
+/// Where there is no such constant, as `least_constant` says, and where memory ran out.
+pub fn lowered<C: Cells>(
+    alloc: Global,
+    cells: &C,
+    graph: &Graph,
+    vectors: &Vectors,
+) -> Result<(i64, Vectors), LowerFault>
+    requires fits { Fits (C.table cells.now) graph.now vectors.now }
+    ensures least { IfOk result (λ lowered.
+        IsLeastConstant (controller_of (C.table cells.now) graph.now vectors.now) vectors.now lowered.0) }
+    ensures shifted { IfOk result (λ lowered. lowered.1 ≡ shifted_by vectors.now (neg_ℤ lowered.0)) }
+
+    // With the lowered vectors every pair passes.
+    ensures fits_still { IfOk result (λ lowered. Fits (C.table cells.now) graph.now lowered.1) }
+    ensures passes { IfOk result (λ lowered. Passes (controller_of (C.table cells.now) graph.now lowered.1)) }
+    ensures refused { IfErr result (λ fault. (fault ≡ Memory)
+        ⊎ IsNotLowered (controller_of (C.table cells.now) graph.now vectors.now) vectors.now fault) }
+{
+    let nodes = graph.nodes();
+    let vector_count = vectors.nodes();
+    prove!(nodes == vector_count);
+    let by = least_constant(cells, graph, vectors)?;
+    let lowered = vectors.shifted(alloc, -by)?;
+    Ok((by, lowered))
+}

@@ -1,0 +1,116 @@
+//! How far a value is above what the next step backs.
+ghost use Rattle.std.specs.Prelude.{◌≡◌, ◌*◌, ◌^◌, ◌<◌, ◌≤◌, pos, ◌+ℤ◌, ◌*ℤ◌, unsigned_abs};
+ghost use Rattle.polcert_text.specs.Numbers.{largest};
+ghost use Rattle.polcert_policy.specs.Graphs.{nodes};
+ghost use Rattle.polcert_check.specs.Horizon.{Fits, controller_of, one};
+ghost use Rattle.polcert_check.specs.Shortfall.{short};
+ghost use Rattle.polcert_check.specs.Rows.{IsController, ValuesAreWithin, row_term, row_backing_of};
+
+use polcert_model::Cells;
+use polcert_policy::{Graph, Vectors};
+
+/// One reward and the discounted value behind it, in millionths of millionths.
+fn step_worth(reward: i64, discount: u32, value: i64) -> i128
+    requires reward { unsigned_abs reward ≤ largest }
+    requires value { unsigned_abs value ≤ largest }
+    requires discount { discount ≤ one }
+    ensures is { result ≡ pos one *ℤ reward +ℤ pos discount *ℤ value }
+    ensures small { unsigned_abs result ≤ 2 * largest * one }
+{
+    1_000_000 * (reward as i128) + (discount as i128) * (value as i128)
+}
+
+/// What the step from node `n` and state `s` to state `e` with observation `z` adds, without the weight of reaching `e`.
+fn cell_worth<C: Cells>(
+    cells: &C,
+    graph: &Graph,
+    vectors: &Vectors,
+    n: usize,
+    s: usize,
+    e: usize,
+    z: usize,
+) -> i128
+    requires fits { Fits (C.table cells.now) graph.now vectors.now }
+    requires node { n < nodes graph.now }
+    requires start { s < (C.table cells.now).states }
+    requires end { e < (C.table cells.now).states }
+    requires observation { z < (C.table cells.now).observations }
+    requires proper { IsController (controller_of (C.table cells.now) graph.now vectors.now) }
+    requires values { ValuesAreWithin (controller_of (C.table cells.now) graph.now vectors.now) }
+    ensures { result ≡ row_term (controller_of (C.table cells.now) graph.now vectors.now) n s e z
+        ((controller_of (C.table cells.now) graph.now vectors.now).next n z) }
+{
+    match graph.next(n, z) {
+        Some(m) => {
+            let a = graph.action(n);
+            let worth = step_worth(cells.r(a, s, e, z), cells.discount(), vectors.at(m, e));
+            let weight = cells.o(a, e, z);
+            (weight as i128) * worth
+        }
+        None => 0,
+    }
+}
+
+/// What backs the value of node `n` at state `s` where the step ends in state `e`, without the weight of reaching `e`.
+fn row_backing<C: Cells>(
+    cells: &C,
+    graph: &Graph,
+    vectors: &Vectors,
+    n: usize,
+    s: usize,
+    e: usize,
+) -> i128
+    requires fits { Fits (C.table cells.now) graph.now vectors.now }
+    requires node { n < nodes graph.now }
+    requires start { s < (C.table cells.now).states }
+    requires end { e < (C.table cells.now).states }
+    requires proper { IsController (controller_of (C.table cells.now) graph.now vectors.now) }
+    requires values { ValuesAreWithin (controller_of (C.table cells.now) graph.now vectors.now) }
+    ensures { result ≡ row_backing_of (controller_of (C.table cells.now) graph.now vectors.now) n s e }
+{
+    let mut sum: i128 = 0;
+    for z in 0..cells.observations() {
+        sum += cell_worth(cells, graph, vectors, n, s, e, z);
+    }
+    sum
+}
+
+/// A value on the scale of the weights of one step, in millionths of millionths.
+fn scaled_value(t_scale: u64, o_scale: u64, value: i64) -> i128
+    requires t_scale { t_scale ≤ 1_000_000_000 }
+    requires o_scale { o_scale ≤ 1_000_000_000 }
+    requires value { unsigned_abs value ≤ largest }
+    ensures is { result ≡ pos (t_scale * o_scale * one) *ℤ value }
+    ensures small { unsigned_abs result ≤ 10 ^ 37 }
+{
+    (t_scale * o_scale) as i128 * 1_000_000 * (value as i128)
+}
+
+/// How far the value of node `n` at state `s` is above what the next step backs: above 0 where it is short.
+///
+/// The amount is exact, on the scale of the weights of one step times 1,000,000, in millionths: at most 3 * 10^37 in size.
+pub fn amount_short<C: Cells>(
+    cells: &C,
+    graph: &Graph,
+    vectors: &Vectors,
+    n: usize,
+    s: usize,
+) -> i128
+    requires fits { Fits (C.table cells.now) graph.now vectors.now }
+    requires node { n < nodes graph.now }
+    requires start { s < (C.table cells.now).states }
+    ensures is { result ≡ short (controller_of (C.table cells.now) graph.now vectors.now) n s }
+    ensures small { unsigned_abs result ≤ 3 * 10 ^ 37 }
+{
+    let nodes = graph.nodes();
+    let vector_count = vectors.nodes();
+    prove!(nodes == vector_count);
+    let mut backing: i128 = 0;
+    let a = graph.action(n);
+    for e in 0..cells.states() {
+        let row = row_backing(cells, graph, vectors, n, s, e);
+        let weight = cells.t(a, s, e);
+        backing += (weight as i128) * row;
+    }
+    scaled_value(cells.t_scale(), cells.o_scale(), vectors.at(n, s)) - backing
+}
