@@ -1,5 +1,5 @@
 //! Runs from sources to sinks.
-ghost use Rattle.std.specs.Prelude.{◌≡◌, ◌≢◌, ℕ, List, OnOk, IsErrOf};
+ghost use Rattle.std.specs.Prelude.{◌≡◌, ◌≢◌, OnOk, IsErrOf};
 ghost use Rattle.polcert_text.specs.Device.{HasFailed};
 ghost use Rattle.polcert_text.specs.Source.{EachTextThatFits};
 ghost use Rattle.polcert_model.specs.Refusals.{SaysOfText};

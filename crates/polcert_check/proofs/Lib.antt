@@ -20,3 +20,4 @@ pub mod StartSums
 pub mod SameCells
 pub mod SameAnswers
 pub mod SameModels
+pub mod OneAnswer

@@ -14,8 +14,7 @@ pub record IsClosed (c : Controller) : Type 0 where
 -- rows sum to their scale, and actions and successors are in range
 pub record IsController (c : Controller) : Type 0 where
   pub cells : IsProper c.cells
-  pub actions_in_range : (n : ℕ) → n < c.nodes → c.action n < c.cells.actions
-  pub next_in_range : (n z m : ℕ) → n < c.nodes → z < c.cells.observations → c.next n z ≡ Some m → m < c.nodes
+  pub closed : IsClosed c
 
 abbrev pub ValuesAreWithin : Controller → Type 0
 ValuesAreWithin c = (n s : ℕ) → n < c.nodes → s < c.cells.states → unsigned_abs (c.value n s) ≤ largest

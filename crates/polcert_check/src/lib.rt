@@ -10,7 +10,10 @@ mod start;
 mod verdict;
 
 pub use fault::LowerFault;
-pub use laws::{one_list_of_runs, same_cells_same_answers, same_models_same_answers};
+pub use laws::{
+    one_best_start, one_list_of_runs, one_lowering, one_verdict, same_cells_same_answers,
+    same_models_same_answers,
+};
 pub use lower::{least_constant, lowered};
 pub use parts::fits;
 pub use shortfall::amount_short;

@@ -1,6 +1,5 @@
 //! The least constant by which all vectors can be lowered to pass.
 ghost use Rattle.std.specs.Prelude.{◌≡◌, ℕ, ◌+◌, ◌*◌, ◌^◌, ◌<◌, ◌≤◌, pos, neg_ℤ, ◌+ℤ◌, ◌≤ℤ◌, ◌⊎◌, ◌↔◌, IsTrue, IfOk, IfErr, unsigned_abs};
-ghost use Rattle.polcert_text.specs.Numbers.{largest};
 ghost use Rattle.polcert_policy.specs.Vectors.{IsInRange, shifted_by};
 ghost use Rattle.polcert_check.specs.Horizon.{Fits, controller_of, one};
 ghost use Rattle.polcert_check.specs.Shortfall.{Passes};

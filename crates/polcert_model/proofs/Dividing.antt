@@ -47,6 +47,3 @@ empty_division = record { whole = refl; no_word = refl; each = All-nil IsItem }
 pub append-nil : (xs : List Lexeme) → xs ++ [] ≡ xs
 append-nil [] = refl
 append-nil (x ∷ xs) = ap (λ (l : List Lexeme). x ∷ l) (append-nil xs)
-
-pub whole_body : (body : List Lexeme) → list_any begins_item body ≡ false → IsDivided body body []
-whole_body body p = record { whole = sym (append-nil body); no_word = p; each = All-nil IsItem }

@@ -1,35 +1,16 @@
--- The tokens that were taken, and the cut of the whole.
-use Rattle.std.proofs.Common.{◌≡◌, ◌∙◌, ℕ, suc, zero, ◌+◌, ◌-◌, ◌≤◌, Bool, true, false, cond, Option, Some, None, List, [], ◌∷◌, ◌++◌, length, take, drop, nat_lt, refl, sym, ap, subst, arith, append_assoc, length-drop, length-take-le}
+-- What the tokens taken leave, and the tokens of the whole text.
+use Rattle.std.proofs.Common.{◌≡◌, ◌∙◌, ℕ, suc, zero, ◌+◌, ◌-◌, ◌≤◌, Bool, true, false, cond, Option, Some, None, List, ◌++◌, length, take, drop, nat_lt, refl, sym, ap, arith, length-drop, length-take-le}
 use Rattle.std.proofs.lemmas.Bool.Decides.{nat_tests}
-use Rattle.polcert_text.specs.Cut.{Lexeme, Rest, TakesToken, IsCut, Ends, text_rest, end_place}
+use Rattle.polcert_text.specs.Cut.{Lexeme, Rest, TakesToken, IsCut, text_rest, end_place}
 use Rattle.polcert_text.specs.Lexemes.{kind_of}
 use Rattle.polcert_text.specs.declared.tokens.TokenFault.{TokenFault}
 use Rattle.polcert_text.specs.declared.tokens.TokenFault.TheVariants.{TextTooLong}
-use Rattle.polcert_text.proofs.TextLaws.{token_or_end, one_next_token, one_cut}
+use Rattle.polcert_text.specs.TakenTokens.{Taken, nothing, token}
+use Rattle.polcert_text.proofs.TakenTokens.{cut_taken}
+use Rattle.polcert_text.proofs.TextLaws.{one_cut}
 use Rattle.polcert_model.specs.Text.{most_bytes}
 use Rattle.polcert_model.specs.FirstWrong.{TextTokens, AreTokensOf}
-use Rattle.polcert_model.specs.Fronts.{Taken, nothing, token}
 use Rattle.polcert_model.proofs.PlaceLaws.{token_leaves}
-use Rattle.polcert_model.proofs.Dividing.{append-nil}
-
--- behind the tokens taken comes the rest's cut
-pub taken_cut : (old new : Rest) (seen ts : List Lexeme) (end : Option TokenFault) → Taken old seen new → IsCut new ts end → IsCut old (seen ++ ts) end
-taken_cut old new seen ts end (nothing _) cut = cut
-taken_cut old new seen ts end (token _ between _ us t before takes) cut =
-    subst (λ xs. IsCut old xs end) (sym (append_assoc us (t ∷ []) ts)) (taken_cut old between us (t ∷ ts) end before (new, takes, cut))
-
--- each cut of the whole begins with the tokens taken
-pub cut_taken : (old new : Rest) (seen all : List Lexeme) (end : Option TokenFault) → Taken old seen new → IsCut old all end → (more : List Lexeme) × ((all ≡ seen ++ more) × IsCut new more end)
-cut_taken old new seen all end (nothing _) cut = (all, (refl, cut))
-cut_taken old new seen all end (token _ between _ us t before takes) cut =
-    let was = cut_taken old between us all end before cut in
-    at was.0 was.1.0 was.1.1
-  where
-    at : (more : List Lexeme) → all ≡ us ++ more → IsCut between more end → (more : List Lexeme) × ((all ≡ (us ++ t ∷ []) ++ more) × IsCut new more end)
-    at [] e rest = absurd (token_or_end between t new end takes rest)
-    at (u ∷ more) e rest =
-        let next = one_next_token between t u new rest.0 takes rest.1 in
-        (more, (e ∙ ap (λ x. us ++ x ∷ more) (sym next.0) ∙ sym (append_assoc us (t ∷ []) more), subst (λ r. IsCut r more end) (sym next.1) rest.2))
 
 -- the rest ends where the text does
 pub taken_end : (old new : Rest) (seen : List Lexeme) → Taken old seen new → end_place new ≡ end_place old
@@ -62,12 +43,7 @@ tokens_begin text new seen ts taken tokens =
     let was = cut_taken (text_rest text most_bytes) new seen ts.lexemes ts.ending taken tokens.cut in
     (was.0, was.1.0)
 
--- where the rest holds no more tokens, the tokens taken are all
-pub all_taken : (text : List ℕ) (new : Rest) (seen : List Lexeme) (end : Option TokenFault) → Taken (text_rest text most_bytes) seen new → Ends new end → IsCut (text_rest text most_bytes) seen end
-all_taken text new seen end taken ends =
-    subst (λ xs. IsCut (text_rest text most_bytes) xs end) (append-nil seen) (taken_cut (text_rest text most_bytes) new seen [] end taken ends)
-
--- and the tokens of the text are they
+-- where the tokens taken are all, the tokens of the text are they
 pub these_tokens : (text : List ℕ) (seen : List Lexeme) (end : Option TokenFault) (ts : TextTokens) → IsCut (text_rest text most_bytes) seen end → AreTokensOf text ts
     → (ts.lexemes ≡ seen) × (ts.ending ≡ end)
 these_tokens text seen end ts cut tokens = one_cut (text_rest text most_bytes) ts.lexemes seen ts.ending end tokens.cut cut

@@ -1,5 +1,5 @@
 -- Lists of numbers, token by token.
-use Rattle.std.proofs.Common.{◌≡◌, ◌∙◌, ℕ, ◌+◌, ◌≤◌, Some, None, List, [], ◌∷◌, ◌++◌, length, map, ℤ, pos, refl, sym, ap, subst, All, arith, append_assoc, length-append, Result, Ok, Err, IfErr}
+use Rattle.std.proofs.Common.{◌≡◌, ◌∙◌, ℕ, ◌+◌, ◌≤◌, Some, None, List, [], ◌∷◌, ◌++◌, length, map, ℤ, pos, refl, sym, ap, subst, All, arith, append_assoc, Result, Ok, Err, IfErr}
 use lib.IntN.{nat_abs}
 use Rattle.std.proofs.lemmas.List.Elements.{All-cons, All-tail}
 use Rattle.polcert_text.specs.Cut.{Lexeme}
@@ -7,12 +7,11 @@ use Rattle.polcert_model.specs.declared.entry.Body.TheVariants as bodies
 use Rattle.polcert_model.specs.declared.entry.Body.{Body}
 use Rattle.polcert_model.specs.declared.entry_reader.Numbers.{Numbers}
 use Rattle.polcert_model.specs.declared.number.Sign.{Sign}
-use Rattle.polcert_model.specs.declared.number.Range.TheVariants.{Probability, Reward}
+use Rattle.polcert_model.specs.declared.number.Range.TheVariants.{Probability}
 use Rattle.polcert_model.specs.Numbers.{IsMillionths, AreNumbers, one}
-use Rattle.polcert_model.specs.Numbers as numbers
 use Rattle.polcert_model.specs.NumberSteps.{AreNumbersBehind, IsInRange, is_negative, IsSignAt, IsNoNumber}
 use Rattle.polcert_model.specs.LineSteps.{Takes, CannotTake}
-use Rattle.polcert_model.specs.EntrySteps.{ProbabilitiesGo, RewardsGo, IsFull, IfRefused}
+use Rattle.polcert_model.specs.EntrySteps.{ProbabilitiesGo, RewardsGo, IfRefused}
 use Rattle.polcert_model.specs.declared.stop.Stop.{Stop}
 use Rattle.polcert_model.specs.declared.stop.Stop.TheVariants.{Refused, Memory}
 use Rattle.polcert_model.proofs.StepLaws.{sign_back, sign_on, value_back, value_on}
@@ -20,51 +19,13 @@ use Rattle.polcert_model.proofs.StepLaws.{sign_back, sign_on, value_back, value_
 pub all_none : {X : Type 0} (P : X → Type 0) → All P []
 all_none P = λ k d h. absurd (omega arith)
 
--- some lexemes are no empty list of numbers
-some_numbers : (l : Lexeme) (ls : List Lexeme) → AreNumbers (l ∷ ls) [] → ⊥
-some_numbers l ls a = go (l ∷ ls) [] refl refl a
-  where
-    go : (xs : List Lexeme) (hs : List ℤ) → xs ≡ l ∷ ls → hs ≡ [] → AreNumbers xs hs → ⊥
-    go xs hs e f numbers.none = cc
-    go xs hs e f (numbers.unsigned v more) = cc
-    go xs hs e f (numbers.plus s v more) = cc
-    go xs hs e f (numbers.minus s v more) = cc
-
--- no list is as long as itself with more behind it
-too_long : {X : Type 0} (read further : List X) (x : X) (rest : List X) → further ≡ x ∷ rest → length (read ++ further) ≡ length read → ⊥
-too_long read further x rest e same =
-    let longer : length (read ++ further) ≡ length read + length further = length-append read further in
-    let some : length further ≡ length (x ∷ rest) = ap length e in
-    omega arith
-
 in_range : (ps : List ℕ) → All (λ p. p ≤ one) ps → All (IsInRange Probability) (map pos ps)
 in_range [] small = all_none (IsInRange Probability)
 in_range (p ∷ ps) small =
     All-cons (IsInRange Probability) (pos p) (map pos ps) (p, (refl, small 0 0 (omega arith))) (in_range ps (All-tail (λ p. p ≤ one) p ps small))
 
-any_range : (hs : List ℤ) → All (IsInRange Reward) hs
-any_range hs = λ k d h. tt
-
--- behind all numbers none is taken
-pub full_takes_no_probability : (n : Numbers ℕ) (l : Lexeme) → IsFull n → CannotTake ProbabilitiesGo n l
-full_takes_no_probability n l full = λ ls body g. at g.further (subst (λ s. AreNumbersBehind s (l ∷ ls) (map pos g.further)) full.sign g.numbers) (g.enough ∙ sym full.count)
-  where
-    at : (further : List ℕ) → {ls : List Lexeme} → AreNumbers (l ∷ ls) (map pos further) → length (n.read ++ further) ≡ length n.read → ⊥
-    at [] {ls} a same = some_numbers l ls a
-    at (p ∷ ps) a same = too_long n.read (p ∷ ps) p ps refl same
-
-pub full_takes_no_reward : (n : Numbers ℤ) (l : Lexeme) → IsFull n → CannotTake RewardsGo n l
-full_takes_no_reward n l full = λ ls body g. at g.further (subst (λ s. AreNumbersBehind s (l ∷ ls) g.further) full.sign g.numbers) (g.enough ∙ sym full.count)
-  where
-    at : (further : List ℤ) → {ls : List Lexeme} → AreNumbers (l ∷ ls) further → length (n.read ++ further) ≡ length n.read → ⊥
-    at [] {ls} a same = some_numbers l ls a
-    at (p ∷ ps) a same = too_long n.read (p ∷ ps) p ps refl same
-
 pub no_probability : (n : Numbers ℕ) (l : Lexeme) → IsNoNumber Probability n.sign l → CannotTake ProbabilitiesGo n l
 no_probability n l no_value = λ ls body g. no_value ls (map pos g.further) g.numbers (in_range g.further g.small)
-
-pub no_reward : (n : Numbers ℤ) (l : Lexeme) → IsNoNumber Reward n.sign l → CannotTake RewardsGo n l
-no_reward n l no_value = λ ls body g. no_value ls g.further g.numbers (any_range g.further)
 
 module _ (old new : Numbers ℕ) (l : Lexeme) (same_needed : new.needed ≡ old.needed) where
   module _ (s : Sign) (at : IsSignAt s l) (was : old.sign ≡ None) (is : new.sign ≡ Some s) (same_read : new.read ≡ old.read) where

@@ -113,9 +113,6 @@ cells_stand k p c = complete_fault k p c
 start_stands : (k : Known) (p : Preamble) → IsInPreamble k → IsComplete k p → fault_at (has_entries k.entries) (is_some k.start) true (preamble_fault k) ≡ None
 start_stands k p i c = (λ j. fault_at (has_entries (i.no_entry j)) (is_some (i.no_start j)) true (preamble_fault k)) ∙ complete_fault k p c
 
-some≢none : {A : Type 0} {x : A} → Some x ≡ None → ⊥
-some≢none e = cc
-
 no_word_fault : (k next : Known) (t : Topic) (body : List Lexeme) → IsRight k t body next → word_fault k t ≡ None
 no_word_fault k next t body (texts.discount p e c n l) = line_stands k (is_some k.discount) p (absent k.discount e)
 no_word_fault k next t body (texts.rewards p e c w) = line_stands k (is_some k.costs) p (absent k.costs e)

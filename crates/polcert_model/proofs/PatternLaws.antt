@@ -32,7 +32,7 @@ use Rattle.polcert_model.specs.Words.{IsWord}
 use Rattle.polcert_model.specs.Numbers.{AreNumbers, one}
 use Rattle.polcert_model.specs.Numbers as numbers
 use Rattle.polcert_model.specs.Elements.{Elements, count_of, StandsFor}
-use Rattle.polcert_model.specs.Entry.{forms, cells_in, IsPlace, ArePlaces, IsBody}
+use Rattle.polcert_model.specs.Entry.{cells_in, IsPlace, ArePlaces, IsBody}
 use Rattle.polcert_model.specs.Entry as entries
 use Rattle.polcert_model.specs.Text.{Known}
 use Rattle.polcert_model.specs.KnownView.{least_written}
@@ -40,7 +40,7 @@ use Rattle.polcert_model.specs.LineSteps.{Takes, CannotTake, CannotEnd}
 use Rattle.polcert_model.specs.NumberSteps.{AreNumbersBehind}
 use Rattle.polcert_model.specs.EntrySteps as reasons
 use Rattle.polcert_model.proofs.ListLaws.{all_none}
-use Rattle.polcert_model.specs.EntrySteps.{indices_in, IsEntryBehind, IsFirstPlace, PlaceRest, entry_with, ProbabilitiesGo, RewardsGo, BodyIs, StateGoes, EntryGoes, IfRefused, body_of, word_text, MayStand, IsWordBehind, no_numbers, AreBegun, CannotBegin, IsFull, IsListReason, IsEntryReason, entry_sign, AreSome}
+use Rattle.polcert_model.specs.EntrySteps.{indices_in, IsEntryBehind, IsFirstPlace, PlaceRest, entry_with, ProbabilitiesGo, RewardsGo, StateGoes, EntryGoes, IfRefused, body_of, word_text, MayStand, IsWordBehind, no_numbers, AreBegun, CannotBegin, IsFull, IsListReason, IsEntryReason, entry_sign, AreSome}
 use Rattle.polcert_model.proofs.Basics.{cons≢nil, same_head, same_tail}
 use Rattle.polcert_model.proofs.EntryLaws.{NoColonFirst, body_no_colon, uniform_not_identity}
 use Rattle.polcert_model.proofs.GoOnLaws.{begins_no_number}
@@ -438,11 +438,6 @@ probabilities_full n body g =
     let m = none_behind n.sign (map pos g.further) g.numbers in
     let none = none_mapped g.further m.none in
     record { sign = m.no_sign; count = ap length (sym (append-nil n.read)) ∙ ap (λ f. length (n.read ++ f)) (sym none) ∙ g.enough }
-
-pub rewards_full : (n : Numbers ℤ) (body : Body) → RewardsGo n [] body → IsFull n
-rewards_full n body g =
-    let m = none_behind n.sign g.further g.numbers in
-    record { sign = m.no_sign; count = ap length (sym (append-nil n.read)) ∙ ap (λ f. length (n.read ++ f)) (sym m.none) ∙ g.enough }
 
 cells_some : (ds : List Elements) → AreSome ds → 1 ≤ cells_in ds
 cells_some [] some = omega arith

@@ -1,5 +1,5 @@
 -- What is still possible: an entry with some places and numbers goes on with `: *` and zeros.
-use Rattle.std.proofs.Common.{◌≡◌, ℕ, zero, suc, ◌≤◌, Bool, true, false, List, [], ◌∷◌, ◌++◌, length, map, All, ℤ, pos, codes, refl, ap, subst, arith, lit≤}
+use Rattle.std.proofs.Common.{◌≡◌, ℕ, zero, suc, ◌≤◌, Bool, true, false, List, [], ◌∷◌, ◌++◌, length, map, All, pos, codes, refl, ap, subst, arith, lit≤}
 use Rattle.std.proofs.lemmas.List.{append_assoc}
 use Rattle.std.proofs.lemmas.List.Elements.{All-cons, All-nil}
 use Rattle.polcert_text.specs.Bytes.{class_of}
@@ -50,10 +50,6 @@ nothings_count (suc n) = let e = nothings_count n in omega (arith, e)
 pub nothings_in_range : (n : ℕ) → All (λ q. q ≤ one) (nothings n)
 nothings_in_range zero = All-nil (λ q. q ≤ one)
 nothings_in_range (suc n) = All-cons (λ q. q ≤ one) 0 (nothings n) (omega arith) (nothings_in_range n)
-
-map-append : (qs rs : List ℕ) → map pos (qs ++ rs) ≡ map pos qs ++ map pos rs
-map-append [] rs = refl
-map-append (q ∷ qs) rs = ap (λ (l : List ℤ). pos q ∷ l) (map-append qs rs)
 
 pub length-pos : (qs : List ℕ) → length (map pos qs) ≡ length qs
 length-pos [] = refl

@@ -15,9 +15,6 @@ use Rattle.polcert_model.proofs.TextLaws.{one_right, one_known}
 use Rattle.polcert_model.proofs.Dividing.{begins, append_division, next_division, empty_division, append-nil}
 use Rattle.polcert_model.proofs.RightItems.{append_right, no_wrong_next, no_wrong_item}
 
-pub starts_right : AreRightItems [] nothing_known
-starts_right = record { items = []; divided = empty_division; right = none }
-
 -- the lexemes, cut as the item is that was begun
 pub within_division : (seen body tail f : List Lexeme) (k : Known) (t : Topic) (ys : List Item) (w : IsWithinItem seen k t body) → IsDivided tail f ys
     → IsDivided (seen ++ tail) [] (w.items.items ++ (record { word = w.word; body = body ++ f }) ∷ ys)
@@ -142,9 +139,6 @@ last_place xs ys x y e = omega (arith, simp length-append at (ap length e))
 
 front_or_none : (ls : List Lexeme) (l : Lexeme) (fs : List Lexeme) (items others : List Item) → IsDivided ls (l ∷ fs) items → IsDivided ls [] others → ⊥
 front_or_none ls l fs items others a b = cons≢nil (one_division ls (l ∷ fs) [] items others a b).0
-
-front_or_empty : (ls : List Lexeme) (l : Lexeme) (fs : List Lexeme) (items : List Item) → IsDivided ls (l ∷ fs) items → ls ≡ [] → ⊥
-front_or_empty ls l fs items a e = nil≢cons (sym e ∙ a.whole)
 
 item_or_empty : (ls : List Lexeme) (xs : List Item) (x : Item) (ys : List Item) → IsDivided ls [] (xs ++ x ∷ ys) → ls ≡ [] → ⊥
 item_or_empty ls xs x ys a e = no_empty xs x ys (one_division [] [] [] (xs ++ x ∷ ys) [] (subst (λ s. IsDivided s [] (xs ++ x ∷ ys)) e a) empty_division).1

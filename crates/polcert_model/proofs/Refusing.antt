@@ -199,8 +199,8 @@ refused_here ts n place k t sign body more l DiscountRange h rises ends possible
     at_number ts n place k t sign body more l DiscountRange h rises ends possible stuck m.2.1.kind m.1
     (so_here ts n k t _ _ h (m.0, number_stands sign body more l place reasons.IsNoFraction ends m.1 m.2))
 refused_here ts n place k t sign body more l ProbabilityRange h rises ends possible stuck m =
-    at_number ts n place k t sign body more l ProbabilityRange h rises ends possible stuck m.2.1.kind m.1
-    (so_here ts n k t _ _ h (m.0, number_stands sign body more l place reasons.IsNoFraction ends m.1 m.2))
+    at_number ts n place k t sign body more l ProbabilityRange h rises ends possible stuck m.1.1.1.kind m.1.0
+    (so_here ts n k t _ _ h (m.0, number_stands sign body more l place reasons.IsNoFraction ends m.1.0 m.1.1))
 refused_here ts n place k t sign body more l Reset h rises ends possible stuck m =
     at_lexeme ts n place k t body more l Reset h rises possible stuck m.0 (so_here ts n k t _ _ h (stands body more l place _ m.0 m.1))
 refused_here ts n place k t sign body more l DuplicateName h rises ends possible stuck m =

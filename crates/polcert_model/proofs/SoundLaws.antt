@@ -2,7 +2,7 @@
 use Rattle.std.proofs.Common.{◌≡◌, ◌∙◌, ℕ, zero, suc, ◌+◌, ◌*◌, ◌<◌, ◌≤◌, ◌^◌, Bool, true, List, [], ◌∷◌, ◌++◌, length, drop, get_or, map, All, slice_get, Some, None, Option, ℤ, pos, negsuc, neg_ℤ, ◌-ℤ◌, unsigned_abs, FitsSigned, if◌then◌else◌, w64, refl, sym, ap, subst, arith}
 use Rattle.std.proofs.Math.Nat.{mul-le-mul, mul-le-mul_right, pow-suc}
 use Rattle.std.specs.List.{range_with_len}
-use Rattle.std.proofs.lemmas.List.{length-map, length-drop}
+use Rattle.std.proofs.lemmas.List.{length-map}
 use Rattle.std.proofs.lemmas.List.Recursion.{is_count_by}
 use Rattle.std.proofs.lemmas.List.FromFn.{get_or-map-range_with_len, length-range_with_len}
 use Rattle.std.proofs.lemmas.List.Elements.{All-drop}
@@ -15,7 +15,7 @@ use Rattle.polcert_model.specs.declared.entry.Body.{Body}
 use Rattle.polcert_model.specs.declared.entry.Body.TheVariants.{Probabilities, Rewards}
 use Rattle.polcert_model.specs.Sound.{Fills, IsSoundEntry, IsSound}
 use Rattle.polcert_model.specs.declared.cells.Axis.{Axis}
-use Rattle.polcert_model.specs.Elements.{Elements, count_of, most_elements}
+use Rattle.polcert_model.specs.Elements.{Elements, count_of}
 use Rattle.polcert_model.specs.Entry.{cells_in}
 use Rattle.polcert_model.specs.declared.entry.Table.{Table}
 use Rattle.polcert_model.specs.declared.entry.Table.TheVariants.{Transition, Observation, Reward}
@@ -24,7 +24,6 @@ use Rattle.polcert_model.specs.declared.entry.Entry.{Entry}
 use Rattle.polcert_model.specs.Preamble.{Preamble, dimensions, columns}
 use Rattle.polcert_model.specs.Cells.{row_major, fits_place, fit_places, is_table, covers, weight_in, reward_in, weight_of, reward_of, weight, reward, value_or, IsLastCovering, last}
 use Rattle.polcert_model.specs.Start.{alike}
-use Rattle.polcert_model.specs.Meaning.{IsCount}
 use Rattle.polcert_model.specs.Drafts.{Draft}
 use Rattle.polcert_model.specs.Axes.{indices_of, cells_of, place_of, IsInRange, AreAxes}
 use Rattle.polcert_model.proofs.Basics.{same_head, same_tail, and_true, true≢false}
@@ -181,21 +180,6 @@ axes_open n ds axes a = record {
   in_range = All-drop IsInRange n axes a.in_range;
 }
 
-pub as_many : (ds : List Elements) (axes : List Axis) → AreAxes ds axes → length axes ≡ length ds
-as_many ds axes a = sym (length-map axes (λ (x : Axis). x.count)) ∙ ap length a.counts ∙ length-map ds count_of
-
-at_most_four : (p : Preamble) (table : Table) → length (dimensions p table) ≤ 4
-at_most_four p Transition = omega arith
-at_most_four p Observation = omega arith
-at_most_four p Reward = omega arith
-
-pub few_axes : (p : Preamble) (table : Table) (n : ℕ) (axes : List Axis) → AreAxes (dimensions p table) axes → length (drop n axes) ≤ 4
-few_axes p table n axes a =
-    let four = at_most_four p table in
-    let same = as_many (dimensions p table) axes a in
-    let fewer = length-drop n axes in
-    omega (arith, four, same, fewer)
-
 pub fills_open : (p : Preamble) (table : Table) (axes : List Axis) (entry : Entry) → AreAxes (dimensions p table) axes → entry.table ≡ table → IsSoundEntry p entry
     → Fills (cells_of (drop (length entry.places) axes)) entry.body
 fills_open p table axes entry a t s =
@@ -222,11 +206,6 @@ reward_found p entries axes entry found t =
 
 pub reward_nothing : (p : Preamble) (entries : List Entry) (indices : List ℕ) → IsLastCovering entries Reward indices None → pos 0 ≡ reward p entries indices
 reward_nothing p entries indices found = ap (value_or (pos 0) (reward_of p indices)) (last_is_one entries Reward indices None found)
-
-pub columns_count : (c : Draft) (table : Table) → IsSound c → IsCount most_elements (columns c.preamble table)
-columns_count c Transition s = s.states
-columns_count c Observation s = s.observations
-columns_count c Reward s = (omega arith, omega arith)
 
 -- ---- as the readers use them
 -- what holds of the entries that a model keeps holds of its contents

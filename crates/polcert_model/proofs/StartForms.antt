@@ -1,6 +1,5 @@
 -- The forms of a start item, token by token.
 use Rattle.std.proofs.Common.{◌≡◌, ◌∙◌, ℕ, ◌<◌, ◌==◌, ◌||◌, ◌⊎◌, inl, inr, Bool, false, true, Option, Some, None, Result, Ok, Err, List, [], ◌∷◌, length, map, slice_set, bytes_eq, codes, ℤ, pos, refl, sym, ap, subst, arith}
-use Rattle.std.specs.Prelude.{◌↔◌}
 use Rattle.std.proofs.Math.Bool.{or_assoc}
 use Rattle.std.proofs.lemmas.List.{get_or-set_same, get_or-set_other}
 use Rattle.std.proofs.lemmas.List.Quantifiers.{position-Some}
@@ -19,10 +18,10 @@ use Rattle.polcert_model.specs.declared.start_reader.StartReader.TheVariants as 
 use Rattle.polcert_model.specs.Words.{IsWord, is_reserved}
 use Rattle.polcert_model.specs.Numbers.{IsWhole, IsMillionths, AreNumbers, one}
 use Rattle.polcert_model.specs.Elements.{Elements, Count, Names, count_of, number_of, StandsFor, by_number, by_name}
-use Rattle.polcert_model.specs.Start.{Shares, alike, all_states, single, shares_of, included, excluded, IsStartBody, IsStart, plain, include, exclude}
+use Rattle.polcert_model.specs.Start.{Shares, all_states, single, included, IsStartBody, IsStart, plain, include, exclude}
 use Rattle.polcert_model.specs.Start as forms
 use Rattle.polcert_model.specs.LineSteps.{Takes, CannotTake, BehindColon}
-use Rattle.polcert_model.specs.StartSteps.{marked, AreUnmarked, picks, chosen_with, listed, ListGoes, AreShares, NumbersGo, DigitsGo, state_number, first_of_more, StartGoes, Begins, AreDigits, IsState, IsValue}
+use Rattle.polcert_model.specs.StartSteps.{marked, chosen_with, listed, ListGoes, AreShares, NumbersGo, DigitsGo, state_number, first_of_more, StartGoes, Begins, AreDigits, IsState, IsValue}
 use Rattle.polcert_model.specs.StartSteps as steps
 use Rattle.polcert_model.proofs.Basics.{true≢false}
 use Rattle.polcert_model.proofs.EntryLaws.{one_element}
@@ -68,23 +67,12 @@ exclude_begins states l word = record { back = λ ls v g. back ls v g; on = λ l
     on ls v (include ms w d z p) = absurd (include_not_exclude _ w word)
     on ls v (exclude ms w d z p) = (d, record { further = ms; stand = z; shares_are = refl; left = p })
 
--- before the first token all of the item is to come
-pub new_start_goes : (states : Elements) (ls : List Lexeme) (v : Shares) → (StartGoes states steps.new_start ls v ↔ IsStart states ls v)
-new_start_goes states ls v = (λ g. g, λ g. g)
-
 -- ---- lists of states
 
 pub list_same : (states : Elements) (choice : Choice) (p q : ℕ → Bool) (ls : List Lexeme) (v : Shares) → ((s : ℕ) → p s ≡ q s) → ListGoes states choice p ls v → ListGoes states choice q ls v
 list_same states choice p q ls v e g =
     let same : p ≡ q = λ i s. e s i in
     subst (λ r. ListGoes states choice r ls v) same g
-
-pub list_begins : (states : Elements) (choice : Choice) (chosen : Chosen) (l : Lexeme) → l.kind ≡ Colon → AreUnmarked (count_of states) chosen.marks → chosen.choice ≡ choice
-    → Takes (StartGoes states) (reader.Colon choice) l (reader.List chosen)
-list_begins states choice chosen l colon unmarked is = record {
-  back = λ ls v g. (colon, subst (λ c. ListGoes states c (λ s. false) ls v) is (list_same states chosen.choice (marked chosen.marks) (λ s. false) ls v unmarked.none g));
-  on = λ ls v g. list_same states chosen.choice (λ s. false) (marked chosen.marks) ls v (λ s. sym (unmarked.none s)) (subst (λ c. ListGoes states c (λ s. false) ls v) (sym is) g.1);
-}
 
 equal_or_not : (a b : ℕ) → (a ≡ b) ⊎ (a ≡ b → ⊥)
 equal_or_not a b = grind arith
@@ -311,9 +299,6 @@ module _ (states : Elements) (l : Lexeme) (digits : Digits) (are : AreDigits (co
 
   pub digits_begin : Takes (StartGoes states) reader.Body l (reader.Digits digits)
   digits_begin = record { back = λ ls v g. back ls v g; on = λ ls v g. on ls v g }
-
-  pub digits_within : (s : ℕ) → digits.state ≡ Some s → s < count_of states
-  digits_within s e = (state_of s digits.state e are.state).1
 
 -- digits are a state's number where there is more than one state
 pub not_whole : (states : Elements) (l : Lexeme) → (count_of states ≡ 1) ⊎ (are_digits l.bytes ≡ false) → (s : ℕ) → 1 < count_of states → IsWhole l s → s < count_of states → ⊥

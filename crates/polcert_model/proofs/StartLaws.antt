@@ -3,9 +3,9 @@ use Rattle.std.proofs.Common.{◌≡◌, ◌∙◌, ℕ, suc, ◌==◌, true, Li
 use Rattle.std.specs.List.{AllZip}
 use Rattle.polcert_text.specs.Cut.{Lexeme}
 use Rattle.polcert_text.specs.declared.lexeme.TokenKind.{TokenKind}
-use Rattle.polcert_text.specs.declared.lexeme.TokenKind.TheVariants.{Name, Numeral, Colon, Plus, Minus}
+use Rattle.polcert_text.specs.declared.lexeme.TokenKind.TheVariants.{Name, Numeral, Colon}
 use Rattle.polcert_model.specs.Words.{IsWord, IsName, is_reserved, topic_of}
-use Rattle.polcert_model.specs.Numbers.{IsWhole, AreNumbers, IsNumber}
+use Rattle.polcert_model.specs.Numbers.{AreNumbers}
 use Rattle.polcert_model.specs.Numbers as numbers
 use Rattle.polcert_model.specs.Elements.{Elements, count_of, StandsFor}
 use Rattle.polcert_model.specs.Start.{Shares, shares_of, alike, included, excluded, IsStartBody, uniform, name, number, only_state, probabilities, IsStart, plain, include, exclude}
@@ -22,12 +22,6 @@ uniform_no_name l a b = true≢false (ap is_reserved a.bytes ∙ uniform_is_rese
 
 numeral_not_name : (k : TokenKind) → k ≡ Numeral → k ≡ Name → ⊥
 numeral_not_name k e f = cc
-
-plus_not_name : (k : TokenKind) → k ≡ Plus → k ≡ Name → ⊥
-plus_not_name k e f = cc
-
-minus_not_name : (k : TokenKind) → k ≡ Minus → k ≡ Name → ⊥
-minus_not_name k e f = cc
 
 pub name_not_colon : (k : TokenKind) → k ≡ Name → k ≡ Colon → ⊥
 name_not_colon k e f = cc

@@ -1,5 +1,5 @@
 -- The numbers of a start item, token by token.
-use Rattle.std.proofs.Common.{◌≡◌, ◌∙◌, ℕ, ◌+◌, ◌<◌, ◌≤◌, ◌⊎◌, inl, inr, false, true, Option, Some, None, Result, Ok, Err, IfOk, OnErr, List, [], ◌∷◌, ◌++◌, length, map, sum, ℤ, pos, negsuc, refl, sym, ap, subst, All, arith, append_assoc, append-nil}
+use Rattle.std.proofs.Common.{◌≡◌, ◌∙◌, ℕ, ◌+◌, ◌<◌, ◌≤◌, ◌⊎◌, inl, inr, false, true, Option, Some, None, Result, Ok, Err, IfOk, OnErr, List, [], ◌∷◌, ◌++◌, length, map, sum, ℤ, pos, negsuc, refl, sym, ap, subst, All, arith, append_assoc}
 use lib.IntN.{nat_abs}
 use Rattle.std.proofs.lemmas.List.Sums.{sum_by-cons}
 use Rattle.std.specs.Int.Signed.{lt_z}
@@ -7,35 +7,26 @@ use borrow.Author.Tests.{ltb-true, ltb-false}
 use Rattle.std.proofs.lemmas.List.Elements.{All-cons, All-head, All-tail}
 use Rattle.polcert_text.specs.Cut.{Lexeme}
 use Rattle.polcert_text.specs.declared.number.NumberFault.{NumberFault}
-use Rattle.polcert_text.specs.declared.lexeme.TokenKind.TheVariants.{Numeral, Plus, Minus}
 use Rattle.polcert_model.specs.declared.entry.Body.TheVariants as bodies
 use Rattle.polcert_model.specs.declared.entry_reader.Numbers.{Numbers}
 use Rattle.polcert_model.specs.declared.fault.ItemFault.{ItemFault}
 use Rattle.polcert_model.specs.declared.number.Sign.{Sign}
-use Rattle.polcert_model.specs.declared.number.Range.TheVariants.{Reward}
 use Rattle.polcert_model.specs.declared.start_reader.FirstNumber.{FirstNumber}
 use Rattle.polcert_model.specs.declared.start_reader.Digits.{Digits}
 use Rattle.polcert_model.specs.declared.start_reader.StartReader.{StartReader}
 use Rattle.polcert_model.specs.declared.start_reader.StartReader.TheVariants as reader
 use Rattle.polcert_model.specs.Numbers.{IsMillionths, AreNumbers, one}
 use Rattle.polcert_model.specs.Numbers as numbers
-use Rattle.polcert_model.specs.NumberSteps.{AreNumbersBehind, IsInRange, is_negative, IsSignAt, IsNoNumber}
+use Rattle.polcert_model.specs.NumberSteps.{AreNumbersBehind, is_negative, IsSignAt}
 use Rattle.polcert_model.specs.Elements.{Elements, count_of}
 use Rattle.polcert_model.specs.Start.{Shares, all_states, shares_of}
-use Rattle.polcert_model.specs.LineSteps.{Takes, CannotTake, CannotEnd}
+use Rattle.polcert_model.specs.LineSteps.{Takes, CannotTake}
 use Rattle.polcert_model.specs.EntrySteps.{ProbabilitiesGo, IsFull, no_numbers}
 use Rattle.polcert_model.specs.StartSteps.{AreShares, only_state, probabilities, NumbersGo, DigitsGo, state_number, first_of_more, SharesGo, StartGoes, Begins, IsOutside, IsNumberStop, behind_number, no_probability, IsDigitsStop, behind_digits, digits_no_probability}
 use Rattle.polcert_model.proofs.Basics.{true≢false, cons≢nil, same_head, same_tail}
-use Rattle.polcert_model.proofs.GoOnLaws.{begins_no_number}
 use Rattle.polcert_model.proofs.ListLaws.{all_none}
-use Rattle.polcert_model.proofs.PatternLaws.{full_probabilities, probabilities_full}
+use Rattle.polcert_model.proofs.PatternLaws.{full_probabilities}
 use Rattle.polcert_model.proofs.StepLaws.{sign_back, sign_on, value_back, value_on}
-
-no_numbers_left : {l : Lexeme} {ls : List Lexeme} → AreNumbers (l ∷ ls) [] → ⊥
-no_numbers_left a = elim a [ ]
-
-no_lexemes_left : {hs : List ℤ} → AreNumbers [] hs → hs ≡ []
-no_lexemes_left numbers.none = refl
 
 -- ---- one token more
 
@@ -61,12 +52,6 @@ module _ (states : Elements) (before : List ℤ) (l : Lexeme) where
           shares = subst (λ hs. AreShares states hs v) (ap (λ hs. before ++ hs) b.joined ∙ sym (append_assoc before (h ∷ []) b.rest)) g.shares;
         };
   }
-
-any_range : (hs : List ℤ) → All (IsInRange Reward) hs
-any_range hs = λ k d h. tt
-
-pub no_number_begins : (states : Elements) (before : List ℤ) (sign : Option Sign) (l : Lexeme) → IsNoNumber Reward sign l → CannotTake (NumbersGo states before) sign l
-no_number_begins states before sign l none = λ ls v g. none ls g.further g.numbers (any_range g.further)
 
 -- ---- what follows from the shares
 
@@ -136,22 +121,6 @@ first_in_range states h further v (probabilities ps m e c t s) out =
 -- nothing goes on behind a number out of its range
 pub outside_stuck : (states : Elements) (f : FirstNumber) (l : Lexeme) → IsOutside f.value → CannotTake (StartGoes states) (reader.Number f) l
 outside_stuck states f l out = λ ls v g. first_in_range states f.value g.further v g.shares out
-
-none_further : (h : ℤ) (further : List ℤ) → (h ∷ further ≡ pos 0 ∷ []) ⊎ (h ∷ further ≡ pos one ∷ []) → further ≡ []
-none_further h further (inl e) = same_tail e
-none_further h further (inr e) = same_tail e
-
--- where there is one state, no second number follows
-pub only_stuck : (states : Elements) (f : FirstNumber) (l : Lexeme) → count_of states ≡ 1 → CannotTake (StartGoes states) (reader.Number f) l
-only_stuck states f l count = λ ls v g. at ls v g.further g.numbers g.shares
-  where
-    at : (ls : List Lexeme) (v : Shares) (further : List ℤ) → AreNumbers (l ∷ ls) further → AreShares states (f.value ∷ further) v → ⊥
-    at ls v further a (only_state c e s) = no_numbers_left (subst (AreNumbers (l ∷ ls)) (none_further f.value further e) a)
-    at ls v further a (probabilities ps m e c t s) = omega (arith, m, count)
-
--- a token that is no number and no sign
-pub no_number_follows : (states : Elements) (f : FirstNumber) (l : Lexeme) → (l.kind ≡ Numeral → ⊥) → (l.kind ≡ Plus → ⊥) → (l.kind ≡ Minus → ⊥) → CannotTake (StartGoes states) (reader.Number f) l
-no_number_follows states f l a b c = λ ls v g. begins_no_number a b c g.numbers
 
 -- ---- a list of probabilities
 
@@ -240,14 +209,8 @@ number_stuck states f p old l e small more is none = λ ls v g.
 
 -- ---- digits alone
 
-abbrev first_of : Digits → ℤ → FirstNumber
-first_of digits h = record { value = h; place = digits.place }
-
 same_value : (h k : ℤ) (r : Result ℤ NumberFault) → r ≡ Ok h → r ≡ Ok k → h ≡ k
 same_value h k r e f = cc
-
-no_value : (h : ℤ) (fault : NumberFault) (r : Result ℤ NumberFault) → r ≡ Ok h → r ≡ Err fault → ⊥
-no_value h fault r e f = cc
 
 module _ (states : Elements) (digits : Digits) (l : Lexeme) where
   on_digits : (h : ℤ) → digits.value ≡ Ok h → (ls : List Lexeme) (v : Shares) → DigitsGo states digits (l ∷ ls) v → NumbersGo states (h ∷ []) None (l ∷ ls) v
@@ -264,34 +227,7 @@ module _ (states : Elements) (digits : Digits) (l : Lexeme) where
   pub digits_stuck : (f : FirstNumber) → digits.value ≡ Ok f.value → CannotTake (StartGoes states) (reader.Number f) l → CannotTake (StartGoes states) (reader.Digits digits) l
   digits_stuck f is none = λ ls v g. none ls v (on_digits f.value is ls v g)
 
-  pub faulty_stuck : (fault : NumberFault) → digits.value ≡ Err fault → CannotTake (StartGoes states) (reader.Digits digits) l
-  faulty_stuck fault is ls v (state_number s none e f) = cons≢nil none
-  faulty_stuck fault is ls v (first_of_more k e g) = no_value k fault digits.value e is
-
 -- ---- where the item ends
-
-one_left : (states : Elements) (f : FirstNumber) (v : Shares) → StartGoes states (reader.Number f) [] v → AreShares states (f.value ∷ []) v
-one_left states f v g = subst (λ hs. AreShares states (f.value ∷ hs) v) (no_lexemes_left g.numbers) g.shares
-
-two_at_least : (n : ℕ) (h : ℤ) (ps : List ℕ) → h ∷ [] ≡ map pos ps → length ps ≡ n → 1 < n → ⊥
-two_at_least n h [] e c m = cons≢nil e
-two_at_least n h (p ∷ []) e c m = omega (arith, c, m)
-two_at_least n h (p ∷ q ∷ ps) e c m = cons≢nil (sym (same_tail e))
-
-no_shares_of_one : (states : Elements) (h : ℤ) (v : Shares) → (count_of states ≡ 1 → ⊥) → AreShares states (h ∷ []) v → ⊥
-no_shares_of_one states h v more (only_state c e s) = more c
-no_shares_of_one states h v more (probabilities ps m e c t s) = two_at_least (count_of states) h ps e c m
-
-pub number_no_end : (states : Elements) (f : FirstNumber) → (count_of states ≡ 1 → ⊥) → CannotEnd (StartGoes states) (reader.Number f)
-number_no_end states f more = λ v g. no_shares_of_one states f.value v more (one_left states f v g)
-
-no_whole : (states : Elements) (h : ℤ) (v : Shares) → (h ≡ pos 0 → ⊥) → (h ≡ pos one → ⊥) → count_of states ≡ 1 → AreShares states (h ∷ []) v → ⊥
-no_whole states h v a b count (only_state c (inl e) s) = a (same_head e)
-no_whole states h v a b count (only_state c (inr e) s) = b (same_head e)
-no_whole states h v a b count (probabilities ps m e c t s) = omega (arith, m, count)
-
-pub number_no_sum : (states : Elements) (f : FirstNumber) → count_of states ≡ 1 → (f.value ≡ pos 0 → ⊥) → (f.value ≡ pos one → ⊥) → CannotEnd (StartGoes states) (reader.Number f)
-number_no_sum states f count a b = λ v g. no_whole states f.value v a b count (one_left states f v g)
 
 pub number_ends : (states : Elements) (f : FirstNumber) (v : Shares) → count_of states ≡ 1 → (f.value ≡ pos 0) ⊎ (f.value ≡ pos one) → v ≡ all_states states → StartGoes states (reader.Number f) [] v
 number_ends states f v count is shares = record { further = []; numbers = numbers.none; shares = only_state count (whole is) shares }
@@ -300,32 +236,8 @@ number_ends states f v count is shares = record { further = []; numbers = number
     whole (inl e) = inl (ap (λ h. h ∷ []) e)
     whole (inr e) = inr (ap (λ h. h ∷ []) e)
 
-pub digits_no_end : (states : Elements) (digits : Digits) → digits.state ≡ None → 1 < count_of states → CannotEnd (StartGoes states) (reader.Digits digits)
-digits_no_end states digits none more v (state_number s e f g) = no_state s digits.state f none
-  where
-    no_state : (s : ℕ) (o : Option ℕ) → o ≡ Some s → o ≡ None → ⊥
-    no_state s o e f = cc
-digits_no_end states digits none more v (first_of_more k e g) = number_no_end states (first_of digits k) (λ c. omega (arith, more, c)) v g
-
 pub shares_end : (states : Elements) (n : Numbers ℕ) (v : Shares) → IsFull n → sum n.read ≡ one → v ≡ shares_of n.read → StartGoes states (reader.Probabilities n) [] v
 shares_end states n v full total shares = record { all = n.read; go = full_probabilities n full; total = total; shares_are = shares }
-
-pub shares_no_end : (states : Elements) (n : Numbers ℕ) → (IsFull n → ⊥) → CannotEnd (StartGoes states) (reader.Probabilities n)
-shares_no_end states n not_full = λ v g. not_full (probabilities_full n (bodies.Probabilities g.all) g.go)
-
-nothing_behind : (sign : Option Sign) (ps : List ℕ) → AreNumbersBehind sign [] (map pos ps) → ps ≡ []
-nothing_behind None [] a = refl
-nothing_behind None (p ∷ ps) a = elim a [ ]
-nothing_behind (Some sign) ps a = absurd a
-
-pub shares_no_sum : (states : Elements) (n : Numbers ℕ) → (sum n.read ≡ one → ⊥) → CannotEnd (StartGoes states) (reader.Probabilities n)
-shares_no_sum states n other = λ v g.
-    let none : g.go.further ≡ [] = nothing_behind n.sign g.go.further g.go.numbers in
-    let all : g.all ≡ n.read = same_body g.all (n.read ++ g.go.further) g.go.body_is ∙ ap (λ f. n.read ++ f) none ∙ append-nil n.read in
-    other (ap sum (sym all) ∙ g.total)
-  where
-    same_body : (xs ys : List ℕ) → bodies.Probabilities xs ≡ bodies.Probabilities ys → xs ≡ ys
-    same_body xs ys e = cc
 
 -- ---- reasons
 

@@ -21,7 +21,7 @@ use Rattle.polcert_model.specs.Reasons.{StandsIn, NumberStandsIn, unsigned, plus
 use Rattle.polcert_model.specs.NumberSteps.{is_negative, number_place, IsSignAt, SignIs, SignEnds}
 use Rattle.polcert_model.specs.NumberSteps as steps
 use Rattle.polcert_model.specs.EntrySteps.{IsListReason, no_number, no_further}
-use Rattle.polcert_model.specs.StartSteps.{start_sign, IsValue, IsKept, IsStartSeen, new_start, IsReasonAt, IsOutside, IsNumberStop, behind_number, no_probability, IsDigitsStop, behind_digits, digits_no_probability, digits_no_number, IsReasonIn, IsStartReason, IsStartEndKind, IfNotMemory, StartGoes}
+use Rattle.polcert_model.specs.StartSteps.{start_sign, IsValue, IsKept, IsStartSeen, IsReasonAt, IsOutside, IsNumberStop, behind_number, no_probability, IsDigitsStop, behind_digits, digits_no_probability, digits_no_number, IsReasonIn, IsStartReason, IsStartEndKind, IfNotMemory, StartGoes}
 
 -- ---- one lexeme more
 
@@ -55,16 +55,6 @@ number_stands (Some sign) body l place Is ends p so = signed_stands sign body en
 more_whole : (body before after : List Lexeme) (s l : Lexeme) → body ≡ before ++ s ∷ after → body ++ l ∷ [] ≡ before ++ s ∷ (after ++ l ∷ [])
 more_whole body before after s l e = ap (λ (b : List Lexeme). b ++ l ∷ []) e ∙ append_assoc before (s ∷ after) (l ∷ [])
 
-stands_more : (body : List Lexeme) (l : Lexeme) (place : ℕ) (Is : Lexeme → Type 0) → StandsIn body place Is → StandsIn (body ++ l ∷ []) place Is
-stands_more body l place Is s = record {
-  before = s.before;
-  lexeme = s.lexeme;
-  after = s.after ++ l ∷ [];
-  whole = more_whole body s.before s.after s.lexeme l s.whole;
-  place_is = s.place_is;
-  holds = s.holds;
-}
-
 number_more : (body : List Lexeme) (l : Lexeme) (place : ℕ) (Is : Bool → Lexeme → Type 0) → NumberStandsIn body place Is → NumberStandsIn (body ++ l ∷ []) place Is
 number_more body l place Is (unsigned before m after whole ends p so) = unsigned before m (after ++ l ∷ []) (more_whole body before after m l whole) ends p so
 number_more body l place Is (plus before s m after whole kind p so) = plus before s m (after ++ l ∷ []) (more_whole body before (m ∷ after) s l whole) kind p so
@@ -81,13 +71,7 @@ number_lexeme body place Is (unsigned before m after whole ends p so) = record {
 number_lexeme body place Is (plus before s m after whole kind p so) = record { before = before; lexeme = s; after = m ∷ after; whole = whole; place_is = p; holds = tt }
 number_lexeme body place Is (minus before s m after whole kind p so) = record { before = before; lexeme = s; after = m ∷ after; whole = whole; place_is = p; holds = tt }
 
-any_lexeme : (body : List Lexeme) (place : ℕ) (Is : Lexeme → Type 0) → StandsIn body place Is → StandsIn body place (λ l. Unit {0})
-any_lexeme body place Is s = record { before = s.before; lexeme = s.lexeme; after = s.after; whole = s.whole; place_is = s.place_is; holds = tt }
-
 -- ---- what was seen
-
-pub nothing_seen : IsStartSeen [] new_start
-nothing_seen = record { sign = refl; first = tt }
 
 numeral_no_sign : (l : Lexeme) → l.kind ≡ Numeral → is_sign l.kind ≡ false
 numeral_no_sign l e = ap is_sign e
@@ -114,10 +98,6 @@ seen count body sign l (reader.List c) ends k = record { sign = sign_ends None b
 seen count body sign l reader.Body ends k = record { sign = sign_ends None body l k; first = tt }
 seen count body sign l reader.Every ends k = record { sign = sign_ends None body l k; first = tt }
 seen count body sign l (reader.Only s) ends k = record { sign = sign_ends None body l k; first = tt }
-
--- the state behind one lexeme more
-pub seen_behind : (count : ℕ) (body : List Lexeme) (l : Lexeme) (old new : StartReader) → IsStartSeen body old → IsKept count (start_sign old) l new → IsStartSeen (body ++ l ∷ []) new
-seen_behind count body l old new s k = seen count body (start_sign old) l new s.sign k
 
 -- ---- reasons
 
@@ -157,11 +137,6 @@ digits_reason body d l kind place s (digits_no_number f is p v) =
     fault_reason (body ++ l ∷ []) f kind place d.place is p
     (number_more body l d.place _ (number_map body d.place (IsValue d.value) (IsRefusedNumber f) (λ negative m so. subst (λ r. IsValue r negative m) v so) s.first.number))
 
--- a refusal for what the token is
-pub reason_at : (body : List Lexeme) (old : StartReader) (sign : Option Sign) (l : Lexeme) (kind : ItemFault) (place : ℕ) → IsStartSeen body old → start_sign old ≡ sign → IsReasonAt sign l kind place
-    → IsStartReason (body ++ l ∷ []) kind place
-reason_at body old sign l kind place s same r = token_reason body sign l kind place (subst (λ x. SignEnds x body) same s.sign) r
-
 -- why a token is refused in a list of probabilities
 from_number : (sign : Option Sign) (l : Lexeme) (kind : ItemFault) (place : ℕ) → steps.IsNumberReason ranges.Probability sign l kind place → IsReasonAt sign l kind place
 from_number sign l (Number f) place r = r
@@ -183,15 +158,6 @@ from_behind sign l _ place r = absurd r
 pub list_reason : (sign : Option Sign) (l : Lexeme) (kind : ItemFault) (place : ℕ) → IsListReason ranges.Probability sign l kind place → IsReasonAt sign l kind place
 list_reason sign l kind place (no_number r) = from_number sign l kind place r
 list_reason sign l kind place (no_further r) = from_behind sign l kind place r
-
-pub misplaced_reason : (sign : Option Sign) (l : Lexeme) (kind : ItemFault) (place : ℕ) → steps.IsMisplaced l kind place → IsReasonAt sign l kind place
-misplaced_reason sign l Reset place r = r
-misplaced_reason sign l BadShape place r = r
-misplaced_reason sign l _ place r = absurd r
-
--- digits whose number is none of a state's stand in the body
-pub digits_stand : (body : List Lexeme) (d : Digits) → IsStartSeen body (reader.Digits d) → IsStartReason body IndexOutOfRange d.place
-digits_stand body d s = record { stands = any_lexeme body d.place IsDigits s.first.lexeme; reason = s.first.lexeme }
 
 -- ---- from a known state
 

@@ -1,16 +1,16 @@
 -- The shares of a start item, state by state.
-use Rattle.std.proofs.Common.{◌≡◌, ◌∙◌, ℕ, suc, zero, ◌+◌, ◌<◌, ◌≤◌, ◌==◌, ◌||◌, Bool, false, true, cond, Result, Ok, Err, IfOk, not, List, [], ◌∷◌, ◌++◌, length, map, get_or, take, drop, slice_set, refl, sym, ap, subst, arith, add-one, drop-cons, length-append, if◌then◌else◌}
+use Rattle.std.proofs.Common.{◌≡◌, ◌∙◌, ℕ, suc, zero, ◌+◌, ◌<◌, ◌≤◌, ◌==◌, ◌||◌, Bool, false, true, cond, Result, Ok, Err, IfOk, List, [], ◌∷◌, ◌++◌, length, map, get_or, drop, slice_set, refl, sym, ap, subst, arith, add-one, drop-cons, length-append, if◌then◌else◌}
 use Rattle.std.specs.List.{range_with_len, count_by, list_all, AllPass}
 use Rattle.std.proofs.lemmas.Bool.Decides.{nat_tests}
-use Rattle.std.proofs.lemmas.List.{take_more, map-append, length-set}
+use Rattle.std.proofs.lemmas.List.{length-set}
 use Rattle.std.proofs.lemmas.List.FromFn.{map-range_with_len_more}
-use Rattle.std.proofs.lemmas.List.Sums.{sum_by-cons, sum_by-append, AllPass-from_list_all, list_all-from_AllPass}
+use Rattle.std.proofs.lemmas.List.Sums.{sum_by-cons, AllPass-from_list_all, list_all-from_AllPass}
 use Rattle.std.proofs.lemmas.Grind.{get_or_default_zero}
 use Rattle.polcert_model.specs.declared.start_reader.Choice.{Choice}
-use Rattle.polcert_model.specs.declared.start_reader.Choice.TheVariants.{Include, Exclude}
+use Rattle.polcert_model.specs.declared.start_reader.Choice.TheVariants.{Include}
 use Rattle.polcert_model.specs.Numbers.{one}
 use Rattle.polcert_model.specs.Elements.{Elements, count_of}
-use Rattle.polcert_model.specs.Start.{Shares, alike, all_states, single, shares_of, is_level, is_positive}
+use Rattle.polcert_model.specs.Start.{Shares, alike, single, shares_of, is_level, is_positive}
 use Rattle.polcert_model.specs.StartSteps.{marked, AreUnmarked, picks, first_above_0, is_level_at, level_share}
 use Rattle.polcert_model.proofs.StartForms.{marked_more}
 
@@ -66,9 +66,6 @@ count_more p a (suc n) =
     let before : count_by p (a ∷ range_with_len (a + 1) n) ≡ one_if (p a) + count_by p (range_with_len (a + 1) n) = count_cons p a (range_with_len (a + 1) n) in
     omega (arith, whole, first, rest, last, before)
 
-pub shares_none : (picked : ℕ → Bool) (weights : List ℕ) → weights ≡ [] → AreSharesTo picked 0 weights 0
-shares_none picked weights e = record { weights_are = e; total_is = refl; small = omega arith }
-
 at_most_one : (b : Bool) → one_if b ≤ 1
 at_most_one true = omega arith
 at_most_one false = omega arith
@@ -89,21 +86,10 @@ shares_more picked state old new total weight e w are =
       small = omega (arith, low, w, one);
     }
 
-pub shares_all : (picked : ℕ → Bool) (count state : ℕ) (weights : List ℕ) (total : ℕ) → state ≡ count → AreSharesTo picked state weights total
-    → ◌≡◌ {A = Shares} (record { weights = weights; total = total }) (alike count picked)
-shares_all picked count state weights total e are =
-    let at : ◌≡◌ {A = Shares} (record { weights = weights; total = total }) (alike state picked) = λ i. record { weights = are.weights_are i; total = are.total_is i } in
-    at ∙ ap (λ n. alike n picked) e
-
 alike_same : (n : ℕ) (p q : ℕ → Bool) → ((s : ℕ) → p s ≡ q s) → alike n p ≡ alike n q
 alike_same n p q e =
     let same : p ≡ q = λ i s. e s i in
     ap (alike n) same
-
-picked_alike : (choice : Choice) (n : ℕ) (p q : ℕ → Bool) → ((s : ℕ) → p s ≡ q s) → alike n (picks choice p) ≡ alike n (picks choice q)
-picked_alike choice n p q e =
-    let same : p ≡ q = λ i s. e s i in
-    ap (λ r. alike n (picks choice r)) same
 
 -- ---- shares by probability
 
@@ -112,32 +98,6 @@ pub record AreLevelTo (taken : List ℕ) (state : ℕ) (weights : List ℕ) (tot
   pub weights_are : weights ≡ map level_share taken
   pub total_is : total ≡ count_by is_positive taken
   pub small : total ≤ state
-
-pub level_none : (taken weights : List ℕ) → taken ≡ [] → weights ≡ [] → AreLevelTo taken 0 weights 0
-level_none taken weights t e = record {
-  weights_are = e ∙ sym (ap (map level_share) t);
-  total_is = sym (ap (count_by is_positive) t);
-  small = omega arith;
-}
-
-pub level_more : (ps : List ℕ) (i : ℕ) (old new : List ℕ) (total weight : ℕ) → i < length ps → new ≡ old ++ weight ∷ [] → weight ≡ level_share (get_or ps i 0)
-    → AreLevelTo (take i ps) i old total → AreLevelTo (take (i + 1) ps) (i + 1) new (total + weight)
-level_more ps i old new total weight low e w are =
-    let p = get_or ps i 0 in
-    let longer : take (i + 1) ps ≡ take i ps ++ p ∷ [] = take_more ps i 0 low in
-    let mapped : map level_share (take (i + 1) ps) ≡ map level_share (take i ps) ++ level_share p ∷ [] = ap (map level_share) longer ∙ map-append level_share (take i ps) (p ∷ []) in
-    let counted : count_by is_positive (take (i + 1) ps) ≡ count_by is_positive (take i ps ++ p ∷ []) = ap (count_by is_positive) longer in
-    let joined : count_by is_positive (take i ps ++ p ∷ []) ≡ count_by is_positive (take i ps) + count_by is_positive (p ∷ []) = sum_by-append (λ y. cond (is_positive y) 1 0) (take i ps) (p ∷ []) in
-    let last : count_by is_positive (p ∷ []) ≡ one_if (is_positive p) + count_by is_positive [] = count_cons is_positive p [] in
-    let share : weight ≡ one_if (is_positive p) = w in
-    let one = at_most_one (is_positive p) in
-    let before = are.total_is in
-    let small = are.small in
-    record {
-      weights_are = e ∙ ap (λ ws. ws ++ weight ∷ []) are.weights_are ∙ ap (λ x. map level_share (take i ps) ++ x ∷ []) w ∙ sym mapped;
-      total_is = omega (arith, counted, joined, last, share, before);
-      small = omega (arith, small, share, one);
-    }
 
 -- ---- whether probabilities are level
 
@@ -219,13 +179,6 @@ pub level_is : (ps : List ℕ) → is_level_at (first_above_0 ps) ps ≡ is_leve
 level_is ps = same_tests (is_level_at (first_above_0 ps) ps) (is_level ps) (λ e. level_on (first_above_0 ps) ps e) (λ e. level_back (first_above_0 ps) ps (first_in ps) e)
 
 -- ---- shares of all states, or of one
-
-pub every_shares : (states : Elements) (choice : Choice) (count : ℕ) (marks : List Bool) → choice ≡ Exclude → count ≡ count_of states → AreUnmarked count marks
-    → alike (length marks) (picks choice (marked marks)) ≡ all_states states
-every_shares states choice count marks is same are =
-    ap (λ n. alike n (picks choice (marked marks))) (are.size ∙ same)
-    ∙ ap (λ c. alike (count_of states) (picks c (marked marks))) is
-    ∙ alike_same (count_of states) (λ s. not (marked marks s)) (λ s. true) (λ s. ap not (are.none s))
 
 pub one_shares : (states : Elements) (choice : Choice) (count s : ℕ) (old new : List Bool) → choice ≡ Include → count ≡ count_of states → s < count → AreUnmarked count old → new ≡ slice_set old s true
     → alike (length new) (picks choice (marked new)) ≡ single states s

@@ -2,13 +2,10 @@
 use Rattle.std.proofs.Common.{◌≡◌, ◌∙◌, ℕ, Bool, true, false, Option, Some, None, List, [], ◌∷◌, ℤ, refl, sym, ap, subst, All}
 use Rattle.std.proofs.lemmas.List.Elements.{All-head}
 use Rattle.polcert_text.specs.Cut.{Lexeme}
-use Rattle.polcert_text.specs.Numbers.{IsRefusedExactly}
 use Rattle.polcert_text.specs.declared.lexeme.TokenKind.{TokenKind}
 use Rattle.polcert_text.specs.declared.lexeme.TokenKind.TheVariants.{Numeral, Plus, Minus}
-use Rattle.polcert_text.specs.declared.number.NumberFault.{NumberFault}
-use Rattle.polcert_text.proofs.TextLaws.{exact_not_refused}
 use Rattle.polcert_model.specs.declared.fault.ItemFault.{ItemFault}
-use Rattle.polcert_model.specs.declared.fault.ItemFault.TheVariants.{Number, BadShape, Reset}
+use Rattle.polcert_model.specs.declared.fault.ItemFault.TheVariants.{BadShape, Reset}
 use Rattle.polcert_model.specs.declared.number.Sign.{Sign}
 use Rattle.polcert_model.specs.declared.number.Range.{Range}
 use Rattle.polcert_model.specs.declared.number.Range.TheVariants as ranges
@@ -39,10 +36,6 @@ misplaced_reason range sign l Reset place m = m
 misplaced_reason range sign l BadShape place m = m
 misplaced_reason range sign l _ place m = absurd m
 
-pub sign_at : (negative : Bool) (l : Lexeme) (sign : Sign) → IsSignKind negative l.kind → sign.negative ≡ negative → sign.place ≡ l.place → IsSignAt sign l
-sign_at false l sign kind n p = steps.plus kind n p
-sign_at true l sign kind n p = steps.minus kind n p
-
 -- the first of some numbers behind a sign
 pub record FirstIs (negative : Bool) (l : Lexeme) (ls : List Lexeme) (hs : List ℤ) : Type 0 where
   pub first : ℤ
@@ -70,16 +63,6 @@ first_number (Some sign) l ls (h ∷ hs) kind a = record { first = h; rest = hs;
 
 all_first : (range : Range) (h : ℤ) (hs ks : List ℤ) → ks ≡ h ∷ hs → All (IsInRange range) ks → IsInRange range h
 all_first range h hs ks e all = All-head (IsInRange range) h hs (subst (λ xs. All (IsInRange range) xs) e all)
-
--- a numeral without a value
-pub refuses_fault : (range : Range) (sign : Option Sign) (l : Lexeme) (fault : NumberFault) (place : ℕ) → l.kind ≡ Numeral
-    → IsRefusedExactly (is_negative sign) l.bytes fault → place ≡ number_place sign l → RefusesNumber range sign l (Number fault) place
-refuses_fault range sign l fault place kind refused at = record {
-  none = λ ls hs a _.
-      let f = first_number sign l ls hs kind a in
-      exact_not_refused (is_negative sign) l.bytes fault f.first f.value.readable f.value.exact refused;
-  reason = (at, (kind, refused));
-}
 
 range_reason : (range : Range) (sign : Option Sign) (l : Lexeme) (h : ℤ) (kind : ItemFault) (place : ℕ) → IsMillionths (is_negative sign) l h
     → (IsInRange range h → ⊥) → IsRangeFault range kind → place ≡ number_place sign l → IsNumberReason range sign l kind place

@@ -1,9 +1,9 @@
 -- An item, token by token: what is still to come of an item that was read so far.
 -- Nobody has to believe this: only contracts of private functions cite it.
-use Rattle.std.specs.Prelude.{◌≡◌, ℕ, Bool, false, Option, Some, None, List, [], ◌∷◌, ◌++◌, codes}
+use Rattle.std.specs.Prelude.{◌≡◌, ℕ, Bool, false, Option, Some, None, List, [], ◌∷◌, ◌++◌}
 use Rattle.polcert_text.specs.Cut.{Lexeme}
 use Rattle.polcert_model.specs.declared.fault.ItemFault.{ItemFault}
-use Rattle.polcert_model.specs.declared.fault.ItemFault.TheVariants.{Number, BadShape, BadCount, DuplicateName, UnknownName, IndexOutOfRange, WrongNumberCount, ProbabilityRange, DiscountRange, Reset, StartSum, StartEmpty}
+use Rattle.polcert_model.specs.declared.fault.ItemFault.TheVariants.{BadShape, BadCount, DuplicateName, WrongNumberCount, ProbabilityRange, DiscountRange, StartSum, StartEmpty}
 use Rattle.polcert_model.specs.declared.entry.Entry.{Entry}
 use Rattle.polcert_model.specs.declared.entry.Table.{Table}
 use Rattle.polcert_model.specs.declared.item.Said.TheVariants as said
@@ -17,16 +17,16 @@ use Rattle.polcert_model.specs.declared.entry_reader.EntryState.TheVariants as s
 use Rattle.polcert_model.specs.declared.number.Sign.{Sign}
 use Rattle.polcert_model.specs.declared.stop.ItemEnd.{ItemEnd}
 use Rattle.polcert_model.specs.declared.stop.ItemEnd.TheVariants as ends
-use Rattle.polcert_model.specs.Words.{Topic, Discount, Values, States, Actions, Observations, Start, Cells, IsWord, IsName}
+use Rattle.polcert_model.specs.Words.{Topic, Discount, Values, States, Actions, Observations, Start, Cells}
 use Rattle.polcert_model.specs.Elements.{Elements}
 use Rattle.polcert_model.specs.Start.{Shares}
 use Rattle.polcert_model.specs.Text.{Known}
-use Rattle.polcert_model.specs.Reasons.{ends_in_sign, IsRefusedNumber, IsNoFraction, IsDigits, IsOfElements, IsOfProbabilities, IsRepeated}
+use Rattle.polcert_model.specs.Reasons.{ends_in_sign, IsNoFraction, IsOfElements, IsOfProbabilities, IsRepeated}
 use Rattle.polcert_model.specs.NumberSteps.{SignEnds, is_negative, number_place}
 use Rattle.polcert_model.specs.LineSteps.{DiscountGoes, discount_sign, ValuesGoes}
 use Rattle.polcert_model.specs.ElementSteps.{ElementsGo, IsElementsRead, AreElementsSeen}
 use Rattle.polcert_model.specs.EntrySteps.{preamble_in, indices_in, EntryGoes, IsWithinIndices, entry_sign, AreSome}
-use Rattle.polcert_model.specs.StartSteps.{StartGoes, new_start, IsStartWithin, IsStartSeen, IsStartReason}
+use Rattle.polcert_model.specs.StartSteps.{StartGoes, new_start, IsStartWithin, IsStartSeen, IsReasonAt, IsStartReason}
 use Rattle.polcert_model.specs.KnownView.{learned}
 
 -- the lexemes end the item, and this is known behind it
@@ -84,19 +84,13 @@ IsSeen body (items.Observations r) = (ends_in_sign body ≡ false) × AreElement
 IsSeen body (items.Start r) = IsStartSeen body r
 IsSeen body item = SignEnds (sign_in item) body
 
--- why a token is refused in an item of this topic, behind this sign and body
+-- why a token is refused in an item of this topic, behind this sign and body; some reasons are of some topics alone
 abbrev pub IsTokenReason : Topic → Option Sign → List Lexeme → Lexeme → ItemFault → ℕ → Type 0
-IsTokenReason t sign body l (Number reason) place = (place ≡ number_place sign l) × IsRefusedNumber reason (is_negative sign) l
 IsTokenReason t sign body l DiscountRange place = (t ≡ Discount) × (place ≡ number_place sign l) × IsNoFraction (is_negative sign) l
-IsTokenReason t sign body l ProbabilityRange place = IsOfProbabilities t × (place ≡ number_place sign l) × IsNoFraction (is_negative sign) l
-IsTokenReason t sign body l Reset place = (place ≡ l.place) × IsWord (codes "reset") l
+IsTokenReason t sign body l ProbabilityRange place = IsOfProbabilities t × IsReasonAt sign l ProbabilityRange place
 IsTokenReason t sign body l DuplicateName place = (place ≡ l.place) × IsOfElements t × ((behind : List Lexeme) → IsRepeated (body ++ l ∷ behind) place)
-IsTokenReason t sign body l UnknownName place = (place ≡ l.place) × IsName l
-IsTokenReason t sign body l IndexOutOfRange place = (place ≡ l.place) × IsDigits l
 IsTokenReason t sign body l BadCount place = (place ≡ l.place) × IsOfElements t
-IsTokenReason t sign body l BadShape place = place ≡ l.place
-IsTokenReason t sign body l WrongNumberCount place = place ≡ l.place
-IsTokenReason t sign body l _ place = ⊥
+IsTokenReason t sign body l kind place = IsReasonAt sign l kind place
 
 -- why a token is refused: for itself, or in a start item perhaps for a number before it
 pub data IsItemReason (item : ItemReader) (body : List Lexeme) (l : Lexeme) (kind : ItemFault) (place : ℕ) : Type 0 where

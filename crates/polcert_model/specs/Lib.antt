@@ -34,5 +34,4 @@ pub mod RowSums
 pub mod ElementSteps
 pub mod StartSteps
 pub mod Tables
-pub mod Fronts
 pub mod Drafts

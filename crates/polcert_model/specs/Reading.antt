@@ -4,8 +4,7 @@ use Rattle.std.specs.List.{list_any}
 use Rattle.polcert_text.specs.Cut.{Lexeme}
 use Rattle.polcert_model.specs.Words.{Topic, topic, begins_item}
 use Rattle.polcert_model.specs.Items.{Item, IsDivided}
-use Rattle.polcert_model.specs.Preamble.{Preamble}
-use Rattle.polcert_model.specs.Text.{Known, nothing_known, IsRight, AreRight, IsRightText}
+use Rattle.polcert_model.specs.Text.{Known, nothing_known, IsRight, AreRight}
 
 -- The lexemes are whole items, each right, and this is known behind them.
 pub record AreRightItems (seen : List Lexeme) (k : Known) : Type 0 where
@@ -35,7 +34,3 @@ pub record IsPossible (k : Known) (t : Topic) (body : List Lexeme) : Type 0 wher
   pub more : List Lexeme
   pub after : Known
   pub taken : IsRight k t (body ++ more) after
-
--- no text that begins with these lexemes is right
-abbrev pub IsLost : List Lexeme → Type 0
-IsLost seen = (more : List Lexeme) (p : Preamble) (k : Known) → IsRightText (seen ++ more) p k → ⊥

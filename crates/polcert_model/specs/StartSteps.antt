@@ -181,11 +181,6 @@ pub data IsDigitsStop (digits : Digits) (l : Lexeme) (kind : ItemFault) (place :
   digits_no_probability : (h : ℤ) → kind ≡ ProbabilityRange → place ≡ digits.place → digits.value ≡ Ok h → IsOutside h → IsDigitsStop digits l kind place
   digits_no_number : (f : NumberFault) → kind ≡ Number f → place ≡ digits.place → digits.value ≡ Err f → IsDigitsStop digits l kind place
 
-abbrev pub IsStartStop : StartReader → Lexeme → ItemFault → ℕ → Type 0
-IsStartStop (reader.Number first) l kind place = IsNumberStop first l kind place
-IsStartStop (reader.Digits digits) l kind place = IsDigitsStop digits l kind place
-IsStartStop r l kind place = IsReasonAt (start_sign r) l kind place
-
 -- what each reason of a refusal stands at, in the body that is refused
 abbrev pub IsReasonIn : List Lexeme → ItemFault → ℕ → Type 0
 IsReasonIn body (Number fault) place = NumberStandsIn body place (IsRefusedNumber fault)

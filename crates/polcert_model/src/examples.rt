@@ -1,5 +1,5 @@
 //! Rows and tables computed from small models.
-ghost use Rattle.std.specs.Prelude.{codes, Some, None, ◌≡◌, ◌≢◌, ◌∷◌, [], sum, true, ℕ, pos, neg_ℤ};
+ghost use Rattle.std.specs.Prelude.{codes, Some, None, ◌≡◌, ◌∷◌, [], sum, pos, neg_ℤ};
 ghost use Rattle.polcert_model.specs.Meaning.{t_scale, HasProperRows, sum_below, states_of, actions_of, observations_of, start_total};
 ghost use Rattle.polcert_model.specs.Examples.{first_row, thirds, decimal_thirds, sixths, patterns, reward_table, whole, reward_cells, general_first, general_last, name, numeral};
 ghost use Rattle.polcert_model.specs.Start.{Shares, IsStart};

@@ -1,6 +1,6 @@
 //! A start item, read token by token behind its word.
-ghost use Rattle.std.specs.Prelude.{◌≡◌, ◌<◌, ◌≤◌, ◌⊎◌, ◌++◌, ◌∷◌, [], ℕ, List, length, map, get_or, sum, false, None, IfOk, OnOk, IfErr, OnErr, MatchOption, if◌then◌else◌};
-ghost use Rattle.std.specs.List.{count_by, list_all};
+ghost use Rattle.std.specs.Prelude.{◌≡◌, ◌<◌, ◌≤◌, ◌⊎◌, ◌++◌, ◌∷◌, [], ℕ, List, length, map, sum, false, None, IfOk, OnOk, IfErr, OnErr, MatchOption, if◌then◌else◌};
+ghost use Rattle.std.specs.List.{count_by};
 ghost use Rattle.polcert_text.specs.Cut.{Lexeme};
 ghost use Rattle.polcert_text.specs.Reading.{lexeme_of};
 ghost use Rattle.polcert_text.specs.Lexemes.{are_digits};
@@ -10,10 +10,9 @@ ghost use Rattle.polcert_model.specs.EntrySteps.{IfRefused};
 ghost use Rattle.polcert_model.specs.LineSteps.{Takes, CannotTake, CannotEnd};
 ghost use Rattle.polcert_model.specs.Meaning.{IsCount};
 ghost use Rattle.polcert_model.specs.NumberSteps.{IsMisplaced, SignIs};
-ghost use Rattle.polcert_model.specs.Numbers.{one};
 ghost use Rattle.polcert_model.specs.Reasons.{is_sign};
 ghost use Rattle.polcert_model.specs.Start.{alike, all_states, single, shares_of, is_level, is_positive};
-ghost use Rattle.polcert_model.specs.StartSteps.{StartGoes, IsStartWithin, IsStartSeen, IsStartReason, IsStartEndReason, IsStartEndKind, IfNotMemory, new_start, marked, AreUnmarked, picks, listed, NumbersGo, Begins, IsKept, IsReasonAt, IsNumberStop, IsDigitsStop, AreDigits, first_above_0, is_level_at, level_share};
+ghost use Rattle.polcert_model.specs.StartSteps.{StartGoes, IsStartWithin, IsStartSeen, IsStartReason, IsStartEndReason, IfNotMemory, new_start, marked, AreUnmarked, picks, NumbersGo, Begins, IsKept, IsReasonAt, IsNumberStop, IsDigitsStop, AreDigits, first_above_0, is_level_at, level_share};
 
 use crate::elements::{Elements, element_of};
 use crate::entry_reader::Numbers;

@@ -1,15 +1,14 @@
 -- What a refused or accepted list of tokens says of the whole text.
-use Rattle.std.proofs.Common.{◌≡◌, ℕ, Option, Some, None, Result, Ok, Err, List, [], length, ◌<◌, ◌+◌, ◌*◌, ◌⊎◌, inl, inr, IsErrAnd, MatchResult, IfErr, subst, arith, append-nil}
-use Rattle.polcert_text.specs.Cut.{Lexeme, Rest, Ends, IsCut, text_rest}
-use Rattle.polcert_text.specs.declared.tokens.TokenFault.{TokenFault}
+use Rattle.std.proofs.Common.{◌≡◌, ℕ, Some, None, Result, Ok, Err, List, length, ◌<◌, ◌+◌, ◌*◌, ◌⊎◌, inl, inr, IsErrAnd, MatchResult, IfErr, subst, arith}
+use Rattle.polcert_text.specs.Cut.{Lexeme, Rest, IsCut, text_rest}
 use Rattle.polcert_text.proofs.TextLaws.{one_cut}
-use Rattle.polcert_policy.specs.Fronts.{Taken}
+use Rattle.polcert_text.specs.TakenTokens.{Taken}
 use Rattle.polcert_policy.specs.Graphs.{PolicyGraph, IsLooseGraph, IsGraph, IsFirstBeyond, HasNodesOnly, IsPossible}
 use Rattle.polcert_policy.specs.GraphText.{text_limit, IsGraphText, EndsEarly, HasWrongToken, HasFirstBeyond, IsGraphRefusal, IsNoGraphText, NamesSuccessor}
 use Rattle.polcert_policy.specs.GraphRead.{IsTokenRefusal, IsEndRefusal}
 use Rattle.polcert_policy.specs.declared.fault.GraphFault.{GraphFault}
 use Rattle.polcert_policy.specs.declared.fault.GraphFault.TheVariants as faults
-use Rattle.polcert_policy.proofs.FrontLaws.{taken_cut, cut_taken}
+use Rattle.polcert_text.proofs.TakenTokens.{cut_taken}
 use Rattle.polcert_policy.proofs.GraphLaws.{one_loose}
 use Rattle.polcert_policy.proofs.Places.{order, same_row, same_column}
 
@@ -75,10 +74,6 @@ end_accepted a o b p text ts r ea eo cut h =
     at : (r : Result PolicyGraph GraphFault) → MatchResult r (IsGraph b p ts) (IsEndRefusal b p ts (length text)) → MatchResult r (IsGraphText b p text) (IsNoGraphText b p text) × IfErr r (IsGraphRefusal b p text)
     at (Ok g) h = ((ts, cut, h), tt)
     at (Err fault) h = let refused = end_refusal b p text ts fault cut h in (no_graph b p text fault refused, refused)
-
--- where the rest ends, the tokens taken are the cut
-pub cut_here : (old new : Rest) (ts : List Lexeme) (end : Option TokenFault) → Taken old ts new → Ends new end → IsCut old ts end
-cut_here old new ts end taken ends = subst (λ xs. IsCut old xs end) (append-nil ts) (taken_cut old new ts [] end taken ends)
 
 pub possible_at : (a b o p : ℕ) (ts : List Lexeme) → a ≡ b → o ≡ p → IsPossible a o ts → IsPossible b p ts
 possible_at a b o p ts ea eo h = subst (λ x. IsPossible b x ts) eo (subst (λ x. IsPossible x o ts) ea h)

@@ -1,5 +1,5 @@
 -- What is read of vectors behind one more token, and why a token is refused.
-use Rattle.std.proofs.Common.{◌≡◌, ◌∙◌, ℕ, ℤ, suc, ◌+◌, ◌-◌, ◌*◌, ◌^◌, ◌<◌, ◌≤◌, ◌⊎◌, inl, inr, ⊎_elim, Bool, true, false, ◌&&◌, pos, Option, Some, None, Err, List, [], ◌∷◌, ◌++◌, length, slice_get, refl, sym, ap, subst, arith, append_assoc, append-nil, length-append}
+use Rattle.std.proofs.Common.{◌≡◌, ◌∙◌, ℕ, ℤ, suc, ◌+◌, ◌-◌, ◌*◌, ◌^◌, ◌<◌, ◌≤◌, ◌⊎◌, inl, inr, ⊎_elim, Bool, true, false, pos, Option, Some, None, Err, List, [], ◌∷◌, ◌++◌, length, slice_get, refl, sym, ap, subst, arith, append_assoc, append-nil, length-append}
 use Rattle.polcert_text.specs.Cut.{Lexeme}
 use Rattle.polcert_text.specs.Numbers.{IsReadable, IsFloor, IsRefused}
 use Rattle.polcert_text.specs.declared.number.NumberFault.{NumberFault}
@@ -187,10 +187,6 @@ module _ (g : PolicyGraph) (seen : List Lexeme) (r : VectorsReading) (t : Lexeme
   stop_action place e place_is none =
       stop_seen place (place_is ∙ ap (λ u. place_behind u t.place) (sym (closed_sign e)))
       (λ more v all. none more v (next t more v (subst (λ s. IsVectors g r.states (tokens_of h.parts ++ (with_sign s t ++ more)) v) (closed_lexeme e) all)))
-
-  whole_numeral : (b c : Bool) → (b && c) ≡ true → b ≡ true
-  whole_numeral true c e = refl
-  whole_numeral false c e = cc
 
   -- the token that comes next in place of an action
   action_next : (ws : List ℤ) (more : List Lexeme) → r.column ≡ 0 → NextPart g r.states h.parts r.node r.column ws t more → (is_whole t ≡ true) × (whole_of t ≡ action_of g r.node)

@@ -2,7 +2,7 @@
 use Rattle.std.proofs.Common.{◌≡◌, ℕ, inl, inr, ⊎_elim, Some, None, Result, Ok, Err, List, length, MatchResult, IfErr, subst}
 use Rattle.polcert_text.specs.Cut.{Lexeme, Rest, IsCut, text_rest}
 use Rattle.polcert_text.proofs.TextLaws.{one_cut}
-use Rattle.polcert_policy.specs.Fronts.{Taken}
+use Rattle.polcert_text.specs.TakenTokens.{Taken}
 use Rattle.polcert_policy.specs.Graphs.{PolicyGraph}
 use Rattle.polcert_policy.specs.GraphText.{text_limit}
 use Rattle.polcert_policy.specs.Vectors.{PolicyVectors, IsVectors}
@@ -10,7 +10,7 @@ use Rattle.polcert_policy.specs.VectorText.{IsVectorsText, EndVectorsEarly, HasW
 use Rattle.polcert_policy.specs.VectorsRead.{IsPartRefusal, AreEndRefusal, AreUnfinished}
 use Rattle.polcert_policy.specs.declared.fault.VectorFault.{VectorFault}
 use Rattle.polcert_policy.specs.declared.fault.VectorFault.TheVariants as faults
-use Rattle.polcert_policy.proofs.FrontLaws.{cut_taken}
+use Rattle.polcert_text.proofs.TakenTokens.{cut_taken}
 
 pub part_refusal : (g : PolicyGraph) (o p : ℕ) (text : List ℕ) (ts : List Lexeme) (rest : Rest) (fault : VectorFault)
     → o ≡ p → Taken (text_rest text text_limit) ts rest → IsPartRefusal g o ts fault → IsVectorsRefusal g p text fault

@@ -3,7 +3,7 @@ ghost use Rattle.std.specs.Prelude.{◌≡◌, ◌+◌, ◌<◌, ◌≤◌, ◌�
 ghost use Rattle.polcert_text.specs.Cut.{Lexeme};
 ghost use Rattle.polcert_text.specs.Reading.{lexeme_of};
 ghost use Rattle.polcert_policy.specs.Words.{minus_kind, is_joined};
-ghost use Rattle.polcert_policy.specs.Graphs.{PolicyGraph, IsGraph, most_elements, most_nodes};
+ghost use Rattle.polcert_policy.specs.Graphs.{IsGraph, most_elements, most_nodes};
 ghost use Rattle.polcert_policy.specs.GraphText.{IsGraphText, IsGraphRefusal, IsNoGraphText, HasFirstBeyond, NamesSuccessor};
 ghost use Rattle.polcert_policy.specs.GraphRead.{IsRead, IsTokenRefusal, IsEndRefusal, MinusOf, HasCounts, CheckedNumber, ReadAction, Advanced, TakesNext, IsApartFrom, AllBelow, IsFirstBeyondAt};
 

@@ -1,9 +1,9 @@
 //! Reads the vectors of a policy graph.
-ghost use Rattle.std.specs.Prelude.{◌≡◌, ◌+◌, ◌<◌, ◌≤◌, ◌++◌, ◌∷◌, [], ℕ, true, false, List, MatchResult, IfErr};
+ghost use Rattle.std.specs.Prelude.{◌≡◌, ◌+◌, ◌<◌, ◌≤◌, [], true, false, List, MatchResult, IfErr};
 ghost use Rattle.polcert_text.specs.Cut.{Lexeme};
 ghost use Rattle.polcert_text.specs.Reading.{lexeme_of};
 ghost use Rattle.polcert_policy.specs.Words.{numeral_kind, minus_kind};
-ghost use Rattle.polcert_policy.specs.Graphs.{PolicyGraph, IsProperGraph, most_elements, most_nodes};
+ghost use Rattle.polcert_policy.specs.Graphs.{PolicyGraph, IsProperGraph, most_elements};
 ghost use Rattle.polcert_policy.specs.Vectors.{sign_kind, IsVectors};
 ghost use Rattle.polcert_policy.specs.VectorText.{IsVectorsText, IsNoVectorsText, IsVectorsRefusal};
 ghost use Rattle.polcert_policy.specs.VectorsRead.{place_behind, is_minus, HasVectors, TakesPart, CheckedAction, AdvancedValue, AreEndRefusal};

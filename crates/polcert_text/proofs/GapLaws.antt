@@ -62,10 +62,6 @@ pub gap_through-append : (gap : Gap) (front rest : List ℕ) → gap_through gap
 gap_through-append gap [] rest = refl
 gap_through-append gap (b ∷ bs) rest = gap_through-append (gap_after gap (class_of b)) bs rest
 
-through_ended : (bs : List ℕ) → gap_through Ended bs ≡ Ended
-through_ended [] = refl
-through_ended (b ∷ bs) = through_ended bs
-
 -- whether bytes are a gap can be read off what they leave
 is_gap-through : (bs : List ℕ) → is_gap bs ≡ goes_on (gap_through Between bs) []
 is_gap-through bs = ap is_gap (sym (append-nil bs)) ∙ goes_on_through Between bs []

@@ -1,11 +1,11 @@
 -- What is read and taken, where the bytes are known.
-use Rattle.std.proofs.Common.{Bool, true, false, ◌≡◌, ◌++◌, ◌∙◌, ap, sym, refl, append_assoc, ℕ, List, [], Option, IfSome, take}
+use Rattle.std.proofs.Common.{◌≡◌, ◌++◌, ◌∙◌, ap, sym, refl, append_assoc, ℕ, List, [], Option, IfSome}
 use Rattle.std.specs.Io.KnownBytes.{Consumes, Appends}
 use Rattle.std.proofs.KnownBytes.{Consumes-nil, Consumes-trans, Appends-nil, Appends-trans, Consumes-whole}
 use Rattle.std.proofs.lemmas.List.{append-nil}
 use Rattle.polcert_text.specs.Known.{ReadsKnown, WritesKnown}
-use Rattle.polcert_text.specs.Memory.{ReadsSlice, WritesSlice}
-use Rattle.polcert_text.specs.Source.{Gives, IsText, Reads, Fits, nothing, more}
+use Rattle.polcert_text.specs.Memory.{ReadsSlice}
+use Rattle.polcert_text.specs.Source.{Gives, IsText, nothing, more}
 use Rattle.polcert_text.specs.Sink.{Takes}
 use Rattle.polcert_text.specs.Sink as sink
 
@@ -53,24 +53,6 @@ module _ {S : Type 0} (rest : S → List ℕ) where
       let last = is_text.ended in
       let all : rest is_text.before ≡ [] = last.0 ∙ last.1 refl is_text.has_room in
       sym (gave_slice is_text.gave ∙ ap (λ xs. text ++ xs) all ∙ append-nil text)
-
-  -- what a slice had left fits what was read of it
-  pub fits_slice : (s t : S) (bytes : List ℕ) (is_whole : Bool) → Reads slice_reads s bytes is_whole t → Fits bytes is_whole (rest s)
-  fits_slice s t bytes true was_read = sym (text_slice was_read)
-  fits_slice s t bytes false was_read = (rest t, gave_slice was_read)
-
-module _ {S N : Type 0} (buffer : S → List ℕ) (len : S → ℕ) (name : S → N) where
-  -- the relation of one write to a slice
-  abbrev pub slice_writes : S → Option (List ℕ) → S → Type 0
-  slice_writes s answer t = WritesSlice (buffer s) (len s) answer (buffer t) (len t) × (name t ≡ name s)
-
-  -- what a slice took stands behind what it held, and it is the same slice
-  pub took_slice : {s t : S} {bytes : List ℕ} → Takes slice_writes s bytes t
-      → (take (len t) (buffer t) ≡ take (len s) (buffer s) ++ bytes) × (name t ≡ name s)
-  took_slice {s} sink.nothing = (sym (append-nil (take (len s) (buffer s))), refl)
-  took_slice {s} (sink.more {bytes} {front} took call) =
-      let before = took_slice took in
-      (call.0.0 ∙ ap (λ xs. xs ++ front) before.0 ∙ append_assoc (take (len s) (buffer s)) bytes front, call.1 ∙ before.1)
 
 -- the same of the relations themselves
 pub slice_text : (rest after text : List ℕ) → IsText ReadsSlice rest text after → text ≡ rest

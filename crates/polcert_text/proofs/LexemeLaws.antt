@@ -42,10 +42,6 @@ and-true : (b : Bool) → (b && true) ≡ b
 and-true true = refl
 and-true false = refl
 
-and-false : (b : Bool) → (b && false) ≡ false
-and-false true = refl
-and-false false = refl
-
 cond-same : {A : Type 0} (b : Bool) (x : A) → cond b x x ≡ x
 cond-same true x = refl
 cond-same false x = refl
@@ -162,10 +158,6 @@ completed-none Stuck = refl
 -- the kind of a list is the kind of the state behind it
 pub kind_of-through : (bs : List ℕ) → kind_of bs ≡ kind_at (state_through Start bs)
 kind_of-through bs = ap kind_of (sym (append-nil bs)) ∙ completed_through Start bs [] ∙ completed-none (state_through Start bs)
-
-through_stuck : (bs : List ℕ) → state_through Stuck bs ≡ Stuck
-through_stuck [] = refl
-through_stuck (b ∷ bs) = through_stuck bs
 
 state_through_more : (bs : List ℕ) (i : ℕ) → i < length bs → state_through Start (take (i + 1) bs) ≡ state_after (state_through Start (take i bs)) (class_of (get_or bs i 0))
 state_through_more bs i h = ap (state_through Start) (take_more bs i 0 h) ∙ state_through-append Start (take i bs) (get_or bs i 0 ∷ [])

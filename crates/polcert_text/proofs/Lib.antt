@@ -12,3 +12,4 @@ pub mod Taking
 pub mod Giving
 pub mod Known
 pub mod TextLaws
+pub mod TakenTokens

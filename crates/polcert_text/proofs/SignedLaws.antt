@@ -53,11 +53,6 @@ negative_le_pos : (n b : ℕ) → negsuc n ≤ℤ pos b
 negative_le_pos n b = omega (arith, ints)
 
 module _ (bs : List ℕ) (floor : ℕ) where
-  pub exact_value : (negative : Bool) → Measures bs floor false → IsExact negative bs (signed negative floor)
-  exact_value negative m =
-      let whole : size_of bs ≡ floor * millionth = omega (arith, m.size, m.exact refl) in
-      signed-mul negative floor millionth ∙ ap (signed negative) (sym whole)
-
   between : (n d part : ℕ) → n * d ≡ floor * d + part → 0 < part → part < d → ⊥
   between n d part e some below = ⊎_elim (λ l. let p = mul-le-mul_right d l in omega arith) (λ l. let p : (floor + 1) * d ≤ n * d = mul-le-mul_right d l in omega arith) (order n floor)
 

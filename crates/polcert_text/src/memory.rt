@@ -1,5 +1,5 @@
 //! Devices over memory.
-ghost use Rattle.std.specs.Prelude.{◌≡◌, ◌≤◌, ℕ, List, Option, [], length, take};
+ghost use Rattle.std.specs.Prelude.{◌≡◌, ◌≤◌, length, take};
 ghost use Rattle.polcert_text.specs.Memory.{ReadsSlice, WritesSlice};
 
 use crate::{Sink, SinkFailed, Source, SourceFailed};

@@ -2,7 +2,7 @@
 ghost use Rattle.std.specs.Prelude.{◌≡◌, ◌+◌, ◌-◌, ◌*◌, ◌^◌, length, take, drop, if◌then◌else◌, ◌≤◌, ◌++◌, ◌∷◌, [], ℕ, List, MatchResult, IfOk, IfErr, min, true};
 ghost use Rattle.std.specs.List.{list_all, list_any};
 ghost use Rattle.std.specs.Str.Parse.{digits_value};
-ghost use Rattle.polcert_text.specs.Bytes.{is_digit, is_point, is_exponent_mark};
+ghost use Rattle.polcert_text.specs.Bytes.{is_digit};
 ghost use Rattle.polcert_text.specs.Lexemes.{before, after, is_numeral};
 ghost use Rattle.polcert_text.specs.Numbers.{whole_of, fraction_of, exponent_of, is_lowering, without_sign, largest, signed, IsExact, IsFloor, IsReadable, IsRefused, IsRefusedExactly};
 ghost use Rattle.polcert_text.specs.Scaling.{separates, cap, is_nonzero, IsScaled, Measures, ceiling};

@@ -1,5 +1,5 @@
 //! Sinks, and how a text is written whole.
-ghost use Rattle.std.specs.Prelude.{◌≡◌, ◌<◌, ◌≤◌, ◌++◌, ℕ, List, Option, Some, length, IfOk};
+ghost use Rattle.std.specs.Prelude.{◌<◌, ◌≤◌, ℕ, List, Option, length, IfOk};
 ghost use Rattle.polcert_text.specs.Device.{CountsFailures, moved};
 ghost use Rattle.polcert_text.specs.Sink.{WritesText};
 

@@ -1,5 +1,5 @@
 //! Sources, and how one is read whole.
-ghost use Rattle.std.specs.Prelude.{◌≡◌, ◌≢◌, ◌+◌, ◌-◌, ◌^◌, ◌<◌, ◌≤◌, ℕ, List, Option, Some, length, IfOk, OnOk, OnErr, IsErrOf};
+ghost use Rattle.std.specs.Prelude.{◌≡◌, ◌≢◌, ◌+◌, ◌-◌, ◌^◌, ◌<◌, ◌≤◌, ℕ, List, Option, length, IfOk, IsErrOf};
 ghost use Rattle.polcert_text.specs.Device.{HasFailed, CountsFailures, moved};
 ghost use Rattle.polcert_text.specs.Source.{Gives, GivesThenFails, IsText};
 

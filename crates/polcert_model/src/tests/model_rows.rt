@@ -1,6 +1,6 @@
 //! Texts that are accepted, and their cells.
-use crate::{ModelFault, Table, read_model};
-use std::test::Fail;
+use crate::tests::numbers::{Number, read_is_cost, read_number, refusal};
+use crate::{ModelFault, Table};
 
 const FIRST: &[u8] = b"discount: 0.95
 values: reward
@@ -17,56 +17,82 @@ R: 0 : 0 : 0 : 0 -1
 ";
 
 #[test]
-fn the_first_text(rt: HostRuntime) -> Result<(), Fail> {
-    let model = read_model(rt.alloc(), FIRST)?;
-    assert_eq!(rt; model.states(), 2);
-    assert_eq!(rt; model.actions(), 1);
-    assert_eq!(rt; model.observations(), 2);
-    assert_eq!(rt; model.discount(), 950_000);
-    assert!(rt; !model.is_cost());
-    assert_eq!(rt; model.o(0, 0, 1), 300_000);
-    assert_eq!(rt; model.r(0, 0, 0, 0), -1_000_000);
-    assert_eq!(rt; model.r(0, 0, 1, 0), 0);
-    Ok(())
+fn the_first_text(rt: HostRuntime) {
+    let numbers = [
+        (Number::States, 2),
+        (Number::Actions, 1),
+        (Number::Observations, 2),
+        (Number::Discount, 950_000),
+        (Number::O(0, 0, 1), 300_000),
+        (Number::R(0, 0, 0, 0), -1_000_000),
+        (Number::R(0, 0, 1, 0), 0),
+    ];
+    for (number, value) in numbers {
+        assert_eq!(rt;
+            read_number(rt.alloc(), FIRST, number),
+            Some(value),
+            "{number:?}"
+        );
+    }
+    assert_eq!(rt; read_is_cost(rt.alloc(), FIRST), Some(false));
 }
 
+const UNIFORM: &[u8] =
+    b"discount: 1 values: reward states: 3 actions: 1 observations: 1 T: 0 identity O: 0 uniform T: 0 uniform";
+
 #[test]
-fn a_uniform_table(rt: HostRuntime) -> Result<(), Fail> {
-    let model = read_model(
-        rt.alloc(),
-        b"discount: 1 values: reward states: 3 actions: 1 observations: 1 T: 0 identity O: 0 uniform T: 0 uniform",
-    )?;
-    assert_eq!(rt; model.states(), 3);
-    assert_eq!(rt; model.actions(), 1);
-    assert_eq!(rt; model.t_scale(), 3_000_000);
+fn a_uniform_table(rt: HostRuntime) {
+    let numbers = [
+        (Number::States, 3),
+        (Number::Actions, 1),
+        (Number::TScale, 3_000_000),
+    ];
+    for (number, value) in numbers {
+        assert_eq!(rt;
+            read_number(rt.alloc(), UNIFORM, number),
+            Some(value),
+            "{number:?}"
+        );
+    }
     for s in 0..3 {
         for e in 0..3 {
-            assert_eq!(rt; model.t(0, s, e), 1_000_000);
+            assert_eq!(rt;
+                read_number(rt.alloc(), UNIFORM, Number::T(0, s, e)),
+                Some(1_000_000)
+            );
         }
     }
-    Ok(())
 }
 
+const SINGLE: &[u8] =
+    b"discount: 1 values: reward states: 6 actions: 1 observations: 1 T: 0 identity O: 0 uniform T: 0 : 0 uniform T: 0 : 0 : 0 0.5 T: 0 : 0 : 1 0 T: 0 : 0 : 2 0 T: 0 : 0 : 0 0.5";
+
 #[test]
-fn single_cells_behind_a_uniform_row(rt: HostRuntime) -> Result<(), Fail> {
-    let model = read_model(
-        rt.alloc(),
-        b"discount: 1 values: reward states: 6 actions: 1 observations: 1 T: 0 identity O: 0 uniform T: 0 : 0 uniform T: 0 : 0 : 0 0.5 T: 0 : 0 : 1 0 T: 0 : 0 : 2 0 T: 0 : 0 : 0 0.5",
-    )?;
-    assert_eq!(rt; model.states(), 6);
-    assert_eq!(rt; model.actions(), 1);
-    assert_eq!(rt; model.t_scale(), 6_000_000);
-    let row = [3_000_000, 0, 0, 1_000_000, 1_000_000, 1_000_000];
-    for e in 0..6 {
-        assert_eq!(rt; model.t(0, 0, e), row[e]);
+fn single_cells_behind_a_uniform_row(rt: HostRuntime) {
+    let numbers = [
+        (Number::States, 6),
+        (Number::Actions, 1),
+        (Number::TScale, 6_000_000),
+        (Number::T(0, 0, 0), 3_000_000),
+        (Number::T(0, 0, 1), 0),
+        (Number::T(0, 0, 2), 0),
+        (Number::T(0, 0, 3), 1_000_000),
+        (Number::T(0, 0, 4), 1_000_000),
+        (Number::T(0, 0, 5), 1_000_000),
+        (Number::T(0, 5, 5), 6_000_000),
+        (Number::T(0, 5, 4), 0),
+    ];
+    for (number, value) in numbers {
+        assert_eq!(rt;
+            read_number(rt.alloc(), SINGLE, number),
+            Some(value),
+            "{number:?}"
+        );
     }
-    assert_eq!(rt; model.t(0, 5, 5), 6_000_000);
-    assert_eq!(rt; model.t(0, 5, 4), 0);
-    Ok(())
 }
 
 #[test]
-fn the_last_of_two_rewards(rt: HostRuntime) -> Result<(), Fail> {
+fn the_last_of_two_rewards(rt: HostRuntime) {
     let texts = [
         (
             b"discount: 1 values: reward states: 2 actions: 1 observations: 1 T: 0 identity O: 0 uniform R: * : * : * : * -1 R: 0 : 0 : 0 : 0 5".as_slice(),
@@ -78,43 +104,53 @@ fn the_last_of_two_rewards(rt: HostRuntime) -> Result<(), Fail> {
         ),
     ];
     for (text, first) in texts {
-        let model = read_model(rt.alloc(), text)?;
-        assert_eq!(rt; model.states(), 2);
-        assert_eq!(rt; model.actions(), 1);
-        assert_eq!(rt; model.observations(), 1);
-        assert_eq!(rt; model.r(0, 0, 0, 0), first);
-        assert_eq!(rt; model.r(0, 0, 1, 0), -1_000_000);
-        assert_eq!(rt; model.r(0, 1, 0, 0), -1_000_000);
-        assert_eq!(rt; model.r(0, 1, 1, 0), -1_000_000);
+        let numbers = [
+            (Number::States, 2),
+            (Number::Actions, 1),
+            (Number::Observations, 1),
+            (Number::R(0, 0, 0, 0), first),
+            (Number::R(0, 0, 1, 0), -1_000_000),
+            (Number::R(0, 1, 0, 0), -1_000_000),
+            (Number::R(0, 1, 1, 0), -1_000_000),
+        ];
+        for (number, value) in numbers {
+            assert_eq!(rt;
+                read_number(rt.alloc(), text, number),
+                Some(value),
+                "{number:?}"
+            );
+        }
     }
-    Ok(())
 }
 
-#[test]
-fn rewards_by_four_patterns(rt: HostRuntime) -> Result<(), Fail> {
-    let model = read_model(
-        rt.alloc(),
-        b"discount: 1 values: reward states: 2 actions: 1 observations: 2 T: 0 identity O: 0 uniform R: 0 : 0 1 2 3 4 R: * : * : 1 5 6 R: 0 : * : * : 0 7 R: 0 : 0 : 1 : 1 8",
-    )?;
-    assert_eq!(rt; model.states(), 2);
-    assert_eq!(rt; model.actions(), 1);
-    assert_eq!(rt; model.observations(), 2);
-    assert_eq!(rt; model.r(0, 0, 0, 0), 7_000_000);
-    assert_eq!(rt; model.r(0, 0, 0, 1), 2_000_000);
-    assert_eq!(rt; model.r(0, 0, 1, 0), 7_000_000);
-    assert_eq!(rt; model.r(0, 0, 1, 1), 8_000_000);
-    assert_eq!(rt; model.r(0, 1, 0, 0), 7_000_000);
-    assert_eq!(rt; model.r(0, 1, 0, 1), 0);
-    assert_eq!(rt; model.r(0, 1, 1, 0), 7_000_000);
-    assert_eq!(rt; model.r(0, 1, 1, 1), 6_000_000);
-    Ok(())
-}
+const PATTERNS: &[u8] =
+    b"discount: 1 values: reward states: 2 actions: 1 observations: 2 T: 0 identity O: 0 uniform R: 0 : 0 1 2 3 4 R: * : * : 1 5 6 R: 0 : * : * : 0 7 R: 0 : 0 : 1 : 1 8";
 
 #[test]
-fn a_cost_is_a_reward_below_zero(rt: HostRuntime) -> Result<(), Fail> {
-    let model = read_model(
-        rt.alloc(),
-        b"discount: 0.95
+fn rewards_by_four_patterns(rt: HostRuntime) {
+    let numbers = [
+        (Number::States, 2),
+        (Number::Actions, 1),
+        (Number::Observations, 2),
+        (Number::R(0, 0, 0, 0), 7_000_000),
+        (Number::R(0, 0, 0, 1), 2_000_000),
+        (Number::R(0, 0, 1, 0), 7_000_000),
+        (Number::R(0, 0, 1, 1), 8_000_000),
+        (Number::R(0, 1, 0, 0), 7_000_000),
+        (Number::R(0, 1, 0, 1), 0),
+        (Number::R(0, 1, 1, 0), 7_000_000),
+        (Number::R(0, 1, 1, 1), 6_000_000),
+    ];
+    for (number, value) in numbers {
+        assert_eq!(rt;
+            read_number(rt.alloc(), PATTERNS, number),
+            Some(value),
+            "{number:?}"
+        );
+    }
+}
+
+const COST: &[u8] = b"discount: 0.95
 values: cost
 states: 2
 actions: 1
@@ -126,47 +162,71 @@ O: 0
 0.85 0.15
 0.15 0.85
 R: 0 : 0 : 0 : 0 -1
-",
-    )?;
-    assert_eq!(rt; model.states(), 2);
-    assert_eq!(rt; model.actions(), 1);
-    assert_eq!(rt; model.observations(), 2);
-    assert!(rt; model.is_cost());
-    assert_eq!(rt; model.r(0, 0, 0, 0), 1_000_000);
-    assert_eq!(rt; model.r(0, 0, 0, 1), 0);
-    Ok(())
+";
+
+#[test]
+fn a_cost_is_a_reward_below_zero(rt: HostRuntime) {
+    let numbers = [
+        (Number::States, 2),
+        (Number::Actions, 1),
+        (Number::Observations, 2),
+        (Number::R(0, 0, 0, 0), 1_000_000),
+        (Number::R(0, 0, 0, 1), 0),
+    ];
+    for (number, value) in numbers {
+        assert_eq!(rt;
+            read_number(rt.alloc(), COST, number),
+            Some(value),
+            "{number:?}"
+        );
+    }
+    assert_eq!(rt; read_is_cost(rt.alloc(), COST), Some(true));
 }
 
 #[test]
-fn all_states_alike_without_a_start(rt: HostRuntime) -> Result<(), Fail> {
-    let model = read_model(rt.alloc(), FIRST)?;
-    assert_eq!(rt; model.states(), 2);
-    assert_eq!(rt; model.start_weight(0), 1);
-    assert_eq!(rt; model.start_weight(1), 1);
-    assert_eq!(rt; model.start_total(), 2);
-    Ok(())
+fn all_states_alike_without_a_start(rt: HostRuntime) {
+    let numbers = [
+        (Number::States, 2),
+        (Number::StartWeight(0), 1),
+        (Number::StartWeight(1), 1),
+        (Number::StartTotal, 2),
+    ];
+    for (number, value) in numbers {
+        assert_eq!(rt;
+            read_number(rt.alloc(), FIRST, number),
+            Some(value),
+            "{number:?}"
+        );
+    }
 }
+
+const MATRICES: &[u8] =
+    b"discount: 1 values: reward states: 2 actions: 2 observations: 1 T: 0 0.25 0.75 1 0 T: 1 identity O: * uniform";
 
 /// A matrix is read row by row, and `identity` is 1 where both states are the same.
 #[test]
-fn matrices_and_identity(rt: HostRuntime) -> Result<(), Fail> {
-    let model = read_model(
-        rt.alloc(),
-        b"discount: 1 values: reward states: 2 actions: 2 observations: 1 T: 0 0.25 0.75 1 0 T: 1 identity O: * uniform",
-    )?;
-    assert_eq!(rt; model.states(), 2);
-    assert_eq!(rt; model.actions(), 2);
-    assert_eq!(rt; model.observations(), 1);
-    assert_eq!(rt; model.t(0, 0, 0), 500_000);
-    assert_eq!(rt; model.t(0, 0, 1), 1_500_000);
-    assert_eq!(rt; model.t(0, 1, 0), 2_000_000);
-    assert_eq!(rt; model.t(0, 1, 1), 0);
-    assert_eq!(rt; model.t(1, 0, 0), 2_000_000);
-    assert_eq!(rt; model.t(1, 0, 1), 0);
-    assert_eq!(rt; model.t(1, 1, 1), 2_000_000);
-    assert_eq!(rt; model.o(1, 1, 0), 1_000_000);
-    assert_eq!(rt; model.o_scale(), 1_000_000);
-    Ok(())
+fn matrices_and_identity(rt: HostRuntime) {
+    let numbers = [
+        (Number::States, 2),
+        (Number::Actions, 2),
+        (Number::Observations, 1),
+        (Number::T(0, 0, 0), 500_000),
+        (Number::T(0, 0, 1), 1_500_000),
+        (Number::T(0, 1, 0), 2_000_000),
+        (Number::T(0, 1, 1), 0),
+        (Number::T(1, 0, 0), 2_000_000),
+        (Number::T(1, 0, 1), 0),
+        (Number::T(1, 1, 1), 2_000_000),
+        (Number::O(1, 1, 0), 1_000_000),
+        (Number::OScale, 1_000_000),
+    ];
+    for (number, value) in numbers {
+        assert_eq!(rt;
+            read_number(rt.alloc(), MATRICES, number),
+            Some(value),
+            "{number:?}"
+        );
+    }
 }
 
 /// The rows of T are tested before those of O, by action and then by state.
@@ -193,9 +253,7 @@ fn the_first_wrong_row(rt: HostRuntime) {
         ),
     ];
     for (text, table, action, row) in rows {
-        match read_model(rt.alloc(), text) {
-            Ok(_) => panic!(rt; "a row that does not sum"),
-            Err(fault) => assert_eq!(rt; fault, ModelFault::RowSum { table, action, row }),
-        }
+        let fault = ModelFault::RowSum { table, action, row };
+        assert_eq!(rt; refusal(rt.alloc(), text), Some(fault));
     }
 }

@@ -1,6 +1,6 @@
 //! Names and start items: texts that are accepted, and what they say.
+use crate::tests::numbers::{Number, is_named, read_is_cost, read_number};
 use crate::{Kind, ModelFault, read_model};
-use std::test::Fail;
 
 const TIGER: &[u8] = b"discount: 0.95
 values: reward
@@ -27,68 +27,93 @@ R: open-right : tiger-left : * : * 10
 R: open-right : tiger-right : * : * -100
 ";
 
-#[test]
-fn the_tiger_problem(rt: HostRuntime) -> Result<(), Fail> {
-    let model = read_model(rt.alloc(), TIGER)?;
-    assert_eq!(rt; model.states(), 2);
-    assert_eq!(rt; model.actions(), 3);
-    assert_eq!(rt; model.observations(), 2);
-    assert_eq!(rt; model.discount(), 950_000);
-    assert!(rt; !model.is_cost());
-    assert_eq!(rt; model.t(1, 0, 1), 1_000_000);
-    assert_eq!(rt; model.t_scale(), 2_000_000);
-    assert_eq!(rt; model.o(0, 1, 1), 1_700_000);
-    assert_eq!(rt; model.o_scale(), 2_000_000);
-    assert_eq!(rt; model.r(1, 1, 0, 0), 10_000_000);
-    assert_eq!(rt; model.r(0, 0, 0, 0), -1_000_000);
-    assert_eq!(rt; model.r(2, 1, 1, 1), -100_000_000);
-    assert_eq!(rt; model.start_weight(0), 1);
-    assert_eq!(rt; model.start_weight(1), 1);
-    assert_eq!(rt; model.start_total(), 2);
-    Ok(())
-}
-
-#[test]
-fn names_by_their_numbers(rt: HostRuntime) -> Result<(), Fail> {
-    let model = read_model(rt.alloc(), TIGER)?;
-    assert_eq!(rt; model.states(), 2);
-    assert_eq!(rt; model.actions(), 3);
-    assert_eq!(rt; model.observations(), 2);
-    assert_eq!(rt; model.name_of(Kind::State, 1), Some("tiger-right"));
-    assert_eq!(rt; model.name_of(Kind::Action, 0), Some("listen"));
-    assert_eq!(rt; model.name_of(Kind::Action, 2), Some("open-right"));
-    assert_eq!(rt; model.name_of(Kind::Observation, 0), Some("tiger-left"));
-    let counted = read_model(
-        rt.alloc(),
-        b"discount: 1 values: reward states: 2 actions: wait observations: 1 T: wait identity O: 00 uniform",
-    )?;
-    assert_eq!(rt; counted.states(), 2);
-    assert_eq!(rt; counted.actions(), 1);
-    assert_eq!(rt; counted.name_of(Kind::State, 0), None);
-    assert_eq!(rt; counted.name_of(Kind::Action, 0), Some("wait"));
-    Ok(())
-}
+const COUNTED: &[u8] =
+    b"discount: 1 values: reward states: 2 actions: wait observations: 1 T: wait identity O: 00 uniform";
 
 /// One name for a state and an observation, names that differ in case, an element by its number with leading zeros.
+const NAMES: &[u8] =
+    b"discount: 1 values: reward states: a A actions: A observations: A a T: A identity O: A : 01 : A 0.25 O: A : 1 : a 0.75 O: 0 : a uniform";
+
 #[test]
-fn names_of_three_kinds(rt: HostRuntime) -> Result<(), Fail> {
-    let model = read_model(
-        rt.alloc(),
-        b"discount: 1 values: reward states: a A actions: A observations: A a T: A identity O: A : 01 : A 0.25 O: A : 1 : a 0.75 O: 0 : a uniform",
-    )?;
-    assert_eq!(rt; model.states(), 2);
-    assert_eq!(rt; model.actions(), 1);
-    assert_eq!(rt; model.observations(), 2);
-    assert_eq!(rt; model.o(0, 1, 0), 500_000);
-    assert_eq!(rt; model.o(0, 1, 1), 1_500_000);
-    assert_eq!(rt; model.o(0, 0, 0), 1_000_000);
-    assert_eq!(rt; model.name_of(Kind::State, 1), Some("A"));
-    assert_eq!(rt; model.name_of(Kind::Observation, 1), Some("a"));
-    Ok(())
+fn the_tiger_problem(rt: HostRuntime) {
+    let numbers = [
+        (Number::States, 2),
+        (Number::Actions, 3),
+        (Number::Observations, 2),
+        (Number::Discount, 950_000),
+        (Number::T(1, 0, 1), 1_000_000),
+        (Number::TScale, 2_000_000),
+        (Number::O(0, 1, 1), 1_700_000),
+        (Number::OScale, 2_000_000),
+        (Number::R(1, 1, 0, 0), 10_000_000),
+        (Number::R(0, 0, 0, 0), -1_000_000),
+        (Number::R(2, 1, 1, 1), -100_000_000),
+        (Number::StartWeight(0), 1),
+        (Number::StartWeight(1), 1),
+        (Number::StartTotal, 2),
+    ];
+    for (number, value) in numbers {
+        assert_eq!(rt;
+            read_number(rt.alloc(), TIGER, number),
+            Some(value),
+            "{number:?}"
+        );
+    }
+    assert_eq!(rt; read_is_cost(rt.alloc(), TIGER), Some(false));
 }
 
 #[test]
-fn starts_of_two_states(rt: HostRuntime) -> Result<(), Fail> {
+fn names_by_their_numbers(rt: HostRuntime) {
+    let numbers = [
+        (TIGER, Number::States, 2),
+        (TIGER, Number::Actions, 3),
+        (TIGER, Number::Observations, 2),
+        (COUNTED, Number::States, 2),
+        (COUNTED, Number::Actions, 1),
+    ];
+    for (text, number, value) in numbers {
+        assert_eq!(rt;
+            read_number(rt.alloc(), text, number),
+            Some(value),
+            "{number:?}"
+        );
+    }
+    let names = [
+        (TIGER, Kind::State, 1, Some("tiger-right")),
+        (TIGER, Kind::Action, 0, Some("listen")),
+        (TIGER, Kind::Action, 2, Some("open-right")),
+        (TIGER, Kind::Observation, 0, Some("tiger-left")),
+        (COUNTED, Kind::State, 0, None),
+        (COUNTED, Kind::Action, 0, Some("wait")),
+    ];
+    for (text, kind, index, name) in names {
+        assert!(rt; is_named(rt.alloc(), text, kind, index, name), "{name:?}");
+    }
+}
+
+#[test]
+fn names_of_three_kinds(rt: HostRuntime) {
+    let numbers = [
+        (Number::States, 2),
+        (Number::Actions, 1),
+        (Number::Observations, 2),
+        (Number::O(0, 1, 0), 500_000),
+        (Number::O(0, 1, 1), 1_500_000),
+        (Number::O(0, 0, 0), 1_000_000),
+    ];
+    for (number, value) in numbers {
+        assert_eq!(rt;
+            read_number(rt.alloc(), NAMES, number),
+            Some(value),
+            "{number:?}"
+        );
+    }
+    assert!(rt; is_named(rt.alloc(), NAMES, Kind::State, 1, Some("A")));
+    assert!(rt; is_named(rt.alloc(), NAMES, Kind::Observation, 1, Some("a")));
+}
+
+#[test]
+fn starts_of_two_states(rt: HostRuntime) {
     let rows = [
         (
             b"discount: 1 values: reward states: a b actions: 1 observations: 1 T: 0 identity O: 0 uniform".as_slice(),
@@ -167,33 +192,39 @@ fn starts_of_two_states(rt: HostRuntime) -> Result<(), Fail> {
         ),
     ];
     for (text, weights, total) in rows {
-        let model = read_model(rt.alloc(), text)?;
-        assert_eq!(rt; model.states(), 2);
-        assert_eq!(rt; model.start_weight(0), weights[0]);
-        assert_eq!(rt; model.start_weight(1), weights[1]);
-        assert_eq!(rt; model.start_total(), total);
+        assert_eq!(rt; read_number(rt.alloc(), text, Number::States), Some(2));
+        for (state, weight) in weights.into_iter().enumerate() {
+            assert_eq!(rt;
+                read_number(rt.alloc(), text, Number::StartWeight(state)),
+                Some(weight)
+            );
+        }
+        assert_eq!(rt;
+            read_number(rt.alloc(), text, Number::StartTotal),
+            Some(total)
+        );
     }
-    Ok(())
 }
 
 #[test]
-fn starts_of_one_state(rt: HostRuntime) -> Result<(), Fail> {
+fn starts_of_one_state(rt: HostRuntime) {
     let texts = [
         b"discount: 1 values: reward states: 1 actions: 1 observations: 1 start: 0 T: 0 identity O: 0 uniform".as_slice(),
         b"discount: 1 values: reward states: 1 actions: 1 observations: 1 start: 1 T: 0 identity O: 0 uniform".as_slice(),
         b"discount: 1 values: reward states: 1 actions: 1 observations: 1 start: 1.0 T: 0 identity O: 0 uniform".as_slice(),
     ];
     for text in texts {
-        let model = read_model(rt.alloc(), text)?;
-        assert_eq!(rt; model.states(), 1);
-        assert_eq!(rt; model.start_weight(0), 1);
-        assert_eq!(rt; model.start_total(), 1);
+        assert_eq!(rt; read_number(rt.alloc(), text, Number::States), Some(1));
+        assert_eq!(rt;
+            read_number(rt.alloc(), text, Number::StartWeight(0)),
+            Some(1)
+        );
+        assert_eq!(rt; read_number(rt.alloc(), text, Number::StartTotal), Some(1));
     }
-    Ok(())
 }
 
 #[test]
-fn starts_of_three_states(rt: HostRuntime) -> Result<(), Fail> {
+fn starts_of_three_states(rt: HostRuntime) {
     let rows = [
         (
             b"discount: 1 values: reward states: 3 actions: 1 observations: 1 start: 0.5 0.5 0 T: 0 identity O: 0 uniform".as_slice(),
@@ -207,19 +238,23 @@ fn starts_of_three_states(rt: HostRuntime) -> Result<(), Fail> {
         ),
     ];
     for (text, weights, total) in rows {
-        let model = read_model(rt.alloc(), text)?;
-        assert_eq!(rt; model.states(), 3);
-        assert_eq!(rt; model.start_weight(0), weights[0]);
-        assert_eq!(rt; model.start_weight(1), weights[1]);
-        assert_eq!(rt; model.start_weight(2), weights[2]);
-        assert_eq!(rt; model.start_total(), total);
+        assert_eq!(rt; read_number(rt.alloc(), text, Number::States), Some(3));
+        for (state, weight) in weights.into_iter().enumerate() {
+            assert_eq!(rt;
+                read_number(rt.alloc(), text, Number::StartWeight(state)),
+                Some(weight)
+            );
+        }
+        assert_eq!(rt;
+            read_number(rt.alloc(), text, Number::StartTotal),
+            Some(total)
+        );
     }
-    Ok(())
 }
 
 /// Shares of 1 where all probabilities above 0 are the same, and else the millionths.
 #[test]
-fn starts_of_four_states(rt: HostRuntime) -> Result<(), Fail> {
+fn starts_of_four_states(rt: HostRuntime) {
     let rows = [
         (
             b"discount: 1 values: reward states: 4 actions: 1 observations: 1 start: 0 0.5 0.5 0 T: 0 identity O: 0 uniform".as_slice(),
@@ -248,14 +283,18 @@ fn starts_of_four_states(rt: HostRuntime) -> Result<(), Fail> {
         ),
     ];
     for (text, weights, total) in rows {
-        let model = read_model(rt.alloc(), text)?;
-        assert_eq!(rt; model.states(), 4);
-        for s in 0..4 {
-            assert_eq!(rt; model.start_weight(s), weights[s]);
+        assert_eq!(rt; read_number(rt.alloc(), text, Number::States), Some(4));
+        for (state, weight) in weights.into_iter().enumerate() {
+            assert_eq!(rt;
+                read_number(rt.alloc(), text, Number::StartWeight(state)),
+                Some(weight)
+            );
         }
-        assert_eq!(rt; model.start_total(), total);
+        assert_eq!(rt;
+            read_number(rt.alloc(), text, Number::StartTotal),
+            Some(total)
+        );
     }
-    Ok(())
 }
 
 /// Where a growth of memory is refused, want of memory is answered, and nothing else.

@@ -1,5 +1,6 @@
 //! Texts that are refused, and where.
-use crate::{ItemFault, ModelFault, Table, read_model};
+use crate::tests::numbers::refusal;
+use crate::{ItemFault, ModelFault, Table};
 use polcert_text::{NumberFault, TokenFault};
 
 #[test]
@@ -100,10 +101,12 @@ fn refused_items(rt: HostRuntime) {
         ),
     ];
     for (text, kind, item, place) in rows {
-        match read_model(rt.alloc(), text) {
-            Ok(_) => panic!(rt; "item {item} at {place}"),
-            Err(fault) => assert_eq!(rt; fault, ModelFault::Item { kind, item, place }),
-        }
+        let fault = ModelFault::Item { kind, item, place };
+        assert_eq!(rt;
+            refusal(rt.alloc(), text),
+            Some(fault),
+            "item {item} at {place}"
+        );
     }
 }
 
@@ -111,15 +114,10 @@ fn refused_items(rt: HostRuntime) {
 fn refused_rows(rt: HostRuntime) {
     let text =
         b"discount: 1 values: reward states: 3 actions: 1 observations: 1 T: 0 identity O: 0 uniform T: 0 : 0 0.333333 0.333333 0.333333";
-    match read_model(rt.alloc(), text) {
-        Ok(_) => panic!(rt; "a row that does not sum"),
-        Err(fault) => assert_eq!(rt;
-            fault,
-            ModelFault::RowSum {
-                table: Table::Transition,
-                action: 0,
-                row: 0
-            }
-        ),
-    }
+    let fault = ModelFault::RowSum {
+        table: Table::Transition,
+        action: 0,
+        row: 0,
+    };
+    assert_eq!(rt; refusal(rt.alloc(), text), Some(fault));
 }

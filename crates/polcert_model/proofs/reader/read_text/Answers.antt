@@ -2,10 +2,11 @@ use Rattle.std.proofs.Common.{◌≡◌, ◌∙◌, ◌≤◌, ◌++◌, ◌∷�
 use Rattle.std.proofs.lemmas.Result.{err_from_is_err_and}
 use Rattle.polcert_text.specs.Cut.{Rest, text_rest, end_place}
 use Rattle.polcert_text.specs.Reading.{lexeme_of}
-use Rattle.polcert_model.specs.Fronts.{Taken, nothing, token}
+use Rattle.polcert_text.specs.TakenTokens.{Taken, nothing, token}
+use Rattle.polcert_text.proofs.TakenTokens.{all_taken}
 use Rattle.polcert_model.specs.Text.{most_bytes}
 use Rattle.polcert_model.specs.TextSteps.{Refuses}
-use Rattle.polcert_model.proofs.FrontLaws.{taken_end, shorter, tokens_begin, all_taken, these_tokens, text_is_short}
+use Rattle.polcert_model.proofs.FrontLaws.{taken_end, shorter, tokens_begin, these_tokens, text_is_short}
 use Rattle.polcert_model.proofs.TokenTexts.{token_is_text}
 use Rattle.polcert_model.proofs.RefusingEnds.{fault_refused}
 use Rattle.polcert_model.proofs.WholeTexts.{read_to_end, refused_at_text_end}
@@ -50,18 +51,18 @@ pub returns-in-Err-clause-refused : goal.returns-in-Err-clause-refused
 returns-in-Err-clause-refused c = λ ts tokens.
     let was = c.loop-next.invariant.seen in
     let gives = rw c.in-Err.is at c.in-Some.ensures in
-    let these = these_tokens c.args.text.now was.0 (Some c.in-Err.fault) ts (all_taken c.args.text.now _ was.0 (Some c.in-Err.fault) was.1 gives.0) tokens in
+    let these = these_tokens c.args.text.now was.0 (Some c.in-Err.fault) ts (all_taken _ _ was.0 (Some c.in-Err.fault) was.1 gives.0) tokens in
     subst (Refuses ts) (sym c.token_fault.ensures) (fault_refused was.0 c.loop-next.reader c.in-Err.fault was.2 c.args.text.now ts tokens these.0 these.1)
 
 pub returns-clause-read : goal.returns-clause-read
 returns-clause-read c =
     let was = c.loop-next.invariant.seen in
     let gives = rw c.in_default.is at c.next_token.ensures in
-    read_to_end c.args.text.now c.finish.result was.0 c.end.result (all_taken c.args.text.now _ was.0 None was.1 gives.0) (c.finish.ensures was.0 was.2)
+    read_to_end c.args.text.now c.finish.result was.0 c.end.result (all_taken _ _ was.0 None was.1 gives.0) (c.finish.ensures was.0 was.2)
 
 pub returns-clause-refused : goal.returns-clause-refused
 returns-clause-refused c =
     let was = c.loop-next.invariant.seen in
     let gives = rw c.in_default.is at c.next_token.ensures in
     let stop : end_place (text_rest c.args.text.now most_bytes) ≡ c.end.result = sym (taken_end _ _ was.0 was.1) ∙ ap end_place (sym gives.1) ∙ sym c.end.ensures in
-    refused_at_text_end c.args.text.now c.finish.result was.0 c.end.result (all_taken c.args.text.now _ was.0 None was.1 gives.0) stop (c.finish.ensures was.0 was.2)
+    refused_at_text_end c.args.text.now c.finish.result was.0 c.end.result (all_taken _ _ was.0 None was.1 gives.0) stop (c.finish.ensures was.0 was.2)

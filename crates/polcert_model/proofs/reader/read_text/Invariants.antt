@@ -1,6 +1,6 @@
 use Rattle.std.proofs.Common.{List, length, ◌+◌, ◌≤◌}
 use Rattle.polcert_text.specs.Cut.{Lexeme, text_rest}
-use Rattle.polcert_model.specs.Fronts.{Taken}
+use Rattle.polcert_text.specs.TakenTokens.{Taken}
 use Rattle.polcert_model.specs.Text.{most_bytes}
 use Rattle.polcert_model.specs.TextSteps.{IsTextRead}
 use Rattle.polcert_model.proofs.reader.read_text.Given as goal

@@ -2,13 +2,12 @@ use Rattle.std.proofs.Common.{◌≡◌, ◌∙◌, ◌++◌, ◌∷◌, [], Non
 use Rattle.std.proofs.lemmas.Result.{err_from_is_err_and}
 use Rattle.polcert_text.specs.Cut.{text_rest}
 use Rattle.polcert_text.specs.Reading.{lexeme_of}
-use Rattle.polcert_policy.specs.Fronts.{Taken}
-use Rattle.polcert_policy.specs.Fronts.Taken.{nothing, token}
+use Rattle.polcert_text.specs.TakenTokens.{Taken, nothing, token}
+use Rattle.polcert_text.proofs.TakenTokens.{all_taken}
 use Rattle.polcert_policy.specs.GraphText.{text_limit}
 use Rattle.polcert_policy.specs.Vectors.{ArePossible}
 use Rattle.polcert_policy.specs.declared.fault.VectorFault.TheVariants as faults
 use Rattle.polcert_policy.proofs.ReadLaws.{none_from_not}
-use Rattle.polcert_policy.proofs.TextLaws.{cut_here}
 use Rattle.polcert_policy.proofs.VectorReadLaws.{possible_seen}
 use Rattle.polcert_policy.proofs.VectorTextLaws.{part_refusal, no_vectors, end_accepted}
 use Rattle.polcert_policy.proofs.vectors_reader.read_vectors.Goals as goal
@@ -47,7 +46,7 @@ returns-in-Err-clause-refused c =
     let was = c.loop-next.invariant.seen in
     let gives = rw c.in-Err.is at c.in-Some.ensures in
     let r = c.loop-next.reading in
-    (was.0, cut_here _ _ was.0 _ was.1 gives.0, subst (λ o. ArePossible c.args.graph.now o was.0) c.loop-next.invariant.states (possible_seen c.args.graph.now was.0 r r.some_states was.2))
+    (was.0, all_taken _ _ was.0 _ was.1 gives.0, subst (λ o. ArePossible c.args.graph.now o was.0) c.loop-next.invariant.states (possible_seen c.args.graph.now was.0 r r.some_states was.2))
 
 pub returns-in-Err-clause-accepted : goal.returns-in-Err-clause-accepted
 returns-in-Err-clause-accepted c =
@@ -58,11 +57,11 @@ returns-clause-accepted c =
     let was = c.loop-next.invariant.seen in
     let none : c.next_token.result ≡ None = none_from_not _ c.in_default.not-Some in
     let gives = rw none at c.next_token.ensures in
-    (end_accepted _ _ _ _ was.0 _ c.loop-next.invariant.states (cut_here _ _ was.0 _ was.1 gives.0) (c.finish.ensures was.0 was.2)).0
+    (end_accepted _ _ _ _ was.0 _ c.loop-next.invariant.states (all_taken _ _ was.0 _ was.1 gives.0) (c.finish.ensures was.0 was.2)).0
 
 pub returns-clause-refused : goal.returns-clause-refused
 returns-clause-refused c =
     let was = c.loop-next.invariant.seen in
     let none : c.next_token.result ≡ None = none_from_not _ c.in_default.not-Some in
     let gives = rw none at c.next_token.ensures in
-    (end_accepted _ _ _ _ was.0 _ c.loop-next.invariant.states (cut_here _ _ was.0 _ was.1 gives.0) (c.finish.ensures was.0 was.2)).1
+    (end_accepted _ _ _ _ was.0 _ c.loop-next.invariant.states (all_taken _ _ was.0 _ was.1 gives.0) (c.finish.ensures was.0 was.2)).1

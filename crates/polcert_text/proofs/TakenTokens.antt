@@ -1,10 +1,10 @@
 -- The tokens that were taken, and the cut of the whole.
 use Rattle.std.proofs.Common.{◌≡◌, ◌∙◌, Option, List, [], ◌∷◌, ◌++◌, refl, sym, ap, subst, append_assoc}
-use Rattle.polcert_text.specs.Cut.{Lexeme, Rest, IsCut}
+use Rattle.std.proofs.lemmas.List.{append-nil}
+use Rattle.polcert_text.specs.Cut.{Lexeme, Rest, Ends, IsCut}
+use Rattle.polcert_text.specs.TakenTokens.{Taken, nothing, token}
 use Rattle.polcert_text.specs.declared.tokens.TokenFault.{TokenFault}
 use Rattle.polcert_text.proofs.TextLaws.{token_or_end, one_next_token}
-use Rattle.polcert_policy.specs.Fronts.{Taken}
-use Rattle.polcert_policy.specs.Fronts.Taken.{nothing, token}
 
 -- behind the tokens taken comes the rest's cut
 pub taken_cut : (old new : Rest) (seen ts : List Lexeme) (end : Option TokenFault) → Taken old seen new → IsCut new ts end → IsCut old (seen ++ ts) end
@@ -24,3 +24,7 @@ cut_taken old new seen all end (token _ between _ us t before takes) cut =
     at (u ∷ more) e rest =
         let next = one_next_token between t u new rest.0 takes rest.1 in
         (more, (e ∙ ap (λ x. us ++ x ∷ more) (sym next.0) ∙ sym (append_assoc us (t ∷ []) more), subst (λ r. IsCut r more end) (sym next.1) rest.2))
+
+-- where the rest holds no more tokens, the tokens taken are all
+pub all_taken : (old new : Rest) (seen : List Lexeme) (end : Option TokenFault) → Taken old seen new → Ends new end → IsCut old seen end
+all_taken old new seen end taken ends = subst (λ xs. IsCut old xs end) (append-nil seen) (taken_cut old new seen [] end taken ends)
