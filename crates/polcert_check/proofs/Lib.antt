@@ -13,7 +13,7 @@ pub mod Verdicts
 pub mod RowTotals
 pub mod Certificates
 pub mod Lowering
-pub mod Examples
+pub mod Computed
 pub mod Least
 pub mod Agreeing
 pub mod StartSums

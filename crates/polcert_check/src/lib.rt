@@ -1,6 +1,7 @@
 //! The check of a policy certificate: whether a policy graph earns what its vectors say.
 #![tactic(auto)]
 
+mod examples;
 mod fault;
 mod laws;
 mod lower;
@@ -9,6 +10,7 @@ mod shortfall;
 mod start;
 mod verdict;
 
+pub use examples::{a_missing_successor, minus_one_for_each_step, runs_of_four_steps};
 pub use fault::LowerFault;
 pub use laws::{
     one_best_start, one_list_of_runs, one_lowering, one_verdict, same_cells_same_answers,

@@ -1,6 +1,6 @@
 -- A cell has the value of the last entry that covers it.
 use Rattle.std.proofs.Common.{◌≡◌, ◌∙◌, ℕ, pos, zero, suc, ◌+◌, ◌*◌, ◌<◌, Bool, true, false, cond, ◌&&◌, ⊎_elim, length, drop, Option, Some, None, List, [], ◌∷◌, ◌++◌, reverse, mul-suc, refl, sym, ap, subst, arith}
-use Rattle.std.proofs.lemmas.List.{reverse-append, append_assoc}
+use Rattle.std.proofs.lemmas.List.{reverse-append, append_assoc, append-nil}
 use Rattle.std.specs.List.{list_any, find}
 use Rattle.polcert_model.specs.declared.entry.Table.{Table}
 use Rattle.polcert_model.specs.Preamble.{Preamble, columns, dimensions}
@@ -35,10 +35,6 @@ passed_over p (x ∷ xs) ys e =
     let both = or_false (p x) (list_any p xs) e in
     let turned : reverse (x ∷ xs) ++ ys ≡ reverse xs ++ x ∷ ys = ap (λ (l : List Entry). l ++ ys) (reverse-append (x ∷ []) xs) ∙ append_assoc (reverse xs) (x ∷ []) ys in
     ap (find p) turned ∙ passed_over p xs (x ∷ ys) both.1 ∙ ap (λ b. cond b (Some x) (find p ys)) both.0
-
-append-nil : (xs : List Entry) → xs ++ [] ≡ xs
-append-nil [] = refl
-append-nil (x ∷ xs) = ap (λ (l : List Entry). x ∷ l) (append-nil xs)
 
 last_is_found : (p : Entry → Bool) (before : List Entry) (entry : Entry) (after : List Entry) → p entry ≡ true → list_any p after ≡ false
     → find p (reverse (before ++ entry ∷ after)) ≡ Some entry

@@ -43,7 +43,3 @@ next_division seen tail f word items ys w a d =
 
 pub empty_division : IsDivided [] [] []
 empty_division = record { whole = refl; no_word = refl; each = All-nil IsItem }
-
-pub append-nil : (xs : List Lexeme) → xs ++ [] ≡ xs
-append-nil [] = refl
-append-nil (x ∷ xs) = ap (λ (l : List Lexeme). x ∷ l) (append-nil xs)

@@ -1,6 +1,6 @@
 -- The first wrong item, from the lexemes taken so far and however the text goes on.
 use Rattle.std.proofs.Common.{◌≡◌, ◌∙◌, ℕ, suc, ◌+◌, arith, length-append, true, false, Option, Some, None, List, [], ◌∷◌, ◌++◌, length, refl, sym, ap, subst}
-use Rattle.std.proofs.lemmas.List.{append_assoc}
+use Rattle.std.proofs.lemmas.List.{append_assoc, append-nil}
 use Rattle.polcert_text.specs.Cut.{Lexeme}
 use Rattle.polcert_text.specs.declared.tokens.TokenFault.{TokenFault}
 use Rattle.polcert_model.specs.Words.{Topic, topic, begins_item}
@@ -12,7 +12,7 @@ use Rattle.polcert_model.specs.FirstWrong.{TextTokens, tokens_of, IsFirstWrong, 
 use Rattle.polcert_model.proofs.Basics.{one_some, or_false_from, cons≢nil, same_head, same_tail}
 use Rattle.polcert_model.proofs.ItemLaws.{one_division, has_division}
 use Rattle.polcert_model.proofs.TextLaws.{one_right, one_known}
-use Rattle.polcert_model.proofs.Dividing.{begins, append_division, next_division, empty_division, append-nil}
+use Rattle.polcert_model.proofs.Dividing.{begins, append_division, next_division, empty_division}
 use Rattle.polcert_model.proofs.RightItems.{append_right, no_wrong_next, no_wrong_item}
 
 -- the lexemes, cut as the item is that was begun

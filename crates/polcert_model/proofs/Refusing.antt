@@ -1,7 +1,7 @@
 -- What the reader of a text refuses within an item: each refusal is of the first wrong item, lies in it, and has its
 -- reason.
 use Rattle.std.proofs.Common.{◌≡◌, ◌∙◌, ℕ, ◌+◌, ◌⊎◌, inl, inr, ⊎_elim, true, false, Bool, Option, Some, None, List, [], ◌∷◌, ◌++◌, length, refl, sym, ap, subst}
-use Rattle.std.proofs.lemmas.List.{append_assoc}
+use Rattle.std.proofs.lemmas.List.{append_assoc, append-nil}
 use Rattle.polcert_text.specs.Cut.{Lexeme}
 use Rattle.polcert_text.specs.declared.lexeme.TokenKind.TheVariants.{Numeral}
 use Rattle.polcert_model.specs.declared.fault.ItemFault.{ItemFault}
@@ -31,7 +31,7 @@ use Rattle.polcert_model.specs.TextSteps.{IsItemRead, EndsItem, IsRefusedBehind,
 use Rattle.polcert_model.specs.TextSteps as texts
 use Rattle.polcert_model.proofs.Basics.{one_some}
 use Rattle.polcert_model.proofs.ItemLaws.{has_division}
-use Rattle.polcert_model.proofs.Dividing.{next_division, empty_division, append-nil}
+use Rattle.polcert_model.proofs.Dividing.{next_division, empty_division}
 use Rattle.polcert_model.proofs.ReadLaws.{within_division}
 use Rattle.polcert_model.proofs.PlaceLaws.{Rises, tokens_rise, lies_in_item}
 use Rattle.polcert_model.proofs.DecidedLaws.{nothing_decided}

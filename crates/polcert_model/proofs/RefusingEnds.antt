@@ -1,6 +1,7 @@
 -- What the reader of a text refuses outside of a body: before the first item, at an item's word, at the end, and where
 -- the tokens end in a fault.
 use Rattle.std.proofs.Common.{◌≡◌, ◌∙◌, ℕ, ◌+◌, Bool, true, false, cond, Option, Some, None, List, [], ◌∷◌, ◌++◌, length, refl, sym, ap, subst}
+use Rattle.std.proofs.lemmas.List.{append-nil}
 use Rattle.polcert_text.specs.Cut.{Lexeme}
 use Rattle.polcert_text.specs.Reading.{fault_place}
 use Rattle.polcert_text.specs.declared.tokens.TokenFault.{TokenFault}
@@ -20,7 +21,7 @@ use Rattle.polcert_model.specs.TextSteps.{IsNothingRead, IsItemRead, IsTextRead,
 use Rattle.polcert_model.specs.TextSteps as texts
 use Rattle.polcert_model.proofs.Basics.{or_false_from, cons≢nil, some≢none}
 use Rattle.polcert_model.proofs.ItemLaws.{has_division, one_division}
-use Rattle.polcert_model.proofs.Dividing.{append_division, empty_division, append-nil}
+use Rattle.polcert_model.proofs.Dividing.{append_division, empty_division}
 use Rattle.polcert_model.proofs.OrderLaws.{wrong_at_word, not_complete, fault_at}
 use Rattle.polcert_model.proofs.PlaceLaws.{tokens_rise, fault_rises, lies_at_word, lies_before_items, lies_at_end, lies_at_fault, lies_at_once}
 use Rattle.polcert_model.proofs.DecidedLaws.{one_decided}

@@ -1,5 +1,6 @@
 -- A text's reader, step by step: what it holds behind one more lexeme, and behind an item.
 use Rattle.std.proofs.Common.{◌≡◌, ◌∙◌, ℕ, ◌+◌, false, Option, Some, None, List, [], ◌∷◌, ◌++◌, refl, sym, ap, subst, append_assoc, length-append}
+use Rattle.std.proofs.lemmas.List.{append-nil}
 use Rattle.polcert_text.specs.Cut.{Lexeme}
 use Rattle.polcert_model.specs.declared.fault.ItemFault.{ItemFault}
 use Rattle.polcert_model.specs.declared.fault.ItemFault.TheVariants.{BeforeFirstItem}
@@ -19,7 +20,7 @@ use Rattle.polcert_model.specs.ItemSteps.{ItemGoes, IsItemWithin, IsItemReason, 
 use Rattle.polcert_model.specs.KnownView.{learned}
 use Rattle.polcert_model.specs.TextSteps.{Refuses, IsTextRead, IsItemRead, IsBodyRead, AreItemsRead, IsRefusedBehind, IsRefusedAt, IsRefusedWhole, at_word, at_end, nothing, item}
 use Rattle.polcert_model.proofs.Basics.{one_some}
-use Rattle.polcert_model.proofs.Dividing.{begins, empty_division, append-nil}
+use Rattle.polcert_model.proofs.Dividing.{begins, empty_division}
 use Rattle.polcert_model.proofs.ReadLaws.{item_ends}
 use Rattle.polcert_model.proofs.TakenItems.{item_begun, item_goes_on, has_elements}
 use Rattle.polcert_model.proofs.Within.{within_goes_on, item_begins}
