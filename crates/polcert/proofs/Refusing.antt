@@ -7,12 +7,13 @@ use Rattle.polcert_text.specs.Source.{Gives, IsText, EachTextThatFits}
 use Rattle.polcert_text.specs.declared.tokens.TokenFault.{TokenFault}
 use Rattle.polcert_text.specs.declared.tokens.TokenFault.TheVariants.{TextTooLong}
 use Rattle.polcert_model.specs.declared.fault.ModelFault.{ModelFault}
+use Rattle.polcert_model.specs.declared.fault.ModelFault.TheVariants as faults
 use Rattle.polcert_model.specs.Meaning.{Meaning}
 use Rattle.polcert_model.specs.Text.{most_bytes, IsModelText}
 use Rattle.polcert_model.specs.FirstWrong.{TextTokens, AreTokensOf, tokens_of}
 use Rattle.polcert_model.specs.Refusals.{IsRefusal, IsPlacedRight, SaysOfText}
 use Rattle.polcert_model.proofs.RefusalLaws.{not_accepted}
-use Rattle.polcert.specs.Run.{IsRefused}
+use Rattle.polcert.specs.Answer.{IsRefused, IsModelFault}
 
 ends_as : (place : ℕ) (bs : List ℕ) (ending : Option TokenFault) → EndsAt place bs ending None → ending ≡ None
 ends_as place [] ending e = sym e
@@ -82,3 +83,10 @@ each_refused reads old new bytes fault whole beyond says refusal placed = elim (
     each = λ text fits. refused_with bytes text fault (ap (λ t. text_rest t most_bytes) fits) says refusal placed;
   }
 ]
+
+-- what a reader of models says of a text that it refuses
+pub model_fault : (text : List ℕ) (fault : ModelFault) → ((ts : TextTokens) → AreTokensOf text ts → IsRefusal ts fault)
+    → ((ts : TextTokens) → AreTokensOf text ts → IsPlacedRight ts fault) → IsModelFault text fault
+model_fault text (faults.Item kind item place) refusal placed = refused_with text text (faults.Item kind item place) refl tt refusal placed
+model_fault text (faults.RowSum table action row) refusal placed = refused_with text text (faults.RowSum table action row) refl tt refusal placed
+model_fault text faults.Memory refusal placed = tt

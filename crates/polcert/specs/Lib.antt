@@ -1,3 +1,5 @@
+pub mod Headline
+pub mod Answer
 pub mod Lines
 pub mod Status
 pub mod Run

@@ -1,6 +1,7 @@
 //! Reads a model from standard input, and writes the line that sums it up.
 #![tactic(auto)]
 
+mod answer;
 mod fault;
 mod lines;
 mod program;
@@ -9,6 +10,7 @@ mod runs;
 mod status;
 #[cfg(test)]
 mod tests;
+mod texts;
 
 use std::process::ExitCode;
 

@@ -1,11 +1,14 @@
 //! The line on standard error where a run stops.
 use crate::fault::{Fault, RunFault};
+use polcert_check::LowerFault;
 use polcert_model::{ItemFault, ModelFault};
+use polcert_policy::{GraphFault, VectorFault};
 use polcert_text::{NumberFault, TokenFault};
 use std::fmt;
 
 /// Why a run stopped, as the program prints it, without a line end: `model: M4 in item 8 at byte 106`. An item of a
-/// text goes by its number from 1 on, a byte by its offset, an action and a row by their numbers from 0 on.
+/// text goes by its number from 1 on, a byte by its offset, and actions, rows, nodes, states and observations by their
+/// numbers from 0 on.
 #[derive(Clone, Copy, Debug)]
 pub struct RefusalLine(pub RunFault);
 
@@ -13,8 +16,13 @@ impl fmt::Display for RefusalLine {
     fn fmt<W: fmt::Write>(&self, f: &mut fmt::Formatter<W>) -> fmt::Result {
         match self.0 {
             RunFault::Text(Fault::Model(fault)) => write!(f, "{}", ModelLine(fault)),
+            RunFault::Text(Fault::Graph(fault)) => write!(f, "{}", GraphLine(fault)),
+            RunFault::Text(Fault::Vectors(fault)) => write!(f, "{}", VectorsLine(fault)),
             RunFault::ReadModel => write!(f, "cannot read model"),
+            RunFault::ReadGraph => write!(f, "cannot read graph"),
+            RunFault::ReadVectors => write!(f, "cannot read vectors"),
             RunFault::Write => write!(f, "cannot write"),
+            RunFault::Lower(fault) => write!(f, "{}", LowerLine(fault)),
         }
     }
 }
@@ -46,6 +54,70 @@ impl fmt::Display for Codes {
             ItemFault::Token(fault) => write!(f, "M1 K{}", token_code(fault)),
             ItemFault::Number(fault) => write!(f, "M2 N{}", number_code(fault)),
             kind => write!(f, "M{}", item_code(kind)),
+        }
+    }
+}
+
+#[derive(Clone, Copy, Debug)]
+struct GraphLine(GraphFault);
+
+impl fmt::Display for GraphLine {
+    fn fmt<W: fmt::Write>(&self, f: &mut fmt::Formatter<W>) -> fmt::Result {
+        match self.0 {
+            GraphFault::Token(fault) => {
+                write!(f, "graph: G1 K{} at byte {}", token_code(fault), fault.place())
+            }
+            GraphFault::BadShape(place) => write!(f, "graph: G2 at byte {place}"),
+            GraphFault::NodeOutOfOrder(place) => write!(f, "graph: G3 at byte {place}"),
+            GraphFault::ActionOutOfRange(place) => write!(f, "graph: G4 at byte {place}"),
+            GraphFault::SuccessorOutOfRange { node, observation } => {
+                write!(f, "graph: G5 at node {node}, observation {observation}")
+            }
+            GraphFault::Truncated(place) => write!(f, "graph: G6 at byte {place}"),
+            GraphFault::NoNodes(place) => write!(f, "graph: G7 at byte {place}"),
+            GraphFault::TooManyNodes(place) => write!(f, "graph: G8 at byte {place}"),
+            GraphFault::Memory => write!(f, "out of memory"),
+        }
+    }
+}
+
+#[derive(Clone, Copy, Debug)]
+struct VectorsLine(VectorFault);
+
+impl fmt::Display for VectorsLine {
+    fn fmt<W: fmt::Write>(&self, f: &mut fmt::Formatter<W>) -> fmt::Result {
+        match self.0 {
+            VectorFault::Token(fault) => {
+                write!(f, "vectors: V1 K{} at byte {}", token_code(fault), fault.place())
+            }
+            VectorFault::Number { fault, place } => {
+                write!(f, "vectors: V2 N{} at byte {place}", number_code(fault))
+            }
+            VectorFault::BadShape(place) => write!(f, "vectors: V3 at byte {place}"),
+            VectorFault::ActionMismatch(place) => write!(f, "vectors: V4 at byte {place}"),
+            VectorFault::Truncated(place) => write!(f, "vectors: V5 at byte {place}"),
+            VectorFault::WrongVectorCount(place) => write!(f, "vectors: V6 at byte {place}"),
+            VectorFault::Memory => write!(f, "out of memory"),
+        }
+    }
+}
+
+#[derive(Clone, Copy, Debug)]
+struct LowerLine(LowerFault);
+
+impl fmt::Display for LowerLine {
+    fn fmt<W: fmt::Write>(&self, f: &mut fmt::Formatter<W>) -> fmt::Result {
+        match self.0 {
+            LowerFault::NoConstant { node, state, .. } => {
+                write!(f, "lower: L1 at node {node}, state {state}")
+            }
+            LowerFault::OutOfRange => write!(f, "lower: L2"),
+            LowerFault::NoSuccessor {
+                node,
+                state,
+                observation,
+            } => write!(f, "lower: L3 at node {node}, state {state}, observation {observation}"),
+            LowerFault::Memory => write!(f, "out of memory"),
         }
     }
 }
@@ -102,6 +174,14 @@ mod tests {
         RunFault::Text(Fault::Model(ModelFault::Item { kind, item, place }))
     }
 
+    fn graph(fault: GraphFault) -> RunFault {
+        RunFault::Text(Fault::Graph(fault))
+    }
+
+    fn vectors(fault: VectorFault) -> RunFault {
+        RunFault::Text(Fault::Vectors(fault))
+    }
+
     #[test]
     fn lines_say_where(rt: HostRuntime) -> Result<(), Fail> {
         let rows = [
@@ -133,7 +213,61 @@ mod tests {
                 RunFault::Text(Fault::Model(ModelFault::Memory)),
                 "out of memory",
             ),
+            (graph(GraphFault::BadShape(5)), "graph: G2 at byte 5"),
+            (
+                graph(GraphFault::Token(TokenFault::BadByte(6))),
+                "graph: G1 K1 at byte 6",
+            ),
+            (
+                graph(GraphFault::SuccessorOutOfRange {
+                    node: 0,
+                    observation: 1,
+                }),
+                "graph: G5 at node 0, observation 1",
+            ),
+            (graph(GraphFault::NodeOutOfOrder(8)), "graph: G3 at byte 8"),
+            (graph(GraphFault::ActionOutOfRange(2)), "graph: G4 at byte 2"),
+            (graph(GraphFault::Truncated(5)), "graph: G6 at byte 5"),
+            (graph(GraphFault::NoNodes(0)), "graph: G7 at byte 0"),
+            (graph(GraphFault::TooManyNodes(7)), "graph: G8 at byte 7"),
+            (graph(GraphFault::Memory), "out of memory"),
+            (vectors(VectorFault::Truncated(9)), "vectors: V5 at byte 9"),
+            (
+                vectors(VectorFault::Token(TokenFault::BadByte(6))),
+                "vectors: V1 K1 at byte 6",
+            ),
+            (
+                vectors(VectorFault::Number {
+                    fault: NumberFault::TooLarge,
+                    place: 6,
+                }),
+                "vectors: V2 N3 at byte 6",
+            ),
+            (vectors(VectorFault::BadShape(6)), "vectors: V3 at byte 6"),
+            (vectors(VectorFault::ActionMismatch(0)), "vectors: V4 at byte 0"),
+            (vectors(VectorFault::WrongVectorCount(10)), "vectors: V6 at byte 10"),
+            (vectors(VectorFault::Memory), "out of memory"),
+            (
+                RunFault::Lower(LowerFault::NoConstant {
+                    node: 0,
+                    state: 0,
+                    amount: 7,
+                }),
+                "lower: L1 at node 0, state 0",
+            ),
+            (RunFault::Lower(LowerFault::OutOfRange), "lower: L2"),
+            (
+                RunFault::Lower(LowerFault::NoSuccessor {
+                    node: 0,
+                    state: 0,
+                    observation: 1,
+                }),
+                "lower: L3 at node 0, state 0, observation 1",
+            ),
+            (RunFault::Lower(LowerFault::Memory), "out of memory"),
             (RunFault::ReadModel, "cannot read model"),
+            (RunFault::ReadGraph, "cannot read graph"),
+            (RunFault::ReadVectors, "cannot read vectors"),
             (RunFault::Write, "cannot write"),
         ];
         for (fault, line) in rows {

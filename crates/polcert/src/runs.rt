@@ -3,7 +3,8 @@ ghost use Rattle.std.specs.Prelude.{◌≡◌, ◌≢◌, OnOk, IsErrOf};
 ghost use Rattle.polcert_text.specs.Device.{HasFailed};
 ghost use Rattle.polcert_text.specs.Source.{EachTextThatFits};
 ghost use Rattle.polcert_model.specs.Refusals.{SaysOfText};
-ghost use Rattle.polcert.specs.Run.{SumsUp, BeginsToSumUp, IsRefused};
+ghost use Rattle.polcert.specs.Answer.{IsRefused};
+ghost use Rattle.polcert.specs.Run.{SumsUp, BeginsToSumUp};
 
 use crate::fault::{Fault, RunFault};
 use crate::lines::write_summary;

@@ -3,15 +3,27 @@ ghost use Rattle.std.specs.Prelude.{◌≡◌};
 ghost use Rattle.polcert.specs.Status.{status};
 
 use crate::fault::{Fault, RunFault};
+use polcert_check::LowerFault;
 use polcert_model::ModelFault;
+use polcert_policy::{GraphFault, VectorFault};
 
-/// The exit status for a fault: 4 for want of memory, 3 for a device that failed, 2 for a refused text.
+/// The exit status for a fault: 4 for want of memory, 3 for a device that failed, 2 for a refused text, and 1 where the
+/// vectors can't be lowered to pass.
 pub fn status_of(fault: &RunFault) -> u8
     ensures { result ≡ status fault.now }
 {
     match fault {
-        RunFault::Text(Fault::Model(ModelFault::Memory)) => 4,
-        RunFault::Text(Fault::Model(_)) => 2,
-        RunFault::ReadModel | RunFault::Write => 3,
+        RunFault::Text(
+            Fault::Model(ModelFault::Memory)
+            | Fault::Graph(GraphFault::Memory)
+            | Fault::Vectors(VectorFault::Memory),
+        )
+        | RunFault::Lower(LowerFault::Memory) => 4,
+        RunFault::Text(_) => 2,
+        RunFault::ReadModel
+        | RunFault::ReadGraph
+        | RunFault::ReadVectors
+        | RunFault::Write => 3,
+        RunFault::Lower(_) => 1,
     }
 }

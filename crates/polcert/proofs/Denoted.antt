@@ -1,0 +1,119 @@
+-- What three texts denote: one controller, whatever stands for it.
+use Rattle.std.proofs.Common.{◌≡◌, ℕ, ◌<◌, List, ap, sym, subst, ◌∙◌}
+use Rattle.polcert_model.specs.Elements.{count_of}
+use Rattle.polcert_model.specs.Preamble.{Preamble, observed}
+use Rattle.polcert_model.specs.Meaning.{Meaning, IsSame, states_of, actions_of, observations_of}
+use Rattle.polcert_model.specs.Tables.{table_of}
+use Rattle.polcert_model.specs.Text.{IsModelText}
+use Rattle.polcert_model.proofs.TextLaws as models
+use Rattle.polcert_policy.specs.Graphs.{PolicyGraph, IsProperGraph}
+use Rattle.polcert_policy.specs.declared.fault.GraphFault.{GraphFault}
+use Rattle.polcert_policy.specs.declared.fault.VectorFault.{VectorFault}
+use Rattle.polcert_policy.specs.GraphText.{IsGraphText, IsGraphRefusal, IsNoGraphText}
+use Rattle.polcert_policy.specs.Vectors.{PolicyVectors}
+use Rattle.polcert_policy.specs.VectorText.{IsVectorsText, IsVectorsRefusal, IsNoVectorsText}
+use Rattle.polcert_policy.proofs.OneText as texts
+use Rattle.polcert_check.specs.declared.verdict.Verdict.{Verdict}
+use Rattle.polcert_check.specs.declared.verdict.Verdict.TheVariants.{Yes}
+use Rattle.polcert_check.specs.Horizon.{Controller, controller_of, Fits, MeetsHorizon}
+use Rattle.polcert_check.specs.Verdict.{IsVerdict}
+use Rattle.polcert_check.specs.SameCells.{HasSameCells}
+use Rattle.polcert_check.proofs.SameAnswers as answers
+use Rattle.polcert_check.proofs.SameModels as models_same
+use Rattle.polcert.specs.Headline.{Certificate, controller, IsCertified}
+use Rattle.polcert.specs.Answer.{HasGraph, IsGraphRefused, AreVectorsRefused}
+
+module _ {m n : Meaning} (same : IsSame m n) where
+  pub same_states : states_of m ≡ states_of n
+  same_states = ap (λ (p : Preamble). count_of p.states) same.preamble
+
+  pub same_actions : actions_of m ≡ actions_of n
+  same_actions = ap (λ (p : Preamble). count_of p.actions) same.preamble
+
+  pub same_observations : observations_of m ≡ observations_of n
+  same_observations = ap (λ (p : Preamble). count_of (observed p)) same.preamble
+
+-- what is said of a graph's text for the counts of the one is said of it for those of the other
+pub for_counts : {m n : Meaning} → IsSame m n → (P : ℕ → ℕ → Type 0) → P (actions_of m) (observations_of m) → P (actions_of n) (observations_of n)
+for_counts {m} {n} same P is = subst (P (actions_of n)) (same_observations same) (subst (λ a. P a (observations_of m)) (same_actions same) is)
+
+-- a graph's text that is refused for the counts of one model that the first text denotes is refused for those of each
+pub graph_refused : (model text : List ℕ) (fault : GraphFault) (m : Meaning) → IsModelText model m
+    → IsNoGraphText (actions_of m) (observations_of m) text fault → IsGraphRefusal (actions_of m) (observations_of m) text fault → IsGraphRefused model fault text
+graph_refused model text fault m is no_graph refusal = record {
+  meaning = m;
+  is_model = is;
+  no_graph = λ n other. for_counts (models.one_model model m n is other) (λ a o. IsNoGraphText a o text fault) no_graph;
+  refusal = λ n other. for_counts (models.one_model model m n is other) (λ a o. IsGraphRefusal a o text fault) refusal;
+}
+
+-- two texts are one model, as far as indices are in range, and one graph for it
+pub same_graph : {model graph : List ℕ} (m n : Meaning) (g h : PolicyGraph) → HasGraph model graph m g → HasGraph model graph n h → IsSame m n × (g ≡ h)
+same_graph {model} {graph} m n g h x y =
+    let same = models.one_model model m n x.is_model y.is_model in
+    (same, texts.one_graph (actions_of n) (observations_of n) graph g h (for_counts same (λ a o. IsGraphText a o graph g) x.is_graph) y.is_graph)
+
+-- the same of vectors, for each model and graph that two texts denote
+pub vectors_refused : (model graph text : List ℕ) (fault : VectorFault) (m : Meaning) (g : PolicyGraph) → HasGraph model graph m g
+    → IsNoVectorsText g (states_of m) text fault → IsVectorsRefusal g (states_of m) text fault → AreVectorsRefused model graph fault text
+vectors_refused model graph text fault m g has no_vectors refusal = record {
+  meaning = m;
+  policy = g;
+  has_graph = has;
+  no_vectors = λ n h other. moved n h other (λ p s. IsNoVectorsText p s text fault) no_vectors;
+  refusal = λ n h other. moved n h other (λ p s. IsVectorsRefusal p s text fault) refusal;
+}
+  where
+    moved : (n : Meaning) (h : PolicyGraph) → HasGraph model graph n h → (P : PolicyGraph → ℕ → Type 0) → P g (states_of m) → P h (states_of n)
+    moved n h other P is =
+        let same = same_graph m n g h has other in
+        subst (P h) (same_states same.0) (subst (λ (p : PolicyGraph). P p (states_of m)) same.1 is)
+
+-- and three texts are one list of vectors for them
+pub same_vectors : {model graph vectors : List ℕ} (m : Meaning) (g : PolicyGraph) (v : PolicyVectors) → HasGraph model graph m g → IsVectorsText g (states_of m) vectors v
+    → (c : Certificate model graph vectors) → IsSame m c.meaning × (g ≡ c.policy) × (v ≡ c.values)
+same_vectors {model} {graph} {vectors} m g v has are c =
+    let same = same_graph m c.meaning g c.policy has (record { is_model = c.is_model; is_graph = c.is_graph }) in
+    let moved = subst (λ (h : PolicyGraph). IsVectorsText h (states_of c.meaning) vectors v) same.1
+      (subst (λ s. IsVectorsText g s vectors v) (same_states same.0) are) in
+    (same.0, same.1, texts.one_vectors c.policy (states_of c.meaning) vectors v c.values moved c.are_vectors)
+
+-- What is said of one of the controllers that three texts denote, and carries to every table with the same cells, is said
+-- of each.
+pub of_each : {model graph vectors : List ℕ} (m : Meaning) (g : PolicyGraph) (v : PolicyVectors) → HasGraph model graph m g → IsVectorsText g (states_of m) vectors v
+    → (P : Controller → Type 0) → ((n : Meaning) → HasSameCells (table_of m) (table_of n) → P (controller_of (table_of n) g v))
+    → (c : Certificate model graph vectors) → P (controller c)
+of_each m g v has are P carried c =
+    let same = same_vectors m g v has are c in
+    let here = carried c.meaning (models_same.same_cells m c.meaning same.0) in
+    subst (λ (w : PolicyVectors). P (controller_of (table_of c.meaning) c.policy w)) same.2
+    (subst (λ (h : PolicyGraph). P (controller_of (table_of c.meaning) h v)) same.1 here)
+
+-- graph and vectors are for the model
+pub fits_of : {model graph : List ℕ} (vectors : List ℕ) (m : Meaning) (g : PolicyGraph) (v : PolicyVectors) → HasGraph model graph m g
+    → IsVectorsText g (states_of m) vectors v → Fits (table_of m) g v
+fits_of vectors m g v has are = record {
+  actions = has.is_graph.2.loose.actions_are;
+  observations = has.is_graph.2.loose.observations_are;
+  nodes_same = are.2.nodes_are;
+  states = are.2.states_are;
+}
+
+module _ {model graph vectors : List ℕ} (m : Meaning) (g : PolicyGraph) (v : PolicyVectors) (has : HasGraph model graph m g)
+    (are : IsVectorsText g (states_of m) vectors v) (proper : IsProperGraph g) (verdict : Verdict)
+    (is : IsVerdict (controller_of (table_of m) g v) verdict) where
+  pub verdict_of_each : (c : Certificate model graph vectors) → IsVerdict (controller c) verdict
+  verdict_of_each = of_each m g v has are (λ x. IsVerdict x verdict) (λ n same. answers.same_verdict (table_of m) (table_of n) g v same proper (fits_of vectors m g v has are) verdict is)
+
+  pub horizon_of_each : MeetsHorizon (controller_of (table_of m) g v) verdict → (c : Certificate model graph vectors) → MeetsHorizon (controller c) verdict
+  horizon_of_each meets = of_each m g v has are (λ x. MeetsHorizon x verdict) (λ n same. answers.same_horizon (table_of m) (table_of n) g v same proper (fits_of vectors m g v has are) verdict is meets)
+
+-- what a graph and vectors denote, together with what the model denotes
+pub certificate_of : {model graph vectors : List ℕ} (m : Meaning) (g : PolicyGraph) (v : PolicyVectors) → HasGraph model graph m g
+    → IsVectorsText g (states_of m) vectors v → Certificate model graph vectors
+certificate_of m g v has are =
+    record { meaning = m; policy = g; values = v; is_model = has.is_model; is_graph = has.is_graph; are_vectors = are }
+
+-- a yes to what three texts denote certifies them
+pub certified : {model graph vectors : List ℕ} (c : Certificate model graph vectors) → ((d : Certificate model graph vectors) → MeetsHorizon (controller d) Yes) → IsCertified model graph vectors
+certified c meets = record { certificate = c; promise = λ d k n s nl sl. (meets d k n s nl sl).0 }

@@ -1,0 +1,50 @@
+use Rattle.std.proofs.Common.{◌≡◌, ℕ, List, Result, Ok, Err, IsErr, refl, sym, subst}
+use Rattle.std.specs.Result.{IsErrAnd}
+use Rattle.polcert_model.specs.Contents.{meaning}
+use Rattle.polcert_model.specs.Meaning.{states_of}
+use Rattle.polcert_model.specs.declared.fault.ModelFault.{ModelFault}
+use Rattle.polcert_policy.specs.Graphs.{IsProperGraph}
+use Rattle.polcert_check.specs.declared.verdict.Verdict.{Verdict}
+use Rattle.polcert_check.specs.declared.verdict.Verdict.TheVariants.{Yes}
+use Rattle.polcert_check.specs.Horizon.{MeetsHorizon}
+use Rattle.polcert.specs.declared.fault.Fault.{Fault}
+use Rattle.polcert.specs.declared.fault.Fault.TheVariants.{Model}
+use Rattle.polcert.specs.Headline.{Certificate, controller}
+use Rattle.polcert.specs.Answer.{HasGraph, IsModelFault, IsAnswer}
+use Rattle.polcert.proofs.Denoted.{certificate_of, verdict_of_each, horizon_of_each, certified}
+use Rattle.polcert.proofs.Refusing.{model_fault}
+use Rattle.polcert.proofs.answer.check_texts.Goals as goal
+
+refused_first : (model graph vectors : List ℕ) (r : Result Verdict Fault) (given : ModelFault) → IsErr r → IsErrAnd r (λ fault. fault ≡ Model given)
+    → IsModelFault model given → IsAnswer model graph vectors r
+refused_first model graph vectors (Ok verdict) given is_err is fault = cc
+refused_first model graph vectors (Err f) given is_err is fault = rw is fault
+
+pub returns-in_err-model-clause-answer : goal.returns-in_err-model-clause-answer
+returns-in_err-model-clause-answer c =
+    refused_first _ _ _ c.from_residual.result _ c.from_residual.ensures.0 c.from_residual.ensures.1
+    (model_fault _ _ c.in_err-model.ensures.refused c.in_err-model.ensures.placed)
+
+pub returns-clause-answer : goal.returns-clause-answer
+returns-clause-answer c =
+    let m = meaning c.in_ok-model.model in
+    let g = c.in_ok-graph.graph in
+    let v = c.in_ok-vectors.vectors in
+    let has : HasGraph c.args.model.now c.args.graph.now m g = record { is_model = c.in_ok-model.ensures.accepted; is_graph = c.in_ok-graph.ensures.accepted } in
+    let proper : IsProperGraph g = subst IsProperGraph c.graph.view_is c.graph.invariant in
+    let are = c.in_ok-vectors.ensures.accepted in
+    (certificate_of m g v has are, verdict_of_each m g v has are proper c.check.result c.check.ensures.verdict)
+
+pub returns-clause-horizon : goal.returns-clause-horizon
+returns-clause-horizon c =
+    let m = meaning c.in_ok-model.model in
+    let g = c.in_ok-graph.graph in
+    let v = c.in_ok-vectors.vectors in
+    let has : HasGraph c.args.model.now c.args.graph.now m g = record { is_model = c.in_ok-model.ensures.accepted; is_graph = c.in_ok-graph.ensures.accepted } in
+    let proper : IsProperGraph g = subst IsProperGraph c.graph.view_is c.graph.invariant in
+    horizon_of_each m g v has c.in_ok-vectors.ensures.accepted proper c.check.result c.check.ensures.verdict c.check.ensures.horizon
+
+pub returns-clause-promise : goal.returns-clause-promise
+returns-clause-promise c = λ yes.
+    let is_yes : c.check.result ≡ Yes = cc in
+    certified (returns-clause-answer c).0 (subst (λ verdict. (d : Certificate c.args.model.now c.args.graph.now c.args.vectors.now) → MeetsHorizon (controller d) verdict) is_yes (returns-clause-horizon c))
