@@ -1,9 +1,16 @@
+-- The lines that the program writes.
+--
 -- The line that sums a model up. It is our own: `pomdp: 2 states, 1 actions, 2 observations, discount 0.95, reward`
 -- and a line end. The counts are decimal, and their words stay plural. The discount is written as a number of
 -- millionths is, with no trailing zeros.
-use Rattle.std.specs.Prelude.{◌++◌, ℕ, Bool, true, false, List, codes, decimal, pos}
+use Rattle.std.specs.Prelude.{◌≡◌, ◌++◌, ◌*◌, ℕ, ℤ, Bool, true, false, List, codes, decimal, pos}
 use Rattle.polcert_text.specs.Millionths.{scaled_text}
 use Rattle.polcert_model.specs.Meaning.{Meaning, states_of, actions_of, observations_of}
+use Rattle.polcert_policy.specs.Vectors.{PolicyVectors}
+use Rattle.polcert_check.specs.declared.verdict.Verdict.{Verdict}
+use Rattle.polcert_check.specs.declared.verdict.Verdict.TheVariants.{Yes, Short, NoSuccessor}
+use Rattle.polcert_check.specs.Horizon.{Controller, step_scale, one}
+use Rattle.polcert_check.specs.StartWorth.{IsBestStart, IsStartWorth, IsCeilQuotient}
 
 -- a count, and the words behind it
 abbrev pub counted : ℕ → List ℕ → List ℕ
@@ -23,3 +30,28 @@ values_text m = codes "discount " ++ scaled_text (pos m.preamble.discount) ++ ga
 
 abbrev pub summary_line : Meaning → List ℕ
 summary_line m = counts_text m ++ values_text m
+
+-- ---- the lines of a verdict
+--
+-- Our own too: `yes: start node 0, at least -20`, `no: node 0, state 0, short by 0.000001`, and
+-- `no: node 0, state 0, observation 1 has no successor`, each with a line end.
+
+abbrev pub yes_line : ℕ → ℤ → List ℕ
+yes_line n worth = codes "yes: start node " ++ counted n (codes ", at least ") ++ scaled_text worth ++ codes "\n"
+
+-- the beginning of a no, as far as the words behind the state
+abbrev pub pair_text : ℕ → ℕ → List ℕ → List ℕ
+pair_text n s words = codes "no: node " ++ counted n (codes ", state ") ++ counted s words
+
+abbrev pub short_line : ℕ → ℕ → ℤ → List ℕ
+short_line n s by = pair_text n s (codes ", short by ") ++ scaled_text by ++ codes "\n"
+
+abbrev pub lack_line : ℕ → ℕ → ℕ → List ℕ
+lack_line n s z = pair_text n s (codes ", observation ") ++ counted z (codes " has no successor\n")
+
+-- The line of a verdict: a yes names the node that is worth most from the model's start, the least number on ties, and its
+-- worth there, rounded down; an amount is divided by its scale and rounded up, so that it is never 0.
+abbrev pub IsVerdictLine : Meaning → Controller → PolicyVectors → Verdict → List ℕ → Type 0
+IsVerdictLine m c v Yes line = (n : ℕ) × (worth : ℤ) × IsBestStart m v n × IsStartWorth m v n worth × (line ≡ yes_line n worth)
+IsVerdictLine m c v (Short n s amount) line = (by : ℤ) × IsCeilQuotient amount (step_scale c * one) by × (line ≡ short_line n s by)
+IsVerdictLine m c v (NoSuccessor n s z) line = line ≡ lack_line n s z

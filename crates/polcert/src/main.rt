@@ -7,6 +7,7 @@ mod lines;
 mod program;
 mod refusal;
 mod runs;
+mod sources;
 mod status;
 #[cfg(test)]
 mod tests;

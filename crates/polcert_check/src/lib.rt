@@ -6,6 +6,7 @@ mod fault;
 mod laws;
 mod lower;
 mod parts;
+mod rounded;
 mod shortfall;
 mod start;
 mod verdict;
@@ -18,6 +19,7 @@ pub use laws::{
 };
 pub use lower::{least_constant, lowered};
 pub use parts::fits;
+pub use rounded::millionths_short;
 pub use shortfall::amount_short;
 pub use start::start_worth;
 pub use verdict::{Verdict, check};
