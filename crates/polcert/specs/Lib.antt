@@ -1,3 +1,4 @@
 pub mod Lines
 pub mod Status
 pub mod Run
+pub mod RunParts
