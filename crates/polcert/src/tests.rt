@@ -8,6 +8,8 @@ use polcert_text::{
 };
 use std::alloc::Global;
 
+mod memory;
+
 /// A model of two states, one action and two observations.
 const FIRST: &[u8] =
     b"discount: 0.95\nvalues: reward\nstates: 2\nactions: 1\nobservations: 2\nT: 0\n1 0\n0 1\nO: 0\n0.85 0.15\n0.15 0.85\nR: 0 : 0 : 0 : 0 -1\n";
@@ -240,21 +242,6 @@ fn refused_texts(rt: HostRuntime) {
         assert_eq!(rt; status_of(&fault), 2);
         assert_eq!(rt; sink.taken().len(), 0);
     }
-}
-
-/// Memory that is refused is answered as that, with nothing written, and as nothing else.
-#[test]
-fn want_of_memory(rt: HostRuntime) {
-    let fault = RunFault::Text(Fault::Model(ModelFault::Memory));
-    let (result, sink) = summed(rt.alloc(), FIRST);
-    match result {
-        Ok(()) => assert_eq!(rt; sink.taken(), LINE),
-        Err(other) => {
-            assert_eq!(rt; other, fault);
-            assert_eq!(rt; sink.taken().len(), 0);
-        }
-    }
-    assert_eq!(rt; status_of(&fault), 4);
 }
 
 #[test]

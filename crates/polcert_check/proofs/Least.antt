@@ -7,7 +7,7 @@ use borrow.Author.Count.{below_more}
 use Rattle.polcert_text.specs.Numbers.{largest}
 use Rattle.polcert_model.specs.Tables.{Table, IsWithinLimits}
 use Rattle.polcert_check.specs.Horizon.{Controller, one, step_scale}
-use Rattle.polcert_check.specs.Shortfall.{short, Passes}
+use Rattle.polcert_check.specs.Shortfall.{short, most_short, Passes}
 use Rattle.polcert_check.specs.Verdict.{PassesBefore, IsBefore}
 use Rattle.polcert_check.specs.Rows.{IsController}
 use Rattle.polcert_check.specs.Lower.{lowered_by, NoneLacks, IsLeast, CanLower}
@@ -32,13 +32,13 @@ one_of c n s a b w nl sl (inr h) before (inr e) = inr (n, s, nl, sl, ap pos e �
 wider : (x : ℤ) (a b : ℕ) → x ≤ℤ pos a → a ≤ b → x ≤ℤ pos b
 wider x a b h l = omega (arith, linear)
 
-pub worst_more : (c : Controller) (n s a w b : ℕ) → n < c.nodes → s < c.cells.states → short c n s ≤ℤ pos a → (a ≡ 0) ⊎ (pos a ≡ short c n s) → a ≤ 3 * 10 ^ 37 → IsWorstBefore c w n s → a ≤ b → (b ≡ w) ⊎ (b ≡ a) → w ≤ b → IsWorstBefore c b n (s + 1)
+pub worst_more : (c : Controller) (n s a w b : ℕ) → n < c.nodes → s < c.cells.states → short c n s ≤ℤ pos a → (a ≡ 0) ⊎ (pos a ≡ short c n s) → a ≤ most_short c → IsWorstBefore c w n s → a ≤ b → (b ≡ w) ⊎ (b ≡ a) → w ≤ b → IsWorstBefore c b n (s + 1)
 worst_more c n s a w b nl sl le here small before al is wl =
     record {
       nodes = λ m t ml tl. wider (short c m t) w b (before.nodes m t ml tl) wl;
       states = below_more (λ t. short c n t ≤ℤ pos b) s (λ t tl. wider (short c n t) w b (before.states t tl) wl) (wider (short c n s) a b le al);
       is_reached = one_of c n s a b w nl sl here before.is_reached is;
-      small = ⊎_elim (λ (e : b ≡ w). subst (λ (x : ℕ). x ≤ 3 * 10 ^ 37) (sym e) before.small) (λ (e : b ≡ a). subst (λ (x : ℕ). x ≤ 3 * 10 ^ 37) (sym e) small) is;
+      small = ⊎_elim (λ (e : b ≡ w). subst (λ (x : ℕ). x ≤ most_short c) (sym e) before.small) (λ (e : b ≡ a). subst (λ (x : ℕ). x ≤ most_short c) (sym e) small) is;
     }
 
 pub worst_node : (c : Controller) (n s w : ℕ) → c.cells.states ≤ s → IsWorstBefore c w n s → IsWorstBefore c w (n + 1) 0
@@ -70,11 +70,11 @@ less_fails c p gl worst d w h passes =
     w.is_reached
 
 -- what the code knows of the positive part
-pub part_facts : (x y : ℤ) (a : ℕ) → FitsSigned w128 x → x ≡ y → to_z w128 (of_z w128 x) ≤ℤ pos a → (a ≡ 0) ⊎ (pos a ≡ to_z w128 (of_z w128 x)) → a ≤ unsigned_abs (to_z w128 (of_z w128 x)) → unsigned_abs x ≤ 3 * 10 ^ 37 → (y ≤ℤ pos a) × ((a ≡ 0) ⊎ (pos a ≡ y)) × (a ≤ 3 * 10 ^ 37)
-part_facts x y a f e above is small h =
+pub part_facts : (x y : ℤ) (a most : ℕ) → FitsSigned w128 x → x ≡ y → to_z w128 (of_z w128 x) ≤ℤ pos a → (a ≡ 0) ⊎ (pos a ≡ to_z w128 (of_z w128 x)) → a ≤ unsigned_abs (to_z w128 (of_z w128 x)) → unsigned_abs x ≤ most → (y ≤ℤ pos a) × ((a ≡ 0) ⊎ (pos a ≡ y)) × (a ≤ most)
+part_facts x y a most f e above is small h =
     let same : to_z w128 (of_z w128 x) ≡ y = to_z-of_z w128 x f ∙ e in
     let small' : a ≤ unsigned_abs y = rw same at small in
-    let h' : unsigned_abs y ≤ 3 * 10 ^ 37 = rw e at h in
+    let h' : unsigned_abs y ≤ most = rw e at h in
     (rw same at above, rw same at is, omega arith)
 
 -- ---- the value less `by`

@@ -21,3 +21,4 @@ pub mod SameCells
 pub mod SameAnswers
 pub mod SameModels
 pub mod OneAnswer
+pub mod EveryHorizon

@@ -1,10 +1,10 @@
 -- What lowering every vector value by one constant does, and the least constant by which the vectors pass.
-use Rattle.std.specs.Prelude.{◌≡◌, ℕ, ◌<◌, ℤ, pos, neg_ℤ, ◌-ℤ◌, ◌≤ℤ◌, ◌<ℤ◌, Some, None}
+use Rattle.std.specs.Prelude.{◌≡◌, ℕ, ◌<◌, ◌≤◌, unsigned_abs, ⊤, ℤ, pos, neg_ℤ, ◌-ℤ◌, ◌≤ℤ◌, ◌<ℤ◌, Some, None}
 use Rattle.polcert_policy.specs.Vectors.{PolicyVectors, CanShift}
 use Rattle.polcert_check.specs.declared.fault.LowerFault.{LowerFault}
 use Rattle.polcert_check.specs.declared.fault.LowerFault.TheVariants.{NoSuccessor, NoConstant, OutOfRange, Memory}
 use Rattle.polcert_check.specs.Horizon.{Controller}
-use Rattle.polcert_check.specs.Shortfall.{short, Passes}
+use Rattle.polcert_check.specs.Shortfall.{short, most_short, Passes}
 use Rattle.polcert_check.specs.Verdict.{IsBefore, IsLeastLacking}
 
 -- the controller with every vector value less `by`
@@ -42,3 +42,14 @@ IsNotLowered c v Memory = ⊥
 -- the least constant, which leaves every value in range
 abbrev pub IsLeastConstant : Controller → PolicyVectors → ℤ → Type 0
 IsLeastConstant c v x = (by : ℕ) × (x ≡ pos by) × IsLeast c by × CanLower v by
+
+-- there is such a constant
+abbrev pub HasLeastConstant : Controller → PolicyVectors → Type 0
+HasLeastConstant c v = (x : ℤ) × IsLeastConstant c v x
+
+-- the amount that a refusal names, if any, is no larger than a shortfall can be
+abbrev pub RefusesSmallAmount : Controller → LowerFault → Type 0
+RefusesSmallAmount c (NoConstant n s amount) = unsigned_abs amount ≤ most_short c
+RefusesSmallAmount c (NoSuccessor n s z) = ⊤
+RefusesSmallAmount c OutOfRange = ⊤
+RefusesSmallAmount c Memory = ⊤

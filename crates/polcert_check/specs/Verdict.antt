@@ -1,9 +1,9 @@
 -- What a verdict says of the pairs of a node and a state.
-use Rattle.std.specs.Prelude.{◌≡◌, ℕ, ◌<◌, pos, ◌<ℤ◌, ◌⊎◌, Option, Some, None}
+use Rattle.std.specs.Prelude.{◌≡◌, ℕ, ◌<◌, ◌≤◌, unsigned_abs, ⊤, pos, ◌<ℤ◌, ◌⊎◌, Option, Some, None}
 use Rattle.polcert_check.specs.declared.verdict.Verdict.{Verdict}
 use Rattle.polcert_check.specs.declared.verdict.Verdict.TheVariants.{Yes, Short, NoSuccessor}
 use Rattle.polcert_check.specs.Horizon.{Controller}
-use Rattle.polcert_check.specs.Shortfall.{Lacks, short, PairPasses, Passes}
+use Rattle.polcert_check.specs.Shortfall.{Lacks, short, most_short, PairPasses, Passes}
 
 -- the pair m and t comes before n and s, by node and then by state
 abbrev pub IsBefore : ℕ → ℕ → ℕ → ℕ → Type 0
@@ -24,3 +24,9 @@ abbrev pub IsVerdict : Controller → Verdict → Type 0
 IsVerdict c Yes = Passes c
 IsVerdict c (Short n s amount) = (n < c.nodes) × (s < c.cells.states) × PassesBefore c n s × IsLeastLacking c n s None × (amount ≡ short c n s) × (pos 0 <ℤ amount)
 IsVerdict c (NoSuccessor n s z) = (n < c.nodes) × (s < c.cells.states) × PassesBefore c n s × IsLeastLacking c n s (Some z)
+
+-- the amount that a verdict names, if any, is no larger than a shortfall can be
+abbrev pub NamesSmallAmount : Controller → Verdict → Type 0
+NamesSmallAmount c Yes = ⊤
+NamesSmallAmount c (Short n s amount) = unsigned_abs amount ≤ most_short c
+NamesSmallAmount c (NoSuccessor n s z) = ⊤

@@ -2,9 +2,9 @@
 ghost use Rattle.std.specs.Prelude.{◌≡◌, ℕ, ◌+◌, ◌*◌, ◌^◌, ◌<◌, ◌≤◌, pos, neg_ℤ, ◌+ℤ◌, ◌≤ℤ◌, ◌⊎◌, ◌↔◌, IsTrue, IfOk, IfErr, unsigned_abs};
 ghost use Rattle.polcert_policy.specs.Vectors.{IsInRange, shifted_by};
 ghost use Rattle.polcert_check.specs.Horizon.{Fits, controller_of, one};
-ghost use Rattle.polcert_check.specs.Shortfall.{Passes};
+ghost use Rattle.polcert_check.specs.Shortfall.{Passes, most_short};
 ghost use Rattle.polcert_check.specs.Rows.{IsController};
-ghost use Rattle.polcert_check.specs.Lower.{NoneLacks, IsLeast, CanLower, IsLeastConstant, IsNotLowered};
+ghost use Rattle.polcert_check.specs.Lower.{NoneLacks, IsLeast, CanLower, IsLeastConstant, HasLeastConstant, IsNotLowered, RefusesSmallAmount};
 ghost use Rattle.polcert_check.specs.Worst.{IsWorst, IsFirstLacking};
 ghost use Rattle.polcert_check.specs.declared.fault.LowerFault.TheVariants.{Memory};
 
@@ -38,7 +38,7 @@ fn positive_part(amount: i128) -> u128
 fn worst_short<C: Cells>(cells: &C, graph: &Graph, vectors: &Vectors) -> u128
     requires fits { Fits (C.table cells.now) graph.now vectors.now }
     ensures worst { IsWorst (controller_of (C.table cells.now) graph.now vectors.now) result }
-    ensures small { result ≤ 3 * 10 ^ 37 }
+    ensures small { result ≤ most_short (controller_of (C.table cells.now) graph.now vectors.now) }
 {
     let mut worst: u128 = 0;
     for n in 0..graph.nodes() {
@@ -124,6 +124,7 @@ fn least_passing<C: Cells>(cells: &C, graph: &Graph, vectors: &Vectors) -> Resul
     ensures least { IfOk result (IsLeast (controller_of (C.table cells.now) graph.now vectors.now)) }
     ensures refused { IfErr result
         (IsNotLowered (controller_of (C.table cells.now) graph.now vectors.now) vectors.now) }
+    ensures small { IfErr result (RefusesSmallAmount (controller_of (C.table cells.now) graph.now vectors.now)) }
 {
     if cells.discount() < 1_000_000 {
         return Ok(candidate(cells, graph, vectors));
@@ -159,6 +160,7 @@ pub fn least_constant<C: Cells>(
         (IsLeastConstant (controller_of (C.table cells.now) graph.now vectors.now) vectors.now) }
     ensures refused { IfErr result
         (IsNotLowered (controller_of (C.table cells.now) graph.now vectors.now) vectors.now) }
+    ensures small { IfErr result (RefusesSmallAmount (controller_of (C.table cells.now) graph.now vectors.now)) }
 {
     let nodes = graph.nodes();
     let vector_count = vectors.nodes();
@@ -198,8 +200,12 @@ pub fn lowered<C: Cells>(
     // With the lowered vectors every pair passes.
     ensures fits_still { IfOk result (λ lowered. Fits (C.table cells.now) graph.now lowered.1) }
     ensures passes { IfOk result (λ lowered. Passes (controller_of (C.table cells.now) graph.now lowered.1)) }
-    ensures refused { IfErr result (λ fault. (fault ≡ Memory)
+
+    // Want of memory is answered only where there is such a constant.
+    ensures refused { IfErr result (λ fault.
+        ((fault ≡ Memory) × HasLeastConstant (controller_of (C.table cells.now) graph.now vectors.now) vectors.now)
         ⊎ IsNotLowered (controller_of (C.table cells.now) graph.now vectors.now) vectors.now fault) }
+    ensures small { IfErr result (RefusesSmallAmount (controller_of (C.table cells.now) graph.now vectors.now)) }
 {
     let nodes = graph.nodes();
     let vector_count = vectors.nodes();

@@ -1,9 +1,9 @@
 //! How far a value is above what the next step backs.
-ghost use Rattle.std.specs.Prelude.{◌≡◌, ◌*◌, ◌^◌, ◌<◌, ◌≤◌, pos, ◌+ℤ◌, ◌*ℤ◌, unsigned_abs};
+ghost use Rattle.std.specs.Prelude.{◌≡◌, ◌*◌, ◌<◌, ◌≤◌, pos, ◌+ℤ◌, ◌*ℤ◌, unsigned_abs};
 ghost use Rattle.polcert_text.specs.Numbers.{largest};
 ghost use Rattle.polcert_policy.specs.Graphs.{nodes};
 ghost use Rattle.polcert_check.specs.Horizon.{Fits, controller_of, one};
-ghost use Rattle.polcert_check.specs.Shortfall.{short};
+ghost use Rattle.polcert_check.specs.Shortfall.{most_short, short};
 ghost use Rattle.polcert_check.specs.Rows.{IsController, ValuesAreWithin, row_term, row_backing_of};
 
 use polcert_model::Cells;
@@ -80,15 +80,15 @@ fn scaled_value(t_scale: u64, o_scale: u64, value: i64) -> i128
     requires t_scale { t_scale ≤ 1_000_000_000 }
     requires o_scale { o_scale ≤ 1_000_000_000 }
     requires value { unsigned_abs value ≤ largest }
-    ensures is { result ≡ pos (t_scale * o_scale * one) *ℤ value }
-    ensures small { unsigned_abs result ≤ 10 ^ 37 }
+    ensures { result ≡ pos (t_scale * o_scale * one) *ℤ value }
 {
     (t_scale * o_scale) as i128 * 1_000_000 * (value as i128)
 }
 
 /// How far the value of node `n` at state `s` is above what the next step backs: above 0 where it is short.
 ///
-/// The amount is exact, on the scale of the weights of one step times 1,000,000, in millionths: at most 3 * 10^37 in size.
+/// The amount is exact, on the scale of the weights of one step times 1,000,000, in millionths. In size it is at most
+/// three times the largest value on that scale, and so at most 3 * 10^37.
 pub fn amount_short<C: Cells>(
     cells: &C,
     graph: &Graph,
@@ -100,7 +100,7 @@ pub fn amount_short<C: Cells>(
     requires node { n < nodes graph.now }
     requires start { s < (C.table cells.now).states }
     ensures is { result ≡ short (controller_of (C.table cells.now) graph.now vectors.now) n s }
-    ensures small { unsigned_abs result ≤ 3 * 10 ^ 37 }
+    ensures small { unsigned_abs result ≤ most_short (controller_of (C.table cells.now) graph.now vectors.now) }
 {
     let nodes = graph.nodes();
     let vector_count = vectors.nodes();

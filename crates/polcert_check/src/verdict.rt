@@ -4,7 +4,7 @@ ghost use Rattle.polcert_policy.specs.Graphs.{nodes};
 ghost use Rattle.polcert_policy.specs.Vectors.{PolicyVectors};
 ghost use Rattle.polcert_check.specs.Horizon.{Fits, controller_of, MeetsHorizon};
 ghost use Rattle.polcert_check.specs.Rows.{CanReceive};
-ghost use Rattle.polcert_check.specs.Verdict.{IsVerdict, IsLeastLacking};
+ghost use Rattle.polcert_check.specs.Verdict.{IsVerdict, IsLeastLacking, NamesSmallAmount};
 
 use crate::shortfall::amount_short;
 use polcert_model::Cells;
@@ -74,6 +74,9 @@ pub fn check<C: Cells>(cells: &C, graph: &Graph, vectors: &Vectors) -> Verdict
 
     // The promise for every horizon, or that one step breaks it.
     ensures horizon { MeetsHorizon (controller_of (C.table cells.now) graph.now vectors.now) result }
+
+    // How large an amount can be.
+    ensures small { NamesSmallAmount (controller_of (C.table cells.now) graph.now vectors.now) result }
 {
     for n in 0..graph.nodes() {
         for s in 0..cells.states() {

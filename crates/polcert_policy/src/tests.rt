@@ -283,19 +283,3 @@ fn full_sink(rt: HostRuntime) -> Result<(), Fail> {
     assert_eq!(rt; &buffer, b"0\n-20");
     Ok(())
 }
-
-#[test]
-fn right_or_out_of_memory(rt: HostRuntime) -> Result<(), Fail> {
-    let alloc = rt.alloc();
-    match read_graph(alloc, b"0 0 0 0", 3, 2) {
-        Err(fault) => assert_eq!(rt; fault, GraphFault::Memory),
-        Ok(graph) => {
-            assert!(rt; leads(&graph, 0, 0, [Some(0), Some(0)]));
-            match read_vectors(alloc, b"0 -20 5", &graph, 2) {
-                Err(fault) => assert_eq!(rt; fault, VectorFault::Memory),
-                Ok(vectors) => assert!(rt; begins(&vectors, [-20_000_000, 5_000_000])),
-            }
-        }
-    }
-    Ok(())
-}

@@ -98,16 +98,6 @@ fn stops_past_the_limit(rt: HostRuntime) -> Result<(), Fail> {
     Ok(())
 }
 
-/// Memory that is refused while a source is read whole is answered as that, and as nothing else.
-#[test]
-fn want_of_memory(rt: HostRuntime) {
-    let text = [b'x'; 20_000];
-    match read_all(rt.alloc(), &mut SliceSource::new(&text), 100_000) {
-        Ok(bytes) => assert_eq!(rt; bytes.as_slice(), text.as_slice()),
-        Err(fault) => assert_eq!(rt; fault, ReadFault::Memory),
-    }
-}
-
 /// A reader of std that gives its bytes and then an error that some programs try again.
 #[derive(Drop)]
 struct Interrupted<'a> {

@@ -1,37 +1,14 @@
-use Rattle.std.proofs.Common.{◌≡◌, subst}
-use Rattle.polcert_model.specs.Contents.{meaning}
-use Rattle.polcert_model.specs.Text.{IsModelText}
-use Rattle.polcert_model.specs.FirstWrong.{TextTokens, AreTokensOf}
-use Rattle.polcert_model.specs.Refusals.{IsRefusal, IsPlacedRight}
-use Rattle.polcert.proofs.Refusing.{within_limit, each_refused}
+use Rattle.polcert.proofs.WholeRuns.{summed_up, begun, refused}
 use Rattle.polcert.proofs.runs.run_model.Goals as goal
 
-pub returns-in-Ok-write_summary-clause-summed_up : goal.returns-in-Ok-write_summary-clause-summed_up
-returns-in-Ok-write_summary-clause-summed_up g c =
-    let accepted : IsModelText c.in-Ok.text.items (meaning c.in-Ok-read_model.model) = rw c.deref.ensures.value at c.in-Ok-read_model.ensures.accepted in
-    record {
-      text = c.in-Ok.text.items;
-      model = meaning c.in-Ok-read_model.model;
-      was_read = c.in-Ok.ensures.whole (within_limit _ _ accepted);
-      accepted = accepted;
-      took = c.in-Ok-write_summary.ensures.ok;
-    }
-
-pub returns-in-Ok-read_model-clause-begun : goal.returns-in-Ok-read_model-clause-begun
-returns-in-Ok-read_model-clause-begun g c = λ same.
-    let accepted : IsModelText c.in-Ok.text.items (meaning c.in-Ok-read_model.model) = rw c.deref.ensures.value at c.in-Ok-read_model.ensures.accepted in
-    record {
-      text = c.in-Ok.text.items;
-      model = meaning c.in-Ok-read_model.model;
-      was_read = c.in-Ok.ensures.whole (within_limit _ _ accepted);
-      accepted = accepted;
-      took = c.in-Err-write_summary.ensures.err;
-    }
+pub returns-clause-summed_up : goal.returns-clause-summed_up
+returns-clause-summed_up g c =
+    summed_up _ _ _ _ _ _ c.in_ok-text.text.items c.in_ok-text.ensures.gave c.sum_up.result (rw c.deref.ensures.value at c.sum_up.ensures.summed_up)
 
 pub returns-clause-refused : goal.returns-clause-refused
 returns-clause-refused g c = λ fault same says.
-    let is_fault : c.in-Err.fault ≡ fault = cc in
-    let refusal : (ts : TextTokens) → AreTokensOf c.in-Ok.text.items ts → IsRefusal ts c.in-Err.fault = rw c.deref.ensures.value at c.in-Err.ensures.refused in
-    let placed : (ts : TextTokens) → AreTokensOf c.in-Ok.text.items ts → IsPlacedRight ts c.in-Err.fault = rw c.deref.ensures.value at c.in-Err.ensures.placed in
-    each_refused _ _ _ c.in-Ok.text.items fault c.in-Ok.ensures.whole c.in-Ok.ensures.beyond says (subst (λ f. (ts : TextTokens) → AreTokensOf c.in-Ok.text.items ts → IsRefusal ts f) is_fault refusal)
-    (subst (λ f. (ts : TextTokens) → AreTokensOf c.in-Ok.text.items ts → IsPlacedRight ts f) is_fault placed)
+    refused g.S.Source.reads g.W.Sink.writes _ _ c.args.sink.now c.sum_up.new.sink c.in_ok-text.text.items c.in_ok-text.ensures.gave fault says (rw c.deref.ensures.value at (c.sum_up.ensures.refused fault same))
+
+pub returns-clause-begun : goal.returns-clause-begun
+returns-clause-begun g c = λ same.
+    begun _ _ _ _ _ _ c.in_ok-text.text.items c.in_ok-text.ensures.gave (rw c.deref.ensures.value at (c.sum_up.ensures.begun same))

@@ -44,7 +44,7 @@ overflow_sub-result g c =
     let f : FitsSigned w128 c.scaled_value.result = search rules in
     let fv : FitsSigned w64 c.at.result = search rules in
     let all : c.loop-e.e ≡ k.cells.states = omega (arith, c.states-e-end.ensures) in
-    (short_final k proper (g.met.C.Cells.is_within_limits c.args.cells.now) values c.args.n c.args.s c.t_scale.result c.o_scale.result c.loop-e.e c.scaled_value.result c.at.result (to_z w128 c.loop-e.backing-bits) c.requires.node c.requires.start f fv c.scaled_value.ensures.small c.scaled_value.ensures.is c.t_scale.ensures c.o_scale.ensures c.at.ensures.value c.loop-e.invariant all).0
+    (short_final k proper (g.met.C.Cells.is_within_limits c.args.cells.now) values c.args.n c.args.s c.t_scale.result c.o_scale.result c.loop-e.e c.scaled_value.result c.at.result (to_z w128 c.loop-e.backing-bits) c.requires.node c.requires.start f fv c.scaled_value.ensures c.t_scale.ensures c.o_scale.ensures c.at.ensures.value c.loop-e.invariant all).0
 
 pub returns-clause-is : goal.returns-clause-is
 returns-clause-is g c =
@@ -54,7 +54,7 @@ returns-clause-is g c =
     let f : FitsSigned w128 c.scaled_value.result = search rules in
     let fv : FitsSigned w64 c.at.result = search rules in
     let all : c.loop-e.e ≡ k.cells.states = omega (arith, c.states-e-end.ensures) in
-    (short_final k proper (g.met.C.Cells.is_within_limits c.args.cells.now) values c.args.n c.args.s c.t_scale.result c.o_scale.result c.loop-e.e c.scaled_value.result c.at.result (to_z w128 c.loop-e.backing-bits) c.requires.node c.requires.start f fv c.scaled_value.ensures.small c.scaled_value.ensures.is c.t_scale.ensures c.o_scale.ensures c.at.ensures.value c.loop-e.invariant all).1
+    (short_final k proper (g.met.C.Cells.is_within_limits c.args.cells.now) values c.args.n c.args.s c.t_scale.result c.o_scale.result c.loop-e.e c.scaled_value.result c.at.result (to_z w128 c.loop-e.backing-bits) c.requires.node c.requires.start f fv c.scaled_value.ensures c.t_scale.ensures c.o_scale.ensures c.at.ensures.value c.loop-e.invariant all).1
 
 pub returns-clause-small : goal.returns-clause-small
 returns-clause-small g c =
@@ -64,7 +64,7 @@ returns-clause-small g c =
     let f : FitsSigned w128 c.scaled_value.result = search rules in
     let fv : FitsSigned w64 c.at.result = search rules in
     let all : c.loop-e.e ≡ k.cells.states = omega (arith, c.states-e-end.ensures) in
-    (short_final k proper (g.met.C.Cells.is_within_limits c.args.cells.now) values c.args.n c.args.s c.t_scale.result c.o_scale.result c.loop-e.e c.scaled_value.result c.at.result (to_z w128 c.loop-e.backing-bits) c.requires.node c.requires.start f fv c.scaled_value.ensures.small c.scaled_value.ensures.is c.t_scale.ensures c.o_scale.ensures c.at.ensures.value c.loop-e.invariant all).2
+    (short_final k proper (g.met.C.Cells.is_within_limits c.args.cells.now) values c.args.n c.args.s c.t_scale.result c.o_scale.result c.loop-e.e c.scaled_value.result c.at.result (to_z w128 c.loop-e.backing-bits) c.requires.node c.requires.start f fv c.scaled_value.ensures c.t_scale.ensures c.o_scale.ensures c.at.ensures.value c.loop-e.invariant all).2
 
 pub row_backing-row-requires-clause-proper : goal.row_backing-row-requires-clause-proper
 row_backing-row-requires-clause-proper g c = controller_is _ _ _ c.requires.fits (g.met.C.Cells.is_proper c.args.cells.now) c.nodes-nodes.ensures.proper

@@ -5,8 +5,7 @@ use Rattle.polcert_check.specs.Shortfall.{short, Passes}
 use Rattle.polcert_check.specs.Rows.{IsController}
 use Rattle.polcert_check.proofs.Certificates.{controller_is}
 use Rattle.polcert_check.proofs.Verdicts.{PassesBefore_at, states_more, nodes_more, amount_positive, amount_at_most}
-use Rattle.polcert_check.proofs.Cuts.{promise_all}
-use Rattle.polcert_check.proofs.Rewards.{rewards_all}
+use Rattle.polcert_check.proofs.EveryHorizon.{every_horizon}
 use Rattle.polcert_check.proofs.Refused.{refused_short, refused_lacking, cut_run}
 use Rattle.polcert_check.proofs.verdict.check.Goals as goal
 
@@ -55,4 +54,4 @@ returns-clause-horizon g c =
     let k : Controller = controller_of (g.C.Cells.table c.args.cells.now) c.args.graph.now c.args.vectors.now in
     let proper : IsController k = controller_is _ _ _ c.requires.fits (g.met.C.Cells.is_proper c.args.cells.now) c.nodes-n-end.ensures.proper in
     let passes : Passes k = λ n s nl sl. c.loop-n.invariant n s (omega (arith, c.nodes-n-end.ensures.count)) sl in
-    λ i n s nl sl. (promise_all k proper passes i n s nl sl, (λ m most. rewards_all k proper passes m most i n s nl sl))
+    every_horizon k proper passes
