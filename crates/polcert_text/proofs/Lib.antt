@@ -13,3 +13,7 @@ pub mod Giving
 pub mod Known
 pub mod TextLaws
 pub mod TakenTokens
+pub mod Numerals
+pub mod PrintedCut
+pub mod PrintedWords
+pub mod WrittenNumbers

@@ -8,6 +8,7 @@ pub mod TakenTokens
 pub mod Reading
 pub mod Numbers
 pub mod Millionths
+pub mod Lines
 pub mod Device
 pub mod Source
 pub mod Sink
