@@ -6,10 +6,18 @@ ghost use Rattle.polcert.specs.Lines.{counted, gains, counts_text, values_text, 
 
 use itoa::Buffer;
 use polcert_model::Model;
-use polcert_text::{Sink, SinkFailed, write_all, write_scaled};
+use polcert_text::{BufferedSink, Sink, SinkFailed, write_all, write_scaled};
 
-/// Writes the line that sums a model up.
+/// Writes the line that sums a model up, through a buffer, so that a sink that takes pieces whole is written to once.
 pub fn write_summary<W: Sink>(model: &Model, sink: &mut W) -> Result<(), SinkFailed>
+    ensures { WritesText W.writes W.failures sink.old (summary_line (meaning model.now)) result sink.new }
+{
+    let mut buffered = BufferedSink::new(sink);
+    write_line(model, &mut buffered)?;
+    buffered.flush()
+}
+
+fn write_line<W: Sink>(model: &Model, sink: &mut W) -> Result<(), SinkFailed>
     ensures { WritesText W.writes W.failures sink.old (summary_line (meaning model.now)) result sink.new }
 {
     write_counts(model, sink)?;

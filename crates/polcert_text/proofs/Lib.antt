@@ -9,6 +9,7 @@ pub mod SignedLaws
 pub mod DecimalLaws
 pub mod PrintLaws
 pub mod Taking
+pub mod Buffering
 pub mod Giving
 pub mod Known
 pub mod TextLaws

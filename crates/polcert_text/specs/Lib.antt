@@ -12,6 +12,7 @@ pub mod Lines
 pub mod Device
 pub mod Source
 pub mod Sink
+pub mod Buffer
 pub mod Memory
 pub mod Known
 -- what only private functions say of one another
