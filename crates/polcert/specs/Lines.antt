@@ -3,8 +3,9 @@
 -- The line that sums a model up. It is our own: `pomdp: 2 states, 1 actions, 2 observations, discount 0.95, reward`
 -- and a line end. The counts are decimal, and their words stay plural. The discount is written as a number of
 -- millionths is, with no trailing zeros.
-use Rattle.std.specs.Prelude.{◌≡◌, ◌++◌, ◌*◌, ℕ, ℤ, Bool, true, false, List, codes, decimal, pos}
+use Rattle.std.specs.Prelude.{◌≡◌, ◌++◌, ◌*◌, ℕ, ℤ, Bool, true, false, List, Option, Result, codes, decimal, pos}
 use Rattle.polcert_text.specs.Millionths.{scaled_text}
+use Rattle.polcert_text.specs.Sink.{WritesText}
 use Rattle.polcert_model.specs.Meaning.{Meaning, states_of, actions_of, observations_of}
 use Rattle.polcert_policy.specs.Vectors.{PolicyVectors}
 use Rattle.polcert_check.specs.declared.verdict.Verdict.{Verdict}
@@ -55,3 +56,10 @@ abbrev pub IsVerdictLine : Meaning → Controller → PolicyVectors → Verdict 
 IsVerdictLine m c v Yes line = (n : ℕ) × (worth : ℤ) × IsBestStart m v n × IsStartWorth m v n worth × (line ≡ yes_line n worth)
 IsVerdictLine m c v (Short n s amount) line = (by : ℤ) × IsCeilQuotient amount (step_scale c * one) by × (line ≡ short_line n s by)
 IsVerdictLine m c v (NoSuccessor n s z) line = line ≡ lack_line n s z
+
+-- A call that writes a line: one of those lines, at `Ok` all of it, and at an `Err` a beginning.
+pub record WritesLine {S T E : Type 0} (writes : S → Option (List ℕ) → S → Type 0) (failures : S → ℕ) (old : S)
+    (IsLine : List ℕ → Type 0) (result : Result T E) (new : S) : Type 0 where
+  pub line : List ℕ
+  pub is_line : IsLine line
+  pub written : WritesText writes failures old line result new

@@ -1,21 +1,28 @@
 //! The lines that the program writes where all goes well.
-ghost use Rattle.std.specs.Prelude.{◌≡◌, ◌*◌, ◌≤◌, ℕ, List, codes, unsigned_abs};
-ghost use Rattle.polcert_text.specs.Numbers.{largest};
+ghost use Rattle.std.specs.Prelude.{◌≡◌, codes};
 ghost use Rattle.polcert_text.specs.Sink.{WritesText};
 ghost use Rattle.polcert_model.specs.Contents.{meaning};
 ghost use Rattle.polcert_model.specs.Tables.{table_of};
 ghost use Rattle.polcert_check.specs.Horizon.{Fits, controller_of};
-ghost use Rattle.polcert_check.specs.Verdict.{IsVerdict};
-ghost use Rattle.polcert.specs.Lines.{counted, gains, counts_text, values_text, summary_line, pair_text, yes_line, short_line, lack_line, IsVerdictLine};
+ghost use Rattle.polcert_check.specs.Verdict.{IsVerdict, NamesSmallAmount};
+ghost use Rattle.polcert.specs.Lines.{counted, gains, counts_text, values_text, summary_line, pair_text, yes_line, short_line, lack_line, IsVerdictLine, WritesLine};
 
 use itoa::Buffer;
 use polcert_check::{Verdict, millionths_short, start_worth};
 use polcert_model::Model;
 use polcert_policy::{Graph, Vectors};
-use polcert_text::{Sink, SinkFailed, write_all, write_scaled};
+use polcert_text::{BufferedSink, Sink, SinkFailed, write_all, write_scaled};
 
-/// Writes the line that sums a model up.
+/// Writes the line that sums a model up, through a buffer, so that a sink that takes pieces whole is written to once.
 pub fn write_summary<W: Sink>(model: &Model, sink: &mut W) -> Result<(), SinkFailed>
+    ensures { WritesText W.writes W.failures sink.old (summary_line (meaning model.now)) result sink.new }
+{
+    let mut buffered = BufferedSink::new(sink);
+    write_line(model, &mut buffered)?;
+    buffered.flush()
+}
+
+fn write_line<W: Sink>(model: &Model, sink: &mut W) -> Result<(), SinkFailed>
     ensures { WritesText W.writes W.failures sink.old (summary_line (meaning model.now)) result sink.new }
 {
     write_counts(model, sink)?;
@@ -55,7 +62,7 @@ fn gains(is_cost: bool) -> &'static [u8]
     if is_cost { b", cost\n" } else { b", reward\n" }
 }
 
-/// Writes the line of a verdict on the model, the graph and its vectors.
+/// Writes the line of a verdict on the model, the graph and its vectors, through a buffer.
 pub fn write_verdict<W: Sink>(
     model: &Model,
     graph: &Graph,
@@ -65,9 +72,27 @@ pub fn write_verdict<W: Sink>(
 ) -> Result<(), SinkFailed>
     requires fits { Fits (table_of (meaning model.now)) graph.now vectors.now }
     requires verdict { IsVerdict (controller_of (table_of (meaning model.now)) graph.now vectors.now) verdict }
-    ensures { (line : List ℕ)
-        × IsVerdictLine (meaning model.now) (controller_of (table_of (meaning model.now)) graph.now vectors.now) vectors.now verdict line
-        × WritesText W.writes W.failures sink.old line result sink.new }
+    requires small { NamesSmallAmount (controller_of (table_of (meaning model.now)) graph.now vectors.now) verdict }
+    ensures { WritesLine W.writes W.failures sink.old (IsVerdictLine (meaning model.now)
+        (controller_of (table_of (meaning model.now)) graph.now vectors.now) vectors.now verdict) result sink.new }
+{
+    let mut buffered = BufferedSink::new(sink);
+    write_verdict_line(model, graph, vectors, verdict, &mut buffered)?;
+    buffered.flush()
+}
+
+fn write_verdict_line<W: Sink>(
+    model: &Model,
+    graph: &Graph,
+    vectors: &Vectors,
+    verdict: Verdict,
+    sink: &mut W,
+) -> Result<(), SinkFailed>
+    requires fits { Fits (table_of (meaning model.now)) graph.now vectors.now }
+    requires verdict { IsVerdict (controller_of (table_of (meaning model.now)) graph.now vectors.now) verdict }
+    requires small { NamesSmallAmount (controller_of (table_of (meaning model.now)) graph.now vectors.now) verdict }
+    ensures { WritesLine W.writes W.failures sink.old (IsVerdictLine (meaning model.now)
+        (controller_of (table_of (meaning model.now)) graph.now vectors.now) vectors.now verdict) result sink.new }
 {
     match verdict {
         Verdict::Yes => {

@@ -35,3 +35,6 @@ pub mod ElementSteps
 pub mod StartSteps
 pub mod Tables
 pub mod Drafts
+pub mod FullForm
+pub mod FullFormExamples
+pub mod Writable

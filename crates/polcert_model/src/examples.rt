@@ -1,5 +1,5 @@
 //! Rows and tables computed from small models.
-ghost use Rattle.std.specs.Prelude.{codes, Some, None, ◌≡◌, ◌∷◌, [], sum, pos, neg_ℤ};
+ghost use Rattle.std.specs.Prelude.{codes, true, Some, None, ◌≡◌, ◌∷◌, [], sum, pos, neg_ℤ};
 ghost use Rattle.polcert_model.specs.Meaning.{t_scale, HasProperRows, sum_below, states_of, actions_of, observations_of, start_total};
 ghost use Rattle.polcert_model.specs.Examples.{first_row, thirds, decimal_thirds, sixths, patterns, reward_table, whole, reward_cells, general_first, general_last, name, numeral};
 ghost use Rattle.polcert_model.specs.Start.{Shares, IsStart};
@@ -11,6 +11,8 @@ ghost use Rattle.polcert_model.specs.declared.fault.ItemFault.TheVariants.{Token
 ghost use Rattle.polcert_model.specs.Refusals.{IsItemRefusal, StopsInBody};
 ghost use Rattle.polcert_model.specs.RefusedExamples.{empty_text, hello, twice, above_one, glued};
 ghost use Rattle.polcert_model.specs.First.{first, first_preamble, first_entries, first_known, first_model};
+ghost use Rattle.polcert_model.specs.FullForm.{full_form, start_text, rewards_row};
+ghost use Rattle.polcert_model.specs.FullFormExamples.{tiger_form, first_form, sixths_form, thirds_form};
 ghost use Rattle.polcert_model.specs.Misfits.{misfit, Mark, Index, Number, Digits, EndOfNumbers};
 
 /// `uniform` over three states is exactly a third each.
@@ -113,4 +115,22 @@ pub fn kinds_of_misfits()
     ensures no_star { misfit Index (Some star) ≡ BadShape }
     ensures no_colon { misfit Mark (Some (numeral (codes "3"))) ≡ BadShape }
     ensures reset { misfit Number (Some (name (codes "reset"))) ≡ Reset }
+{}
+
+/// The full forms of four models: the tiger problem, one by numbers alone, one whose rows are thirds, and one with
+/// single cells behind `uniform`.
+pub fn full_forms()
+    ensures tiger { full_form tiger_model ≡ tiger_form }
+    ensures first { full_form first_model ≡ first_form }
+    ensures thirds { full_form thirds ≡ thirds_form }
+    ensures sixths { full_form sixths ≡ sixths_form }
+{}
+
+/// Printed start items: all states alike, one of them, and millionths. Below them a row of costs.
+pub fn printed_lines()
+    ensures uniform { start_text (shares (1 ∷ 1 ∷ []) 2) ≡ codes "start: uniform\n" }
+    ensures include { start_text (shares (0 ∷ 1 ∷ []) 1) ≡ codes "start include: 1\n" }
+    ensures millionths { start_text (shares (250_000 ∷ 750_000 ∷ []) 1_000_000) ≡ codes "start: 0.25 0.75\n" }
+    ensures costs { rewards_row true 0 0 0 1 (λ z. pos 1_500_000) ≡ codes "R: 0 : 0 : 0\n-1.5\n" }
+    ensures nothing { rewards_row true 0 0 0 1 (λ z. pos 0) ≡ [] }
 {}

@@ -1,5 +1,5 @@
 //! Laws of the definitions: each function has an empty body, and its contract is the law.
-ghost use Rattle.std.specs.Prelude.{◌≡◌, ℕ, List, ℤ, pos, Option, Some, None, ◌+◌, ◌++◌, ◌∷◌, [], true, false, length};
+ghost use Rattle.std.specs.Prelude.{◌≡◌, ◌<◌, ℕ, List, ℤ, pos, Option, Some, None, ◌+◌, ◌++◌, ◌∷◌, [], true, false, length};
 ghost use Rattle.std.specs.List.{list_any};
 ghost use Rattle.polcert_text.specs.Cut.{Lexeme};
 ghost use Rattle.polcert_text.specs.declared.tokens.TokenFault.{TokenFault};
@@ -11,7 +11,7 @@ ghost use Rattle.polcert_model.specs.Entry.{IsEntry};
 ghost use Rattle.polcert_model.specs.declared.entry.Entry.{Entry};
 ghost use Rattle.polcert_model.specs.Start.{Shares, IsStart};
 ghost use Rattle.polcert_model.specs.Meaning.{Meaning, IsSame, IsWithinLimits};
-ghost use Rattle.polcert_model.specs.Text.{Denotes, IsModelText, Known, nothing_known, IsComplete, IsRight, AreRight, IsRightText};
+ghost use Rattle.polcert_model.specs.Text.{most_bytes, Denotes, IsModelText, Known, nothing_known, IsComplete, IsRight, AreRight, IsRightText};
 ghost use Rattle.polcert_model.specs.declared.entry.Table.TheVariants.{Reward};
 ghost use Rattle.polcert_model.specs.Cells.{covers, weight, reward};
 ghost use Rattle.polcert_model.specs.Laws.{HasDivision, HasOneDivision, GivesLastCovering, OneMoreWeight, OneMoreReward, UniformRowSums};
@@ -23,6 +23,8 @@ ghost use Rattle.polcert_model.specs.Order.{preamble_fault, word_fault};
 ghost use Rattle.polcert_model.specs.declared.fault.ModelFault.{ModelFault};
 ghost use Rattle.polcert_model.specs.Refusals.{IsRefusal, SaysOfText, place_or};
 ghost use Rattle.polcert_model.specs.Items.{Item, IsDivided};
+ghost use Rattle.polcert_model.specs.Contents.{Contents, meaning};
+ghost use Rattle.polcert_model.specs.FullForm.{full_form};
 
 /// Each list of lexemes is divided into items in just one way.
 pub fn one_division()
@@ -172,4 +174,19 @@ pub fn places_lie_in_items()
         AreTokensOf text ts → IsDivided ts.lexemes (l ∷ ls) items → LiesIn ts 0 l.place }
     ensures at_end { (ts : TextTokens) (items : List Item) →
         IsDivided ts.lexemes [] items → LiesIn ts (length items + 1) ts.end }
+{}
+
+/// Equal models have the same full form, and models of one full form are equal.
+pub fn one_full_form()
+    ensures equal { (m n : Meaning) → IsSame m n → full_form m ≡ full_form n }
+    ensures same { (text other : List ℕ) (m n : Meaning) → IsModelText text m → IsModelText other n →
+        full_form m ≡ full_form n → IsSame m n }
+{}
+
+/// The full form of what a `Model` means is a text of it, and shorter than a text may be. So is that of whatever a text
+/// denotes.
+pub fn full_form_reads_back()
+    ensures short { (c : Contents) → length (full_form (meaning c)) < most_bytes }
+    ensures contents { (c : Contents) → IsModelText (full_form (meaning c)) (meaning c) }
+    ensures text { (text : List ℕ) (m : Meaning) → IsModelText text m → IsModelText (full_form m) m }
 {}

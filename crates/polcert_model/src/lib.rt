@@ -30,16 +30,17 @@ mod words;
 pub use elements::Kind;
 pub use entry::{Body, Entries, Entry, Place, Sequence, Table};
 pub use examples::{
-    decimals_of_thirds, first_text, kinds_of_misfits, refused_texts, reward_order, reward_patterns,
-    single_cells_behind_uniform, starts, tiger_problem, uniform_thirds,
+    decimals_of_thirds, first_text, full_forms, kinds_of_misfits, printed_lines, refused_texts,
+    reward_order, reward_patterns, single_cells_behind_uniform, starts, tiger_problem,
+    uniform_thirds,
 };
 pub use fault::{ItemFault, ModelFault};
 pub use laws::{
-    first_wrong_is_not_right, first_wrong_outside_items, first_wrong_stays, one_decision,
-    one_division, one_element, one_entry, one_first_wrong, one_list_of_numbers, one_model,
-    one_more_entry, one_start, one_value, order_is_decided, places_lie_in_items,
-    refused_is_not_accepted, right_item_ends, uncovered_is_zero, uniform_sums_to_scale,
-    within_limits,
+    first_wrong_is_not_right, first_wrong_outside_items, first_wrong_stays, full_form_reads_back,
+    one_decision, one_division, one_element, one_entry, one_first_wrong, one_full_form,
+    one_list_of_numbers, one_model, one_more_entry, one_start, one_value, order_is_decided,
+    places_lie_in_items, refused_is_not_accepted, right_item_ends, uncovered_is_zero,
+    uniform_sums_to_scale, within_limits,
 };
 pub use model::Model;
 pub use reader::read_model;

@@ -4,6 +4,7 @@ ghost use Rattle.polcert_model.specs.Elements.{most_elements, count_of, name_of}
 ghost use Rattle.polcert_model.specs.Meaning.{HasProperRows, IsWithinLimits, IsCount, states_of, actions_of, observations_of, t_scale, o_scale, start_weight, start_total, elements_of};
 ghost use Rattle.polcert_model.specs.Drafts as drafts;
 ghost use Rattle.polcert_model.specs.Contents.{meaning};
+ghost use Rattle.polcert_model.specs.Writable.{IsWritable};
 
 use crate::draft::Draft;
 use crate::elements::Kind;
@@ -21,6 +22,7 @@ pub struct Model {
     draft: Draft,
     ghost rows: { HasProperRows (drafts.meaning draft) },
     ghost limits: { IsWithinLimits (drafts.meaning draft) },
+    ghost writable: { IsWritable (drafts.meaning draft) },
 }
 
 impl marker::Model for Model {
@@ -28,7 +30,7 @@ impl marker::Model for Model {
 
     ghost Value = { Contents };
 
-    ghost view = { λ m. record { draft = m.draft; rows = m.rows; limits = m.limits } };
+    ghost view = { λ m. record { draft = m.draft; rows = m.rows; limits = m.limits; writable = m.writable } };
 }
 
 impl Model {
@@ -36,6 +38,7 @@ impl Model {
     pub(crate) fn of(draft: Draft) -> Model
         requires rows { HasProperRows (drafts.meaning draft) }
         requires limits { IsWithinLimits (drafts.meaning draft) }
+        requires writable { IsWritable (drafts.meaning draft) }
         ensures { result.draft ≡ draft }
     {
         Model { draft }

@@ -1,22 +1,19 @@
 -- The full form of vectors, read with their graph, gives the vectors back.
 use Rattle.std.proofs.Common.{◌≡◌, ◌∙◌, ℕ, ℤ, suc, zero, ◌+◌, ◌-◌, ◌*◌, ◌^◌, ◌<◌, ◌≤◌, Bool, true, false, cond, pos, negsuc, None, List, [], ◌∷◌, ◌++◌, length, take, decimal, codes, refl, sym, ap, subst, arith, append_assoc, append-nil, length-append, take_all}
-use Rattle.std.specs.List.{list_all, list_any}
+use Rattle.std.specs.List.{list_all}
 use Rattle.std.specs.Prelude.{◌==◌}
-use Rattle.std.specs.Str.Parse.{digits_value}
 use Rattle.std.proofs.lemmas.Bool.{le-ltb}
 use Rattle.std.proofs.lemmas.Int.{ints}
 use Rattle.std.proofs.lemmas.List.{take_more}
 use Rattle.std.proofs.lemmas.Option.{slice_get-get_or}
 use Rattle.std.proofs.Math.Nat.{mul-le-mul_right}
-use Rattle.std.proofs.Math.IntN.{pos-*ℤ-pos}
-use Rattle.polcert_text.specs.Bytes.{class_of, is_blank, is_exponent_mark}
+use Rattle.polcert_text.specs.Bytes.{class_of, is_blank}
 use Rattle.polcert_text.specs.Cut.{IsCut, text_rest}
 use Rattle.polcert_text.specs.Millionths.{unsigned_text, scaled_text}
-use Rattle.polcert_text.specs.Numbers.{without_sign, exponent_size, size_of, millionth, largest, IsReadable}
+use Rattle.polcert_text.specs.Numbers.{largest}
 use Rattle.polcert_text.specs.Scaling.{Measures}
-use Rattle.polcert_text.proofs.PrintLaws.{written_exact}
 use Rattle.polcert_text.proofs.SignedLaws.{floor_positive, floor_negative}
-use Rattle.polcert_text.proofs.SizeLaws.{after-none, millionth_pos}
+use Rattle.polcert_text.proofs.SizeLaws.{millionth_pos}
 use Rattle.polcert_policy.specs.Graphs.{PolicyGraph, nodes, action_of, IsProperGraph}
 use Rattle.polcert_policy.specs.GraphText.{text_limit}
 use Rattle.polcert_policy.specs.Vectors.{PolicyVectors, Part, sign_kind, tokens_of, value_of, IsActionPart, IsValuePart, IsVectors, IsInRange, AreProperVectors}
@@ -26,8 +23,10 @@ use Rattle.polcert_policy.specs.FullForm.{behind_value, values_text, action_text
 use Rattle.polcert_policy.proofs.Places.{some_none, same_some, row_above}
 use Rattle.polcert_policy.proofs.Fillers.{action_spelled}
 use Rattle.polcert_policy.proofs.VectorSteps.{step_vector_action, step_value_within, step_value_last}
-use Rattle.polcert_policy.proofs.Numerals.{IsPlain, plain_unsigned, plain_decimal}
-use Rattle.polcert_policy.proofs.PrintedCut.{rest_at, Printed, printed_text, IsPrinted, texts_of, AllPrinted, part_with, parts_from, cut_printed}
+use Rattle.polcert_text.proofs.Numerals.{IsPlain, plain_decimal}
+use Rattle.polcert_text.proofs.PrintedCut.{rest_at}
+use Rattle.polcert_text.proofs.WrittenNumbers.{size_written, plain_size, readable_written}
+use Rattle.polcert_policy.proofs.PrintedCut.{Printed, printed_text, IsPrinted, texts_of, AllPrinted, part_with, parts_from, cut_printed}
 
 -- a number's sign and size as they are written
 abbrev is_below_zero : ℤ → Bool
@@ -44,32 +43,6 @@ number_printed h behind = record { negative = is_below_zero h; numeral = size_te
 text-number : (h : ℤ) (behind : List ℕ) → printed_text (number_printed h behind) ≡ scaled_text h ++ behind
 text-number (pos n) behind = refl
 text-number (negsuc n) behind = refl
-
-same_pos : (m n : ℕ) → pos m ≡ pos n → m ≡ n
-same_pos m n e = cc
-
-size_written : (n : ℕ) → n ≤ largest → size_of (unsigned_text n) ≡ n * millionth
-size_written n l =
-    let exact = (written_exact n (omega (arith, l)) false).1 in
-    sym (same_pos (n * millionth) (size_of (unsigned_text n)) (sym (pos-*ℤ-pos n millionth) ∙ exact))
-
-exponent_none : (bs : List ℕ) → list_any is_exponent_mark bs ≡ false → exponent_size bs ≡ 0
-unfolding exponent_size
-exponent_none bs e = ap (λ xs. digits_value 10 (without_sign xs)) (after-none is_exponent_mark bs e)
-
-plain_size : (n : ℕ) → n ≤ largest → IsPlain (unsigned_text n)
-plain_size n l = plain_unsigned n (omega (arith, l))
-
-readable_written : (n : ℕ) → n ≤ largest → IsReadable (unsigned_text n)
-readable_written n l =
-    let plain = plain_size n l in
-    let size : n * millionth ≤ largest * millionth = mul-le-mul_right millionth l in
-    record {
-      numeral = (written_exact n (omega (arith, l)) false).0;
-      short = omega (arith, plain.short);
-      exponent = omega (arith, exponent_none (unsigned_text n) plain.unmarked);
-      size = omega (arith, size, size_written n l);
-    }
 
 measures_written : (n : ℕ) → n ≤ largest → Measures (unsigned_text n) n false
 measures_written n l = record {

@@ -9,7 +9,12 @@ pub mod SignedLaws
 pub mod DecimalLaws
 pub mod PrintLaws
 pub mod Taking
+pub mod Buffering
 pub mod Giving
 pub mod Known
 pub mod TextLaws
 pub mod TakenTokens
+pub mod Numerals
+pub mod PrintedCut
+pub mod PrintedWords
+pub mod WrittenNumbers

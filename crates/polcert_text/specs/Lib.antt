@@ -8,9 +8,11 @@ pub mod TakenTokens
 pub mod Reading
 pub mod Numbers
 pub mod Millionths
+pub mod Lines
 pub mod Device
 pub mod Source
 pub mod Sink
+pub mod Buffer
 pub mod Memory
 pub mod Known
 -- what only private functions say of one another

@@ -1,6 +1,8 @@
 //! Numerals, tokens and devices of the text files that polcert reads and writes.
 #![tactic(auto)]
 
+mod buffer;
+mod buffered;
 mod bytes;
 mod laws;
 mod lexeme;
@@ -15,6 +17,8 @@ mod tests;
 mod tokens;
 mod whole;
 
+pub use buffer::{BUFFER_SIZE, Buffer};
+pub use buffered::BufferedSink;
 pub use laws::{
     bytes_of_a_writer, one_cut, one_end, one_next_token, one_refusal, one_value, same_answer_again,
     text_of_a_reader, text_of_a_slice,

@@ -4,6 +4,8 @@ use Rattle.polcert_model.specs.Meaning.{HasProperRows, IsWithinLimits}
 use Rattle.polcert_model.specs.Rows.{IsFirstWrongRow}
 use Rattle.polcert_model.specs.Text.{IsModelText}
 use Rattle.polcert_model.specs.Drafts.{meaning}
+use Rattle.polcert_model.specs.Writable.{IsWritable}
+use Rattle.polcert_model.proofs.WritableTexts.{text_writable}
 use Rattle.polcert_model.proofs.WholeTexts.{whole_accepted, whole_within, row_refused}
 use Rattle.polcert_model.proofs.reader.read_model.Goals as goal
 
@@ -12,6 +14,13 @@ of-requires-clause-limits c =
     let read = c.in_ok-read_text.ensures.read in
     let kept = c.into_draft-draft.ensures in
     subst (λ d. IsWithinLimits (meaning d)) (sym kept) (whole_within read.0 c.in_ok-read_text.field-0 read.2 (subst (λ d. HasProperRows (meaning d)) kept c.in-None.ensures))
+
+pub of-requires-clause-writable : goal.of-requires-clause-writable
+of-requires-clause-writable c =
+    let read = c.in_ok-read_text.ensures.read in
+    let kept = c.into_draft-draft.ensures in
+    subst (λ d. IsWritable (meaning d)) (sym kept)
+    (text_writable c.args.text.now _ (whole_accepted c.args.text.now read.0 c.in_ok-read_text.field-0 read.1 read.2 (subst (λ d. HasProperRows (meaning d)) kept c.in-None.ensures)))
 
 pub returns-in-None-clause-accepted : goal.returns-in-None-clause-accepted
 returns-in-None-clause-accepted c =
