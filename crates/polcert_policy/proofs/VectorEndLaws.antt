@@ -125,7 +125,7 @@ some_columns : (n o k : ℕ) → k < n * o → 1 ≤ o
 some_columns n zero k h = absurd (omega (arith, h))
 some_columns n (suc o) k h = omega arith
 
-values_in_range : (g : PolicyGraph) (o : ℕ) (ps : List Part) (node : ℕ) (vs : List ℤ) → AreVectors g o ps vs → length ps ≡ node * (1 + o) → length vs ≡ node * o
+pub values_in_range : (g : PolicyGraph) (o : ℕ) (ps : List Part) (node : ℕ) (vs : List ℤ) → AreVectors g o ps vs → length ps ≡ node * (1 + o) → length vs ≡ node * o
     → (k : ℕ) (h : ℤ) → slice_get vs k ≡ Some h → IsInRange h
 values_in_range g o ps node vs records count filled k h e =
     let row = row_of o k (some_columns node o k (omega (arith, within_get vs k h e, filled))) in
