@@ -5,7 +5,7 @@ use Rattle.polcert_text.proofs.TextLaws.{one_cut}
 use Rattle.polcert_text.specs.TakenTokens.{Taken}
 use Rattle.polcert_policy.specs.Graphs.{PolicyGraph, IsLooseGraph, IsGraph, IsFirstBeyond, HasNodesOnly, IsPossible}
 use Rattle.polcert_policy.specs.GraphText.{text_limit, IsGraphText, EndsEarly, HasWrongToken, HasFirstBeyond, IsGraphRefusal, IsNoGraphText, NamesSuccessor}
-use Rattle.polcert_policy.specs.GraphRead.{IsTokenRefusal, IsEndRefusal}
+use Rattle.polcert_policy.specs.GraphRead.{IsTokenRefusal, IsEndRefusal, IsUnfinished}
 use Rattle.polcert_policy.specs.declared.fault.GraphFault.{GraphFault}
 use Rattle.polcert_policy.specs.declared.fault.GraphFault.TheVariants as faults
 use Rattle.polcert_text.proofs.TakenTokens.{cut_taken}
@@ -24,20 +24,23 @@ token_refusal a o b p text ts rest fault ea eo taken h = at fault (subst (λ x. 
     at faults.Memory h = tt
     at _ h = absurd h
 
+early : (a o : ℕ) (text : List ℕ) (ts : List Lexeme) (place n column : ℕ) → IsCut (text_rest text text_limit) ts None → place ≡ length text → IsUnfinished a o ts n column → EndsEarly a o text place n column
+early a o text ts place n column cut e h = record { tokens = ts; cut = cut; place_is = e; possible = h.possible; unfinished = h.unfinished; column_is = h.column_is }
+
 end_refusal : (a o : ℕ) (text : List ℕ) (ts : List Lexeme) (fault : GraphFault)
     → IsCut (text_rest text text_limit) ts None → IsEndRefusal a o ts (length text) fault → IsGraphRefusal a o text fault
-end_refusal a o text ts (faults.Truncated place) cut h = record { tokens = ts; cut = cut; place_is = h.0; possible = h.1.possible; unfinished = h.1.unfinished }
-end_refusal a o text ts (faults.NoNodes place) cut h = record { tokens = ts; cut = cut; place_is = h.0; possible = h.1.possible; unfinished = h.1.unfinished }
+end_refusal a o text ts (faults.Truncated place) cut h = (h.1.0, (h.1.1.0, early a o text ts place h.1.0 h.1.1.0 cut h.0 h.1.1.1, h.1.1.2))
+end_refusal a o text ts (faults.NoNodes place) cut h = early a o text ts place 0 0 cut h.0 h.1
 end_refusal a o text ts (faults.SuccessorOutOfRange n z) cut h = (ts, (h.0, cut, h.1, h.2))
 end_refusal a o text ts _ cut h = absurd h
 
-wrong_token : (a o : ℕ) (text : List ℕ) (place : ℕ) → HasWrongToken a o text place → (g : PolicyGraph) → IsGraphText a o text g → ⊥
-wrong_token a o text place h g is =
+wrong_token : (a o : ℕ) (text : List ℕ) (fault : GraphFault) → HasWrongToken a o text fault → (g : PolicyGraph) → IsGraphText a o text g → ⊥
+wrong_token a o text fault h g is =
     let behind = cut_taken _ h.1.0 h.0 is.0 None h.1.1 is.1 in
     h.1.2.impossible (behind.0, (g, subst (λ xs. IsLooseGraph a o xs g) behind.1.0 is.2.loose))
 
-ends_early : (a o : ℕ) (text : List ℕ) (place : ℕ) → EndsEarly a o text place → (g : PolicyGraph) → IsGraphText a o text g → ⊥
-ends_early a o text place h g is =
+ends_early : (a o : ℕ) (text : List ℕ) (place n column : ℕ) → EndsEarly a o text place n column → (g : PolicyGraph) → IsGraphText a o text g → ⊥
+ends_early a o text place n column h g is =
     let same = (one_cut _ is.0 h.tokens None None is.1 h.cut).0 in
     h.unfinished g (subst (λ xs. IsLooseGraph a o xs g) same is.2.loose)
 
@@ -51,12 +54,12 @@ not_beyond g n z first bound =
 
 pub no_graph : (a o : ℕ) (text : List ℕ) (fault : GraphFault) → IsGraphRefusal a o text fault → IsNoGraphText a o text fault
 no_graph a o text (faults.Token fault) h = λ g is. none_some fault (one_cut _ is.0 h.0 None (Some fault) is.1 h.1).1
-no_graph a o text (faults.BadShape place) h = wrong_token a o text place h
-no_graph a o text (faults.NodeOutOfOrder place) h = wrong_token a o text place h
-no_graph a o text (faults.ActionOutOfRange place) h = wrong_token a o text place h
-no_graph a o text (faults.TooManyNodes place) h = wrong_token a o text place h
-no_graph a o text (faults.Truncated place) h = ends_early a o text place h
-no_graph a o text (faults.NoNodes place) h = ends_early a o text place h
+no_graph a o text (faults.BadShape place) h = wrong_token a o text _ h
+no_graph a o text (faults.NodeOutOfOrder place) h = wrong_token a o text _ h
+no_graph a o text (faults.ActionOutOfRange place) h = wrong_token a o text _ h
+no_graph a o text (faults.TooManyNodes place) h = wrong_token a o text _ h
+no_graph a o text (faults.Truncated place) h = ends_early a o text place h.0 h.1.0 h.1.1
+no_graph a o text (faults.NoNodes place) h = ends_early a o text place 0 0 h
 no_graph a o text (faults.SuccessorOutOfRange n z) h = λ g is.
     let same = (one_cut _ is.0 h.0 None None is.1 h.1.1).0 in
     let one = one_loose a o h.0 g h.1.0 (subst (λ xs. IsLooseGraph a o xs g) same is.2.loose) h.1.2 in
@@ -90,13 +93,13 @@ one_first g n z m y a b = at (order (n * g.observations + z) (m * g.observations
     at (inr (inl e)) = (same_row g.observations n m z y a.observation b.observation e, same_column g.observations n m z y a.observation b.observation e)
     at (inr (inr l)) = absurd (not_before m y n z b a l)
 
-not_wrong : (a o : ℕ) (text : List ℕ) (place n z : ℕ) → HasWrongToken a o text place → HasFirstBeyond a o text n z → ⊥
-not_wrong a o text place n z h is =
+not_wrong : (a o : ℕ) (text : List ℕ) (fault : GraphFault) (n z : ℕ) → HasWrongToken a o text fault → HasFirstBeyond a o text n z → ⊥
+not_wrong a o text fault n z h is =
     let behind = cut_taken _ h.1.0 h.0 is.0 None h.1.1 is.1.1 in
     h.1.2.impossible (behind.0, (is.1.0, subst (λ xs. IsLooseGraph a o xs is.1.0) behind.1.0 is.1.2))
 
-not_early : (a o : ℕ) (text : List ℕ) (place n z : ℕ) → EndsEarly a o text place → HasFirstBeyond a o text n z → ⊥
-not_early a o text place n z h is =
+not_early : (a o : ℕ) (text : List ℕ) (place m c n z : ℕ) → EndsEarly a o text place m c → HasFirstBeyond a o text n z → ⊥
+not_early a o text place m c n z h is =
     let same = (one_cut _ is.0 h.tokens None None is.1.1 h.cut).0 in
     h.unfinished is.1.0 (subst (λ xs. IsLooseGraph a o xs is.1.0) same is.1.2)
 
@@ -109,12 +112,12 @@ beyond_named a o text (Ok g) is refused n z h =
     let one = one_loose a o h.0 g h.1.0 (subst (λ xs. IsLooseGraph a o xs g) same is.2.loose) h.1.2 in
     absurd (not_beyond h.1.0 n z h.1.3 (subst HasNodesOnly one is.2.bound))
 beyond_named a o text (Err (faults.Token fault)) none r n z h = absurd (none_some fault (one_cut _ h.0 r.0 None (Some fault) h.1.1 r.1).1)
-beyond_named a o text (Err (faults.BadShape place)) none r n z h = absurd (not_wrong a o text place n z r h)
-beyond_named a o text (Err (faults.NodeOutOfOrder place)) none r n z h = absurd (not_wrong a o text place n z r h)
-beyond_named a o text (Err (faults.ActionOutOfRange place)) none r n z h = absurd (not_wrong a o text place n z r h)
-beyond_named a o text (Err (faults.TooManyNodes place)) none r n z h = absurd (not_wrong a o text place n z r h)
-beyond_named a o text (Err (faults.Truncated place)) none r n z h = absurd (not_early a o text place n z r h)
-beyond_named a o text (Err (faults.NoNodes place)) none r n z h = absurd (not_early a o text place n z r h)
+beyond_named a o text (Err (faults.BadShape place)) none r n z h = absurd (not_wrong a o text _ n z r h)
+beyond_named a o text (Err (faults.NodeOutOfOrder place)) none r n z h = absurd (not_wrong a o text _ n z r h)
+beyond_named a o text (Err (faults.ActionOutOfRange place)) none r n z h = absurd (not_wrong a o text _ n z r h)
+beyond_named a o text (Err (faults.TooManyNodes place)) none r n z h = absurd (not_wrong a o text _ n z r h)
+beyond_named a o text (Err (faults.Truncated place)) none r n z h = absurd (not_early a o text place r.0 r.1.0 n z r.1.1 h)
+beyond_named a o text (Err (faults.NoNodes place)) none r n z h = absurd (not_early a o text place 0 0 n z r h)
 beyond_named a o text (Err (faults.SuccessorOutOfRange m y)) none r n z h =
     let same = (one_cut _ r.0 h.0 None None r.1.1 h.1.1).0 in
     let one = one_loose a o h.0 r.1.0 h.1.0 (subst (λ xs. IsLooseGraph a o xs r.1.0) same r.1.2) h.1.2 in

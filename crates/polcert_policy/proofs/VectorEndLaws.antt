@@ -13,13 +13,14 @@ use Rattle.polcert_text.proofs.SignedLaws.{signed-mul}
 use Rattle.polcert_text.proofs.SizeLaws.{millionth_pos}
 use Rattle.polcert_policy.specs.Graphs.{PolicyGraph, nodes}
 use Rattle.polcert_policy.specs.Vectors.{PolicyVectors, Part, sign_kind, with_sign, tokens_of, AreVectors, IsVectors, IsInRange, AreProper}
+use Rattle.polcert_policy.specs.VectorText.{IsPartColumn}
 use Rattle.polcert_policy.specs.VectorsRead.{AreVectorsUpTo, open_of, IsOpenSign, HasVectors, AreUnfinished}
 use Rattle.polcert_policy.specs.declared.vectors_reading.OpenSign.{OpenSign}
 use Rattle.polcert_policy.specs.declared.vectors_reading.VectorsReading.{VectorsReading}
 use Rattle.polcert_policy.proofs.Places.{row_above, row_below, row_of, same_column, get_within, within_get, same_some}
 use Rattle.polcert_policy.proofs.VectorLaws.{head_of, tail_of, cons_not_nil, not_sign, front_parts, vector_parts}
 use Rattle.polcert_policy.proofs.VectorSteps.{tokens-append}
-use Rattle.polcert_policy.proofs.VectorReadLaws.{NextPart, drop_same, next_part, possible_seen}
+use Rattle.polcert_policy.proofs.VectorReadLaws.{NextPart, drop_same, next_part, possible_seen, column_read}
 
 no_tokens : (ps : List Part) → [] ≡ tokens_of ps → length ps ≡ 0
 no_tokens [] e = refl
@@ -48,8 +49,9 @@ open_ended g o ps node column vs s v sign old all = at n.part.sign n.tokens
     at None e = not_sign s n.part.token (head_of s n.part.token _ _ e) sign n.is_part.numeral
     at (Some u) e = cons_not_nil _ _ (sym (tail_of s u _ _ e))
 
-pub unfinished_vector : (g : PolicyGraph) (seen : List Lexeme) (r : VectorsReading) → 1 ≤ r.states → 0 < r.column → HasVectors g seen r → AreUnfinished g r.states seen
+pub unfinished_vector : (g : PolicyGraph) (seen : List Lexeme) (r : VectorsReading) → 1 ≤ r.states → 0 < r.column → HasVectors g seen r → AreUnfinished g r.states seen r.node r.column
 unfinished_vector g seen r some begun h = record {
+  column_is = column_read g seen r h;
   possible = possible_seen g seen r some h;
   unfinished = λ v all. at h.sign r.sign h.sign_is v (subst (λ ts. IsVectors g r.states ts v) h.spelled all);
 }
@@ -76,8 +78,9 @@ spelled_whole g seen r e h = at h.sign r.sign h.sign_is h.spelled
     at (Some s) None is spelled = absurd is
     at (Some s) (Some u) is spelled = absurd (omega (arith, is.1, e))
 
-pub too_few : (g : PolicyGraph) (seen : List Lexeme) (r : VectorsReading) → 1 ≤ r.states → r.column ≤ 0 → r.node < nodes g → HasVectors g seen r → AreUnfinished g r.states seen
+pub too_few : (g : PolicyGraph) (seen : List Lexeme) (r : VectorsReading) → 1 ≤ r.states → r.column ≤ 0 → r.node < nodes g → HasVectors g seen r → AreUnfinished g r.states seen r.node 0
 too_few g seen r some e fewer h = record {
+  column_is = (let zero_is : r.column ≡ 0 = omega (arith, e) in subst (λ c. IsPartColumn r.states seen r.node c) zero_is (column_read g seen r h));
   possible = possible_seen g seen r some h;
   unfinished = λ v all.
       let count = whole_count g r.states h.parts r.values.items v h.vectors.records (subst (λ ts. IsVectors g r.states ts v) (spelled_whole g seen r e h) all) in
@@ -122,7 +125,7 @@ some_columns : (n o k : ℕ) → k < n * o → 1 ≤ o
 some_columns n zero k h = absurd (omega (arith, h))
 some_columns n (suc o) k h = omega arith
 
-values_in_range : (g : PolicyGraph) (o : ℕ) (ps : List Part) (node : ℕ) (vs : List ℤ) → AreVectors g o ps vs → length ps ≡ node * (1 + o) → length vs ≡ node * o
+pub values_in_range : (g : PolicyGraph) (o : ℕ) (ps : List Part) (node : ℕ) (vs : List ℤ) → AreVectors g o ps vs → length ps ≡ node * (1 + o) → length vs ≡ node * o
     → (k : ℕ) (h : ℤ) → slice_get vs k ≡ Some h → IsInRange h
 values_in_range g o ps node vs records count filled k h e =
     let row = row_of o k (some_columns node o k (omega (arith, within_get vs k h e, filled))) in

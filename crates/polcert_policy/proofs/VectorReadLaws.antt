@@ -1,5 +1,5 @@
 -- What is read of vectors behind one more token, and why a token is refused.
-use Rattle.std.proofs.Common.{◌≡◌, ◌∙◌, ℕ, ℤ, suc, ◌+◌, ◌-◌, ◌*◌, ◌^◌, ◌<◌, ◌≤◌, ◌⊎◌, inl, inr, ⊎_elim, Bool, true, false, pos, Option, Some, None, Err, List, [], ◌∷◌, ◌++◌, length, slice_get, refl, sym, ap, subst, arith, append_assoc, append-nil, length-append}
+use Rattle.std.proofs.Common.{◌≡◌, ◌∙◌, ℕ, ℤ, suc, ◌+◌, ◌-◌, ◌*◌, ◌^◌, ◌<◌, ◌≤◌, ◌⊎◌, inl, inr, ⊎_elim, Bool, true, false, ◌||◌, if◌then◌else◌, pos, Option, Some, None, Err, List, [], ◌∷◌, ◌++◌, length, slice_get, refl, sym, ap, subst, arith, append_assoc, append-nil, length-append}
 use Rattle.polcert_text.specs.Cut.{Lexeme}
 use Rattle.polcert_text.specs.Numbers.{IsReadable, IsFloor, IsRefused}
 use Rattle.polcert_text.specs.declared.number.NumberFault.{NumberFault}
@@ -9,7 +9,7 @@ use Rattle.polcert_text.proofs.TextLaws.{readable_not_refused}
 use Rattle.polcert_policy.specs.Words.{numeral_kind, minus_kind, is_whole, whole_of}
 use Rattle.polcert_policy.specs.Graphs.{PolicyGraph, nodes, action_of, IsProperGraph}
 use Rattle.polcert_policy.specs.Vectors.{PolicyVectors, Part, sign_kind, with_sign, tokens_of, is_negative, IsPart, IsActionPart, IsValuePart, AreVectors, IsVectors, ArePossible}
-use Rattle.polcert_policy.specs.VectorText.{StopVectorsAt}
+use Rattle.polcert_policy.specs.VectorText.{numbers, IsPartColumn, last_sign, number_place, is_part_shaped, IsPartMisfit, StopVectorsFor}
 use Rattle.polcert_policy.specs.VectorsRead.{AreVectorsUpTo, open_of, IsOpenSign, place_behind, is_minus, HasVectors, IsPartRefusal, CheckedAction, AdvancedValue}
 use Rattle.polcert_policy.specs.declared.fault.VectorFault.{VectorFault}
 use Rattle.polcert_policy.specs.declared.fault.VectorFault.TheVariants as faults
@@ -17,7 +17,7 @@ use Rattle.polcert_policy.specs.declared.vectors_reading.OpenSign.{OpenSign}
 use Rattle.polcert_policy.specs.declared.vectors_reading.VectorsReading.{VectorsReading}
 use Rattle.polcert_policy.proofs.Places.{some_none, same_some}
 use Rattle.polcert_policy.proofs.Fillers.{signed_zero, signed_zero_value}
-use Rattle.polcert_policy.proofs.VectorLaws.{head_of, tail_of, cons_not_nil, not_sign, front_parts, vector_parts}
+use Rattle.polcert_policy.proofs.VectorLaws.{head_of, tail_of, cons_not_nil, not_sign, AreParts, front_parts, vector_parts}
 use Rattle.polcert_policy.proofs.VectorSteps.{FitsVectors, step_vector_action, step_value_within, step_value_last, needed_part, can_end, possible_parts, tokens-append}
 
 true_false : {b : Bool} → b ≡ true → b ≡ false → ⊥
@@ -128,37 +128,105 @@ possible_seen g seen r some h =
 abbrev GoesOn : PolicyGraph → ℕ → List Part → Option Lexeme → Lexeme → Type 0
 GoesOn g o ps sign t = (more : List Lexeme) (v : PolicyVectors) → IsVectors g o (tokens_of ps ++ (with_sign sign t ++ more)) v → ⊥
 
-stops : (g : PolicyGraph) (o : ℕ) (ps : List Part) (node column : ℕ) (vs : List ℤ) (sign : Option Lexeme) (open_sign : Option OpenSign) (t : Lexeme) (place : ℕ)
-    → IsProperGraph g → 1 ≤ o → AreVectorsUpTo g o ps node column vs → IsOpenSign sign open_sign column
-    → place ≡ place_behind open_sign t.place → GoesOn g o ps sign t → StopVectorsAt g o ((tokens_of ps ++ open_of sign) ++ t ∷ []) place
-stops g o ps node column vs None (Some u) t place proper some old is e none = absurd is
-stops g o ps node column vs (Some s) None t place proper some old is e none = absurd is
-stops g o ps node column vs None None t place proper some old is e none = record {
-  before = tokens_of ps ++ [];
-  token = t;
-  behind = [];
-  joined = refl;
-  place_is = e;
-  possible = possible_open g o ps node column vs None None proper some old tt;
-  impossible = λ h. none h.0 h.1.0 (subst (λ ts. IsVectors g o ts h.1.0) (append_assoc (tokens_of ps ++ []) (t ∷ []) h.0 ∙ ap (λ ts. ts ++ t ∷ h.0) (append-nil (tokens_of ps))) h.1.1);
-  next_only = inl refl;
-}
-stops g o ps node column vs (Some s) (Some u) t place proper some old is e none = record {
-  before = tokens_of ps;
-  token = s;
-  behind = t ∷ [];
-  joined = append_assoc (tokens_of ps) (s ∷ []) (t ∷ []);
-  place_is = e ∙ is.0.place;
-  possible = subst (λ ts. ArePossible g o ts) (append-nil (tokens_of ps)) (possible_open g o ps node column vs None None proper some old tt);
-  impossible = λ h. none h.0 h.1.0 (subst (λ ts. IsVectors g o ts h.1.0) (append_assoc (tokens_of ps ++ s ∷ []) (t ∷ []) h.0 ∙ append_assoc (tokens_of ps) (s ∷ []) (t ∷ h.0)) h.1.1);
-  next_only = inr (t, refl, is.0.kind);
+numeral_no_sign : (k : TokenKind) → numeral_kind k ≡ true → sign_kind k ≡ false
+numeral_no_sign Numeral e = refl
+numeral_no_sign _ e = cc
+
+sign_no_numeral : (k : TokenKind) → sign_kind k ≡ true → numeral_kind k ≡ false
+sign_no_numeral Numeral e = cc
+sign_no_numeral _ e = refl
+
+-- a numeral before tokens that end in no sign
+behind_numeral : (t : Lexeme) (us : List Lexeme) → numeral_kind t.kind ≡ true → last_sign us ≡ None → last_sign (t ∷ us) ≡ None
+behind_numeral t [] numeral e = ap (λ b. if b then Some t else None) (numeral_no_sign t.kind numeral)
+behind_numeral t (u ∷ us) numeral e = e
+
+behind_open : (u s : Lexeme) (ts : List Lexeme) → last_sign (ts ++ s ∷ []) ≡ Some s → last_sign (u ∷ (ts ++ s ∷ [])) ≡ Some s
+behind_open u s [] was = was
+behind_open u s (t ∷ ts) was = was
+
+-- the sign that ends what was read
+last_open : (ps : List Part) (sign : Option Lexeme) → AreParts ps → ((s : Lexeme) → sign ≡ Some s → sign_kind s.kind ≡ true) → last_sign (tokens_of ps ++ open_of sign) ≡ sign
+last_open [] None parts is = refl
+last_open [] (Some s) parts is = ap (λ b. if b then Some s else None) (is s refl)
+last_open (p ∷ ps) sign parts is = at p.sign sign (last_open ps sign (λ k. parts (suc k)) is)
+  where
+    first : (u : Option Lexeme) → last_sign (tokens_of ps ++ open_of u) ≡ u → last_sign (p.token ∷ (tokens_of ps ++ open_of u)) ≡ u
+    first None was = behind_numeral p.token (tokens_of ps ++ []) (parts 0 p refl).numeral was
+    first (Some s) was = behind_open p.token s (tokens_of ps) was
+
+    at : (u v : Option Lexeme) → last_sign (tokens_of ps ++ open_of v) ≡ v → last_sign ((with_sign u p.token ++ tokens_of ps) ++ open_of v) ≡ v
+    at None v was = first v was
+    at (Some s) v was = first v was
+
+one_number : (t : Lexeme) (ts : List Lexeme) → numeral_kind t.kind ≡ true → numbers (t ∷ ts) ≡ suc (numbers ts)
+one_number t ts e = ap (λ b. if b then suc (numbers ts) else numbers ts) e
+
+no_number : (t : Lexeme) (ts : List Lexeme) → numeral_kind t.kind ≡ false → numbers (t ∷ ts) ≡ numbers ts
+no_number t ts e = ap (λ b. if b then suc (numbers ts) else numbers ts) e
+
+-- each part has one numeral
+numbers_of : (ps : List Part) (sign : Option Lexeme) → AreParts ps → ((s : Lexeme) → sign ≡ Some s → sign_kind s.kind ≡ true) → numbers (tokens_of ps ++ open_of sign) ≡ length ps
+numbers_of [] None parts is = refl
+numbers_of [] (Some s) parts is = no_number s [] (sign_no_numeral s.kind (is s refl))
+numbers_of (p ∷ ps) sign parts is = at p.sign refl (numbers_of ps sign (λ k. parts (suc k)) is)
+  where
+    one : numbers (p.token ∷ (tokens_of ps ++ open_of sign)) ≡ suc (numbers (tokens_of ps ++ open_of sign))
+    one = one_number p.token (tokens_of ps ++ open_of sign) (parts 0 p refl).numeral
+
+    at : (u : Option Lexeme) → p.sign ≡ u → numbers (tokens_of ps ++ open_of sign) ≡ length ps → numbers ((with_sign u p.token ++ tokens_of ps) ++ open_of sign) ≡ suc (length ps)
+    at None e was = one ∙ ap suc was
+    at (Some s) e was = no_number s (p.token ∷ (tokens_of ps ++ open_of sign)) (sign_no_numeral s.kind ((parts 0 p refl).signed s e)) ∙ one ∙ ap suc was
+
+open_signs : (sign : Option Lexeme) (open_sign : Option OpenSign) (column : ℕ) → IsOpenSign sign open_sign column → (s : Lexeme) → sign ≡ Some s → sign_kind s.kind ≡ true
+open_signs None open_sign column is s e = absurd (some_none s e)
+open_signs (Some u) None column is s e = absurd is
+open_signs (Some u) (Some o) column is s e = subst (λ x. sign_kind x.kind ≡ true) (same_some u s e) is.0.kind
+
+open_place : (sign : Option Lexeme) (open_sign : Option OpenSign) (column : ℕ) (t : Lexeme) → IsOpenSign sign open_sign column → place_behind open_sign t.place ≡ number_place sign t
+open_place None None column t is = refl
+open_place None (Some u) column t is = absurd is
+open_place (Some s) None column t is = absurd is
+open_place (Some s) (Some u) column t is = is.0.place
+
+open_tokens : (sign : Option Lexeme) (t : Lexeme) → open_of sign ++ t ∷ [] ≡ with_sign sign t
+open_tokens None t = refl
+open_tokens (Some s) t = refl
+
+-- the place that is read next
+pub column_read : (g : PolicyGraph) (seen : List Lexeme) (r : VectorsReading) → HasVectors g seen r → IsPartColumn r.states seen r.node r.column
+column_read g seen r h = record {
+  count = ap numbers h.spelled ∙ numbers_of h.parts h.sign (vector_parts g r.states h.parts r.values.items h.vectors.records) (open_signs h.sign r.sign r.column h.sign_is) ∙ h.vectors.count;
+  within = h.vectors.within;
 }
 
 module _ (g : PolicyGraph) (seen : List Lexeme) (r : VectorsReading) (t : Lexeme) (some : 1 ≤ r.states) (h : HasVectors g seen r) where
-  stop_seen : (place : ℕ) → place ≡ place_behind r.sign t.place → GoesOn g r.states h.parts h.sign t → StopVectorsAt g r.states (seen ++ t ∷ []) place
-  stop_seen place e none =
-      subst (λ ts. StopVectorsAt g r.states (ts ++ t ∷ []) place) (sym h.spelled)
-      (stops g r.states h.parts r.node r.column r.values.items h.sign r.sign t place h.proper some h.vectors h.sign_is e none)
+  last_seen : last_sign seen ≡ h.sign
+  last_seen = ap last_sign h.spelled ∙ last_open h.parts h.sign (vector_parts g r.states h.parts r.values.items h.vectors.records) (open_signs h.sign r.sign r.column h.sign_is)
+
+  place_seen : (place : ℕ) → place ≡ place_behind r.sign t.place → place ≡ number_place (last_sign seen) t
+  place_seen place e = e ∙ open_place h.sign r.sign r.column t h.sign_is ∙ ap (λ s. number_place s t) (sym last_seen)
+
+  column_at : (c : ℕ) → r.column ≡ c → IsPartColumn r.states seen r.node c
+  column_at c e = subst (λ x. IsPartColumn r.states seen r.node x) e (column_read g seen r h)
+
+  value_column : 0 < r.column → IsPartColumn r.states seen r.node (suc (r.column - 1))
+  value_column begun = column_at (suc (r.column - 1)) (omega (arith, begun))
+
+  stop_seen : (fault : VectorFault) → IsPartMisfit g r.states seen t fault → GoesOn g r.states h.parts h.sign t → StopVectorsFor g r.states (seen ++ t ∷ []) fault
+  stop_seen fault misfit none = record {
+    before = seen;
+    token = t;
+    spelled = refl;
+    possible = possible_seen g seen r some h;
+    impossible = λ x. none x.0 x.1.0 (subst (λ ts. IsVectors g r.states ts x.1.0) (tokens x.0) x.1.1);
+    wrong = misfit;
+  }
+    where
+      tokens : (more : List Lexeme) → (seen ++ t ∷ []) ++ more ≡ tokens_of h.parts ++ (with_sign h.sign t ++ more)
+      tokens more =
+          ap (λ ts. (ts ++ t ∷ []) ++ more) h.spelled ∙ ap (λ ts. ts ++ more) (append_assoc (tokens_of h.parts) (open_of h.sign) (t ∷ []))
+          ∙ ap (λ ts. (tokens_of h.parts ++ ts) ++ more) (open_tokens h.sign t) ∙ append_assoc (tokens_of h.parts) (with_sign h.sign t) more
 
   next : (x : Lexeme) (more : List Lexeme) (v : PolicyVectors) → IsVectors g r.states (tokens_of h.parts ++ x ∷ more) v → NextPart g r.states h.parts r.node r.column v.values x more
   next x more v all = next_part g r.states h.parts r.node r.column r.values.items x more v h.vectors all
@@ -182,10 +250,10 @@ module _ (g : PolicyGraph) (seen : List Lexeme) (r : VectorsReading) (t : Lexeme
       at (Some s) None is = absurd is
       at (Some s) (Some u) is = absurd (omega (arith, is.1, e))
 
-  stop_action : (place : ℕ) → r.column ≡ 0 → place ≡ t.place
-      → ((more : List Lexeme) (v : PolicyVectors) → NextPart g r.states h.parts r.node r.column v.values t more → ⊥) → StopVectorsAt g r.states (seen ++ t ∷ []) place
-  stop_action place e place_is none =
-      stop_seen place (place_is ∙ ap (λ u. place_behind u t.place) (sym (closed_sign e)))
+  stop_action : (fault : VectorFault) → r.column ≡ 0 → IsPartMisfit g r.states seen t fault
+      → ((more : List Lexeme) (v : PolicyVectors) → NextPart g r.states h.parts r.node r.column v.values t more → ⊥) → StopVectorsFor g r.states (seen ++ t ∷ []) fault
+  stop_action fault e misfit none =
+      stop_seen fault misfit
       (λ more v all. none more v (next t more v (subst (λ s. IsVectors g r.states (tokens_of h.parts ++ (with_sign s t ++ more)) v) (closed_lexeme e) all)))
 
   -- the token that comes next in place of an action
@@ -202,20 +270,28 @@ module _ (g : PolicyGraph) (seen : List Lexeme) (r : VectorsReading) (t : Lexeme
 
   pub refuse_vector_action : (fault : VectorFault) → r.column ≡ 0 → CheckedAction g r.node t (Err fault) → IsPartRefusal g r.states (seen ++ t ∷ []) fault
   refuse_vector_action (faults.WrongVectorCount place) e c =
-      stop_action place e c.0 (λ more v n. omega (arith, n.count, h.vectors.count, above (nodes g) r.node c.1))
+      let all : r.node ≡ nodes g = omega (arith, c.1, h.vectors.few) in
+      stop_action (faults.WrongVectorCount place) e (c.0, subst (λ n. IsPartColumn r.states seen n 0) all (column_at 0 e)) (λ more v n. omega (arith, n.count, h.vectors.count, above (nodes g) r.node c.1))
     where
       above : (m n : ℕ) → m ≤ n → m * (1 + r.states) ≤ n * (1 + r.states)
       above m n l = grind (arith, l)
   refuse_vector_action (faults.BadShape place) e c =
-      stop_action place e c.0 (λ more v n. true_false (action_next v.values more e n).0 c.1)
+      stop_action (faults.BadShape place) e
+      (place_seen place (c.0 ∙ ap (λ u. place_behind u t.place) (sym (closed_sign e))), (r.node, (0, column_at 0 e, c.1, c.2)))
+      (λ more v n. true_false (action_next v.values more e n).0 c.2)
   refuse_vector_action (faults.ActionMismatch place) e c =
-      stop_action place e c.0 (λ more v n. c.1 (action_next v.values more e n).1)
+      stop_action (faults.ActionMismatch place) e (c.0, (r.node, column_at 0 e, c.1, c.2, c.3)) (λ more v n. c.3 (action_next v.values more e n).1)
   refuse_vector_action _ e c = absurd c
 
   -- a token that is neither a numeral nor a first sign
-  pub refuse_other : (place : ℕ) → place ≡ place_behind r.sign t.place → numeral_kind t.kind ≡ false → sign_kind t.kind ≡ false → StopVectorsAt g r.states (seen ++ t ∷ []) place
-  refuse_other place e no_numeral no_sign = stop_seen place e (at h.sign r.sign h.sign_is)
+  pub refuse_other : (place : ℕ) → 0 < r.column → place ≡ place_behind r.sign t.place → numeral_kind t.kind ≡ false → sign_kind t.kind ≡ false → StopVectorsFor g r.states (seen ++ t ∷ []) (faults.BadShape place)
+  refuse_other place begun e no_numeral no_sign =
+      stop_seen (faults.BadShape place) (place_seen place e, (r.node, (suc (r.column - 1), value_column begun, h.vectors.few_begun begun, shape (last_sign seen)))) (at h.sign r.sign h.sign_is)
     where
+      shape : (s : Option Lexeme) → is_part_shaped (suc (r.column - 1)) s t ≡ false
+      shape None = (λ i. no_numeral i || no_sign i)
+      shape (Some s) = no_numeral
+
       at : (s : Option Lexeme) (u : Option OpenSign) → IsOpenSign s u r.column → GoesOn g r.states h.parts s t
       at None u is = λ more v all. number_begins g r.states h.parts r.node r.column v.values t more no_numeral no_sign (next t more v all)
       at (Some s) None is = absurd is
@@ -225,9 +301,17 @@ module _ (g : PolicyGraph) (seen : List Lexeme) (r : VectorsReading) (t : Lexeme
           true_false (subst (λ x. numeral_kind x.kind ≡ true) (sym p.1) n.is_part.numeral) no_numeral
 
   -- a sign behind a sign
-  pub refuse_second_sign : (u : OpenSign) → r.sign ≡ Some u → sign_kind t.kind ≡ true → StopVectorsAt g r.states (seen ++ t ∷ []) u.place
-  refuse_second_sign u e sign = stop_seen u.place (ap (λ x. place_behind x t.place) (sym e)) (at h.sign r.sign h.sign_is e)
+  pub refuse_second_sign : (u : OpenSign) → 0 < r.column → r.sign ≡ Some u → sign_kind t.kind ≡ true → StopVectorsFor g r.states (seen ++ t ∷ []) (faults.BadShape u.place)
+  refuse_second_sign u begun e sign =
+      stop_seen (faults.BadShape u.place)
+      (place_seen u.place (ap (λ x. place_behind x t.place) (sym e)), (r.node, (suc (r.column - 1), value_column begun, h.vectors.few_begun begun, subst (λ s. is_part_shaped (suc (r.column - 1)) s t ≡ false) (sym last_seen) (shape h.sign r.sign h.sign_is e))))
+      (at h.sign r.sign h.sign_is e)
     where
+      shape : (s : Option Lexeme) (x : Option OpenSign) → IsOpenSign s x r.column → x ≡ Some u → is_part_shaped (suc (r.column - 1)) s t ≡ false
+      shape None None is e = absurd (some_none u e)
+      shape None (Some x) is e = absurd is
+      shape (Some s) x is e = sign_no_numeral t.kind sign
+
       at : (s : Option Lexeme) (x : Option OpenSign) → IsOpenSign s x r.column → x ≡ Some u → GoesOn g r.states h.parts s t
       at None None is e = absurd (some_none u e)
       at None (Some x) is e = absurd is
@@ -238,8 +322,9 @@ module _ (g : PolicyGraph) (seen : List Lexeme) (r : VectorsReading) (t : Lexeme
           not_sign t n.part.token p.1 sign n.is_part.numeral
 
   -- a numeral that can't be read
-  pub refuse_numeral : (fault : NumberFault) (place : ℕ) → 0 < r.column → place ≡ place_behind r.sign t.place → numeral_kind t.kind ≡ true → IsRefused t.bytes fault → StopVectorsAt g r.states (seen ++ t ∷ []) place
-  refuse_numeral fault place begun e numeral refused = stop_seen place e (at h.sign r.sign h.sign_is)
+  pub refuse_numeral : (fault : NumberFault) (place : ℕ) → 0 < r.column → place ≡ place_behind r.sign t.place → numeral_kind t.kind ≡ true → IsRefused t.bytes fault → StopVectorsFor g r.states (seen ++ t ∷ []) (faults.Number fault place)
+  refuse_numeral fault place begun e numeral refused =
+      stop_seen (faults.Number fault place) (place_seen place e, (r.node, (r.column - 1, value_column begun)), numeral, refused) (at h.sign r.sign h.sign_is)
     where
       unreadable : (p : Part) (ws : List ℤ) → FitsVectors g r.states r.node r.column p ws → t ≡ p.token → ⊥
       unreadable p ws fits same =

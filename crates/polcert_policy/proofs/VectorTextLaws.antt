@@ -24,22 +24,22 @@ part_refusal g o p text ts rest fault e taken h = at fault (subst (λ x. IsPartR
     at faults.Memory h = tt
     at _ h = absurd h
 
-ends_early : (g : PolicyGraph) (o : ℕ) (text : List ℕ) (ts : List Lexeme) (place : ℕ) → IsCut (text_rest text text_limit) ts None → (place ≡ length text) × AreUnfinished g o ts → EndVectorsEarly g o text place
-ends_early g o text ts place cut h = record { tokens = ts; cut = cut; place_is = h.0; possible = h.1.possible; unfinished = h.1.unfinished }
+ends_early : (g : PolicyGraph) (o : ℕ) (text : List ℕ) (ts : List Lexeme) (place n column : ℕ) → IsCut (text_rest text text_limit) ts None → place ≡ length text → AreUnfinished g o ts n column → EndVectorsEarly g o text place n column
+ends_early g o text ts place n column cut e h = record { tokens = ts; cut = cut; place_is = e; possible = h.possible; unfinished = h.unfinished; column_is = h.column_is }
 
 end_refusal : (g : PolicyGraph) (o : ℕ) (text : List ℕ) (ts : List Lexeme) (fault : VectorFault)
     → IsCut (text_rest text text_limit) ts None → AreEndRefusal g o ts (length text) fault → IsVectorsRefusal g o text fault
-end_refusal g o text ts (faults.Truncated place) cut h = ends_early g o text ts place cut h
-end_refusal g o text ts (faults.WrongVectorCount place) cut h = inr (ends_early g o text ts place cut h)
+end_refusal g o text ts (faults.Truncated place) cut h = (h.1.0, (h.1.1.0, ends_early g o text ts place h.1.0 h.1.1.0 cut h.0 h.1.1.1, h.1.1.2))
+end_refusal g o text ts (faults.WrongVectorCount place) cut h = inr (h.1.0, ends_early g o text ts place h.1.0 0 cut h.0 h.1.1, h.1.2)
 end_refusal g o text ts _ cut h = absurd h
 
-wrong_part : (g : PolicyGraph) (o : ℕ) (text : List ℕ) (place : ℕ) → HasWrongPart g o text place → (v : PolicyVectors) → IsVectorsText g o text v → ⊥
-wrong_part g o text place h v is =
+wrong_part : (g : PolicyGraph) (o : ℕ) (text : List ℕ) (fault : VectorFault) → HasWrongPart g o text fault → (v : PolicyVectors) → IsVectorsText g o text v → ⊥
+wrong_part g o text fault h v is =
     let behind = cut_taken _ h.1.0 h.0 is.0 None h.1.1 is.1 in
     h.1.2.impossible (behind.0, (v, subst (λ xs. IsVectors g o xs v) behind.1.0 is.2))
 
-not_early : (g : PolicyGraph) (o : ℕ) (text : List ℕ) (place : ℕ) → EndVectorsEarly g o text place → (v : PolicyVectors) → IsVectorsText g o text v → ⊥
-not_early g o text place h v is =
+not_early : (g : PolicyGraph) (o : ℕ) (text : List ℕ) (place n column : ℕ) → EndVectorsEarly g o text place n column → (v : PolicyVectors) → IsVectorsText g o text v → ⊥
+not_early g o text place n column h v is =
     let same = (one_cut _ is.0 h.tokens None None is.1 h.cut).0 in
     h.unfinished v (subst (λ xs. IsVectors g o xs v) same is.2)
 
@@ -48,11 +48,11 @@ none_some x e = cc
 
 pub no_vectors : (g : PolicyGraph) (o : ℕ) (text : List ℕ) (fault : VectorFault) → IsVectorsRefusal g o text fault → IsNoVectorsText g o text fault
 no_vectors g o text (faults.Token fault) h = λ v is. none_some fault (one_cut _ is.0 h.0 None (Some fault) is.1 h.1).1
-no_vectors g o text (faults.Number fault place) h = wrong_part g o text place h
-no_vectors g o text (faults.BadShape place) h = wrong_part g o text place h
-no_vectors g o text (faults.ActionMismatch place) h = wrong_part g o text place h
-no_vectors g o text (faults.Truncated place) h = not_early g o text place h
-no_vectors g o text (faults.WrongVectorCount place) h = ⊎_elim (wrong_part g o text place) (not_early g o text place) h
+no_vectors g o text (faults.Number fault place) h = wrong_part g o text _ h
+no_vectors g o text (faults.BadShape place) h = wrong_part g o text _ h
+no_vectors g o text (faults.ActionMismatch place) h = wrong_part g o text _ h
+no_vectors g o text (faults.Truncated place) h = not_early g o text place h.0 h.1.0 h.1.1
+no_vectors g o text (faults.WrongVectorCount place) h = ⊎_elim (wrong_part g o text _) (λ e. not_early g o text place e.0 0 e.1) h
 no_vectors g o text faults.Memory h = tt
 
 -- what the end of the text makes of what was read

@@ -4,7 +4,7 @@ use Rattle.polcert_text.specs.Cut.{Lexeme}
 use Rattle.polcert_policy.specs.Words.{minus_kind, is_whole, whole_of}
 use Rattle.polcert_policy.specs.Graphs.{PolicyGraph, nodes, action_of, most_nodes, IsProperGraph}
 use Rattle.polcert_policy.specs.Vectors.{PolicyVectors, Part, tokens_of, sign_kind, AreVectors, IsVectors, ArePossible}
-use Rattle.polcert_policy.specs.VectorText.{StopVectorsAt}
+use Rattle.polcert_policy.specs.VectorText.{IsPartColumn, StopVectorsFor}
 use Rattle.polcert_policy.specs.declared.fault.VectorFault.{VectorFault}
 use Rattle.polcert_policy.specs.declared.fault.VectorFault.TheVariants as faults
 use Rattle.polcert_policy.specs.declared.vectors_reading.OpenSign.{OpenSign}
@@ -54,10 +54,10 @@ pub record HasVectors (graph : PolicyGraph) (seen : List Lexeme) (reading : Vect
 
 -- why these tokens aren't read on
 abbrev pub IsPartRefusal : PolicyGraph → ℕ → List Lexeme → VectorFault → Type 0
-IsPartRefusal graph states ts (faults.Number fault place) = StopVectorsAt graph states ts place
-IsPartRefusal graph states ts (faults.BadShape place) = StopVectorsAt graph states ts place
-IsPartRefusal graph states ts (faults.ActionMismatch place) = StopVectorsAt graph states ts place
-IsPartRefusal graph states ts (faults.WrongVectorCount place) = StopVectorsAt graph states ts place
+IsPartRefusal graph states ts (faults.Number fault place) = StopVectorsFor graph states ts (faults.Number fault place)
+IsPartRefusal graph states ts (faults.BadShape place) = StopVectorsFor graph states ts (faults.BadShape place)
+IsPartRefusal graph states ts (faults.ActionMismatch place) = StopVectorsFor graph states ts (faults.ActionMismatch place)
+IsPartRefusal graph states ts (faults.WrongVectorCount place) = StopVectorsFor graph states ts (faults.WrongVectorCount place)
 IsPartRefusal graph states ts faults.Memory = Unit {0}
 IsPartRefusal graph states ts _ = ⊥
 
@@ -69,8 +69,8 @@ TakesPart graph t old result new = (seen : List Lexeme) → HasVectors graph see
 abbrev pub CheckedAction : PolicyGraph → ℕ → Lexeme → Result (Unit {0}) VectorFault → Type 0
 CheckedAction graph node t (Ok _) = (node < most_nodes) × (node < nodes graph) × (is_whole t ≡ true) × (whole_of t ≡ action_of graph node)
 CheckedAction graph node t (Err (faults.WrongVectorCount place)) = (place ≡ t.place) × (nodes graph ≤ node)
-CheckedAction graph node t (Err (faults.BadShape place)) = (place ≡ t.place) × (is_whole t ≡ false)
-CheckedAction graph node t (Err (faults.ActionMismatch place)) = (place ≡ t.place) × (whole_of t ≢ action_of graph node)
+CheckedAction graph node t (Err (faults.BadShape place)) = (place ≡ t.place) × (node < nodes graph) × (is_whole t ≡ false)
+CheckedAction graph node t (Err (faults.ActionMismatch place)) = (place ≡ t.place) × (node < nodes graph) × (is_whole t ≡ true) × (whole_of t ≢ action_of graph node)
 CheckedAction graph node t (Err _) = ⊥
 
 -- the place goes on to the next value's, or to the next vector
@@ -81,12 +81,13 @@ pub record AdvancedValue (old new : VectorsReading) : Type 0 where
   pub inside : old.column < old.states → (new.node ≡ old.node) × (new.column ≡ old.column + 1)
   pub last : old.column ≡ old.states → (new.node ≡ old.node + 1) × (new.column ≡ 0)
 
-pub record AreUnfinished (graph : PolicyGraph) (states : ℕ) (ts : List Lexeme) : Type 0 where
+pub record AreUnfinished (graph : PolicyGraph) (states : ℕ) (ts : List Lexeme) (vector column : ℕ) : Type 0 where
   pub possible : ArePossible graph states ts
   pub unfinished : (v : PolicyVectors) → IsVectors graph states ts v → ⊥
+  pub column_is : IsPartColumn states ts vector column
 
 -- why these tokens aren't vectors, where the text ends behind them
 abbrev pub AreEndRefusal : PolicyGraph → ℕ → List Lexeme → ℕ → VectorFault → Type 0
-AreEndRefusal graph states ts end (faults.Truncated place) = (place ≡ end) × AreUnfinished graph states ts
-AreEndRefusal graph states ts end (faults.WrongVectorCount place) = (place ≡ end) × AreUnfinished graph states ts
+AreEndRefusal graph states ts end (faults.Truncated place) = (place ≡ end) × ((n : ℕ) × ((column : ℕ) × AreUnfinished graph states ts n column × (0 < column)))
+AreEndRefusal graph states ts end (faults.WrongVectorCount place) = (place ≡ end) × ((n : ℕ) × AreUnfinished graph states ts n 0 × (n < nodes graph))
 AreEndRefusal graph states ts end _ = ⊥

@@ -1,8 +1,8 @@
 //! Laws of the definitions, each the contract of a function with nothing to do.
-ghost use Rattle.std.specs.Prelude.{◌≡◌, ℕ, List};
-ghost use Rattle.polcert_policy.specs.Graphs.{PolicyGraph, IsProperGraph, nodes};
+ghost use Rattle.std.specs.Prelude.{◌≡◌, ◌<◌, ◌≤◌, ℕ, List};
+ghost use Rattle.polcert_policy.specs.Graphs.{PolicyGraph, IsProperGraph, HasNodesOnly, nodes, action_of, most_nodes, most_elements};
 ghost use Rattle.polcert_policy.specs.GraphText.{IsGraphText};
-ghost use Rattle.polcert_policy.specs.Vectors.{PolicyVectors, AreProperVectors};
+ghost use Rattle.polcert_policy.specs.Vectors.{PolicyVectors, AreProperVectors, IsInRange, value_of};
 ghost use Rattle.polcert_policy.specs.VectorText.{IsVectorsText};
 ghost use Rattle.polcert_policy.specs.FullForm.{vectors_text};
 
@@ -12,10 +12,42 @@ pub fn one_graph()
         IsGraphText actions observations text g → IsGraphText actions observations text h → g ≡ h }
 {}
 
+/// The graph that a text denotes is within its limits: it has 1 to 10,000 nodes, each takes an action below the count that
+/// the text was read for, and each successor is a node.
+pub fn graph_within_limits()
+    ensures counts { (actions observations : ℕ) (text : List ℕ) (g : PolicyGraph) →
+        IsGraphText actions observations text g → (g.actions ≡ actions) × (g.observations ≡ observations) }
+    ensures nodes { (actions observations : ℕ) (text : List ℕ) (g : PolicyGraph) →
+        IsGraphText actions observations text g → (1 ≤ nodes g) × (nodes g ≤ most_nodes) }
+    ensures actions { (actions observations : ℕ) (text : List ℕ) (g : PolicyGraph) →
+        IsGraphText actions observations text g → (n : ℕ) → n < nodes g → action_of g n < actions }
+    ensures successors { (actions observations : ℕ) (text : List ℕ) (g : PolicyGraph) →
+        IsGraphText actions observations text g → HasNodesOnly g }
+
+    // So, where the counts are within theirs, it is what is true of every graph.
+    ensures proper { (actions observations : ℕ) (text : List ℕ) (g : PolicyGraph) →
+        actions ≤ most_elements → 1 ≤ observations → observations ≤ most_elements →
+        IsGraphText actions observations text g → IsProperGraph g }
+{}
+
 /// A text is at most one list of vectors of a graph.
 pub fn one_vectors()
     ensures { (graph : PolicyGraph) (states : ℕ) (text : List ℕ) (v w : PolicyVectors) →
         IsVectorsText graph states text v → IsVectorsText graph states text w → v ≡ w }
+{}
+
+/// The vectors that a text denotes are within their limits: there is one for each node of the graph, each has a value for
+/// each state that the text was read for, and each value is at most 10,000,000 in size.
+pub fn vectors_within_limits()
+    ensures counts { (graph : PolicyGraph) (states : ℕ) (text : List ℕ) (v : PolicyVectors) →
+        IsVectorsText graph states text v → (v.nodes ≡ nodes graph) × (v.states ≡ states) }
+    ensures values { (graph : PolicyGraph) (states : ℕ) (text : List ℕ) (v : PolicyVectors) →
+        IsVectorsText graph states text v → (n s : ℕ) → n < nodes graph → s < states → IsInRange (value_of v n s) }
+
+    // So, where the counts are within theirs, they are what is true of all vectors.
+    ensures proper { (graph : PolicyGraph) (states : ℕ) (text : List ℕ) (v : PolicyVectors) →
+        1 ≤ nodes graph → nodes graph ≤ most_nodes → 1 ≤ states → states ≤ most_elements →
+        IsVectorsText graph states text v → AreProperVectors v }
 {}
 
 /// The full form of vectors, read with their graph and number of states, is accepted and gives the vectors back.

@@ -1,10 +1,10 @@
 -- Lemmas on what a source gave.
-use Rattle.std.proofs.Common.{◌≡◌, ◌++◌, ℕ, List, Option, Some}
+use Rattle.std.proofs.Common.{◌≡◌, ◌<◌, ◌++◌, ℕ, List, Option, Some, length}
 use Rattle.polcert_text.specs.Source.{Gives, more}
 
 module _ {S : Type 0} {reads : S → ℕ → Option (List ℕ) → S → Type 0} {from : S} where
   -- one more read of a loop that keeps the bytes
   pub gave_more : (all bytes front : List ℕ) (room : ℕ) (s t : S) → Gives reads from bytes s
-      → reads s room (Some front) t → all ≡ bytes ++ front → Gives reads from all t
-  gave_more all bytes front room s t gave call same =
-      let both : Gives reads from (bytes ++ front) t = more gave call in rw same both
+      → reads s room (Some front) t → 0 < length front → all ≡ bytes ++ front → Gives reads from all t
+  gave_more all bytes front room s t gave call some same =
+      let both : Gives reads from (bytes ++ front) t = more gave call some in rw same both

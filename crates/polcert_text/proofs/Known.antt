@@ -17,7 +17,7 @@ module _ {S : Type 0} (remaining : S → Option (List ℕ)) where
   -- what such a source gave is what its reader lost
   pub gave_known : {s t : S} {bytes : List ℕ} → Gives known_reads s bytes t → Consumes (remaining s) (remaining t) bytes
   gave_known {s} nothing = Consumes-nil (remaining s)
-  gave_known {s} (more gave call) = Consumes-trans _ _ _ _ _ (gave_known gave) call.0
+  gave_known {s} (more gave call some) = Consumes-trans _ _ _ _ _ (gave_known gave) call.0
 
   -- the text of such a source is all that its reader had
   pub text_known : {s t : S} {text : List ℕ} → IsText known_reads s text t → IfSome (remaining s) (λ xs. text ≡ xs)
@@ -44,7 +44,7 @@ module _ {S : Type 0} (rest : S → List ℕ) where
 
   pub gave_slice : {s t : S} {bytes : List ℕ} → Gives slice_reads s bytes t → rest s ≡ bytes ++ rest t
   gave_slice {s} nothing = refl
-  gave_slice {s} {t} (more {bytes} {front} gave call) =
+  gave_slice {s} {t} (more {bytes} {front} gave call some) =
       gave_slice gave ∙ ap (λ xs. bytes ++ xs) call.0 ∙ sym (append_assoc bytes front (rest t))
 
   -- the text of a slice is what it had left

@@ -1,59 +1,61 @@
 //! Sinks that take a byte at a time, fail or take nothing.
-use crate::{Sink, SinkFailed, SliceSink, WriterSink, write_all};
+use crate::{SinkFailed, SliceSink, WriterSink, write_all};
 use std::alloc::Global;
 use std::io;
 use std::io::Write;
 use std::test::Fail;
 
-/// Takes a byte at a time, and fails at the write of number `failing`, from 0 on.
+/// A writer of std that takes a byte at a time, and counts its writes. The write of number `failing`, from 0 on, fails
+/// with an error that some programs try again; the next write would succeed.
 #[derive(Drop)]
 struct OneByte {
     taken: Vec<u8>,
-    failing: usize,
-    failures: u64,
+    failing: u64,
+    writes: u64,
 }
 
 impl OneByte {
-    fn new(alloc: Global, failing: usize) -> OneByte {
+    fn new(alloc: Global, failing: u64) -> OneByte {
         OneByte {
             taken: Vec::new(alloc),
             failing,
-            failures: 0,
+            writes: 0,
         }
     }
 }
 
-impl Sink for OneByte {
-    ghost failures = { λ s. s.failures };
-
-    ghost writes = { λ s answer t. Unit {0} };
-
-    fn write(&mut self, piece: &[u8]) -> Result<usize, SinkFailed> {
-        let Some(byte) = piece.first() else {
-            return Ok(0);
-        };
-        if self.taken.len() >= self.failing || self.taken.push(*byte).is_err() {
-            self.failures = self.failures.saturating_add(1);
-            return Err(SinkFailed);
+impl Write for OneByte {
+    fn write(&mut self, piece: &[u8]) -> io::Result<usize> {
+        let number = self.writes;
+        self.writes = self.writes.saturating_add(1);
+        if number == self.failing {
+            return Err(io::Error::from(io::ErrorKind::Interrupted));
         }
-        Ok(1)
+        self.taken.write(&piece[..piece.len().min(1)])
+    }
+
+    fn flush(&mut self) -> io::Result<()> {
+        Ok(())
     }
 }
 
-/// What a sink took before it failed is a beginning of the bytes, and the failed write is not tried again.
+/// What a sink took before it failed is a beginning of the bytes. The failure was counted once, and the write is not tried
+/// again, though it would succeed then.
 #[test]
 fn fails_at_each_write(rt: HostRuntime) {
     let text = b"yes: start node 0";
     for failing in 0..17usize {
-        let mut sink = OneByte::new(rt.alloc(), failing);
+        let mut sink = WriterSink::new(OneByte::new(rt.alloc(), failing as u64));
         assert_eq!(rt; write_all(&mut sink, text), Err(SinkFailed));
-        assert_eq!(rt; sink.taken.as_slice(), &text[..failing]);
+        assert_eq!(rt; sink.writer.taken.as_slice(), &text[..failing]);
         assert_eq!(rt; sink.failures, 1);
+        assert_eq!(rt; sink.writer.writes, failing as u64 + 1);
     }
-    let mut sink = OneByte::new(rt.alloc(), 17);
+    let mut sink = WriterSink::new(OneByte::new(rt.alloc(), 17));
     assert_eq!(rt; write_all(&mut sink, text), Ok(()));
-    assert_eq!(rt; sink.taken.as_slice(), text.as_slice());
+    assert_eq!(rt; sink.writer.taken.as_slice(), text.as_slice());
     assert_eq!(rt; sink.failures, 0);
+    assert_eq!(rt; sink.writer.writes, 17);
 }
 
 #[test]

@@ -1,13 +1,16 @@
-use Rattle.std.proofs.Common.{refl, sym, subst, arith}
+use Rattle.std.proofs.Common.{◌<◌, refl, sym, subst, arith}
+use Rattle.polcert_policy.specs.Graphs.{nodes}
 use Rattle.polcert_policy.specs.Vectors.{IsVectors}
 use Rattle.polcert_policy.proofs.VectorEndLaws.{unfinished_vector, too_few, vectors_read, proper_read}
 use Rattle.polcert_policy.proofs.vectors_reading.VectorsReading.finish.Goals as goal
 
 pub returns-then-self-gt0 : goal.returns-then-self-gt0
-returns-then-self-gt0 c = λ seen h. (refl, unfinished_vector _ seen c.args.self c.args.self.some_states c.if-self-gt0.true h)
+returns-then-self-gt0 c = λ seen h. (refl, (c.args.self.node, (c.args.self.column, unfinished_vector _ seen c.args.self c.args.self.some_states c.if-self-gt0.true h, c.if-self-gt0.true)))
 
 pub returns-then-self-nodes : goal.returns-then-self-nodes
-returns-then-self-nodes c = λ seen h. (refl, too_few _ seen c.args.self c.args.self.some_states c.if-self-gt0.false (omega (arith, c.if-self-nodes.true, c.nodes.ensures.count)) h)
+returns-then-self-nodes c = λ seen h.
+    let fewer : c.args.self.node < nodes c.args.graph.now = omega (arith, c.if-self-nodes.true, c.nodes.ensures.count) in
+    (refl, (c.args.self.node, too_few _ seen c.args.self c.args.self.some_states c.if-self-gt0.false fewer h, fewer))
 
 pub new-requires : goal.new-requires
 new-requires c =

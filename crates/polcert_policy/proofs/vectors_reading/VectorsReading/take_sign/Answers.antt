@@ -4,7 +4,7 @@ use Rattle.polcert_policy.proofs.vectors_reading.VectorsReading.take_sign.Goals 
 
 pub returns-in-Some-clause-takes : goal.returns-in-Some-clause-takes
 returns-in-Some-clause-takes c = λ graph t kind place minus seen h.
-    refuse_second_sign graph seen c.args.self.now t c.args.self.now.some_states h c.in-Some.before c.in-Some.is kind
+    refuse_second_sign graph seen c.args.self.now t c.args.self.now.some_states h c.in-Some.before c.requires c.in-Some.is kind
 
 pub returns-in-None-clause-takes : goal.returns-in-None-clause-takes
 returns-in-None-clause-takes c = λ graph t kind place minus seen h.

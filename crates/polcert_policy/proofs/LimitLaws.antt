@@ -1,0 +1,52 @@
+-- What a text denotes is within its limits.
+use Rattle.std.proofs.Common.{◌≡◌, ◌∙◌, ℕ, ◌+◌, ◌*◌, ◌<◌, ◌≤◌, List, Some, None, slice_get, length, refl, sym, ap, subst, arith}
+use Rattle.std.proofs.lemmas.Option.{get_or_from_slice_get, slice_get-get_or}
+use Rattle.polcert_text.specs.Cut.{Lexeme}
+use Rattle.polcert_policy.specs.Graphs.{PolicyGraph, nodes, action_of, IsLooseGraph, IsGraph, IsProper, IsProperGraph, width, most_nodes, most_elements}
+use Rattle.polcert_policy.specs.Vectors.{PolicyVectors, IsVectors, IsInRange, AreProper, AreProperVectors, value_of}
+use Rattle.polcert_policy.proofs.Places.{row_above, row_below, row_of, get_within, within_get}
+use Rattle.polcert_policy.proofs.VectorEndLaws.{values_in_range}
+use Rattle.polcert_policy.proofs.EndLaws.{place_inside}
+
+pub loose_actions : (a o : ℕ) (ts : List Lexeme) (g : PolicyGraph) → IsLooseGraph a o ts g → (n : ℕ) → n < nodes g → action_of g n < a
+loose_actions a o ts g h n l =
+    let rows = row_above (width o) n (nodes g) l in
+    let token = get_within ts (n * width o + 1) (omega (arith, rows, h.tokens)) in
+    let action = h.records.action n token.0 token.1 in
+    subst (λ x. x < a) (sym (get_or_from_slice_get g.chosen n _ 0 action.value)) action.known
+
+pub graph_proper : (a o : ℕ) (ts : List Lexeme) (g : PolicyGraph) → a ≤ most_elements → 1 ≤ o → o ≤ most_elements → IsGraph a o ts g → IsProperGraph g
+graph_proper a o ts g few_a some_o few_o is =
+    let h = is.loose in
+    let first = loose_actions a o ts g h 0 (omega (arith, h.some)) in
+    record {
+      some_actions = omega (arith, first, h.actions_are);
+      few_actions = omega (arith, few_a, h.actions_are);
+      some_observations = omega (arith, some_o, h.observations_are);
+      few_observations = omega (arith, few_o, h.observations_are);
+      some_nodes = h.some;
+      few_nodes = h.few;
+      filled = h.successors ∙ ap (λ z. nodes g * z) (sym h.observations_are);
+      known = λ n l. subst (λ x. action_of g n < x) (sym h.actions_are) (loose_actions a o ts g h n l);
+      bound = λ k m e.
+          let row = row_of o k some_o in
+          let inside : row.0 * o + row.1.0 < nodes g * o = omega (arith, within_get g.successors k _ e, h.successors, row.1.1) in
+          let here : k ≡ row.0 * g.observations + row.1.0 = row.1.1 ∙ ap (λ z. row.0 * z + row.1.0) (sym h.observations_are) in
+          is.bound row.0 row.1.0 (row_below o row.0 row.1.0 (nodes g) inside) (omega (arith, row.1.2, h.observations_are)) m
+          (get_or_from_slice_get g.successors _ _ None (subst (λ j. slice_get g.successors j ≡ Some (Some m)) here e));
+    }
+
+pub vector_values : (graph : PolicyGraph) (states : ℕ) (ts : List Lexeme) (v : PolicyVectors) → IsVectors graph states ts v → (n s : ℕ) → n < nodes graph → s < states → IsInRange (value_of v n s)
+vector_values graph states ts v is n s l k =
+    let inside : n * v.states + s < length v.values = omega (arith, place_inside states n s (nodes graph) l k, is.filled, ap (λ z. n * z) is.states_are) in
+    values_in_range graph states is.parts (nodes graph) v.values is.records is.count is.filled (n * v.states + s) (value_of v n s) (slice_get-get_or v.values (n * v.states + s) _ inside)
+
+pub vectors_proper : (graph : PolicyGraph) (states : ℕ) (ts : List Lexeme) (v : PolicyVectors) → 1 ≤ nodes graph → nodes graph ≤ most_nodes → 1 ≤ states → states ≤ most_elements → IsVectors graph states ts v → AreProperVectors v
+vectors_proper graph states ts v some few some_s few_s is = record {
+  some_nodes = omega (arith, some, is.nodes_are);
+  few_nodes = omega (arith, few, is.nodes_are);
+  some_states = omega (arith, some_s, is.states_are);
+  few_states = omega (arith, few_s, is.states_are);
+  filled = is.filled ∙ (λ i. sym is.nodes_are i * sym is.states_are i);
+  in_range = values_in_range graph states is.parts (nodes graph) v.values is.records is.count is.filled;
+}
