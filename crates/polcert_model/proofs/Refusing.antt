@@ -4,11 +4,13 @@ use Rattle.std.proofs.Common.{◌≡◌, ◌∙◌, ℕ, ◌+◌, ◌⊎◌, inl
 use Rattle.std.proofs.lemmas.List.{append_assoc, append-nil}
 use Rattle.polcert_text.specs.Cut.{Lexeme}
 use Rattle.polcert_text.specs.declared.lexeme.TokenKind.TheVariants.{Numeral}
+use Rattle.polcert_text.specs.declared.tokens.TokenFault.{TokenFault}
 use Rattle.polcert_model.specs.declared.fault.ItemFault.{ItemFault}
 use Rattle.polcert_model.specs.declared.fault.ItemFault.TheVariants.{Number, BadShape, BadCount, DuplicateName, UnknownName, IndexOutOfRange, WrongNumberCount, ProbabilityRange, DiscountRange, Reset, StartSum, StartEmpty}
 use Rattle.polcert_model.specs.declared.fault.ModelFault.TheVariants as model_faults
 use Rattle.polcert_model.specs.declared.item.ItemReader.{ItemReader}
 use Rattle.polcert_model.specs.declared.item.ItemReader.TheVariants as items
+use Rattle.polcert_model.specs.declared.number.Refusal.{Refusal}
 use Rattle.polcert_model.specs.declared.number.Sign.{Sign}
 use Rattle.polcert_model.specs.declared.reader.TextReader.{TextReader}
 use Rattle.polcert_model.specs.Words.{Topic, Discount, Values, States, Actions, Observations, Start, Cells, topic, begins_item}
@@ -16,7 +18,7 @@ use Rattle.polcert_model.specs.Items.{Item, IsDivided}
 use Rattle.polcert_model.specs.Text.{Known, nothing_known, IsRight, AreRight}
 use Rattle.polcert_model.specs.Order.{word_fault}
 use Rattle.polcert_model.specs.Reading.{IsWithinItem, IsWrong, CannotGoOn, IsPossible}
-use Rattle.polcert_model.specs.FirstWrong.{TextTokens, AreTokensOf, IsFirstWrong, LiesIn, IsDecided, word_place, wrong_item}
+use Rattle.polcert_model.specs.FirstWrong.{TextTokens, AreTokensOf, IsFirstWrong, LiesIn, IsDecided, word_place, wrong_item, wrong_last}
 use Rattle.polcert_model.specs.Reasons.{IsReason, InItem, StandsIn, NumberStandsIn, IsRepeated, is_sign}
 use Rattle.polcert_model.specs.Reasons as reasons
 use Rattle.polcert_model.specs.Refusals.{place_or, Stops, StopsInBody, in_body, in_start}
@@ -25,7 +27,7 @@ use Rattle.polcert_model.specs.NumberSteps.{is_negative, number_place, IsSignAt,
 use Rattle.polcert_model.specs.NumberSteps as steps
 use Rattle.polcert_model.specs.LineSteps.{CannotTake, CannotEnd}
 use Rattle.polcert_model.specs.StartSteps.{IsReasonIn, IsStartReason}
-use Rattle.polcert_model.specs.ItemSteps.{ItemGoes, topic_in, sign_in, IsSeen, IsTokenReason, IsItemReason, IsEndReason}
+use Rattle.polcert_model.specs.ItemSteps.{ItemGoes, topic_in, sign_in, pending_in, IsSeen, IsTokenReason, IsItemReason, IsEndReason}
 use Rattle.polcert_model.specs.ItemSteps as steps_of
 use Rattle.polcert_model.specs.TextSteps.{IsItemRead, EndsItem, IsRefusedBehind, IsRefusedAt, Refuses}
 use Rattle.polcert_model.specs.TextSteps as texts
@@ -37,6 +39,10 @@ use Rattle.polcert_model.proofs.PlaceLaws.{Rises, tokens_rise, lies_in_item}
 use Rattle.polcert_model.proofs.DecidedLaws.{nothing_decided}
 use Rattle.polcert_model.proofs.Possible.{possible_front}
 use Rattle.polcert_model.proofs.Within.{within_goes_on}
+use Rattle.polcert_model.proofs.StartSeen.{pending_reason}
+
+none≢some : {A : Type 0} {x : A} → None ≡ Some x → ⊥
+none≢some e = cc
 
 -- an item of the text with this number, topic and body, behind right ones
 pub record Here (ts : TextTokens) (n : ℕ) (k : Known) (t : Topic) (body : List Lexeme) : Type 0 where
@@ -268,6 +274,33 @@ start_refused text ts n place k t body more kind tokens h free wrong e r = recor
   };
   placed = in_start (so_here ts n k t _ _ h e);
 }
+
+-- a start item in which the tokens end in a fault behind a number without a value
+pub pending_refused : (seen : List Lexeme) (r : TextReader) (f : TokenFault) (x : Refusal) → (w : IsItemRead seen r) → pending_in w.item ≡ Some x
+    → (text : List ℕ) (ts : TextTokens) → AreTokensOf text ts → ts.lexemes ≡ seen → ts.ending ≡ Some f → Refuses ts (model_faults.Item x.kind r.number x.place)
+pending_refused seen r f x w e text ts tokens same ending =
+    let why = pending_why w.body w.item x w.read.seen e in
+    let reason : IsStartReason w.body x.kind x.place = why.1 in
+    let start : w.t ≡ Start = sym w.read.topic_is ∙ why.0 in
+    let h : Here ts r.number r.known w.t (w.body ++ []) = here ts r.number seen w.body [] [] r.known w.t [] w.within (same ∙ sym (append-nil seen)) w.number_is empty_division in
+    record {
+      refusal = record {
+        first_wrong = wrong_last h.before (item_here h) r.known f h.divided h.taken ending h.number_is;
+        lies = start_lies ts r.number x.place r.known w.t (w.body ++ []) h (tokens_rise text ts tokens) (stands_further w.body [] x.place _ reason.stands);
+        reason = start_reason ts r.number x.place r.known w.t w.body [] x.kind h start reason.reason;
+        decided = λ fault at y. absurd (free_here ts r.number r.known w.t (w.body ++ []) h w.read.may_stand fault at y);
+      };
+      placed = in_start (so_here ts r.number r.known w.t _ _ h start);
+    }
+  where
+    pending_why : (body : List Lexeme) (item : ItemReader) (x : Refusal) → IsSeen body item → pending_in item ≡ Some x → (topic_in item ≡ Start) × IsStartReason body x.kind x.place
+    pending_why body (items.Start s) x seen e = (refl, pending_reason body s x seen e)
+    pending_why body (items.Discount s) x seen e = absurd (none≢some e)
+    pending_why body (items.Values s) x seen e = absurd (none≢some e)
+    pending_why body (items.States s) x seen e = absurd (none≢some e)
+    pending_why body (items.Actions s) x seen e = absurd (none≢some e)
+    pending_why body (items.Observations s) x seen e = absurd (none≢some e)
+    pending_why body (items.Entry s) x seen e = absurd (none≢some e)
 
 -- the sign that waits for its numeral ends the body
 pub seen_sign : (body : List Lexeme) (item : ItemReader) → (topic_in item ≡ Start → ⊥) → IsSeen body item → SignEnds (sign_in item) body
