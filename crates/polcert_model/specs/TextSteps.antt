@@ -68,10 +68,10 @@ pub record Refuses (ts : TextTokens) (fault : ModelFault) : Type 0 where
 abbrev pub IsRefusedBehind : List Lexeme → ModelFault → Type 0
 IsRefusedBehind seen fault = (text : List ℕ) (ts : TextTokens) (further : List Lexeme) → AreTokensOf text ts → ts.lexemes ≡ seen ++ further → Refuses ts fault
 
--- an item ends at this place behind the lexemes: at the next item's word, or at the end of the text
+-- an item ends at this place behind the lexemes: at the next item's word, or at the clean end of the text
 pub data EndsItem (ts : TextTokens) (seen : List Lexeme) (place : ℕ) : Type 0 where
   at_word : (next : Lexeme) (further : List Lexeme) → ts.lexemes ≡ seen ++ next ∷ further → begins_item next ≡ true → place ≡ next.place → EndsItem ts seen place
-  at_end : ts.lexemes ≡ seen → place ≡ ts.end → EndsItem ts seen place
+  at_end : ts.lexemes ≡ seen → ts.ending ≡ None → place ≡ ts.end → EndsItem ts seen place
 
 -- a refusal where an item ends here
 abbrev pub IsRefusedAt : List Lexeme → ℕ → ModelFault → Type 0
