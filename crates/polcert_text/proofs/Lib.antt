@@ -13,3 +13,4 @@ pub mod Giving
 pub mod Known
 pub mod TextLaws
 pub mod TakenTokens
+pub mod SomeCut

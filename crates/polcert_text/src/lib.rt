@@ -17,7 +17,7 @@ mod whole;
 
 pub use laws::{
     bytes_of_a_writer, one_cut, one_end, one_next_token, one_refusal, one_value, same_answer_again,
-    text_of_a_reader, text_of_a_slice,
+    some_cut, text_of_a_reader, text_of_a_slice,
 };
 pub use lexeme::TokenKind;
 pub use memory::{SliceSink, SliceSource};
