@@ -47,3 +47,4 @@ pub mod StartNumbers
 pub mod StartForms
 pub mod StartShares
 pub mod StartSeen
+pub mod SomeTokens

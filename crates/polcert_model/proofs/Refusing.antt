@@ -395,9 +395,8 @@ end_refused seen r kind place w none reason text ts tokens ends =
         decided = λ fault at y. absurd (free_here ts r.number r.known w.t (w.body ++ []) x.here_is w.read.may_stand fault at y);
       };
       placed = in_body (stops_here ts r.number place r.known w.t (w.body ++ []) w.body [] x.here_is refl (taken (is_start w.t))
-      (refusals.at_end (λ after right. none after (w.read.on [] after (subst (λ b. IsRight r.known w.t b after) (sym (append-nil w.body)) right)))) x.place_is (λ nothing. x.clean));
+          (refusals.at_end (λ after right. none after (w.read.on [] after (subst (λ b. IsRight r.known w.t b after) (sym (append-nil w.body)) right)))) x.place_is (λ nothing. x.clean));
     }
-
   where
     taken : (w.t ≡ Start) ⊎ (w.t ≡ Start → ⊥) → IsTaken r.known w.t w.body
     taken (inl start) = refusals.in_start start

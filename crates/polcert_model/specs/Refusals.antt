@@ -10,12 +10,12 @@ use Rattle.polcert_model.specs.declared.fault.ModelFault.TheVariants as model_fa
 use Rattle.polcert_model.specs.Words.{Topic, Start, topic}
 use Rattle.polcert_model.specs.Items.{Item, IsDivided}
 use Rattle.polcert_model.specs.Preamble.{Preamble}
-use Rattle.polcert_model.specs.Meaning.{meaning_of}
+use Rattle.polcert_model.specs.Meaning.{Meaning, meaning_of}
 use Rattle.polcert_model.specs.Rows.{IsFirstWrongRow}
-use Rattle.polcert_model.specs.Text.{Known, nothing_known, AreRight, IsRightText}
+use Rattle.polcert_model.specs.Text.{Known, nothing_known, AreRight, IsRightText, IsModelText}
 use Rattle.polcert_model.specs.Reading.{IsWrong, CannotGoOn, IsPossible}
 use Rattle.polcert_model.specs.FirstWrong.{TextTokens, IsFirstWrong, LiesIn, IsDecided, word_place}
-use Rattle.polcert_model.specs.Reasons.{IsReason, InItem, is_sign}
+use Rattle.polcert_model.specs.Reasons.{IsReason, is_sign}
 
 pub record IsItemRefusal (ts : TextTokens) (kind : ItemFault) (number place : ℕ) : Type 0 where
   pub first_wrong : IsFirstWrong ts number
@@ -36,6 +36,11 @@ IsRefusal ts Memory = Unit {0}
 abbrev pub SaysOfText : ModelFault → Type 0
 SaysOfText Memory = ⊥
 SaysOfText _ = Unit {0}
+
+-- the text is no model's, or memory was wanting
+abbrev pub IsNoModel : List ℕ → ModelFault → Type 0
+IsNoModel text Memory = Unit {0}
+IsNoModel text _ = (m : Meaning) → IsModelText text m → ⊥
 
 -- where the first of the lexemes stands, or what is behind them
 abbrev pub place_or : List Lexeme → ℕ → ℕ

@@ -6,7 +6,7 @@ ghost use Rattle.polcert_model.specs.Words.{topic, begins_item};
 ghost use Rattle.polcert_model.specs.ElementSteps.{IsText};
 ghost use Rattle.polcert_model.specs.Text.{most_bytes, IsModelText};
 ghost use Rattle.polcert_model.specs.FirstWrong.{TextTokens, AreTokensOf};
-ghost use Rattle.polcert_model.specs.Refusals.{IsRefusal, IsPlacedRight};
+ghost use Rattle.polcert_model.specs.Refusals.{IsRefusal, IsPlacedRight, IsNoModel};
 ghost use Rattle.polcert_model.specs.Contents.{meaning};
 ghost use Rattle.polcert_model.specs.TextSteps.{IsTextRead, AreItemsRead, IsWholeRead, IsRefusedBehind, IsRefusedAt, IsRefusedWhole, Refuses, tokens_end, pending_at};
 
@@ -185,6 +185,7 @@ fn read_text(alloc: Global, text: &[u8]) -> Result<Known, ModelFault>
 ///
 /// Source: the POMDP file format page and its grammar at pomdp.org.
 pub fn read_model(alloc: Global, text: &[u8]) -> Result<Model, ModelFault>
+    ensures exactly { MatchResult result (λ m. IsModelText text.now (meaning m)) (IsNoModel text.now) }
     ensures accepted { IfOk result (λ m. IsModelText text.now (meaning m)) }
     ensures refused { IfErr result (λ fault. (ts : TextTokens) → AreTokensOf text.now ts → IsRefusal ts fault) }
     ensures placed { IfErr result (λ fault. (ts : TextTokens) → AreTokensOf text.now ts → IsPlacedRight ts fault) }
