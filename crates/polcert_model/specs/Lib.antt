@@ -35,3 +35,5 @@ pub mod ElementSteps
 pub mod StartSteps
 pub mod Tables
 pub mod Drafts
+pub mod Wants
+pub mod WantSteps
