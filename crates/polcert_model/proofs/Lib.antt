@@ -66,3 +66,4 @@ pub mod StartShapes
 pub mod WritableTexts
 pub mod FormExamples
 pub mod LineLoops
+pub mod SomeTokens

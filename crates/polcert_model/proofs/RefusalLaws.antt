@@ -1,6 +1,6 @@
 -- What is refused isn't accepted.
 use Rattle.std.proofs.Common.{◌≡◌, ◌∙◌, ℕ, zero, suc, ◌<◌, None, List, refl, sym, subst, arith}
-use Rattle.polcert_text.specs.Cut.{text_rest}
+use Rattle.polcert_text.specs.Cut.{text_rest, end_place}
 use Rattle.polcert_text.proofs.TextLaws.{one_cut}
 use Rattle.polcert_model.specs.declared.entry.Table.{Table}
 use Rattle.polcert_model.specs.declared.entry.Table.TheVariants.{Transition, Observation, Reward}
@@ -10,8 +10,8 @@ use Rattle.polcert_model.specs.Preamble.{Preamble}
 use Rattle.polcert_model.specs.Meaning.{Meaning, meaning_of, sum_below, states_of, actions_of, observations_of, t_scale, o_scale, IsSame, HasProperRows}
 use Rattle.polcert_model.specs.Rows.{IsProperRow, IsFirstWrongRow}
 use Rattle.polcert_model.specs.Text.{most_bytes, IsRightText, IsModelText}
-use Rattle.polcert_model.specs.FirstWrong.{TextTokens, AreTokensOf}
-use Rattle.polcert_model.specs.Refusals.{IsRefusal, SaysOfText}
+use Rattle.polcert_model.specs.FirstWrong.{TextTokens, tokens_of, AreTokensOf}
+use Rattle.polcert_model.specs.Refusals.{IsRefusal, SaysOfText, IsNoModel}
 use Rattle.polcert_model.proofs.TextLaws.{one_right_text}
 use Rattle.polcert_model.proofs.ReadLaws.{not_taken}
 
@@ -61,3 +61,14 @@ not_accepted text ts (RowSum table action row) m tokens refusal says accepted =
     λ i. meaning_of (same.0 i) ((same.1 i).start) ((same.1 i).entries) in
     no_wrong_row m (meaning_of refusal.1.0 refusal.1.1.start refusal.1.1.entries) table action row (subst (IsSame m) known d.same) d.rows refusal.1.3
 not_accepted text ts Memory m tokens refusal says accepted = absurd says
+
+pub no_model : (text : List ℕ) (fault : ModelFault) → ((ts : TextTokens) → AreTokensOf text ts → IsRefusal ts fault) → IsNoModel text fault
+no_model text (Item kind number place) refused = λ m accepted.
+    let ts : TextTokens = tokens_of accepted.lexemes None (end_place (text_rest text most_bytes)) in
+    let tokens : AreTokensOf text ts = record { cut = accepted.cut; end_is = refl } in
+    not_accepted text ts (Item kind number place) m tokens (refused ts tokens) tt accepted
+no_model text (RowSum table action row) refused = λ m accepted.
+    let ts : TextTokens = tokens_of accepted.lexemes None (end_place (text_rest text most_bytes)) in
+    let tokens : AreTokensOf text ts = record { cut = accepted.cut; end_is = refl } in
+    not_accepted text ts (RowSum table action row) m tokens (refused ts tokens) tt accepted
+no_model text Memory refused = tt

@@ -13,7 +13,7 @@ use Rattle.polcert_model.specs.Text.{Known, nothing_known, IsInPreamble, IsCompl
 use Rattle.polcert_model.specs.Reading.{IsWrong, CannotGoOn, IsPossible}
 use Rattle.polcert_model.specs.FirstWrong.{wrong_front, wrong_item, wrong_last, wrong_end, IsDecided, before_items, at_word, at_end}
 use Rattle.polcert_model.specs.Reasons.{unsigned as unsigned_number}
-use Rattle.polcert_model.specs.Refusals.{IsItemRefusal, StopsInBody, at_lexeme}
+use Rattle.polcert_model.specs.Refusals.{IsItemRefusal, StopsInBody, possible, at_lexeme}
 use Rattle.polcert_model.specs.RefusedExamples.{name_at, numeral_at, colon_at, empty_text, hello, twice, above_one, glued}
 use Rattle.polcert_model.proofs.Basics.{one_some, same_head}
 use Rattle.polcert_model.proofs.NumberLaws.{one_list}
@@ -183,7 +183,8 @@ above_one_stops = record {
   taken = colon_at 8 ∷ [];
   rest = numeral_at 10 (codes "2") ∷ [];
   whole = refl;
-  possible = colon_possible;
+  is_taken = possible colon_possible;
   stops = at_lexeme two_stuck;
   place_is = refl;
+  clean = λ rest after. refl;
 }

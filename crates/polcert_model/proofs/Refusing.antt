@@ -1,14 +1,16 @@
 -- What the reader of a text refuses within an item: each refusal is of the first wrong item, lies in it, and has its
 -- reason.
-use Rattle.std.proofs.Common.{◌≡◌, ◌∙◌, ℕ, ◌+◌, ◌⊎◌, inl, inr, ⊎_elim, true, false, Bool, Option, Some, None, List, [], ◌∷◌, ◌++◌, length, refl, sym, ap, subst}
+use Rattle.std.proofs.Common.{◌≡◌, ◌∙◌, ℕ, ◌+◌, ◌⊎◌, inl, inr, true, false, Bool, Option, Some, None, List, [], ◌∷◌, ◌++◌, length, refl, sym, ap, subst}
 use Rattle.std.proofs.lemmas.List.{append_assoc, append-nil}
 use Rattle.polcert_text.specs.Cut.{Lexeme}
 use Rattle.polcert_text.specs.declared.lexeme.TokenKind.TheVariants.{Numeral}
+use Rattle.polcert_text.specs.declared.tokens.TokenFault.{TokenFault}
 use Rattle.polcert_model.specs.declared.fault.ItemFault.{ItemFault}
 use Rattle.polcert_model.specs.declared.fault.ItemFault.TheVariants.{Number, BadShape, BadCount, DuplicateName, UnknownName, IndexOutOfRange, WrongNumberCount, ProbabilityRange, DiscountRange, Reset, StartSum, StartEmpty}
 use Rattle.polcert_model.specs.declared.fault.ModelFault.TheVariants as model_faults
 use Rattle.polcert_model.specs.declared.item.ItemReader.{ItemReader}
 use Rattle.polcert_model.specs.declared.item.ItemReader.TheVariants as items
+use Rattle.polcert_model.specs.declared.number.Refusal.{Refusal}
 use Rattle.polcert_model.specs.declared.number.Sign.{Sign}
 use Rattle.polcert_model.specs.declared.reader.TextReader.{TextReader}
 use Rattle.polcert_model.specs.Words.{Topic, Discount, Values, States, Actions, Observations, Start, Cells, topic, begins_item}
@@ -16,20 +18,20 @@ use Rattle.polcert_model.specs.Items.{Item, IsDivided}
 use Rattle.polcert_model.specs.Text.{Known, nothing_known, IsRight, AreRight}
 use Rattle.polcert_model.specs.Order.{word_fault}
 use Rattle.polcert_model.specs.Reading.{IsWithinItem, IsWrong, CannotGoOn, IsPossible}
-use Rattle.polcert_model.specs.FirstWrong.{TextTokens, AreTokensOf, IsFirstWrong, LiesIn, IsDecided, word_place, wrong_item}
+use Rattle.polcert_model.specs.FirstWrong.{TextTokens, AreTokensOf, IsFirstWrong, LiesIn, IsDecided, word_place, wrong_item, wrong_last}
 use Rattle.polcert_model.specs.Reasons.{IsReason, InItem, StandsIn, NumberStandsIn, IsRepeated, is_sign}
 use Rattle.polcert_model.specs.Reasons as reasons
-use Rattle.polcert_model.specs.Refusals.{place_or, Stops, StopsInBody, in_body, in_start}
+use Rattle.polcert_model.specs.Refusals.{place_or, IsTaken, Stops, StopsInBody, in_body}
 use Rattle.polcert_model.specs.Refusals as refusals
 use Rattle.polcert_model.specs.NumberSteps.{is_negative, number_place, IsSignAt, SignEnds}
 use Rattle.polcert_model.specs.NumberSteps as steps
 use Rattle.polcert_model.specs.LineSteps.{CannotTake, CannotEnd}
 use Rattle.polcert_model.specs.StartSteps.{IsReasonIn, IsStartReason}
-use Rattle.polcert_model.specs.ItemSteps.{ItemGoes, topic_in, sign_in, IsSeen, IsTokenReason, IsItemReason, IsEndReason}
+use Rattle.polcert_model.specs.ItemSteps.{ItemGoes, topic_in, sign_in, pending_in, IsSeen, IsTokenReason, IsItemReason, IsEndReason}
 use Rattle.polcert_model.specs.ItemSteps as steps_of
 use Rattle.polcert_model.specs.TextSteps.{IsItemRead, EndsItem, IsRefusedBehind, IsRefusedAt, Refuses}
 use Rattle.polcert_model.specs.TextSteps as texts
-use Rattle.polcert_model.proofs.Basics.{one_some}
+use Rattle.polcert_model.proofs.Basics.{one_some, cons≢nil}
 use Rattle.polcert_model.proofs.ItemLaws.{has_division}
 use Rattle.polcert_model.proofs.Dividing.{next_division, empty_division}
 use Rattle.polcert_model.proofs.ReadLaws.{within_division}
@@ -37,6 +39,10 @@ use Rattle.polcert_model.proofs.PlaceLaws.{Rises, tokens_rise, lies_in_item}
 use Rattle.polcert_model.proofs.DecidedLaws.{nothing_decided}
 use Rattle.polcert_model.proofs.Possible.{possible_front}
 use Rattle.polcert_model.proofs.Within.{within_goes_on}
+use Rattle.polcert_model.proofs.StartSeen.{pending_reason}
+
+none≢some : {A : Type 0} {x : A} → None ≡ Some x → ⊥
+none≢some e = cc
 
 -- an item of the text with this number, topic and body, behind right ones
 pub record Here (ts : TextTokens) (n : ℕ) (k : Known) (t : Topic) (body : List Lexeme) : Type 0 where
@@ -133,8 +139,8 @@ record Refused (ts : TextTokens) (n place : ℕ) (kind : ItemFault) : Type 0 whe
 
 -- a part of the body was taken, and there it stops
 stops_here : (ts : TextTokens) (n place : ℕ) (k : Known) (t : Topic) (body taken rest : List Lexeme) (h : Here ts n k t body) → body ≡ taken ++ rest
-    → IsPossible k t taken → Stops k t taken rest → place ≡ place_or rest (word_place h.after ts.end 0) → StopsInBody ts n place
-stops_here ts n place k t body taken rest h whole possible stops at = record {
+    → IsTaken k t taken → Stops k t taken rest → place ≡ place_or rest (word_place h.after ts.end 0) → (rest ≡ [] → h.after ≡ [] → ts.ending ≡ None) → StopsInBody ts n place
+stops_here ts n place k t body taken rest h whole is_taken stops at clean = record {
   before = h.before;
   item = item_here h;
   after = h.after;
@@ -147,9 +153,10 @@ stops_here ts n place k t body taken rest h whole possible stops at = record {
   taken = taken;
   rest = rest;
   whole = whole;
-  possible = possible;
+  is_taken = is_taken;
   stops = stops;
   place_is = at;
+  clean = clean;
 }
 
 sign_kind : (sign : Sign) (s : Lexeme) → IsSignAt sign s → is_sign s.kind ≡ true
@@ -159,15 +166,15 @@ sign_kind sign s (steps.minus kind negative place) = ap is_sign kind
 number_stops : (ts : TextTokens) (n place : ℕ) (k : Known) (t : Topic) (sign : Option Sign) (body more : List Lexeme) (l : Lexeme) → Here ts n k t ((body ++ l ∷ []) ++ more)
     → SignEnds sign body → place ≡ number_place sign l → l.kind ≡ Numeral → IsPossible k t body → CannotGoOn k t (body ++ l ∷ []) → StopsInBody ts n place
 number_stops ts n place k t None body more l h ends p kind possible stuck =
-    stops_here ts n place k t ((body ++ l ∷ []) ++ more) body (l ∷ more) h (append_assoc body (l ∷ []) more) possible (refusals.at_lexeme stuck) p
+    stops_here ts n place k t ((body ++ l ∷ []) ++ more) body (l ∷ more) h (append_assoc body (l ∷ []) more) (refusals.possible possible) (refusals.at_lexeme stuck) p (λ none. absurd (cons≢nil none))
 number_stops ts n place k t (Some sign) body more l h ends p kind possible stuck =
     let before = ends.0 in
     let s = ends.1.0 in
     let whole = ends.1.1.0 in
     let front : IsPossible k t before = possible_front k t before (s ∷ []) (subst (IsPossible k t) whole possible) in
     let pair : CannotGoOn k t (before ++ s ∷ l ∷ []) = subst (CannotGoOn k t) (ap (λ (b : List Lexeme). b ++ l ∷ []) whole ∙ append_assoc before (s ∷ []) (l ∷ [])) stuck in
-    stops_here ts n place k t ((body ++ l ∷ []) ++ more) before (s ∷ l ∷ more) h (signed_whole body before more s l whole) front
-    (refusals.at_number (sign_kind sign s ends.1.1.1) kind pair) (p ∙ sign_place sign s ends.1.1.1)
+    stops_here ts n place k t ((body ++ l ∷ []) ++ more) before (s ∷ l ∷ more) h (signed_whole body before more s l whole) (refusals.possible front)
+    (refusals.at_number (sign_kind sign s ends.1.1.1) kind pair) (p ∙ sign_place sign s ends.1.1.1) (λ none. absurd (cons≢nil none))
 
 at_number : (ts : TextTokens) (n place : ℕ) (k : Known) (t : Topic) (sign : Option Sign) (body more : List Lexeme) (l : Lexeme) (kind : ItemFault) → Here ts n k t ((body ++ l ∷ []) ++ more)
     → Rises 0 ts.lexemes ts.end → SignEnds sign body → IsPossible k t body → CannotGoOn k t (body ++ l ∷ []) → l.kind ≡ Numeral → place ≡ number_place sign l → IsReason ts n place kind
@@ -183,7 +190,7 @@ at_lexeme : (ts : TextTokens) (n place : ℕ) (k : Known) (t : Topic) (body more
 at_lexeme ts n place k t body more l kind h rises possible stuck p reason = record {
   lies = lies_here ts n place k t ((body ++ l ∷ []) ++ more) body (l ∷ more) h rises (append_assoc body (l ∷ []) more) p;
   reason = reason;
-  stops = stops_here ts n place k t ((body ++ l ∷ []) ++ more) body (l ∷ more) h (append_assoc body (l ∷ []) more) possible (refusals.at_lexeme stuck) p;
+  stops = stops_here ts n place k t ((body ++ l ∷ []) ++ more) body (l ∷ more) h (append_assoc body (l ∷ []) more) (refusals.possible possible) (refusals.at_lexeme stuck) p (λ none. absurd (cons≢nil none));
 }
 
 stands : (body more : List Lexeme) (l : Lexeme) (place : ℕ) (Is : Lexeme → Type 0) → place ≡ l.place → Is l → reasons.StandsIn ((body ++ l ∷ []) ++ more) place Is
@@ -245,6 +252,9 @@ number_further body more place Is (reasons.minus before s l after e kind p so) =
 start_lies : (ts : TextTokens) (n place : ℕ) (k : Known) (t : Topic) (body : List Lexeme) → Here ts n k t body → Rises 0 ts.lexemes ts.end → StandsIn body place (λ l. Unit {0}) → LiesIn ts n place
 start_lies ts n place k t body h rises s = lies_here ts n place k t body s.before (s.lexeme ∷ s.after) h rises s.whole s.place_is
 
+start_stops : (ts : TextTokens) (n place : ℕ) (k : Known) (t : Topic) (body : List Lexeme) → Here ts n k t body → t ≡ Start → StandsIn body place (λ l. Unit {0}) → StopsInBody ts n place
+start_stops ts n place k t body h e s = stops_here ts n place k t body s.before (s.lexeme ∷ s.after) h s.whole (refusals.in_start e) (refusals.at_start e) s.place_is (λ none. absurd (cons≢nil none))
+
 start_reason : (ts : TextTokens) (n place : ℕ) (k : Known) (t : Topic) (body more : List Lexeme) (kind : ItemFault) → Here ts n k t (body ++ more) → t ≡ Start → IsReasonIn body kind place
     → IsReason ts n place kind
 start_reason ts n place k t body more (Number fault) h e m = so_here ts n k t _ _ h (number_further body more place _ m)
@@ -266,8 +276,35 @@ start_refused text ts n place k t body more kind tokens h free wrong e r = recor
     reason = start_reason ts n place k t body more kind h e r.reason;
     decided = λ fault at x. absurd (free_here ts n k t (body ++ more) h free fault at x);
   };
-  placed = in_start (so_here ts n k t _ _ h e);
+  placed = in_body (start_stops ts n place k t (body ++ more) h e (stands_further body more place _ r.stands));
 }
+
+-- a start item in which the tokens end in a fault behind a number without a value
+pub pending_refused : (seen : List Lexeme) (r : TextReader) (f : TokenFault) (x : Refusal) → (w : IsItemRead seen r) → pending_in w.item ≡ Some x
+    → (text : List ℕ) (ts : TextTokens) → AreTokensOf text ts → ts.lexemes ≡ seen → ts.ending ≡ Some f → Refuses ts (model_faults.Item x.kind r.number x.place)
+pending_refused seen r f x w e text ts tokens same ending =
+    let why = pending_why w.body w.item x w.read.seen e in
+    let reason : IsStartReason w.body x.kind x.place = why.1 in
+    let start : w.t ≡ Start = sym w.read.topic_is ∙ why.0 in
+    let h : Here ts r.number r.known w.t (w.body ++ []) = here ts r.number seen w.body [] [] r.known w.t [] w.within (same ∙ sym (append-nil seen)) w.number_is empty_division in
+    record {
+      refusal = record {
+        first_wrong = wrong_last h.before (item_here h) r.known f h.divided h.taken ending h.number_is;
+        lies = start_lies ts r.number x.place r.known w.t (w.body ++ []) h (tokens_rise text ts tokens) (stands_further w.body [] x.place _ reason.stands);
+        reason = start_reason ts r.number x.place r.known w.t w.body [] x.kind h start reason.reason;
+        decided = λ fault at y. absurd (free_here ts r.number r.known w.t (w.body ++ []) h w.read.may_stand fault at y);
+      };
+      placed = in_body (start_stops ts r.number x.place r.known w.t (w.body ++ []) h start (stands_further w.body [] x.place _ reason.stands));
+    }
+  where
+    pending_why : (body : List Lexeme) (item : ItemReader) (x : Refusal) → IsSeen body item → pending_in item ≡ Some x → (topic_in item ≡ Start) × IsStartReason body x.kind x.place
+    pending_why body (items.Start s) x seen e = (refl, pending_reason body s x seen e)
+    pending_why body (items.Discount s) x seen e = absurd (none≢some e)
+    pending_why body (items.Values s) x seen e = absurd (none≢some e)
+    pending_why body (items.States s) x seen e = absurd (none≢some e)
+    pending_why body (items.Actions s) x seen e = absurd (none≢some e)
+    pending_why body (items.Observations s) x seen e = absurd (none≢some e)
+    pending_why body (items.Entry s) x seen e = absurd (none≢some e)
 
 -- the sign that waits for its numeral ends the body
 pub seen_sign : (body : List Lexeme) (item : ItemReader) → (topic_in item ≡ Start → ⊥) → IsSeen body item → SignEnds (sign_in item) body
@@ -314,6 +351,7 @@ feed_refused seen r l kind place w inner none reason text ts further tokens e =
 record EndsHere (ts : TextTokens) (n place : ℕ) (k : Known) (t : Topic) (body : List Lexeme) : Type 0 where
   here_is : Here ts n k t (body ++ [])
   place_is : place ≡ word_place here_is.after ts.end 0
+  clean : here_is.after ≡ [] → ts.ending ≡ None
 
 ends_here : (ts : TextTokens) (n place : ℕ) (seen body : List Lexeme) (k : Known) (t : Topic) (w : IsWithinItem seen k t body) → n ≡ length w.items.items + 1
     → EndsItem ts seen place → EndsHere ts n place k t body
@@ -323,9 +361,10 @@ ends_here ts n place seen body k t w number (texts.at_word next further e begins
     record {
       here_is = here ts n seen body (next ∷ further) [] k t (item ∷ d.1) w e number (next_division [] further d.0 next [] d.1 begins empty_division d.2);
       place_is = p;
+      clean = λ none. absurd (cons≢nil none);
     }
-ends_here ts n place seen body k t w number (texts.at_end e p) =
-    record { here_is = here ts n seen body [] [] k t [] w (e ∙ sym (append-nil seen)) number empty_division; place_is = p }
+ends_here ts n place seen body k t w number (texts.at_end e clean p) =
+    record { here_is = here ts n seen body [] [] k t [] w (e ∙ sym (append-nil seen)) number empty_division; place_is = p; clean = λ none. clean }
 
 end_reason : (ts : TextTokens) (n place : ℕ) (k : Known) (t : Topic) (body : List Lexeme) (kind : ItemFault) → Here ts n k t body → IsEndReason t kind → IsReason ts n place kind
 end_reason ts n place k t body BadCount h m = so_here ts n k t body _ h m
@@ -355,12 +394,13 @@ end_refused seen r kind place w none reason text ts tokens ends =
         reason = end_reason ts r.number place r.known w.t (w.body ++ []) kind x.here_is (subst (λ t. IsEndReason t kind) w.read.topic_is reason);
         decided = λ fault at y. absurd (free_here ts r.number r.known w.t (w.body ++ []) x.here_is w.read.may_stand fault at y);
       };
-      placed = ⊎_elim
-          (λ (start : w.t ≡ Start). in_start (so_here ts r.number r.known w.t _ _ x.here_is start))
-          (λ (other : w.t ≡ Start → ⊥). in_body (stops_here ts r.number place r.known w.t (w.body ++ []) w.body [] x.here_is refl (w.read.possible other)
-          (refusals.at_end (λ after taken. none after (w.read.on [] after (subst (λ b. IsRight r.known w.t b after) (sym (append-nil w.body)) taken)))) x.place_is))
-          (is_start w.t);
+      placed = in_body (stops_here ts r.number place r.known w.t (w.body ++ []) w.body [] x.here_is refl (taken (is_start w.t))
+          (refusals.at_end (λ after right. none after (w.read.on [] after (subst (λ b. IsRight r.known w.t b after) (sym (append-nil w.body)) right)))) x.place_is (λ nothing. x.clean));
     }
+  where
+    taken : (w.t ≡ Start) ⊎ (w.t ≡ Start → ⊥) → IsTaken r.known w.t w.body
+    taken (inl start) = refusals.in_start start
+    taken (inr other) = refusals.possible (w.read.possible other)
 
 -- a start item that cannot end, for the number before its end
 pub end_refused_before : (seen : List Lexeme) (r : TextReader) (kind : ItemFault) (at place : ℕ) (w : IsItemRead seen r) → CannotEnd (ItemGoes r.known) w.item

@@ -9,7 +9,9 @@ use Rattle.polcert_text.specs.declared.tokens.TokenFault.TheVariants as token_fa
 use Rattle.polcert_model.specs.declared.fault.ItemFault.{ItemFault}
 use Rattle.polcert_model.specs.declared.fault.ItemFault.TheVariants.{BeforeFirstItem, DuplicateLine, LateLine, MissingLine, TooManyCells}
 use Rattle.polcert_model.specs.declared.fault.ModelFault.TheVariants as model_faults
+use Rattle.polcert_model.specs.declared.number.Refusal.{Refusal}
 use Rattle.polcert_model.specs.declared.reader.TextReader.{TextReader}
+use Rattle.polcert_model.specs.ItemSteps.{pending_in}
 use Rattle.polcert_model.specs.Words.{Topic, topic, begins_item}
 use Rattle.polcert_model.specs.Items.{Item, IsDivided}
 use Rattle.polcert_model.specs.Text.{Known}
@@ -17,7 +19,7 @@ use Rattle.polcert_model.specs.Order.{is_late, came_before, ends_preamble, has_a
 use Rattle.polcert_model.specs.FirstWrong.{TextTokens, AreTokensOf, LiesIn, IsDecided, wrong_front, wrong_fault, wrong_last, wrong_end, before_items, at_word, at_end}
 use Rattle.polcert_model.specs.Reasons.{IsReason}
 use Rattle.polcert_model.specs.Refusals.{IsItemRefusal, IsOfTokens, before_body, of_tokens}
-use Rattle.polcert_model.specs.TextSteps.{IsNothingRead, IsItemRead, IsTextRead, AreItemsRead, IsRefusedBehind, Refuses, fault_kind}
+use Rattle.polcert_model.specs.TextSteps.{IsNothingRead, IsItemRead, IsTextRead, AreItemsRead, IsRefusedBehind, Refuses, fault_kind, pending_at, tokens_end}
 use Rattle.polcert_model.specs.TextSteps as texts
 use Rattle.polcert_model.proofs.Basics.{or_false_from, cons≢nil, some≢none}
 use Rattle.polcert_model.proofs.ItemLaws.{has_division, one_division}
@@ -26,7 +28,7 @@ use Rattle.polcert_model.proofs.OrderLaws.{wrong_at_word, not_complete, fault_at
 use Rattle.polcert_model.proofs.PlaceLaws.{tokens_rise, fault_rises, lies_at_word, lies_before_items, lies_at_end, lies_at_fault, lies_at_once}
 use Rattle.polcert_model.proofs.DecidedLaws.{one_decided}
 use Rattle.polcert_model.proofs.Within.{item_begins}
-use Rattle.polcert_model.proofs.Refusing.{Here, item_here, here, first_here, free_here}
+use Rattle.polcert_model.proofs.Refusing.{Here, item_here, here, first_here, free_here, pending_refused}
 
 -- ---- before the first item
 
@@ -179,6 +181,12 @@ in_item seen r f w text ts tokens e ending =
     }
 
 pub fault_refused : (seen : List Lexeme) (r : TextReader) (f : TokenFault) → IsTextRead seen r → (text : List ℕ) (ts : TextTokens) → AreTokensOf text ts → ts.lexemes ≡ seen
-    → ts.ending ≡ Some f → Refuses ts (model_faults.Item (fault_kind f) r.number (fault_place f))
-fault_refused seen r f (texts.nothing w) text ts tokens e ending = record { refusal = at_once seen r f w text ts tokens e ending; placed = of_tokens (fault_of_tokens f) }
-fault_refused seen r f (texts.item w) text ts tokens e ending = record { refusal = in_item seen r f w text ts tokens e ending; placed = of_tokens (fault_of_tokens f) }
+    → ts.ending ≡ Some f → Refuses ts (tokens_end r.number (pending_at r.item) f)
+fault_refused seen r f (texts.nothing w) text ts tokens e ending =
+    subst (λ o. Refuses ts (tokens_end r.number (pending_at o) f)) (sym w.item_is) (record { refusal = at_once seen r f w text ts tokens e ending; placed = of_tokens (fault_of_tokens f) })
+fault_refused seen r f (texts.item w) text ts tokens e ending =
+    subst (λ o. Refuses ts (tokens_end r.number (pending_at o) f)) (sym w.item_is) (of_pending (pending_in w.item) refl)
+  where
+    of_pending : (o : Option Refusal) → pending_in w.item ≡ o → Refuses ts (tokens_end r.number o f)
+    of_pending None none = record { refusal = in_item seen r f w text ts tokens e ending; placed = of_tokens (fault_of_tokens f) }
+    of_pending (Some x) some = pending_refused seen r f x w some text ts tokens e ending

@@ -1,11 +1,12 @@
 -- What the body of a start item so far has to do with its reader's state, and where its refusals stand.
-use Rattle.std.proofs.Common.{◌≡◌, ◌∙◌, ℕ, ◌++◌, Bool, false, true, Option, Some, None, List, [], ◌∷◌, codes, ℤ, refl, sym, ap, subst, append_assoc}
+use Rattle.std.proofs.Common.{◌≡◌, ◌∙◌, ℕ, ◌++◌, Bool, false, true, Option, Some, None, Result, Ok, Err, List, [], ◌∷◌, codes, ℤ, refl, sym, ap, subst, append_assoc}
 use Rattle.polcert_text.specs.Cut.{Lexeme}
 use Rattle.polcert_text.specs.declared.lexeme.TokenKind.TheVariants.{Numeral}
 use Rattle.polcert_text.specs.declared.number.NumberFault.{NumberFault}
 use Rattle.polcert_model.specs.declared.fault.ItemFault.{ItemFault}
 use Rattle.polcert_model.specs.declared.fault.ItemFault.TheVariants.{Number, BadShape, BadCount, UnknownName, IndexOutOfRange, WrongNumberCount, ProbabilityRange, DiscountRange, Reset, StartSum, StartEmpty}
 use Rattle.polcert_model.specs.declared.number.Sign.{Sign}
+use Rattle.polcert_model.specs.declared.number.Refusal.{Refusal}
 use Rattle.polcert_model.specs.declared.number.Range.TheVariants as ranges
 use Rattle.polcert_model.specs.declared.start_reader.FirstNumber.{FirstNumber}
 use Rattle.polcert_model.specs.declared.start_reader.Digits.{Digits}
@@ -21,7 +22,13 @@ use Rattle.polcert_model.specs.Reasons.{StandsIn, NumberStandsIn, unsigned, plus
 use Rattle.polcert_model.specs.NumberSteps.{is_negative, number_place, IsSignAt, SignIs, SignEnds}
 use Rattle.polcert_model.specs.NumberSteps as steps
 use Rattle.polcert_model.specs.EntrySteps.{IsListReason, no_number, no_further}
-use Rattle.polcert_model.specs.StartSteps.{start_sign, IsValue, IsKept, IsStartSeen, IsReasonAt, IsOutside, IsNumberStop, behind_number, no_probability, IsDigitsStop, behind_digits, digits_no_probability, digits_no_number, IsReasonIn, IsStartReason, IsStartEndKind, IfNotMemory, StartGoes}
+use Rattle.polcert_model.specs.StartSteps.{start_sign, pending_of, pending, IsValue, IsKept, IsStartSeen, IsReasonAt, IsOutside, IsNumberStop, behind_number, no_probability, IsDigitsStop, behind_digits, digits_no_probability, digits_no_number, IsReasonIn, IsStartReason, IsStartEndKind, IfNotMemory, StartGoes}
+
+none≢some : {A : Type 0} {x : A} → None ≡ Some x → ⊥
+none≢some e = cc
+
+some_once : {A : Type 0} {x y : A} → Some x ≡ Some y → x ≡ y
+some_once e = cc
 
 -- ---- one lexeme more
 
@@ -136,6 +143,26 @@ digits_reason body d l kind place s (digits_no_probability h is p v out) =
 digits_reason body d l kind place s (digits_no_number f is p v) =
     fault_reason (body ++ l ∷ []) f kind place d.place is p
     (number_more body l d.place _ (number_map body d.place (IsValue d.value) (IsRefusedNumber f) (λ negative m so. subst (λ r. IsValue r negative m) v so) s.first.number))
+
+-- digits without a value
+pub pending_reason : (body : List Lexeme) (r : StartReader) (f : Refusal) → IsStartSeen body r → pending r ≡ Some f → IsStartReason body f.kind f.place
+pending_reason body (reader.Digits d) f s e = of_value d.value refl e
+  where
+    of_value : (v : Result ℤ NumberFault) → d.value ≡ v → pending_of v d.place ≡ Some f → IsStartReason body f.kind f.place
+    of_value (Ok h) is e = absurd (none≢some e)
+    of_value (Err g) is e =
+        let same = some_once e in
+        subst (λ (x : Refusal). IsStartReason body x.kind x.place) same
+        (fault_reason body g (Number g) d.place d.place refl refl (number_map body d.place (IsValue d.value) (IsRefusedNumber g) (λ negative m so. subst (λ v. IsValue v negative m) is so) s.first.number))
+pending_reason body reader.Form f s e = absurd (none≢some e)
+pending_reason body (reader.Colon c) f s e = absurd (none≢some e)
+pending_reason body (reader.List c) f s e = absurd (none≢some e)
+pending_reason body reader.Body f s e = absurd (none≢some e)
+pending_reason body reader.Every f s e = absurd (none≢some e)
+pending_reason body (reader.Only n) f s e = absurd (none≢some e)
+pending_reason body (reader.Sign x) f s e = absurd (none≢some e)
+pending_reason body (reader.Number x) f s e = absurd (none≢some e)
+pending_reason body (reader.Probabilities n) f s e = absurd (none≢some e)
 
 -- why a token is refused in a list of probabilities
 from_number : (sign : Option Sign) (l : Lexeme) (kind : ItemFault) (place : ℕ) → steps.IsNumberReason ranges.Probability sign l kind place → IsReasonAt sign l kind place

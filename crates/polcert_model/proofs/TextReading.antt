@@ -150,7 +150,7 @@ refused_at_word seen word t fault e refused text ts further tokens same =
 
 -- and at the end
 pub refused_at_end : (seen : List Lexeme) (place : ℕ) (fault : ModelFault) → IsRefusedAt seen place fault → IsRefusedWhole seen place fault
-refused_at_end seen place fault refused text ts tokens same clean stop = refused text ts tokens (at_end same (sym stop))
+refused_at_end seen place fault refused text ts tokens same clean stop = refused text ts tokens (at_end same clean (sym stop))
 
 pub whole_refused : (seen : List Lexeme) (r : TextReader) (kind : ItemFault) (place : ℕ) → AreItemsRead seen r → preamble_fault r.known ≡ Some kind
     → IsRefusedWhole seen place (model_faults.Item kind (r.number + 1) place)

@@ -24,6 +24,9 @@ pub record AreTokensOf (text : List ℕ) (ts : TextTokens) : Type 0 where
   pub cut : IsCut (text_rest text most_bytes) ts.lexemes ts.ending
   pub end_is : ts.end ≡ end_place (text_rest text most_bytes)
 
+abbrev pub HasTokens : List ℕ → Type 0
+HasTokens text = (ts : TextTokens) × AreTokensOf text ts
+
 -- The item of this number is the first that isn't right. A fault that ends the tokens belongs to the last item; the
 -- end is wrong where the preamble isn't complete.
 pub data IsFirstWrong (ts : TextTokens) (number : ℕ) : Type 0 where

@@ -14,6 +14,7 @@ use Rattle.polcert_model.specs.declared.lines.DiscountReader.TheVariants as disc
 use Rattle.polcert_model.specs.declared.lines.ValuesReader.TheVariants as values
 use Rattle.polcert_model.specs.declared.entry_reader.EntryReader.{EntryReader}
 use Rattle.polcert_model.specs.declared.entry_reader.EntryState.TheVariants as states
+use Rattle.polcert_model.specs.declared.number.Refusal.{Refusal}
 use Rattle.polcert_model.specs.declared.number.Sign.{Sign}
 use Rattle.polcert_model.specs.declared.stop.ItemEnd.{ItemEnd}
 use Rattle.polcert_model.specs.declared.stop.ItemEnd.TheVariants as ends
@@ -26,7 +27,7 @@ use Rattle.polcert_model.specs.NumberSteps.{SignEnds, is_negative, number_place}
 use Rattle.polcert_model.specs.LineSteps.{DiscountGoes, discount_sign, ValuesGoes}
 use Rattle.polcert_model.specs.ElementSteps.{ElementsGo, IsElementsRead, AreElementsSeen}
 use Rattle.polcert_model.specs.EntrySteps.{preamble_in, indices_in, EntryGoes, IsWithinIndices, entry_sign, AreSome}
-use Rattle.polcert_model.specs.StartSteps.{StartGoes, new_start, IsStartWithin, IsStartSeen, IsReasonAt, IsStartReason}
+use Rattle.polcert_model.specs.StartSteps.{StartGoes, new_start, pending, IsStartWithin, IsStartSeen, IsReasonAt, IsStartReason}
 use Rattle.polcert_model.specs.KnownView.{learned}
 
 -- the lexemes end the item, and this is known behind it
@@ -53,6 +54,11 @@ abbrev pub sign_in : ItemReader → Option Sign
 sign_in (items.Discount r) = discount_sign r
 sign_in (items.Entry r) = entry_sign r.state
 sign_in _ = None
+
+-- a number that has no value, where anything follows it
+abbrev pub pending_in : ItemReader → Option Refusal
+pending_in (items.Start r) = pending r
+pending_in _ = None
 
 -- what was read is within its limits
 abbrev pub IsItemWithin : Known → ItemReader → Type 0

@@ -38,3 +38,5 @@ pub mod Drafts
 pub mod FullForm
 pub mod FullFormExamples
 pub mod Writable
+pub mod Wants
+pub mod WantSteps

@@ -10,12 +10,12 @@ use Rattle.polcert_model.specs.declared.fault.ModelFault.TheVariants as model_fa
 use Rattle.polcert_model.specs.Words.{Topic, Start, topic}
 use Rattle.polcert_model.specs.Items.{Item, IsDivided}
 use Rattle.polcert_model.specs.Preamble.{Preamble}
-use Rattle.polcert_model.specs.Meaning.{meaning_of}
+use Rattle.polcert_model.specs.Meaning.{Meaning, meaning_of}
 use Rattle.polcert_model.specs.Rows.{IsFirstWrongRow}
-use Rattle.polcert_model.specs.Text.{Known, nothing_known, AreRight, IsRightText}
+use Rattle.polcert_model.specs.Text.{Known, nothing_known, AreRight, IsRightText, IsModelText}
 use Rattle.polcert_model.specs.Reading.{IsWrong, CannotGoOn, IsPossible}
 use Rattle.polcert_model.specs.FirstWrong.{TextTokens, IsFirstWrong, LiesIn, IsDecided, word_place}
-use Rattle.polcert_model.specs.Reasons.{IsReason, InItem, is_sign}
+use Rattle.polcert_model.specs.Reasons.{IsReason, is_sign}
 
 pub record IsItemRefusal (ts : TextTokens) (kind : ItemFault) (number place : ℕ) : Type 0 where
   pub first_wrong : IsFirstWrong ts number
@@ -37,10 +37,21 @@ abbrev pub SaysOfText : ModelFault → Type 0
 SaysOfText Memory = ⊥
 SaysOfText _ = Unit {0}
 
+-- the text is no model's, or memory was wanting
+abbrev pub IsNoModel : List ℕ → ModelFault → Type 0
+IsNoModel text Memory = Unit {0}
+IsNoModel text _ = (m : Meaning) → IsModelText text m → ⊥
+
 -- where the first of the lexemes stands, or what is behind them
 abbrev pub place_or : List Lexeme → ℕ → ℕ
 place_or [] behind = behind
 place_or (l ∷ ls) behind = l.place
+
+-- What was taken of an item is still possible. (Of a start item this isn't said: its numbers are tested only once it has
+-- more than one, and their sum and the states that are left only at its end.)
+pub data IsTaken (k : Known) (t : Topic) (taken : List Lexeme) : Type 0 where
+  possible : IsPossible k t taken → IsTaken k t taken
+  in_start : t ≡ Start → IsTaken k t taken
 
 -- Behind the lexemes taken the item is no longer possible: with the next lexeme, with the next two as a sign and a
 -- numeral, or, where nothing is left of it, as it is.
@@ -49,8 +60,10 @@ pub data Stops (k : Known) (t : Topic) (taken : List Lexeme) : List Lexeme → T
   at_number : {sign l : Lexeme} {behind : List Lexeme} → is_sign sign.kind ≡ true → l.kind ≡ Numeral → CannotGoOn k t (taken ++ sign ∷ l ∷ [])
       → Stops k t taken (sign ∷ l ∷ behind)
   at_end : IsWrong k t taken → Stops k t taken []
+  at_start : {rest : List Lexeme} → t ≡ Start → Stops k t taken rest
 
 -- The place stands in the item where its lexemes so far are still possible, and with what stands there they aren't.
+-- Where nothing is left of the item and of the text, the tokens end cleanly.
 pub record StopsInBody (ts : TextTokens) (number place : ℕ) : Type 0 where
   pub before : List Item
   pub item : Item
@@ -64,9 +77,10 @@ pub record StopsInBody (ts : TextTokens) (number place : ℕ) : Type 0 where
   pub taken : List Lexeme
   pub rest : List Lexeme
   pub whole : item.body ≡ taken ++ rest
-  pub possible : IsPossible k t taken
+  pub is_taken : IsTaken k t taken
   pub stops : Stops k t taken rest
   pub place_is : place ≡ place_or rest (word_place after ts.end 0)
+  pub clean : rest ≡ [] → after ≡ [] → ts.ending ≡ None
 
 -- the reasons that the tokens give, and not the item
 abbrev pub IsOfTokens : ItemFault → Type 0
@@ -75,12 +89,10 @@ IsOfTokens TextTooLong = Unit {0}
 IsOfTokens _ = ⊥
 
 -- Where the refusal of an item stands: it is decided before the item's body, or stands in the body as far as that is
--- possible, or is a fault of the tokens. (Of a start item this isn't said: its numbers are tested only once it has more
--- than one, so that a refusal may stand behind a number that is already out of range.)
+-- possible, or is a fault of the tokens.
 pub data StandsRight (ts : TextTokens) (kind : ItemFault) (number place : ℕ) : Type 0 where
   before_body : IsDecided ts number kind place → StandsRight ts kind number place
   in_body : StopsInBody ts number place → StandsRight ts kind number place
-  in_start : InItem ts number (λ t body. t ≡ Start) → StandsRight ts kind number place
   of_tokens : IsOfTokens kind → StandsRight ts kind number place
 
 abbrev pub IsPlacedRight : TextTokens → ModelFault → Type 0

@@ -6,6 +6,7 @@ use Rattle.polcert_text.specs.Cut.{Lexeme}
 use Rattle.polcert_text.specs.declared.number.NumberFault.{NumberFault}
 use Rattle.polcert_model.specs.declared.fault.ItemFault.{ItemFault}
 use Rattle.polcert_model.specs.declared.fault.ItemFault.TheVariants.{Number, BadShape, UnknownName, IndexOutOfRange, WrongNumberCount, ProbabilityRange, Reset, StartSum, StartEmpty}
+use Rattle.polcert_model.specs.declared.number.Refusal.{Refusal}
 use Rattle.polcert_model.specs.declared.number.Sign.{Sign}
 use Rattle.polcert_model.specs.declared.entry.Body.TheVariants as bodies
 use Rattle.polcert_model.specs.declared.entry_reader.Numbers.{Numbers}
@@ -113,6 +114,16 @@ abbrev pub start_sign : StartReader → Option Sign
 start_sign (reader.Sign sign) = Some sign
 start_sign (reader.Probabilities n) = n.sign
 start_sign _ = None
+
+-- the refusal of a number without a value
+abbrev pub pending_of : Result ℤ NumberFault → ℕ → Option Refusal
+pending_of (Ok h) place = None
+pending_of (Err fault) place = Some (record { kind = Number fault; place = place })
+
+-- digits without a value: they are refused as soon as anything follows them, a fault of the tokens too
+abbrev pub pending : StartReader → Option Refusal
+pending (reader.Digits digits) = pending_of digits.value digits.place
+pending _ = None
 
 -- the value of a numeral, or why it has none
 abbrev pub IsValue : Result ℤ NumberFault → Bool → Lexeme → Type 0

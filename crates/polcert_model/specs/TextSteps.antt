@@ -1,13 +1,16 @@
 -- A text, item by item: what its reader holds behind the lexemes so far.
 -- Nobody has to believe this: only contracts of private functions cite it.
-use Rattle.std.specs.Prelude.{◌≡◌, ℕ, ◌+◌, true, Some, None, List, [], ◌∷◌, ◌++◌, length}
+use Rattle.std.specs.Prelude.{◌≡◌, ℕ, ◌+◌, true, Option, Some, None, List, [], ◌∷◌, ◌++◌, length}
 use Rattle.polcert_text.specs.Cut.{Lexeme}
+use Rattle.polcert_text.specs.Reading.{fault_place}
 use Rattle.polcert_text.specs.declared.tokens.TokenFault.{TokenFault}
 use Rattle.polcert_text.specs.declared.tokens.TokenFault.TheVariants as token_faults
 use Rattle.polcert_model.specs.declared.fault.ItemFault.{ItemFault}
 use Rattle.polcert_model.specs.declared.fault.ItemFault.TheVariants.{Token, TextTooLong}
 use Rattle.polcert_model.specs.declared.fault.ModelFault.{ModelFault}
+use Rattle.polcert_model.specs.declared.fault.ModelFault.TheVariants as model_faults
 use Rattle.polcert_model.specs.declared.item.ItemReader.{ItemReader}
+use Rattle.polcert_model.specs.declared.number.Refusal.{Refusal}
 use Rattle.polcert_model.specs.declared.reader.TextReader.{TextReader}
 use Rattle.polcert_model.specs.Words.{Topic, Start, begins_item}
 use Rattle.polcert_model.specs.Text.{Known, nothing_known, IsRight}
@@ -17,7 +20,7 @@ use Rattle.polcert_model.specs.FirstWrong.{TextTokens, AreTokensOf}
 use Rattle.polcert_model.specs.Refusals.{IsRefusal, IsPlacedRight}
 use Rattle.polcert_model.specs.Drafts.{Draft}
 use Rattle.polcert_model.specs.EntrySteps.{preamble_in}
-use Rattle.polcert_model.specs.ItemSteps.{ItemGoes, IsItemWithin, IsSeen, topic_in}
+use Rattle.polcert_model.specs.ItemSteps.{ItemGoes, IsItemWithin, IsSeen, topic_in, pending_in}
 
 -- the item's body so far, and what its reader makes of what is still to come of it
 pub record IsBodyRead (k : Known) (t : Topic) (body : List Lexeme) (item : ItemReader) : Type 0 where
@@ -65,10 +68,10 @@ pub record Refuses (ts : TextTokens) (fault : ModelFault) : Type 0 where
 abbrev pub IsRefusedBehind : List Lexeme → ModelFault → Type 0
 IsRefusedBehind seen fault = (text : List ℕ) (ts : TextTokens) (further : List Lexeme) → AreTokensOf text ts → ts.lexemes ≡ seen ++ further → Refuses ts fault
 
--- an item ends at this place behind the lexemes: at the next item's word, or at the end of the text
+-- an item ends at this place behind the lexemes: at the next item's word, or at the clean end of the text
 pub data EndsItem (ts : TextTokens) (seen : List Lexeme) (place : ℕ) : Type 0 where
   at_word : (next : Lexeme) (further : List Lexeme) → ts.lexemes ≡ seen ++ next ∷ further → begins_item next ≡ true → place ≡ next.place → EndsItem ts seen place
-  at_end : ts.lexemes ≡ seen → place ≡ ts.end → EndsItem ts seen place
+  at_end : ts.lexemes ≡ seen → ts.ending ≡ None → place ≡ ts.end → EndsItem ts seen place
 
 -- a refusal where an item ends here
 abbrev pub IsRefusedAt : List Lexeme → ℕ → ModelFault → Type 0
@@ -78,6 +81,16 @@ IsRefusedAt seen place fault = (text : List ℕ) (ts : TextTokens) → AreTokens
 abbrev pub fault_kind : TokenFault → ItemFault
 fault_kind (token_faults.TextTooLong at) = TextTooLong
 fault_kind f = Token f
+
+-- a number of the open item that has no value, where anything follows it
+abbrev pub pending_at : Option ItemReader → Option Refusal
+pending_at None = None
+pending_at (Some i) = pending_in i
+
+-- the refusal where the tokens end in a fault: that of a number before it, or the fault's own
+abbrev pub tokens_end : ℕ → Option Refusal → TokenFault → ModelFault
+tokens_end number None fault = model_faults.Item (fault_kind fault) number (fault_place fault)
+tokens_end number (Some r) fault = model_faults.Item r.kind number r.place
 
 -- the whole text was read: its items are right, and its preamble is complete
 pub record IsWholeRead (seen : List Lexeme) (k : Known) : Type 0 where

@@ -4,7 +4,7 @@ ghost use Rattle.polcert_text.specs.Cut.{Lexeme};
 ghost use Rattle.polcert_text.specs.Reading.{lexeme_of};
 ghost use Rattle.polcert_model.specs.ElementSteps.{IsText};
 ghost use Rattle.polcert_model.specs.EntrySteps.{IfRefused};
-ghost use Rattle.polcert_model.specs.ItemSteps.{ItemGoes, IsItemWithin, IsItemReason, IsItemEndReason, topic_in, IsSeen, new_item, HasElements};
+ghost use Rattle.polcert_model.specs.ItemSteps.{ItemGoes, IsItemWithin, IsItemReason, IsItemEndReason, topic_in, IsSeen, new_item, HasElements, pending_in};
 ghost use Rattle.polcert_model.specs.KnownView.{learned, IsSaidWithin};
 ghost use Rattle.polcert_model.specs.LineSteps.{Takes, CannotTake, CannotEnd};
 ghost use Rattle.polcert_model.specs.StartSteps.{IfNotMemory};
@@ -14,6 +14,7 @@ use crate::elements_reader::ElementsReader;
 use crate::entry_reader::EntryReader;
 use crate::known::Known;
 use crate::lines::{DiscountReader, ValuesReader};
+use crate::number::Refusal;
 use crate::shares::Shares;
 use crate::start_reader::StartReader;
 use crate::stop::{ItemEnd, Stop};
@@ -83,6 +84,16 @@ impl ItemReader {
             ItemReader::Observations(reader) => reader.feed(alloc, token),
             ItemReader::Start(reader) => reader.feed(alloc, known.states(), token),
             ItemReader::Entry(reader) => reader.feed(alloc, known, token),
+        }
+    }
+
+    /// Why the tokens cannot end in a fault here, if a number was read before that has no value.
+    pub fn pending(&self) -> Option<Refusal>
+        ensures { result ≡ pending_in self.now }
+    {
+        match self {
+            ItemReader::Start(reader) => reader.pending(),
+            _ => None,
         }
     }
 

@@ -17,7 +17,7 @@ ghost use Rattle.polcert_model.specs.Cells.{covers, weight, reward};
 ghost use Rattle.polcert_model.specs.Laws.{HasDivision, HasOneDivision, GivesLastCovering, OneMoreWeight, OneMoreReward, UniformRowSums};
 ghost use Rattle.polcert_model.specs.Words.{Topic, topic, begins_item};
 ghost use Rattle.polcert_model.specs.Reading.{AreRightItems, IsWithinItem, CannotGoOn, IsWrong};
-ghost use Rattle.polcert_model.specs.FirstWrong.{TextTokens, tokens_of, IsFirstWrong, IsDecided, AreTokensOf, word_place, LiesIn};
+ghost use Rattle.polcert_model.specs.FirstWrong.{TextTokens, tokens_of, IsFirstWrong, IsDecided, AreTokensOf, HasTokens, word_place, LiesIn};
 ghost use Rattle.polcert_model.specs.declared.fault.ItemFault.{ItemFault};
 ghost use Rattle.polcert_model.specs.Order.{preamble_fault, word_fault};
 ghost use Rattle.polcert_model.specs.declared.fault.ModelFault.{ModelFault};
@@ -84,6 +84,18 @@ pub fn uniform_sums_to_scale()
 pub fn one_model()
     ensures lexemes { (lexemes : List Lexeme) (m n : Meaning) → Denotes lexemes m → Denotes lexemes n → IsSame m n }
     ensures text { (text : List ℕ) (m n : Meaning) → IsModelText text m → IsModelText text n → IsSame m n }
+{}
+
+/// Each text has tokens, and they end in one way.
+pub fn one_list_of_tokens()
+    ensures some { (text : List ℕ) → HasTokens text }
+    ensures one { (text : List ℕ) (ts us : TextTokens) → AreTokensOf text ts → AreTokensOf text us → ts ≡ us }
+{}
+
+/// A right text is read in one way: one preamble, one start and one list of entries.
+pub fn one_right_text()
+    ensures { (lexemes : List Lexeme) (p q : Preamble) (x y : Known) →
+        IsRightText lexemes p x → IsRightText lexemes q y → (p ≡ q) × (x ≡ y) }
 {}
 
 /// What lexemes denote is within its limits.

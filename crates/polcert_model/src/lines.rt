@@ -1,11 +1,13 @@
 //! The lines of the preamble, read token by token behind their word.
-ghost use Rattle.std.specs.Prelude.{◌≡◌, false, OnOk, OnErr, IfOk, IfErr, [], ◌∷◌, ◌≢◌};
+ghost use Rattle.std.specs.Prelude.{◌≡◌, false, None, OnOk, OnErr, IfOk, IfErr, [], ◌∷◌, ◌≢◌};
 ghost use Rattle.polcert_text.specs.Reading.{lexeme_of};
 ghost use Rattle.polcert_model.specs.NumberSteps.{IsMisplaced};
 ghost use Rattle.polcert_model.specs.LineSteps.{Takes, CannotTake, CannotEnd, DiscountGoes, DiscountReason, ValuesGoes, WordRest, discount_sign};
 ghost use Rattle.polcert_model.specs.NumberSteps.{SignIs};
 ghost use Rattle.polcert_model.specs.ItemSteps.{IsEndReason};
 ghost use Rattle.polcert_model.specs.Reasons.{is_sign};
+ghost use Rattle.polcert_model.specs.Misfits.{misfit, IsMisfit, Mark};
+ghost use Rattle.polcert_model.specs.WantSteps.{Leads, discount_wants, values_want};
 
 use crate::ItemFault;
 use crate::number::{Range, Refusal, Sign, Step, behind_numbers, misplaced, number_step};
@@ -27,6 +29,8 @@ impl DiscountReader {
         ensures refused { OnErr result (CannotTake DiscountGoes self.old (lexeme_of token.entry)) }
         ensures reason { IfErr result (λ r. DiscountReason self.old (lexeme_of token.entry) r.kind r.place) }
         ensures sign { OnOk result (SignIs (discount_sign self.new) (lexeme_of token.entry)) }
+        ensures leads { OnOk result (Leads (discount_wants self.old) (lexeme_of token.entry) (discount_wants self.new)) }
+        ensures kind { IfErr result (λ r. IsMisfit (discount_wants self.old []) (lexeme_of token.entry) r.kind) }
     {
         match *self {
             DiscountReader::Colon => {
@@ -50,6 +54,7 @@ impl DiscountReader {
         ensures said { IfOk result (DiscountGoes self []) }
         ensures reason { IfErr result (IsEndReason Topic.Discount) }
         ensures refused { OnErr result (CannotEnd DiscountGoes self) }
+        ensures kind { IfErr result (λ kind. kind ≡ misfit (discount_wants self []) None) }
     {
         match self {
             DiscountReader::Number(None) => Err(ItemFault::WrongNumberCount),
@@ -74,6 +79,8 @@ impl ValuesReader {
         ensures refused { OnErr result (CannotTake ValuesGoes self.old (lexeme_of token.entry)) }
         ensures reason { IfErr result (λ r. IsMisplaced (lexeme_of token.entry) r.kind r.place) }
         ensures sign { OnOk result (is_sign (lexeme_of token.entry).kind ≡ false) }
+        ensures leads { OnOk result (Leads (values_want self.old) (lexeme_of token.entry) (values_want self.new)) }
+        ensures kind { IfErr result (λ r. IsMisfit (values_want self.old []) (lexeme_of token.entry) r.kind) }
     {
         match *self {
             ValuesReader::Colon => {
@@ -94,6 +101,7 @@ impl ValuesReader {
         ensures said { IfOk result (ValuesGoes self []) }
         ensures reason { IfErr result (IsEndReason Topic.Values) }
         ensures refused { OnErr result (CannotEnd ValuesGoes self) }
+        ensures kind { IfErr result (λ kind. kind ≡ misfit (values_want self []) None) }
     {
         match self {
             ValuesReader::Said(costs) => Ok(costs),
@@ -108,6 +116,7 @@ fn costs_of(token: Token<'_>) -> Result<bool, Refusal>
     ensures refused { OnErr result (CannotTake ValuesGoes ValuesReader.Word (lexeme_of token.entry)) }
     ensures reason { IfErr result (λ r. IsMisplaced (lexeme_of token.entry) r.kind r.place) }
     ensures sign { OnOk result (is_sign (lexeme_of token.entry).kind ≡ false) }
+    ensures kind { IfErr result (λ r. IsMisfit Mark (lexeme_of token.entry) r.kind) }
 {
     if is_word(&token, b"reward") {
         return Ok(false);
@@ -123,6 +132,7 @@ pub fn colon(token: Token<'_>) -> Result<(), Refusal>
     ensures ok { OnOk result ((lexeme_of token.entry).kind ≡ TokenKind.Colon) }
     ensures refused { OnErr result ((lexeme_of token.entry).kind ≢ TokenKind.Colon) }
     ensures reason { IfErr result (λ r. IsMisplaced (lexeme_of token.entry) r.kind r.place) }
+    ensures kind { IfErr result (λ r. IsMisfit Mark (lexeme_of token.entry) r.kind) }
 {
     match token.kind {
         TokenKind::Colon => Ok(()),

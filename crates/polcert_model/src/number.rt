@@ -1,7 +1,9 @@
 //! A number of an item: a numeral, perhaps behind a sign.
-ghost use Rattle.std.specs.Prelude.{◌≡◌, IfOk, IfErr, MatchOption, false};
+ghost use Rattle.std.specs.Prelude.{◌≡◌, IfOk, IfErr, MatchOption, Some, false};
 ghost use Rattle.polcert_text.specs.Reading.{lexeme_of};
 ghost use Rattle.polcert_model.specs.NumberSteps.{IsStep, RefusesNumber, IsMisplaced, IsBehindNumbers, IsInRange, IsSignKind, IsRangeFault, is_negative, number_place};
+ghost use Rattle.polcert_model.specs.Misfits.{misfit, IsMisfit, EndOfNumbers, EndOfWord};
+ghost use Rattle.polcert_model.specs.WantSteps.{number_wants};
 
 use crate::ItemFault;
 use crate::words::is_word;
@@ -45,6 +47,7 @@ const ONE: i64 = 1_000_000;
 pub fn number_step(sign: Option<Sign>, token: Token<'_>, range: Range) -> Result<Step, Refusal>
     ensures step { IfOk result (IsStep range sign (lexeme_of token.entry)) }
     ensures refused { IfErr result (λ r. RefusesNumber range sign (lexeme_of token.entry) r.kind r.place) }
+    ensures kind { IfErr result (λ r. IsMisfit (number_wants sign) (lexeme_of token.entry) r.kind) }
 {
     match token.kind {
         TokenKind::Numeral => numeral_step(sign, token, range),
@@ -63,6 +66,7 @@ fn sign_step(
     requires { IsSignKind negative token.kind }
     ensures step { IfOk result (IsStep range sign (lexeme_of token.entry)) }
     ensures refused { IfErr result (λ r. RefusesNumber range sign (lexeme_of token.entry) r.kind r.place) }
+    ensures kind { IfErr result (λ r. IsMisfit (number_wants sign) (lexeme_of token.entry) r.kind) }
 {
     match sign {
         Some(_) => Err(misplaced(token)),
@@ -77,6 +81,7 @@ fn numeral_step(sign: Option<Sign>, token: Token<'_>, range: Range) -> Result<St
     requires { token.kind ≡ TokenKind.Numeral }
     ensures step { IfOk result (IsStep range sign (lexeme_of token.entry)) }
     ensures refused { IfErr result (λ r. RefusesNumber range sign (lexeme_of token.entry) r.kind r.place) }
+    ensures kind { IfErr result (λ r. IsMisfit (number_wants sign) (lexeme_of token.entry) r.kind) }
 {
     let place = number_place(sign, token);
     match scaled_of(is_negative(sign), token.bytes) {
@@ -124,7 +129,8 @@ fn range_fault(range: Range, value: i64) -> Option<ItemFault>
 
 /// A token that no form has in its place.
 pub fn misplaced(token: Token<'_>) -> Refusal
-    ensures { IsMisplaced (lexeme_of token.entry) result.kind result.place }
+    ensures reason { IsMisplaced (lexeme_of token.entry) result.kind result.place }
+    ensures kind { result.kind ≡ misfit EndOfWord (Some (lexeme_of token.entry)) }
 {
     let kind = if is_word(&token, b"reset") {
         ItemFault::Reset
@@ -139,7 +145,8 @@ pub fn misplaced(token: Token<'_>) -> Refusal
 
 /// A token behind the last number of a list.
 pub fn behind_numbers(token: Token<'_>) -> Refusal
-    ensures { IsBehindNumbers (lexeme_of token.entry) result.kind result.place }
+    ensures reason { IsBehindNumbers (lexeme_of token.entry) result.kind result.place }
+    ensures kind { result.kind ≡ misfit EndOfNumbers (Some (lexeme_of token.entry)) }
 {
     match token.kind {
         TokenKind::Numeral | TokenKind::Plus | TokenKind::Minus => Refusal {

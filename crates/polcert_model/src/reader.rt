@@ -1,14 +1,14 @@
 //! A model's text, read item by item.
 ghost use Rattle.std.specs.Prelude.{None, IfOk, IfErr, ◌≡◌, ◌+◌, ◌<◌, ◌≤◌, ◌^◌, ◌++◌, ◌∷◌, [], Some, false, List, MatchResult};
 ghost use Rattle.polcert_text.specs.Cut.{Lexeme, IsCut, text_rest};
-ghost use Rattle.polcert_text.specs.Reading.{lexeme_of, fault_place};
+ghost use Rattle.polcert_text.specs.Reading.{lexeme_of};
 ghost use Rattle.polcert_model.specs.Words.{topic, begins_item};
 ghost use Rattle.polcert_model.specs.ElementSteps.{IsText};
 ghost use Rattle.polcert_model.specs.Text.{most_bytes, IsModelText};
 ghost use Rattle.polcert_model.specs.FirstWrong.{TextTokens, AreTokensOf};
-ghost use Rattle.polcert_model.specs.Refusals.{IsRefusal, IsPlacedRight};
+ghost use Rattle.polcert_model.specs.Refusals.{IsRefusal, IsPlacedRight, IsNoModel};
 ghost use Rattle.polcert_model.specs.Contents.{meaning};
-ghost use Rattle.polcert_model.specs.TextSteps.{IsTextRead, AreItemsRead, IsWholeRead, IsRefusedBehind, IsRefusedAt, IsRefusedWhole, Refuses, fault_kind};
+ghost use Rattle.polcert_model.specs.TextSteps.{IsTextRead, AreItemsRead, IsWholeRead, IsRefusedBehind, IsRefusedAt, IsRefusedWhole, Refuses, tokens_end, pending_at};
 
 use crate::item::ItemReader;
 use crate::known::Known;
@@ -126,9 +126,15 @@ impl TextReader {
         Ok(())
     }
 
+    /// The tokens end in this fault: the item is refused for it, or for a number before it that has no value.
     fn token_fault(&self, fault: TokenFault) -> ModelFault
-        ensures { result ≡ ModelFault.Item (fault_kind fault) self.now.number (fault_place fault) }
+        ensures { result ≡ tokens_end self.now.number (pending_at self.now.item) fault }
     {
+        if let Some(item) = &self.item {
+            if let Some(refusal) = item.pending() {
+                return self.fault(refusal.kind, refusal.place);
+            }
+        }
         let kind = match fault {
             TokenFault::TextTooLong(_) => ItemFault::TextTooLong,
             _ => ItemFault::Token(fault),
@@ -179,6 +185,7 @@ fn read_text(alloc: Global, text: &[u8]) -> Result<Known, ModelFault>
 ///
 /// Source: the POMDP file format page and its grammar at pomdp.org.
 pub fn read_model(alloc: Global, text: &[u8]) -> Result<Model, ModelFault>
+    ensures exactly { MatchResult result (λ m. IsModelText text.now (meaning m)) (IsNoModel text.now) }
     ensures accepted { IfOk result (λ m. IsModelText text.now (meaning m)) }
     ensures refused { IfErr result (λ fault. (ts : TextTokens) → AreTokensOf text.now ts → IsRefusal ts fault) }
     ensures placed { IfErr result (λ fault. (ts : TextTokens) → AreTokensOf text.now ts → IsPlacedRight ts fault) }

@@ -12,7 +12,7 @@ ghost use Rattle.polcert_model.specs.Meaning.{IsCount};
 ghost use Rattle.polcert_model.specs.NumberSteps.{IsMisplaced, SignIs};
 ghost use Rattle.polcert_model.specs.Reasons.{is_sign};
 ghost use Rattle.polcert_model.specs.Start.{alike, all_states, single, shares_of, is_level, is_positive};
-ghost use Rattle.polcert_model.specs.StartSteps.{StartGoes, IsStartWithin, IsStartSeen, IsStartReason, IsStartEndReason, IfNotMemory, new_start, marked, AreUnmarked, picks, NumbersGo, Begins, IsKept, IsReasonAt, IsNumberStop, IsDigitsStop, AreDigits, first_above_0, is_level_at, level_share};
+ghost use Rattle.polcert_model.specs.StartSteps.{StartGoes, IsStartWithin, IsStartSeen, IsStartReason, IsStartEndReason, IfNotMemory, new_start, pending, marked, AreUnmarked, picks, NumbersGo, Begins, IsKept, IsReasonAt, IsNumberStop, IsDigitsStop, AreDigits, first_above_0, is_level_at, level_share};
 
 use crate::elements::{Elements, element_of};
 use crate::entry_reader::Numbers;
@@ -137,6 +137,23 @@ impl StartReader {
                 Ok(())
             }
             StartReader::Probabilities(numbers) => numbers.feed_probability(token),
+        }
+    }
+
+    /// Why the tokens cannot end in a fault here: digits alone are a number where anything follows them, and these have
+    /// no value.
+    pub fn pending(&self) -> Option<Refusal>
+        ensures { result ≡ pending self.now }
+    {
+        match self {
+            StartReader::Digits(digits) => match digits.value {
+                Ok(_) => None,
+                Err(fault) => Some(Refusal {
+                    kind: ItemFault::Number(fault),
+                    place: digits.place,
+                }),
+            },
+            _ => None,
         }
     }
 

@@ -18,3 +18,4 @@ pub mod Numerals
 pub mod PrintedCut
 pub mod PrintedWords
 pub mod WrittenNumbers
+pub mod SomeCut

@@ -78,6 +78,10 @@ abbrev pub IsCut : Rest → List Lexeme → Option TokenFault → Type 0
 IsCut rest [] answer = Ends rest answer
 IsCut rest (token ∷ tokens) answer = (behind : Rest) × TakesToken rest token behind × IsCut behind tokens answer
 
+-- the rest has a cut
+abbrev pub HasCut : Rest → Type 0
+HasCut rest = (tokens : List Lexeme) × (answer : Option TokenFault) × IsCut rest tokens answer
+
 -- the bytes of a text below the limit; a byte at the limit is a fault there
 abbrev pub text_rest : List ℕ → ℕ → Rest
 text_rest text limit =

@@ -1,7 +1,7 @@
 //! Laws of the definitions, each the contract of a function with nothing to do.
 ghost use Rattle.std.specs.Prelude.{◌≡◌, ℕ, Bool, Option, Some, None, Result, Err, List, ℤ, IfSome};
 ghost use Rattle.std.specs.Io.KnownBytes.{Appends};
-ghost use Rattle.polcert_text.specs.Cut.{Lexeme, Rest, TakesToken, Ends, IsCut};
+ghost use Rattle.polcert_text.specs.Cut.{Lexeme, Rest, TakesToken, Ends, IsCut, HasCut};
 ghost use Rattle.polcert_text.specs.Reading.{GivesNext};
 ghost use Rattle.polcert_text.specs.Numbers.{IsReadable, IsExact, IsFloor, IsRefused, IsRefusedExactly};
 ghost use Rattle.polcert_text.specs.Source.{IsText};
@@ -15,6 +15,11 @@ use crate::{NumberFault, Token, TokenFault};
 pub fn one_cut()
     ensures { (rest : Rest) (ss ts : List Lexeme) (x y : Option TokenFault) →
         IsCut rest ss x → IsCut rest ts y → (ss ≡ ts) × (x ≡ y) }
+{}
+
+/// A text has a cut.
+pub fn some_cut()
+    ensures { (rest : Rest) → HasCut rest }
 {}
 
 /// At most one token comes next, and it leaves one rest.

@@ -21,7 +21,7 @@ pub use buffer::{BUFFER_SIZE, Buffer};
 pub use buffered::BufferedSink;
 pub use laws::{
     bytes_of_a_writer, one_cut, one_end, one_next_token, one_refusal, one_value, same_answer_again,
-    text_of_a_reader, text_of_a_slice,
+    some_cut, text_of_a_reader, text_of_a_slice,
 };
 pub use lexeme::TokenKind;
 pub use memory::{SliceSink, SliceSource};

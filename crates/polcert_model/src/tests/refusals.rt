@@ -99,6 +99,18 @@ fn refused_items(rt: HostRuntime) {
             8,
             94,
         ),
+        (
+            b"discount: 1 values: reward states: 2 actions: 1 observations: 1 start: 99999999 ;".as_slice(),
+            ItemFault::Number(NumberFault::TooLarge),
+            6,
+            71,
+        ),
+        (
+            b"discount: 1 values: reward states: 2 actions: 1 observations: 1 start: 5 ;".as_slice(),
+            ItemFault::Token(TokenFault::BadByte(73)),
+            6,
+            73,
+        ),
     ];
     for (text, kind, item, place) in rows {
         let fault = ModelFault::Item { kind, item, place };

@@ -7,5 +7,5 @@ use Rattle.polcert_model.proofs.number.sign_step.Goals as goal
 pub returns-in-Some-clause-refused : goal.returns-in-Some-clause-refused
 returns-in-Some-clause-refused c = record {
   none = subst (λ s. IsNoNumber c.args.range s (lexeme_of c.args.token)) (sym c.in-Some.is) (no_second_sign c.args.range c.in-Some.field-0 c.args.negative (lexeme_of c.args.token) c.requires);
-  reason = misplaced_reason c.args.range c.args.sign (lexeme_of c.args.token) _ _ c.misplaced.ensures;
+  reason = misplaced_reason c.args.range c.args.sign (lexeme_of c.args.token) _ _ c.misplaced.ensures.reason;
 }

@@ -6,6 +6,8 @@ use Rattle.polcert_model.specs.Text.{IsModelText}
 use Rattle.polcert_model.specs.Drafts.{meaning}
 use Rattle.polcert_model.specs.Writable.{IsWritable}
 use Rattle.polcert_model.proofs.WritableTexts.{text_writable}
+use Rattle.polcert_model.specs.declared.fault.ModelFault.TheVariants.{RowSum}
+use Rattle.polcert_model.proofs.RefusalLaws.{no_model}
 use Rattle.polcert_model.proofs.WholeTexts.{whole_accepted, whole_within, row_refused}
 use Rattle.polcert_model.proofs.reader.read_model.Goals as goal
 
@@ -29,6 +31,21 @@ returns-in-None-clause-accepted c =
     subst (λ d. IsModelText c.args.text.now (meaning d)) (sym (c.of.ensures ∙ kept))
     (whole_accepted c.args.text.now read.0 c.in_ok-read_text.field-0 read.1 read.2 (subst (λ d. HasProperRows (meaning d)) kept c.in-None.ensures))
 
+pub returns-in-None-clause-exactly : goal.returns-in-None-clause-exactly
+returns-in-None-clause-exactly c =
+    let read = c.in_ok-read_text.ensures.read in
+    let kept = c.into_draft-draft.ensures in
+    subst (λ d. IsModelText c.args.text.now (meaning d)) (sym (c.of.ensures ∙ kept))
+    (whole_accepted c.args.text.now read.0 c.in_ok-read_text.field-0 read.1 read.2 (subst (λ d. HasProperRows (meaning d)) kept c.in-None.ensures))
+
+pub returns-in-Some-clause-exactly : goal.returns-in-Some-clause-exactly
+returns-in-Some-clause-exactly c =
+    let read = c.in_ok-read_text.ensures.read in
+    let row = c.in-Some.field-0 in
+    no_model c.args.text.now (RowSum row.table row.action row.row) (λ ts tokens.
+    row_refused c.args.text.now read.0 c.in_ok-read_text.field-0 row.table row.action row.row read.1 read.2
+    (subst (λ d. IsFirstWrongRow (meaning d) row.table row.action row.row) c.into_draft-draft.ensures c.in-Some.ensures) ts tokens)
+
 pub returns-in-Some-clause-refused : goal.returns-in-Some-clause-refused
 returns-in-Some-clause-refused c = λ ts tokens.
     let read = c.in_ok-read_text.ensures.read in
@@ -45,3 +62,8 @@ pub returns-in_err-read_text-clause-placed : goal.returns-in_err-read_text-claus
 returns-in_err-read_text-clause-placed c =
     let p = err_from_is_err_and c.from_residual.result c.from_residual.ensures.1 in
     rw (p.1, p.2) (λ ts tokens. (c.in_err-read_text.ensures.refused ts tokens).placed)
+
+pub returns-in_err-read_text-clause-exactly : goal.returns-in_err-read_text-clause-exactly
+returns-in_err-read_text-clause-exactly c =
+    let p = err_from_is_err_and c.from_residual.result c.from_residual.ensures.1 in
+    rw (p.1, p.2) (no_model c.args.text.now _ (λ ts tokens. (c.in_err-read_text.ensures.refused ts tokens).refusal))

@@ -1,0 +1,98 @@
+-- What each place of an item's body is for, behind what its reader holds.
+-- Nobody has to believe this: only contracts of private functions cite it.
+use Rattle.std.specs.Prelude.{◌≡◌, ℕ, ◌-◌, Bool, true, false, Option, Some, None, is_some, List, [], ◌∷◌, length}
+use Rattle.polcert_text.specs.Cut.{Lexeme}
+use Rattle.polcert_model.specs.declared.elements_reader.ElementsReader.{ElementsReader}
+use Rattle.polcert_model.specs.declared.elements_reader.ElementsReader.TheVariants as elements
+use Rattle.polcert_model.specs.declared.entry.Place.{Place}
+use Rattle.polcert_model.specs.declared.entry.Table.{Table}
+use Rattle.polcert_model.specs.declared.entry_reader.EntryReader.{EntryReader}
+use Rattle.polcert_model.specs.declared.entry_reader.EntryState.{EntryState}
+use Rattle.polcert_model.specs.declared.entry_reader.EntryState.TheVariants as states
+use Rattle.polcert_model.specs.declared.entry_reader.Numbers.{Numbers}
+use Rattle.polcert_model.specs.declared.item.ItemReader.{ItemReader}
+use Rattle.polcert_model.specs.declared.item.ItemReader.TheVariants as items
+use Rattle.polcert_model.specs.declared.lines.DiscountReader.{DiscountReader}
+use Rattle.polcert_model.specs.declared.lines.DiscountReader.TheVariants as discount
+use Rattle.polcert_model.specs.declared.lines.ValuesReader.{ValuesReader}
+use Rattle.polcert_model.specs.declared.lines.ValuesReader.TheVariants as values
+use Rattle.polcert_model.specs.declared.number.Sign.{Sign}
+use Rattle.polcert_model.specs.declared.start_reader.StartReader.{StartReader}
+use Rattle.polcert_model.specs.declared.start_reader.StartReader.TheVariants as starts
+use Rattle.polcert_model.specs.Elements.{Elements, count_of}
+use Rattle.polcert_model.specs.Text.{Known}
+use Rattle.polcert_model.specs.ElementSteps.{names_with}
+use Rattle.polcert_model.specs.EntrySteps.{preamble_in, indices_in}
+use Rattle.polcert_model.specs.Misfits.{Wanted, Mark, Index, Listed, CountOrName, FurtherName, StartBody, NumberOrEnd, Number, Digits, EndOfNumbers, EndOfWord}
+use Rattle.polcert_model.specs.Wants as wants
+use Rattle.polcert_model.specs.Wants.{numbers_want}
+
+-- behind one more lexeme the places are for what they were for before it
+pub record Leads (old : List Lexeme → Wanted) (l : Lexeme) (new : List Lexeme → Wanted) : Type 0 where
+  pub same : (ls : List Lexeme) → old (l ∷ ls) ≡ new ls
+
+-- what a number wants behind this sign
+abbrev pub number_wants : Option Sign → Wanted
+number_wants None = Number
+number_wants (Some sign) = Digits
+
+abbrev pub discount_wants : DiscountReader → List Lexeme → Wanted
+discount_wants discount.Colon ls = wants.discount_wants ls
+discount_wants (discount.Number sign) ls = numbers_want (is_some sign) 1 ls
+discount_wants (discount.Said d) ls = numbers_want false 0 ls
+
+abbrev pub word_wants : List Lexeme → Wanted
+word_wants [] = Mark
+word_wants (l ∷ ls) = EndOfWord
+
+abbrev pub values_want : ValuesReader → List Lexeme → Wanted
+values_want values.Colon ls = wants.values_want ls
+values_want values.Word ls = word_wants ls
+values_want (values.Said b) ls = EndOfWord
+
+abbrev pub elements_want : ElementsReader → List Lexeme → Wanted
+elements_want elements.Colon ls = wants.elements_want ls
+elements_want elements.First ls = wants.names_want ls
+elements_want (elements.Counted n) ls = EndOfWord
+elements_want (elements.Named names) ls = FurtherName (names_with names ls)
+
+-- so many numbers are still to come
+abbrev pub list_wants : {T : Type 0} → Numbers T → List Lexeme → Wanted
+list_wants n ls = numbers_want (is_some n.sign) (n.needed - length n.read) ls
+
+abbrev pub state_wants : List Elements → Table → List Place → EntryState → List Lexeme → Wanted
+state_wants ds table places states.Colon ls = wants.entry_wants ds table false 0 ls
+state_wants ds table places states.Place ls = wants.entry_wants ds table true (length places) ls
+state_wants ds table places states.Body ls = wants.entry_wants ds table false (length places) ls
+state_wants ds table places (states.Probabilities n) ls = list_wants n ls
+state_wants ds table places (states.Rewards n) ls = list_wants n ls
+state_wants ds table places (states.Word w) ls = EndOfWord
+
+abbrev pub entry_wants : List Elements → EntryReader → List Lexeme → Wanted
+entry_wants ds r ls = state_wants ds r.table r.places r.state ls
+
+-- behind digits that may be a state's number
+abbrev pub digits_want : ℕ → List Lexeme → Wanted
+digits_want count [] = NumberOrEnd
+digits_want count (l ∷ ls) = numbers_want false (count - 1) (l ∷ ls)
+
+abbrev pub start_wants : ℕ → StartReader → List Lexeme → Wanted
+start_wants count starts.Form ls = wants.start_wants count ls
+start_wants count (starts.Colon choice) ls = wants.list_wants ls
+start_wants count (starts.List chosen) ls = Listed
+start_wants count starts.Body ls = wants.start_body_wants count ls
+start_wants count starts.Every ls = EndOfWord
+start_wants count (starts.Only s) ls = EndOfWord
+start_wants count (starts.Sign sign) ls = numbers_want true count ls
+start_wants count (starts.Number first) ls = numbers_want false (count - 1) ls
+start_wants count (starts.Digits digits) ls = digits_want count ls
+start_wants count (starts.Probabilities n) ls = list_wants n ls
+
+abbrev pub item_wants : Known → ItemReader → List Lexeme → Wanted
+item_wants k (items.Discount r) ls = discount_wants r ls
+item_wants k (items.Values r) ls = values_want r ls
+item_wants k (items.States r) ls = elements_want r ls
+item_wants k (items.Actions r) ls = elements_want r ls
+item_wants k (items.Observations r) ls = elements_want r ls
+item_wants k (items.Start r) ls = start_wants (count_of (preamble_in k).states) r ls
+item_wants k (items.Entry r) ls = entry_wants (indices_in k r.table) r ls

@@ -1,0 +1,96 @@
+-- What each place of an item's body is for, by the item's topic and the lexemes of the body before it.
+-- Source: the POMDP file format page at pomdp.org, whose forms of items these are, read from left to right.
+use Rattle.std.specs.Prelude.{ℕ, zero, suc, ◌+◌, ◌-◌, ◌==◌, ◌||◌, not, nat_lt, Bool, true, false, List, [], ◌∷◌, length, map, drop, codes, unwrap_or, if◌then◌else◌}
+use Rattle.polcert_text.specs.Cut.{Lexeme}
+use Rattle.polcert_text.specs.Lexemes.{are_digits}
+use Rattle.polcert_text.specs.declared.lexeme.TokenKind.{TokenKind}
+use Rattle.polcert_text.specs.declared.lexeme.TokenKind.TheVariants as kinds
+use Rattle.polcert_model.specs.declared.entry.Table.{Table}
+use Rattle.polcert_model.specs.Words.{Topic, Discount, Values, States, Actions, Observations, Start, Cells}
+use Rattle.polcert_model.specs.Elements.{Elements, count_of}
+use Rattle.polcert_model.specs.Entry.{cells_in}
+use Rattle.polcert_model.specs.Text.{Known}
+use Rattle.polcert_model.specs.Reasons.{is_sign}
+use Rattle.polcert_model.specs.KnownView.{least_written}
+use Rattle.polcert_model.specs.EntrySteps.{preamble_in, indices_in}
+use Rattle.polcert_model.specs.Misfits.{Wanted, Mark, Index, Listed, CountOrName, FurtherName, StartBody, NumberOrEnd, Number, Digits, EndOfNumbers, EndOfWord}
+
+-- Numbers: whether a sign stands before the lexemes, and how many numbers are still to come.
+abbrev pub numbers_want : Bool → ℕ → List Lexeme → Wanted
+numbers_want true left [] = Digits
+numbers_want false zero [] = EndOfNumbers
+numbers_want false (suc left) [] = Number
+numbers_want signed left (l ∷ ls) = numbers_want (is_sign l.kind) (if is_sign l.kind then left else left - 1) ls
+
+-- a colon and one number
+abbrev pub discount_wants : List Lexeme → Wanted
+discount_wants [] = Mark
+discount_wants (colon ∷ ls) = numbers_want false 1 ls
+
+-- a colon and a word
+abbrev pub values_want : List Lexeme → Wanted
+values_want [] = Mark
+values_want (colon ∷ []) = Mark
+values_want (colon ∷ word ∷ ls) = EndOfWord
+
+abbrev pub is_numeral : TokenKind → Bool
+is_numeral kinds.Numeral = true
+is_numeral _ = false
+
+-- a count, or names
+abbrev pub names_want : List Lexeme → Wanted
+names_want [] = CountOrName
+names_want (l ∷ ls) = if is_numeral l.kind then EndOfWord else FurtherName (map (λ m. m.bytes) (l ∷ ls))
+
+abbrev pub elements_want : List Lexeme → Wanted
+elements_want [] = Mark
+elements_want (colon ∷ ls) = names_want ls
+
+-- behind an index: a colon and further places, a word, or numbers
+abbrev pub by_kind : TokenKind → Wanted → Wanted → Wanted
+by_kind kinds.Colon further other = further
+by_kind kinds.Name further other = EndOfWord
+by_kind _ further other = other
+
+-- An entry: whether a colon stands before the lexemes, and how many places were written. Numbers for the cells that
+-- these leave open stand behind enough of them, and before that only a colon.
+abbrev pub entry_wants : List Elements → Table → Bool → ℕ → List Lexeme → Wanted
+entry_wants ds table true written [] = Index
+entry_wants ds table true written (l ∷ ls) = entry_wants ds table false (written + 1) ls
+entry_wants ds table false written [] = if nat_lt written (least_written table) then Mark else numbers_want false (cells_in (drop written ds)) []
+entry_wants ds table false written (l ∷ ls) = by_kind l.kind (entry_wants ds table true written ls) (numbers_want false (cells_in (drop written ds)) (l ∷ ls))
+
+-- digits alone behind `start:` may be a state's number, unless there is one state
+abbrev pub may_be_state : ℕ → TokenKind → List ℕ → Bool
+may_be_state count kinds.Numeral bytes = if count == 1 then false else are_digits bytes
+may_be_state count _ bytes = false
+
+-- a word or a state's name, or numbers
+abbrev pub start_body_wants : ℕ → List Lexeme → Wanted
+start_body_wants count [] = StartBody
+start_body_wants count (l ∷ []) = if may_be_state count l.kind l.bytes then NumberOrEnd else by_kind l.kind EndOfWord (numbers_want false count (l ∷ []))
+start_body_wants count (l ∷ m ∷ ls) = by_kind l.kind EndOfWord (numbers_want false count (l ∷ m ∷ ls))
+
+-- a colon and a list of states
+abbrev pub list_wants : List Lexeme → Wanted
+list_wants [] = Mark
+list_wants (colon ∷ ls) = Listed
+
+abbrev pub is_colon : TokenKind → Bool
+is_colon kinds.Colon = true
+is_colon _ = false
+
+-- a colon and the body, or `include` or `exclude` and a list
+abbrev pub start_wants : ℕ → List Lexeme → Wanted
+start_wants count [] = Mark
+start_wants count (l ∷ ls) = if is_colon l.kind then start_body_wants count ls else list_wants ls
+
+-- The lexemes behind the item's word were taken: what the next place is for.
+abbrev pub wanted : Known → Topic → List Lexeme → Wanted
+wanted k Discount taken = discount_wants taken
+wanted k Values taken = values_want taken
+wanted k States taken = elements_want taken
+wanted k Actions taken = elements_want taken
+wanted k Observations taken = elements_want taken
+wanted k Start taken = start_wants (count_of (preamble_in k).states) taken
+wanted k (Cells table) taken = entry_wants (indices_in k table) table false 0 taken
