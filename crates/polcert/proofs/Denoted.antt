@@ -20,7 +20,7 @@ use Rattle.polcert_check.specs.Verdict.{IsVerdict}
 use Rattle.polcert_check.specs.SameCells.{HasSameCells}
 use Rattle.polcert_check.proofs.SameAnswers as answers
 use Rattle.polcert_check.proofs.SameModels as models_same
-use Rattle.polcert.specs.Headline.{Certificate, controller, IsCertified}
+use Rattle.polcert.specs.Headline.{Certificate, controller, IsCertified, AreRewardsCertified}
 use Rattle.polcert.specs.Answer.{HasGraph, IsGraphRefused, AreVectorsRefused}
 
 module _ {m n : Meaning} (same : IsSame m n) where
@@ -117,3 +117,7 @@ certificate_of m g v has are =
 -- a yes to what three texts denote certifies them
 pub certified : {model graph vectors : List ℕ} (c : Certificate model graph vectors) → ((d : Certificate model graph vectors) → MeetsHorizon (controller d) Yes) → IsCertified model graph vectors
 certified c meets = record { certificate = c; promise = λ d k n s nl sl. (meets d k n s nl sl).0 }
+
+-- and the rewards alone
+pub rewards_certified : {model graph vectors : List ℕ} → ((d : Certificate model graph vectors) → MeetsHorizon (controller d) Yes) → AreRewardsCertified model graph vectors
+rewards_certified meets = λ d k n s nl sl. (meets d k n s nl sl).1

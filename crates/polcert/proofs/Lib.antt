@@ -1,3 +1,4 @@
 pub mod Written
 pub mod Refusing
 pub mod Denoted
+pub mod Fitting

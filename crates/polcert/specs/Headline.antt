@@ -3,7 +3,7 @@
 -- Sources: the POMDP file format page and its grammar at pomdp.org (the model); pomdp-solve's descriptions of its policy
 -- graph and value function files (the graph and the vectors); the textbook step relation of a finite controller (the
 -- promise). Each word is a definition of the crate that it comes from, and `docs/DEFINITIONS.md` walks through them all.
-use Rattle.std.specs.Prelude.{◌≡◌, ℕ, ◌<◌, ℤ, List}
+use Rattle.std.specs.Prelude.{ℕ, ◌<◌, List}
 use Rattle.polcert_model.specs.Meaning.{Meaning, states_of, actions_of, observations_of}
 use Rattle.polcert_model.specs.Tables.{table_of}
 use Rattle.polcert_model.specs.Text.{IsModelText}
@@ -11,7 +11,7 @@ use Rattle.polcert_policy.specs.Graphs.{PolicyGraph, nodes}
 use Rattle.polcert_policy.specs.GraphText.{IsGraphText}
 use Rattle.polcert_policy.specs.Vectors.{PolicyVectors}
 use Rattle.polcert_policy.specs.VectorText.{IsVectorsText}
-use Rattle.polcert_check.specs.Horizon.{Controller, controller_of, Promise, RewardPromise, AtMost}
+use Rattle.polcert_check.specs.Horizon.{Controller, controller_of, Promise, RewardPromise}
 
 -- Three texts and what they denote: the first is the text of a model, the second that of a policy graph for the model's
 -- actions and observations, and the third that of vectors, one for each node of the graph with a value for each state.
@@ -34,8 +34,7 @@ pub record IsCertified (model graph vectors : List ℕ) : Type 0 where
   pub certificate : Certificate model graph vectors
   pub promise : (c : Certificate model graph vectors) (k n s : ℕ) → n < nodes c.policy → s < states_of c.meaning → Promise (controller c) k n s
 
--- The same of the rewards alone, without the vectors at the end: where no vector value is above m, the expected discounted
--- reward of k steps is at least the vector's value less discount ^ k times m, and the weights of the runs are all there.
+-- The same of the rewards alone, without the vectors at the end: the weights of the runs are all there; and where no vector
+-- value is above m, the expected discounted reward of k steps is at least the vector's value less discount ^ k times m.
 abbrev pub AreRewardsCertified : List ℕ → List ℕ → List ℕ → Type 0
-AreRewardsCertified model graph vectors = (c : Certificate model graph vectors) (m : ℤ) → AtMost (controller c) m
-    → (k n s : ℕ) → n < nodes c.policy → s < states_of c.meaning → RewardPromise (controller c) m k n s
+AreRewardsCertified model graph vectors = (c : Certificate model graph vectors) (k n s : ℕ) → n < nodes c.policy → s < states_of c.meaning → RewardPromise (controller c) k n s

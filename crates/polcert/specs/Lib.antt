@@ -3,3 +3,4 @@ pub mod Answer
 pub mod Lines
 pub mod Status
 pub mod Run
+pub mod Reading

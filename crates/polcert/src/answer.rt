@@ -3,7 +3,7 @@ ghost use Rattle.std.specs.Prelude.{◌≡◌, ℕ, ◌<◌, IfOk, Ok};
 ghost use Rattle.polcert_check.specs.Horizon.{MeetsHorizon};
 ghost use Rattle.polcert_check.specs.declared.verdict.Verdict.TheVariants.{Yes};
 ghost use Rattle.polcert.specs.Answer.{IsAnswer};
-ghost use Rattle.polcert.specs.Headline.{Certificate, controller, IsCertified};
+ghost use Rattle.polcert.specs.Headline.{Certificate, controller, IsCertified, AreRewardsCertified};
 
 use crate::fault::Fault;
 use crate::texts::{graph_of, vectors_of};
@@ -28,8 +28,11 @@ pub fn check_texts(
     // The headline: a yes is a certificate, for every number of steps, every node and every state.
     ensures promise { result ≡ Ok Yes → IsCertified model.now graph.now vectors.now }
 
-    // A yes promises the rewards alone too, and a no is refuted by one step: at the pair that it names the promise of one
-    // step is false, and a missing successor is a run that is cut and weighs more than 0.
+    // And for the rewards alone, without the vectors at the end.
+    ensures rewards { result ≡ Ok Yes → AreRewardsCertified model.now graph.now vectors.now }
+
+    // A no is refuted by one step: at the pair that it names the promise of one step is false, and a missing successor is a
+    // run of one step that is cut and weighs more than 0.
     ensures horizon { IfOk result (λ verdict. (c : Certificate model.now graph.now vectors.now)
         → MeetsHorizon (controller c) verdict) }
 {

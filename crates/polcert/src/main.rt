@@ -2,6 +2,7 @@
 #![tactic(auto)]
 
 mod answer;
+mod controller;
 mod fault;
 mod lines;
 mod program;

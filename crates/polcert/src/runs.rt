@@ -1,15 +1,20 @@
 //! Runs from sources to sinks.
-ghost use Rattle.std.specs.Prelude.{◌≡◌, ◌≢◌, OnOk, IsErrOf};
+ghost use Rattle.std.specs.Prelude.{◌≡◌, ◌≢◌, ℕ, ℤ, List, OnOk, IfOk, IsErrOf};
 ghost use Rattle.polcert_text.specs.Device.{HasFailed};
-ghost use Rattle.polcert_text.specs.Source.{EachTextThatFits};
+ghost use Rattle.polcert_text.specs.Sink.{Takes, TakesFront};
+ghost use Rattle.polcert_text.specs.Source.{IsText, EachTextThatFits};
 ghost use Rattle.polcert_model.specs.Refusals.{SaysOfText};
-ghost use Rattle.polcert.specs.Answer.{IsRefused};
-ghost use Rattle.polcert.specs.Run.{SumsUp, BeginsToSumUp};
+ghost use Rattle.polcert_check.specs.declared.verdict.Verdict.{Verdict};
+ghost use Rattle.polcert.specs.Answer.{IsRefused, IsModelFault, IsGraphRefused, AreVectorsRefused};
+ghost use Rattle.polcert.specs.Run.{SumsUp, BeginsToSumUp, IsNamedRightly, text_of, HasVerdict, HasLowered, IsNotLowerable};
 
+use crate::controller::{Controller, read_controller};
 use crate::fault::{Fault, RunFault};
-use crate::lines::write_summary;
-use polcert_model::{ModelFault, read_model};
-use polcert_text::{ReadFault, Sink, Source, TEXT_LIMIT, read_all};
+use crate::lines::{write_summary, write_verdict};
+use crate::sources::{SourceFault, read_model_from};
+use polcert_check::{Verdict, check, lowered};
+use polcert_policy::{Graph, Vectors, write_vectors};
+use polcert_text::{BufferedSink, Sink, SinkFailed, Source};
 use std::alloc::Global;
 
 /// Reads a model from the source, and writes the line that sums it up, and nothing else. Nothing is written before the
@@ -43,18 +48,64 @@ pub fn run_model<S: Source, W: Sink>(
     // With any other fault nothing was written.
     ensures untouched { (fault : RunFault) → IsErrOf result fault → fault ≢ RunFault.Write → sink.new ≡ sink.old }
 {
-    let text = match read_all(alloc, source, TEXT_LIMIT) {
-        Ok(text) => text,
-        Err(ReadFault::Device) => return Err(RunFault::ReadModel),
-        Err(ReadFault::Memory) => {
-            return Err(RunFault::Text(Fault::Model(ModelFault::Memory)));
-        }
+    let model = match read_model_from(alloc, source) {
+        Ok(model) => model,
+        Err(SourceFault::Device) => return Err(RunFault::ReadModel),
+        Err(SourceFault::Refused(fault)) => return Err(RunFault::Text(Fault::Model(fault))),
     };
-    match read_model(alloc, &text) {
-        Ok(model) => match write_summary(&model, sink) {
-            Ok(()) => Ok(()),
-            Err(_) => Err(RunFault::Write),
-        },
-        Err(fault) => Err(RunFault::Text(Fault::Model(fault))),
+    match write_summary(&model, sink) {
+        Ok(()) => Ok(()),
+        Err(_) => Err(RunFault::Write),
+    }
+}
+
+/// Reads a model, a policy graph and the graph's vectors from three sources, checks them, writes the line of the verdict,
+/// and nothing else, and answers the verdict. Nothing is written before all three texts are accepted and the verdict is
+/// known.
+pub fn run_check<M: Source, G: Source, V: Source, W: Sink>(
+    alloc: Global,
+    model: &mut M,
+    graph: &mut G,
+    vectors: &mut V,
+    sink: &mut W,
+) -> Result<Verdict, RunFault>
+    // The sink took exactly the line of the answer to the texts of the three sources.
+    ensures answered { IfOk result (λ verdict. (line : List ℕ)
+        × HasVerdict (text_of M.reads model.old model.new) (text_of G.reads graph.old graph.new)
+            (text_of V.reads vectors.old vectors.new) verdict line
+        × Takes W.writes sink.old line sink.new) }
+
+    // No text that fits what was read of a source is a model's; or behind the first text a graph's; or behind the first
+    // two the graph's vectors; and the fault is a right refusal of each of them.
+    ensures model_refused { (fault : _) → IsErrOf result (RunFault.Text (Fault.Model fault))
+        → EachTextThatFits M.reads model.old model.new (λ text. IsModelFault text fault) }
+    ensures graph_refused { (fault : _) → IsErrOf result (RunFault.Text (Fault.Graph fault))
+        → (first : List ℕ) × IsText M.reads model.old first model.new
+        × EachTextThatFits G.reads graph.old graph.new (IsGraphRefused first fault) }
+    ensures vectors_refused { (fault : _) → IsErrOf result (RunFault.Text (Fault.Vectors fault))
+        → (first second : List ℕ) × IsText M.reads model.old first model.new × IsText G.reads graph.old second graph.new
+        × EachTextThatFits V.reads vectors.old vectors.new (AreVectorsRefused first second fault) }
+
+    // A device is named only where it failed in this call, and no failure of one is passed over.
+    ensures model_read { IsNamedRightly (IsErrOf result RunFault.ReadModel) (M.failures model.old) (M.failures model.new) }
+    ensures graph_read { IsNamedRightly (IsErrOf result RunFault.ReadGraph) (G.failures graph.old) (G.failures graph.new) }
+    ensures vectors_read { IsNamedRightly (IsErrOf result RunFault.ReadVectors) (V.failures vectors.old) (V.failures vectors.new) }
+    ensures write { IsNamedRightly (IsErrOf result RunFault.Write) (W.failures sink.old) (W.failures sink.new) }
+
+    // Where a write failed, what was written before is a beginning of the line.
+    ensures begun { IsErrOf result RunFault.Write → (verdict : Verdict) × (line : List ℕ)
+        × HasVerdict (text_of M.reads model.old model.new) (text_of G.reads graph.old graph.new)
+            (text_of V.reads vectors.old vectors.new) verdict line
+        × TakesFront W.writes sink.old line sink.new }
+
+    // With any other fault nothing was written; and lowering is no part of a check.
+    ensures untouched { (fault : RunFault) → IsErrOf result fault → fault ≢ RunFault.Write → sink.new ≡ sink.old }
+    ensures not_lowering { (fault : _) → IsErrOf result (RunFault.Lower fault) → ⊥ }
+{
+    let read = read_controller(alloc, model, graph, vectors)?;
+    let verdict = check(&read.model, &read.graph, &read.vectors);
+    match write_verdict(&read.model, &read.graph, &read.vectors, verdict, sink) {
+        Ok(()) => Ok(verdict),
+        Err(_) => Err(RunFault::Write),
     }
 }

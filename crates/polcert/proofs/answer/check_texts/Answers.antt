@@ -11,7 +11,7 @@ use Rattle.polcert.specs.declared.fault.Fault.{Fault}
 use Rattle.polcert.specs.declared.fault.Fault.TheVariants.{Model}
 use Rattle.polcert.specs.Headline.{Certificate, controller}
 use Rattle.polcert.specs.Answer.{HasGraph, IsModelFault, IsAnswer}
-use Rattle.polcert.proofs.Denoted.{certificate_of, verdict_of_each, horizon_of_each, certified}
+use Rattle.polcert.proofs.Denoted.{certificate_of, verdict_of_each, horizon_of_each, certified, rewards_certified}
 use Rattle.polcert.proofs.Refusing.{model_fault}
 use Rattle.polcert.proofs.answer.check_texts.Goals as goal
 
@@ -44,7 +44,16 @@ returns-clause-horizon c =
     let proper : IsProperGraph g = subst IsProperGraph c.graph.view_is c.graph.invariant in
     horizon_of_each m g v has c.in_ok-vectors.ensures.accepted proper c.check.result c.check.ensures.verdict c.check.ensures.horizon
 
+yes_for_each : {model graph vectors : List ℕ} (verdict : Verdict) → verdict ≡ Yes → ((d : Certificate model graph vectors) → MeetsHorizon (controller d) verdict)
+    → (d : Certificate model graph vectors) → MeetsHorizon (controller d) Yes
+yes_for_each {model} {graph} {vectors} verdict is = subst (λ (v : Verdict). (d : Certificate model graph vectors) → MeetsHorizon (controller d) v) is
+
 pub returns-clause-promise : goal.returns-clause-promise
 returns-clause-promise c = λ yes.
     let is_yes : c.check.result ≡ Yes = cc in
-    certified (returns-clause-answer c).0 (subst (λ verdict. (d : Certificate c.args.model.now c.args.graph.now c.args.vectors.now) → MeetsHorizon (controller d) verdict) is_yes (returns-clause-horizon c))
+    certified (returns-clause-answer c).0 (yes_for_each c.check.result is_yes (returns-clause-horizon c))
+
+pub returns-clause-rewards : goal.returns-clause-rewards
+returns-clause-rewards c = λ yes.
+    let is_yes : c.check.result ≡ Yes = cc in
+    rewards_certified (yes_for_each c.check.result is_yes (returns-clause-horizon c))

@@ -1,0 +1,66 @@
+//! The model, the graph and the vectors of three sources.
+ghost use Rattle.std.specs.Prelude.{◌≡◌, ◌≢◌, ℕ, ⊤, List, IfOk, IfErr, IsErrOf};
+ghost use Rattle.polcert_text.specs.Source.{IsText, EachTextThatFits};
+ghost use Rattle.polcert_model.specs.Contents.{meaning};
+ghost use Rattle.polcert.specs.Answer.{IsModelFault, IsGraphRefused, AreVectorsRefused};
+ghost use Rattle.polcert.specs.Run.{text_of, IsNamedRightly};
+ghost use Rattle.polcert.specs.Reading.{AreDenoted, IsReadFault};
+
+use crate::fault::{Fault, RunFault};
+use crate::sources::{SourceFault, read_graph_from, read_model_from, read_vectors_from};
+use polcert_model::Model;
+use polcert_policy::{Graph, Vectors};
+use polcert_text::Source;
+use std::alloc::Global;
+
+/// A model, a policy graph for it, and the graph's vectors.
+#[derive(Drop)]
+pub struct Controller {
+    pub model: Model,
+    pub graph: Graph,
+    pub vectors: Vectors,
+}
+
+/// What the texts of three sources denote. Each source is read to its end before the next.
+pub fn read_controller<M: Source, G: Source, V: Source>(
+    alloc: Global,
+    model: &mut M,
+    graph: &mut G,
+    vectors: &mut V,
+) -> Result<Controller, RunFault>
+    ensures accepted { IfOk result (λ c. AreDenoted (text_of M.reads model.old model.new) (text_of G.reads graph.old graph.new)
+        (text_of V.reads vectors.old vectors.new) (meaning c.model) c.graph c.vectors) }
+    ensures model_refused { (fault : _) → IsErrOf result (RunFault.Text (Fault.Model fault))
+        → EachTextThatFits M.reads model.old model.new (λ text. IsModelFault text fault) }
+    ensures graph_refused { (fault : _) → IsErrOf result (RunFault.Text (Fault.Graph fault))
+        → (first : List ℕ) × IsText M.reads model.old first model.new
+        × EachTextThatFits G.reads graph.old graph.new (IsGraphRefused first fault) }
+    ensures vectors_refused { (fault : _) → IsErrOf result (RunFault.Text (Fault.Vectors fault))
+        → (first second : List ℕ) × IsText M.reads model.old first model.new × IsText G.reads graph.old second graph.new
+        × EachTextThatFits V.reads vectors.old vectors.new (AreVectorsRefused first second fault) }
+    ensures model_read { IsNamedRightly (IsErrOf result RunFault.ReadModel) (M.failures model.old) (M.failures model.new) }
+    ensures graph_read { IsNamedRightly (IsErrOf result RunFault.ReadGraph) (G.failures graph.old) (G.failures graph.new) }
+    ensures vectors_read { IsNamedRightly (IsErrOf result RunFault.ReadVectors) (V.failures vectors.old) (V.failures vectors.new) }
+    ensures of_reading { IfErr result IsReadFault }
+{
+    let model = match read_model_from(alloc, model) {
+        Ok(model) => model,
+        Err(SourceFault::Device) => return Err(RunFault::ReadModel),
+        Err(SourceFault::Refused(fault)) => return Err(RunFault::Text(Fault::Model(fault))),
+    };
+    let graph = match read_graph_from(alloc, &model, graph) {
+        Ok(graph) => graph,
+        Err(SourceFault::Device) => return Err(RunFault::ReadGraph),
+        Err(SourceFault::Refused(fault)) => return Err(RunFault::Text(Fault::Graph(fault))),
+    };
+    let vectors = match read_vectors_from(alloc, &model, &graph, vectors) {
+        Ok(vectors) => vectors,
+        Err(SourceFault::Device) => return Err(RunFault::ReadVectors),
+        Err(SourceFault::Refused(fault)) => return Err(RunFault::Text(Fault::Vectors(fault))),
+    };
+    Ok(Controller {
+        model,
+        graph,
+        vectors,
+    })
+}
