@@ -1,26 +1,33 @@
 -- What three texts denote: one controller, whatever stands for it.
-use Rattle.std.proofs.Common.{◌≡◌, ℕ, ◌<◌, List, ap, sym, subst, ◌∙◌}
+use Rattle.std.proofs.Common.{◌≡◌, ℕ, ◌*◌, ◌<◌, ℤ, List, ap, ap₂, refl, subst}
 use Rattle.polcert_model.specs.Elements.{count_of}
 use Rattle.polcert_model.specs.Preamble.{Preamble, observed}
 use Rattle.polcert_model.specs.Meaning.{Meaning, IsSame, states_of, actions_of, observations_of}
 use Rattle.polcert_model.specs.Tables.{table_of}
 use Rattle.polcert_model.specs.Text.{IsModelText}
+use Rattle.polcert_model.proofs.LimitLaws.{within_limits}
 use Rattle.polcert_model.proofs.TextLaws as models
 use Rattle.polcert_policy.specs.Graphs.{PolicyGraph, IsProperGraph}
 use Rattle.polcert_policy.specs.declared.fault.GraphFault.{GraphFault}
 use Rattle.polcert_policy.specs.declared.fault.VectorFault.{VectorFault}
 use Rattle.polcert_policy.specs.GraphText.{IsGraphText, IsGraphRefusal, IsNoGraphText}
-use Rattle.polcert_policy.specs.Vectors.{PolicyVectors}
+use Rattle.polcert_policy.specs.Vectors.{PolicyVectors, shifted_by}
 use Rattle.polcert_policy.specs.VectorText.{IsVectorsText, IsVectorsRefusal, IsNoVectorsText}
+use Rattle.polcert_policy.specs.FullForm.{vectors_text}
+use Rattle.polcert_policy.proofs.LimitLaws.{graph_proper}
 use Rattle.polcert_policy.proofs.OneText as texts
 use Rattle.polcert_check.specs.declared.verdict.Verdict.{Verdict}
-use Rattle.polcert_check.specs.declared.verdict.Verdict.TheVariants.{Yes}
-use Rattle.polcert_check.specs.Horizon.{Controller, controller_of, Fits, MeetsHorizon}
+use Rattle.polcert_check.specs.declared.verdict.Verdict.TheVariants.{Yes, Short, NoSuccessor}
+use Rattle.polcert_check.specs.Horizon.{Controller, controller_of, Fits, MeetsHorizon, one, step_scale}
+use Rattle.polcert_check.specs.Lower.{IsLeastConstant, IsNotLowered}
+use Rattle.polcert_check.specs.declared.fault.LowerFault.{LowerFault}
+use Rattle.polcert_check.specs.StartWorth.{IsCeilQuotient}
 use Rattle.polcert_check.specs.Verdict.{IsVerdict}
 use Rattle.polcert_check.specs.SameCells.{HasSameCells}
 use Rattle.polcert_check.proofs.SameAnswers as answers
 use Rattle.polcert_check.proofs.SameModels as models_same
 use Rattle.polcert.specs.Headline.{Certificate, controller, IsCertified, AreRewardsCertified}
+use Rattle.polcert.specs.Lines.{IsVerdictLine}
 use Rattle.polcert.specs.Answer.{HasGraph, IsGraphRefused, AreVectorsRefused}
 
 module _ {m n : Meaning} (same : IsSame m n) where
@@ -78,16 +85,23 @@ same_vectors {model} {graph} {vectors} m g v has are c =
       (subst (λ s. IsVectorsText g s vectors v) (same_states same.0) are) in
     (same.0, same.1, texts.one_vectors c.policy (states_of c.meaning) vectors v c.values moved c.are_vectors)
 
--- What is said of one of the controllers that three texts denote, and carries to every table with the same cells, is said
--- of each.
+-- What is said of what three texts denote, and carries to every same model, is said of whatever they denote.
 pub of_each : {model graph vectors : List ℕ} (m : Meaning) (g : PolicyGraph) (v : PolicyVectors) → HasGraph model graph m g → IsVectorsText g (states_of m) vectors v
-    → (P : Controller → Type 0) → ((n : Meaning) → HasSameCells (table_of m) (table_of n) → P (controller_of (table_of n) g v))
-    → (c : Certificate model graph vectors) → P (controller c)
+    → (P : Meaning → PolicyGraph → PolicyVectors → Type 0) → ((n : Meaning) → IsSame m n → P n g v)
+    → (c : Certificate model graph vectors) → P c.meaning c.policy c.values
 of_each m g v has are P carried c =
     let same = same_vectors m g v has are c in
-    let here = carried c.meaning (models_same.same_cells m c.meaning same.0) in
-    subst (λ (w : PolicyVectors). P (controller_of (table_of c.meaning) c.policy w)) same.2
-    (subst (λ (h : PolicyGraph). P (controller_of (table_of c.meaning) h v)) same.1 here)
+    subst (λ (w : PolicyVectors). P c.meaning c.policy w) same.2 (subst (λ (h : PolicyGraph). P c.meaning h v) same.1 (carried c.meaning same.0))
+
+-- the controller of a model, a graph and vectors
+abbrev pub of_parts : Meaning → PolicyGraph → PolicyVectors → Controller
+of_parts n g v = controller_of (table_of n) g v
+
+-- the graph is within its limits
+pub proper_graph : {model graph : List ℕ} (m : Meaning) (g : PolicyGraph) → HasGraph model graph m g → IsProperGraph g
+proper_graph m g has =
+    let limits = within_limits has.is_model.lexemes m has.is_model.denotes in
+    graph_proper (actions_of m) (observations_of m) has.is_graph.0 g limits.actions.1 limits.observations.0 limits.observations.1 has.is_graph.2
 
 -- graph and vectors are for the model
 pub fits_of : {model graph : List ℕ} (vectors : List ℕ) (m : Meaning) (g : PolicyGraph) (v : PolicyVectors) → HasGraph model graph m g
@@ -100,13 +114,43 @@ fits_of vectors m g v has are = record {
 }
 
 module _ {model graph vectors : List ℕ} (m : Meaning) (g : PolicyGraph) (v : PolicyVectors) (has : HasGraph model graph m g)
-    (are : IsVectorsText g (states_of m) vectors v) (proper : IsProperGraph g) (verdict : Verdict)
+    (are : IsVectorsText g (states_of m) vectors v) (verdict : Verdict)
     (is : IsVerdict (controller_of (table_of m) g v) verdict) where
   pub verdict_of_each : (c : Certificate model graph vectors) → IsVerdict (controller c) verdict
-  verdict_of_each = of_each m g v has are (λ x. IsVerdict x verdict) (λ n same. answers.same_verdict (table_of m) (table_of n) g v same proper (fits_of vectors m g v has are) verdict is)
+  verdict_of_each = of_each m g v has are (λ n h w. IsVerdict (of_parts n h w) verdict)
+      (λ n same. answers.same_verdict (table_of m) (table_of n) g v (models_same.same_cells m n same) (proper_graph m g has) (fits_of vectors m g v has are) verdict is)
 
   pub horizon_of_each : MeetsHorizon (controller_of (table_of m) g v) verdict → (c : Certificate model graph vectors) → MeetsHorizon (controller c) verdict
-  horizon_of_each meets = of_each m g v has are (λ x. MeetsHorizon x verdict) (λ n same. answers.same_horizon (table_of m) (table_of n) g v same proper (fits_of vectors m g v has are) verdict is meets)
+  horizon_of_each meets = of_each m g v has are (λ n h w. MeetsHorizon (of_parts n h w) verdict)
+      (λ n same. answers.same_horizon (table_of m) (table_of n) g v (models_same.same_cells m n same) (proper_graph m g has) (fits_of vectors m g v has are) verdict is meets)
+
+-- the line of a verdict on one model is its line on every same one
+line_for : (m n : Meaning) → IsSame m n → (g : PolicyGraph) (v : PolicyVectors) (verdict : Verdict) (line : List ℕ)
+    → IsVerdictLine m (of_parts m g v) v verdict line → IsVerdictLine n (of_parts n g v) v verdict line
+line_for m n same g v Yes line (node, worth, best, is_worth, is) =
+    (node, worth, models_same.same_best_start m n same v node best, models_same.same_worth m n same v node worth is_worth, is)
+line_for m n same g v (Short node s amount) line (by, quotient, is) =
+    let cells = models_same.same_cells m n same in
+    let scales : step_scale (of_parts m g v) ≡ step_scale (of_parts n g v) = ap₂ (λ t o. t * o) cells.t_scale cells.o_scale in
+    (by, subst (λ q. IsCeilQuotient amount (q * one) by) scales quotient, is)
+line_for m n same g v (NoSuccessor node s z) line is = is
+
+module _ {model graph vectors : List ℕ} (m : Meaning) (g : PolicyGraph) (v : PolicyVectors) (has : HasGraph model graph m g)
+    (are : IsVectorsText g (states_of m) vectors v) where
+  pub line_of_each : (verdict : Verdict) (line : List ℕ) → IsVerdictLine m (of_parts m g v) v verdict line
+      → (c : Certificate model graph vectors) → IsVerdictLine c.meaning (controller c) c.values verdict line
+  line_of_each verdict line is = of_each m g v has are (λ n h w. IsVerdictLine n (of_parts n h w) w verdict line) (λ n same. line_for m n same g v verdict line is)
+
+  pub constant_of_each : (by : ℤ) → IsLeastConstant (of_parts m g v) v by → (c : Certificate model graph vectors) → IsLeastConstant (controller c) c.values by
+  constant_of_each by least = of_each m g v has are (λ n h w. IsLeastConstant (of_parts n h w) w by)
+      (λ n same. answers.same_least_constant (table_of m) (table_of n) g v (models_same.same_cells m n same) (proper_graph m g has) (fits_of vectors m g v has are) by least)
+
+  pub reason_of_each : (fault : LowerFault) → IsNotLowered (of_parts m g v) v fault → (c : Certificate model graph vectors) → IsNotLowered (controller c) c.values fault
+  reason_of_each fault why = of_each m g v has are (λ n h w. IsNotLowered (of_parts n h w) w fault)
+      (λ n same. answers.same_refused (table_of m) (table_of n) g v (models_same.same_cells m n same) (proper_graph m g has) (fits_of vectors m g v has are) fault why)
+
+  pub text_of_each : (by : ℤ) (c : Certificate model graph vectors) → vectors_text g (shifted_by v by) ≡ vectors_text c.policy (shifted_by c.values by)
+  text_of_each by = of_each m g v has are (λ n h w. vectors_text g (shifted_by v by) ≡ vectors_text h (shifted_by w by)) (λ n same. refl)
 
 -- what a graph and vectors denote, together with what the model denotes
 pub certificate_of : {model graph vectors : List ℕ} (m : Meaning) (g : PolicyGraph) (v : PolicyVectors) → HasGraph model graph m g

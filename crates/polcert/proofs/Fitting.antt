@@ -56,7 +56,7 @@ pub each_of_any : {S : Type 0} (reads : S → ℕ → Option (List ℕ) → S �
 each_of_any reads old new P bytes gave holds = record { bytes = bytes; is_whole = false; was_read = gave; each = λ text fits. holds text }
 
 -- where the tokens end cleanly, the bytes are within the limit
-clean_is_within : (bytes : List ℕ) (ts : List Lexeme) → IsCut (text_rest bytes most_bytes) ts None → length bytes ≤ most_bytes
+pub clean_is_within : (bytes : List ℕ) (ts : List Lexeme) → IsCut (text_rest bytes most_bytes) ts None → length bytes ≤ most_bytes
 clean_is_within bytes ts cut = elim (cases_lt most_bytes (length bytes)) [
   | inl past ↦ absurd (some≢none _ (sym (past_limit bytes most_bytes past) ∙ ends_cleanly (text_rest bytes most_bytes) ts cut))
   | inr within ↦ within

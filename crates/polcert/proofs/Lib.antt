@@ -2,3 +2,4 @@ pub mod Written
 pub mod Refusing
 pub mod Denoted
 pub mod Fitting
+pub mod Answering

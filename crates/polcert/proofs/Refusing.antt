@@ -20,14 +20,14 @@ ends_as place [] ending e = sym e
 ends_as place (b ∷ bs) ending e = absurd e
 
 -- a cut that ends cleanly is one of bytes that do
-ends_cleanly : (rest : Rest) (ls : List Lexeme) → IsCut rest ls None → rest.ending ≡ None
+pub ends_cleanly : (rest : Rest) (ls : List Lexeme) → IsCut rest ls None → rest.ending ≡ None
 ends_cleanly rest [] cut = ends_as (rest.place + cut.gap) (drop cut.gap rest.bytes) rest.ending cut.ends_at
 ends_cleanly rest (l ∷ ls) cut = ap (λ (r : Rest). r.ending) (sym cut.1.rest) ∙ ends_cleanly cut.0 ls cut.2
 
-some≢none : {A : Type 0} (x : A) → Some x ≡ None → ⊥
+pub some≢none : {A : Type 0} (x : A) → Some x ≡ None → ⊥
 some≢none x e = cc
 
-past_limit : (text : List ℕ) (limit : ℕ) → limit < length text → (text_rest text limit).ending ≡ Some (TextTooLong limit)
+pub past_limit : (text : List ℕ) (limit : ℕ) → limit < length text → (text_rest text limit).ending ≡ Some (TextTooLong limit)
 past_limit text limit past = let here = lt-ltb limit (length text) past in rw here refl
 
 -- a model's text lies below the limit
@@ -90,3 +90,14 @@ pub model_fault : (text : List ℕ) (fault : ModelFault) → ((ts : TextTokens) 
 model_fault text (faults.Item kind item place) refusal placed = refused_with text text (faults.Item kind item place) refl tt refusal placed
 model_fault text (faults.RowSum table action row) refusal placed = refused_with text text (faults.RowSum table action row) refl tt refusal placed
 model_fault text faults.Memory refusal placed = tt
+
+-- want of memory aside, what is said of a model's refused text is that it is refused
+pub refused_of : (fault : ModelFault) (text : List ℕ) → SaysOfText fault → IsModelFault text fault → IsRefused fault text
+refused_of (faults.Item kind item place) text says refused = refused
+refused_of (faults.RowSum table action row) text says refused = refused
+refused_of faults.Memory text says refused = absurd says
+
+-- what follows for each text follows for those that fit
+pub each_text : {S : Type 0} {reads : S → ℕ → Option (List ℕ) → S → Type 0} {old new : S} {P Q : List ℕ → Type 0}
+    → ((text : List ℕ) → P text → Q text) → EachTextThatFits reads old new P → EachTextThatFits reads old new Q
+each_text follows h = record { bytes = h.bytes; is_whole = h.is_whole; was_read = h.was_read; each = λ text fits. follows text (h.each text fits) }

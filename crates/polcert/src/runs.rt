@@ -1,9 +1,12 @@
 //! Runs from sources to sinks.
 ghost use Rattle.std.specs.Prelude.{◌≡◌, ◌≢◌, ℕ, ℤ, List, OnOk, IfOk, IsErrOf};
 ghost use Rattle.polcert_text.specs.Device.{HasFailed};
-ghost use Rattle.polcert_text.specs.Sink.{Takes, TakesFront};
+ghost use Rattle.polcert_text.specs.Sink.{Takes, TakesFront, WritesText};
 ghost use Rattle.polcert_text.specs.Source.{IsText, EachTextThatFits};
 ghost use Rattle.polcert_model.specs.Refusals.{SaysOfText};
+ghost use Rattle.polcert_policy.specs.FullForm.{vectors_text};
+ghost use Rattle.polcert_policy.specs.Graphs.{nodes};
+ghost use Rattle.polcert_policy.specs.VectorText.{IsVectorsText};
 ghost use Rattle.polcert_check.specs.declared.verdict.Verdict.{Verdict};
 ghost use Rattle.polcert.specs.Answer.{IsRefused, IsModelFault, IsGraphRefused, AreVectorsRefused};
 ghost use Rattle.polcert.specs.Run.{SumsUp, BeginsToSumUp, IsNamedRightly, text_of, HasVerdict, HasLowered, IsNotLowerable};
@@ -108,4 +111,74 @@ pub fn run_check<M: Source, G: Source, V: Source, W: Sink>(
         Ok(()) => Ok(verdict),
         Err(_) => Err(RunFault::Write),
     }
+}
+
+/// Reads a model, a policy graph and the graph's vectors from three sources, lowers the vectors by the least constant, in
+/// millionths, by which they pass the check, writes them in full form, and nothing else, and answers the constant. Nothing
+/// is written before all three texts are accepted and the constant is known.
+pub fn run_lower<M: Source, G: Source, V: Source, W: Sink>(
+    alloc: Global,
+    model: &mut M,
+    graph: &mut G,
+    vectors: &mut V,
+    sink: &mut W,
+) -> Result<i64, RunFault>
+    // The sink took exactly the lowered vectors in full form. The answer to the model's text, the graph's text and this
+    // text is yes.
+    ensures lowered { IfOk result (λ by. (text : List ℕ)
+        × HasLowered (text_of M.reads model.old model.new) (text_of G.reads graph.old graph.new)
+            (text_of V.reads vectors.old vectors.new) by text
+        × Takes W.writes sink.old text sink.new) }
+
+    // Lowering is refused only where all three texts are accepted, for a right reason.
+    ensures not_lowered { (fault : _) → IsErrOf result (RunFault.Lower fault)
+        → IsNotLowerable (text_of M.reads model.old model.new) (text_of G.reads graph.old graph.new)
+            (text_of V.reads vectors.old vectors.new) fault }
+
+    // No text that fits what was read of a source is a model's; or behind the first text a graph's; or behind the first
+    // two the graph's vectors; and the fault is a right refusal of each of them.
+    ensures model_refused { (fault : _) → IsErrOf result (RunFault.Text (Fault.Model fault))
+        → EachTextThatFits M.reads model.old model.new (λ text. IsModelFault text fault) }
+    ensures graph_refused { (fault : _) → IsErrOf result (RunFault.Text (Fault.Graph fault))
+        → (first : List ℕ) × IsText M.reads model.old first model.new
+        × EachTextThatFits G.reads graph.old graph.new (IsGraphRefused first fault) }
+    ensures vectors_refused { (fault : _) → IsErrOf result (RunFault.Text (Fault.Vectors fault))
+        → (first second : List ℕ) × IsText M.reads model.old first model.new × IsText G.reads graph.old second graph.new
+        × EachTextThatFits V.reads vectors.old vectors.new (AreVectorsRefused first second fault) }
+
+    // A device is named only where it failed in this call, and no failure of one is passed over.
+    ensures model_read { IsNamedRightly (IsErrOf result RunFault.ReadModel) (M.failures model.old) (M.failures model.new) }
+    ensures graph_read { IsNamedRightly (IsErrOf result RunFault.ReadGraph) (G.failures graph.old) (G.failures graph.new) }
+    ensures vectors_read { IsNamedRightly (IsErrOf result RunFault.ReadVectors) (V.failures vectors.old) (V.failures vectors.new) }
+    ensures write { IsNamedRightly (IsErrOf result RunFault.Write) (W.failures sink.old) (W.failures sink.new) }
+
+    // Where a write failed, what was written before is a beginning of the lowered vectors.
+    ensures begun { IsErrOf result RunFault.Write → (by : ℤ) × (text : List ℕ)
+        × HasLowered (text_of M.reads model.old model.new) (text_of G.reads graph.old graph.new)
+            (text_of V.reads vectors.old vectors.new) by text
+        × TakesFront W.writes sink.old text sink.new }
+
+    // With any other fault nothing was written.
+    ensures untouched { (fault : RunFault) → IsErrOf result fault → fault ≢ RunFault.Write → sink.new ≡ sink.old }
+{
+    let read = read_controller(alloc, model, graph, vectors)?;
+    let (by, lower) = match lowered(alloc, &read.model, &read.graph, &read.vectors) {
+        Ok(found) => found,
+        Err(fault) => return Err(RunFault::Lower(fault)),
+    };
+    match write_lowered(&read.graph, &lower, sink) {
+        Ok(()) => Ok(by),
+        Err(_) => Err(RunFault::Write),
+    }
+}
+
+/// Writes the vectors of a graph in full form, through a buffer.
+fn write_lowered<W: Sink>(graph: &Graph, vectors: &Vectors, sink: &mut W) -> Result<(), SinkFailed>
+    requires { nodes graph.now ≡ vectors.now.nodes }
+    ensures written { WritesText W.writes W.failures sink.old (vectors_text graph.now vectors.now) result sink.new }
+    ensures reads_back { IsVectorsText graph.now vectors.now.states (vectors_text graph.now vectors.now) vectors.now }
+{
+    let mut buffered = BufferedSink::new(sink);
+    write_vectors(graph, vectors, &mut buffered)?;
+    buffered.flush()
 }

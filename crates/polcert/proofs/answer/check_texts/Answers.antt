@@ -3,7 +3,6 @@ use Rattle.std.specs.Result.{IsErrAnd}
 use Rattle.polcert_model.specs.Contents.{meaning}
 use Rattle.polcert_model.specs.Meaning.{states_of}
 use Rattle.polcert_model.specs.declared.fault.ModelFault.{ModelFault}
-use Rattle.polcert_policy.specs.Graphs.{IsProperGraph}
 use Rattle.polcert_check.specs.declared.verdict.Verdict.{Verdict}
 use Rattle.polcert_check.specs.declared.verdict.Verdict.TheVariants.{Yes}
 use Rattle.polcert_check.specs.Horizon.{MeetsHorizon}
@@ -31,9 +30,8 @@ returns-clause-answer c =
     let g = c.in_ok-graph.graph in
     let v = c.in_ok-vectors.vectors in
     let has : HasGraph c.args.model.now c.args.graph.now m g = record { is_model = c.in_ok-model.ensures.accepted; is_graph = c.in_ok-graph.ensures.accepted } in
-    let proper : IsProperGraph g = subst IsProperGraph c.graph.view_is c.graph.invariant in
     let are = c.in_ok-vectors.ensures.accepted in
-    (certificate_of m g v has are, verdict_of_each m g v has are proper c.check.result c.check.ensures.verdict)
+    (certificate_of m g v has are, verdict_of_each m g v has are c.check.result c.check.ensures.verdict)
 
 pub returns-clause-horizon : goal.returns-clause-horizon
 returns-clause-horizon c =
@@ -41,8 +39,7 @@ returns-clause-horizon c =
     let g = c.in_ok-graph.graph in
     let v = c.in_ok-vectors.vectors in
     let has : HasGraph c.args.model.now c.args.graph.now m g = record { is_model = c.in_ok-model.ensures.accepted; is_graph = c.in_ok-graph.ensures.accepted } in
-    let proper : IsProperGraph g = subst IsProperGraph c.graph.view_is c.graph.invariant in
-    horizon_of_each m g v has c.in_ok-vectors.ensures.accepted proper c.check.result c.check.ensures.verdict c.check.ensures.horizon
+    horizon_of_each m g v has c.in_ok-vectors.ensures.accepted c.check.result c.check.ensures.verdict c.check.ensures.horizon
 
 yes_for_each : {model graph vectors : List ℕ} (verdict : Verdict) → verdict ≡ Yes → ((d : Certificate model graph vectors) → MeetsHorizon (controller d) verdict)
     → (d : Certificate model graph vectors) → MeetsHorizon (controller d) Yes
