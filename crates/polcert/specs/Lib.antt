@@ -4,3 +4,4 @@ pub mod Lines
 pub mod Status
 pub mod Run
 pub mod Reading
+pub mod Words

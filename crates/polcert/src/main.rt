@@ -2,6 +2,7 @@
 #![tactic(auto)]
 
 mod answer;
+mod choice;
 mod controller;
 mod fault;
 mod lines;

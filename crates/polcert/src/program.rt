@@ -1,40 +1,136 @@
 //! What the program does, over the runtime that it is given.
 ghost use Rattle.std.specs.Prelude.{◌≡◌};
 
-use crate::refusal::RefusalLine;
-use crate::runs::run_model;
-use crate::status::status_of;
+use crate::choice::{Choice, Names, choose};
+use crate::fault::RunFault;
+use crate::refusal::{LoweredLine, RefusalLine};
+use crate::runs::{run_check, run_lower, run_model};
+use crate::status::{status_of, status_of_verdict};
+use clap::error::ErrorKind;
 use polcert_text::{ReaderSource, WriterSink};
-use std::rt::Env;
-use std::{env, io};
+use std::alloc::AllocError;
+use std::rt::{Env, Files};
+use std::{env, fs, io};
+
+/// The exit status where all went well, and the answer is no `no`.
+const DONE: u8 = 0;
 
 /// The exit status of a command line that is refused.
 const REFUSED: u8 = 2;
 
+/// The exit status where help can't be written.
+const CANNOT_WRITE: u8 = 3;
+
 /// The exit status where there is no memory for the command line.
 const MEMORY: u8 = 4;
 
-/// Sums up the model on standard input, and answers the exit status. A word on the command line is refused.
-pub fn run_program<R: Env + AllocGlobal + Input + Print + Eprint>(rt: &R) -> u8 {
+/// Does what the command line asks for, and answers the exit status.
+pub fn run_program<R: Env + Files + AllocGlobal + Input + Print + Eprint>(rt: &R) -> u8 {
     match env::args(rt) {
-        Ok(args) if args.len() <= 1 => sum_up(rt),
+        Ok(args) => match args.collect(rt.alloc()) {
+            Ok(words) => run_words(rt, &words),
+            Err(AllocError) => refused(rt, "out of memory", MEMORY),
+        },
         Err(error) if error.kind() == io::ErrorKind::OutOfMemory => {
             refused(rt, "out of memory", MEMORY)
         }
-        _ => refused(rt, "usage: polcert < MODEL", REFUSED),
+        Err(_) => refused(rt, "a word of the command line is no text", REFUSED),
     }
 }
 
-/// Sums up the model on standard input.
-fn sum_up<R: AllocGlobal + Input + Print + Eprint>(rt: &R) -> u8 {
-    let mut source = ReaderSource::new(rt.reader());
-    let mut sink = WriterSink::new(io::writer(rt));
-    match run_model(rt.alloc(), &mut source, &mut sink) {
-        Ok(()) => 0,
+/// Does what the words ask for, of which the first is the program's name.
+fn run_words<R: Files + AllocGlobal + Input + Print + Eprint>(rt: &R, words: &Vec<String>) -> u8 {
+    let mut lent = Vec::new(rt.alloc());
+    for word in words {
+        if lent.push(word.as_str()).is_err() {
+            return refused(rt, "out of memory", MEMORY);
+        }
+    }
+    match choose(rt.alloc(), &lent) {
+        Ok(Some(choice)) => run_choice(rt, choice),
+        Ok(None) => refused(rt, "a file's name is missing: see polcert --help", REFUSED),
+        Err(error) => answer_of_clap(rt, &error),
+    }
+}
+
+/// Prints what clap says: help and the version to standard output, and else why it refuses the words.
+fn answer_of_clap<R: Print + Eprint>(rt: &R, error: &clap::Error) -> u8 {
+    if error.kind() == ErrorKind::OutOfMemory {
+        return refused(rt, "out of memory", MEMORY);
+    }
+    match error.print(rt) {
+        Ok(()) => error.exit_code() as u8,
+        Err(_) => refused(rt, "cannot write", CANNOT_WRITE),
+    }
+}
+
+/// Does what was chosen; where that stops, prints why.
+fn run_choice<R: Files + AllocGlobal + Input + Print + Eprint>(rt: &R, choice: Choice<'_>) -> u8 {
+    let done = match choice {
+        Choice::Model(None) => sum_up_input(rt),
+        Choice::Model(Some(name)) => sum_up_file(rt, name),
+        Choice::Print(name) => print_file(rt, name),
+        Choice::Check(names) => check_files(rt, names),
+        Choice::Lower(names) => lower_files(rt, names),
+    };
+    match done {
+        Ok(status) => status,
         Err(fault) => {
             let _ = rt.eprintln(RefusalLine(fault));
             status_of(&fault)
         }
+    }
+}
+
+/// Sums up the model on standard input.
+fn sum_up_input<R: AllocGlobal + Input + Print>(rt: &R) -> Result<u8, RunFault> {
+    let mut source = ReaderSource::new(rt.reader());
+    let mut sink = WriterSink::new(io::writer(rt));
+    run_model(rt.alloc(), &mut source, &mut sink)?;
+    Ok(DONE)
+}
+
+/// Sums up the model of a file.
+fn sum_up_file<R: Files + AllocGlobal + Print>(rt: &R, name: &str) -> Result<u8, RunFault> {
+    let mut source = opened(rt, name, RunFault::ReadModel)?;
+    let mut sink = WriterSink::new(io::writer(rt));
+    run_model(rt.alloc(), &mut source, &mut sink)?;
+    Ok(DONE)
+}
+
+/// Checks the vectors of a graph for a model.
+fn check_files<R: Files + AllocGlobal + Print>(rt: &R, names: Names<'_>) -> Result<u8, RunFault> {
+    let mut model = opened(rt, names.model, RunFault::ReadModel)?;
+    let mut graph = opened(rt, names.graph, RunFault::ReadGraph)?;
+    let mut vectors = opened(rt, names.vectors, RunFault::ReadVectors)?;
+    let mut sink = WriterSink::new(io::writer(rt));
+    let verdict = run_check(rt.alloc(), &mut model, &mut graph, &mut vectors, &mut sink)?;
+    Ok(status_of_verdict(verdict))
+}
+
+/// Lowers the vectors of a graph so that they pass the check, and says by how much.
+fn lower_files<R: Files + AllocGlobal + Print + Eprint>(
+    rt: &R,
+    names: Names<'_>,
+) -> Result<u8, RunFault> {
+    let mut model = opened(rt, names.model, RunFault::ReadModel)?;
+    let mut graph = opened(rt, names.graph, RunFault::ReadGraph)?;
+    let mut vectors = opened(rt, names.vectors, RunFault::ReadVectors)?;
+    let mut sink = WriterSink::new(io::writer(rt));
+    let by = run_lower(rt.alloc(), &mut model, &mut graph, &mut vectors, &mut sink)?;
+    let _ = rt.eprintln(LoweredLine(by));
+    Ok(DONE)
+}
+
+/// The source of a file, or the fault where it can't be opened.
+fn opened<R: Files>(
+    rt: &R,
+    name: &str,
+    fault: RunFault,
+) -> Result<ReaderSource<R::File>, RunFault> {
+    match fs::open(rt, name) {
+        Ok(file) => Ok(ReaderSource::new(file)),
+        Err(_) => Err(fault),
     }
 }
 

@@ -3,8 +3,9 @@ use crate::fault::{Fault, RunFault};
 use polcert_check::LowerFault;
 use polcert_model::{ItemFault, ModelFault};
 use polcert_policy::{GraphFault, VectorFault};
-use polcert_text::{NumberFault, TokenFault};
+use polcert_text::{NumberFault, SliceSink, TokenFault, write_scaled};
 use std::fmt;
+use std::str;
 
 /// Why a run stopped, as the program prints it, without a line end: `model: M4 in item 8 at byte 106`. An item of a
 /// text goes by its number from 1 on, a byte by its offset, and actions, rows, nodes, states and observations by their
@@ -118,6 +119,28 @@ impl fmt::Display for LowerLine {
                 observation,
             } => write!(f, "lower: L3 at node {node}, state {state}, observation {observation}"),
             LowerFault::Memory => write!(f, "out of memory"),
+        }
+    }
+}
+
+/// By how much vectors were lowered, as the program prints it, without a line end: `lowered by 0.000001`. The constant is
+/// in millionths.
+#[derive(Clone, Copy, Debug)]
+pub struct LoweredLine(pub i64);
+
+/// The bytes that a number of millionths needs at most: a sign, 13 digits, a point and 6 decimals.
+const NUMBER_ROOM: usize = 21;
+
+impl fmt::Display for LoweredLine {
+    fn fmt<W: fmt::Write>(&self, f: &mut fmt::Formatter<W>) -> fmt::Result {
+        let mut room = [0u8; NUMBER_ROOM];
+        let mut sink = SliceSink::new(&mut room);
+        match write_scaled(self.0, &mut sink) {
+            Ok(()) => match str::from_utf8(sink.taken()) {
+                Ok(number) => write!(f, "lowered by {number}"),
+                Err(_) => Err(fmt::Error),
+            },
+            Err(_) => Err(fmt::Error),
         }
     }
 }
@@ -272,6 +295,21 @@ mod tests {
         ];
         for (fault, line) in rows {
             let printed = format!(in rt.alloc(); "{}", RefusalLine(fault))?;
+            assert_eq!(rt; printed.as_str(), line);
+        }
+        Ok(())
+    }
+
+    #[test]
+    fn lines_of_lowering(rt: HostRuntime) -> Result<(), Fail> {
+        let rows = [
+            (1, "lowered by 0.000001"),
+            (0, "lowered by 0"),
+            (4_000_000, "lowered by 4"),
+            (20_000_000_000_000, "lowered by 20000000"),
+        ];
+        for (constant, line) in rows {
+            let printed = format!(in rt.alloc(); "{}", LoweredLine(constant))?;
             assert_eq!(rt; printed.as_str(), line);
         }
         Ok(())

@@ -1,9 +1,9 @@
 //! The exit status of the program.
 ghost use Rattle.std.specs.Prelude.{◌≡◌};
-ghost use Rattle.polcert.specs.Status.{status};
+ghost use Rattle.polcert.specs.Status.{status, verdict_status};
 
 use crate::fault::{Fault, RunFault};
-use polcert_check::LowerFault;
+use polcert_check::{LowerFault, Verdict};
 use polcert_model::ModelFault;
 use polcert_policy::{GraphFault, VectorFault};
 
@@ -25,5 +25,15 @@ pub fn status_of(fault: &RunFault) -> u8
         | RunFault::ReadVectors
         | RunFault::Write => 3,
         RunFault::Lower(_) => 1,
+    }
+}
+
+/// The exit status for a verdict: 0 for a yes, and 1 for a no.
+pub fn status_of_verdict(verdict: Verdict) -> u8
+    ensures { result ≡ verdict_status verdict }
+{
+    match verdict {
+        Verdict::Yes => 0,
+        _ => 1,
     }
 }

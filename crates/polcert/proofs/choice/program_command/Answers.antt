@@ -1,0 +1,21 @@
+use Rattle.std.proofs.Common.{◌≡◌, ◌∙◌, ap, ap₂, true}
+use Rattle.std.proofs.lemmas.Result.{IfOk-weaker}
+use Rattle.clap.specs.Words.{App, app_of, with_subcommand}
+use Rattle.polcert.specs.Words.{bare_app}
+use Rattle.polcert.proofs.choice.program_command.Goals as goal
+
+abbrev with_version : App → App
+with_version a = record { top = record a.top { has_version = true }; subs = a.subs }
+
+pub returns : goal.returns
+returns c =
+    let bare_is : app_of c.about.result ≡ bare_app = rw (c.about.ensures, c.version.ensures) (ap with_version c.new.ensures.app) in
+    let model_is = ap (λ (a : App). a.top) c.in_ok-model.ensures.app in
+    let print_is = ap (λ (a : App). a.top) c.in_ok-print.ensures.app in
+    let check_is = ap (λ (a : App). a.top) c.in_ok-check.ensures.app in
+    let lower_is = ap (λ (a : App). a.top) c.in_ok-lower.ensures.app in
+    let first = c.in_ok-subcommand.ensures.shape c.in_ok-model.ensures.local ∙ ap₂ with_subcommand bare_is model_is in
+    let second = c.in_ok-subcommand-2.ensures.shape c.in_ok-print.ensures.local ∙ ap₂ with_subcommand first print_is in
+    let third = c.in_ok-subcommand-3.ensures.shape c.in_ok-check.ensures.local ∙ ap₂ with_subcommand second check_is in
+    IfOk-weaker c.subcommand-4.result _ _
+    (λ command adds. adds.shape c.in_ok-lower.ensures.local ∙ ap₂ with_subcommand third lower_is) c.subcommand-4.ensures

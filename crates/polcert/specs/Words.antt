@@ -1,0 +1,73 @@
+-- The command line: its grammar as clap sees it, and the choice of a subcommand and its values. Our own.
+--
+--     polcert                        as `model`, on standard input
+--     polcert model FILE
+--     polcert print FILE
+--     polcert check FILE PG ALPHA
+--     polcert lower FILE PG ALPHA
+use Rattle.std.specs.Prelude.{List, [], Option, Some, None, option_map, option_and_then, codes, true, if◌then◌else◌}
+use Rattle.std.specs.Str.{bytes_eq}
+use Rattle.clap.specs.Words.{App, Rule, Row, Text, new_app, new_rule, with_rule, with_subcommand, first_of}
+use Rattle.clap.specs.declared.builder.action.ArgAction.TheVariants.{Set}
+use Rattle.polcert.specs.declared.choice.Names.{Names}
+use Rattle.polcert.specs.declared.choice.Choice.{Choice}
+use Rattle.polcert.specs.declared.choice.Choice.TheVariants.{Model, Print, Check, Lower}
+
+-- an argument that takes one value
+abbrev pub file_rule : Text → Rule
+file_rule id = record (new_rule id) { action = Some Set }
+
+abbrev pub one_file : Text → App
+one_file name = with_rule (new_app name) (file_rule (codes "FILE"))
+
+abbrev pub three_files : Text → App
+three_files name = with_rule (with_rule (one_file name) (file_rule (codes "PG"))) (file_rule (codes "ALPHA"))
+
+-- the program's name and version, with no subcommand
+abbrev pub bare_app : App
+bare_app = record { top = record (new_app (codes "polcert")).top { has_version = true }; subs = [] }
+
+-- the program's command
+abbrev pub the_app : App
+the_app = with_subcommand (with_subcommand (with_subcommand (with_subcommand bare_app (one_file (codes "model")).top)
+    (one_file (codes "print")).top) (three_files (codes "check")).top) (three_files (codes "lower")).top
+
+-- the texts of three names
+pub record Texts : Type 0 where
+  pub model : Text
+  pub graph : Text
+  pub vectors : Text
+
+-- a choice, with the texts of its names
+pub data Chosen : Type 0 where
+  model : Option Text → Chosen
+  print : Text → Chosen
+  check : Texts → Chosen
+  lower : Texts → Chosen
+
+abbrev pub names_view : Names → Texts
+names_view names = record { model = names.model.now; graph = names.graph.now; vectors = names.vectors.now }
+
+abbrev pub view_of : Choice → Chosen
+view_of (Model file) = model (option_map (λ name. name.now) file)
+view_of (Print file) = print file.now
+view_of (Check names) = check (names_view names)
+view_of (Lower names) = lower (names_view names)
+
+-- the three names among the matches of a subcommand
+abbrev pub names_in : List Row → Option Texts
+names_in rows = option_and_then (λ f. option_and_then (λ g. option_map (λ v. record { model = f; graph = g; vectors = v })
+    (first_of (codes "ALPHA") rows)) (first_of (codes "PG") rows)) (first_of (codes "FILE") rows)
+
+-- the choice of a subcommand and its matches
+abbrev pub chosen_of : Text → List Row → Option Chosen
+chosen_of name rows =
+    if bytes_eq name (codes "model") then option_map (λ f. model (Some f)) (first_of (codes "FILE") rows)
+    else (if bytes_eq name (codes "print") then option_map print (first_of (codes "FILE") rows)
+    else (if bytes_eq name (codes "check") then option_map check (names_in rows)
+    else (if bytes_eq name (codes "lower") then option_map lower (names_in rows) else None)))
+
+-- no subcommand is `model` on standard input
+abbrev pub chosen : Option (Text × List Row) → Option Chosen
+chosen None = Some (model None)
+chosen (Some found) = chosen_of found.0 found.1

@@ -1,0 +1,150 @@
+//! The words of the command line.
+ghost use Rattle.std.specs.Prelude.{◌≡◌, ℕ, List, false, IfOk, map, option_map};
+ghost use Rattle.clap.specs.Words.{FailsBy, app_of, fault_of, found_of, first_of, rows_of, rule_of, subcommand_of, subcommand_rows_of};
+ghost use Rattle.clap.specs.declared.builder.Command.TheViews.{out-Command};
+ghost use Rattle.polcert.specs.Words.{the_app, file_rule, one_file, three_files, chosen, chosen_of, names_in, names_view, view_of};
+
+use clap::{Arg, ArgAction, ArgMatches, Command, Error};
+use std::alloc::{AllocError, Global};
+
+/// The names of the files of a model, of a policy graph, and of its vectors.
+#[derive(Clone, Copy, Debug, PartialEq, Eq)]
+pub struct Names<'a> {
+    pub model: &'a str,
+    pub graph: &'a str,
+    pub vectors: &'a str,
+}
+
+/// What the words ask for.
+#[derive(Clone, Copy, Debug, PartialEq, Eq)]
+pub enum Choice<'a> {
+    /// Sum up the model of this file, or of standard input.
+    Model(Option<&'a str>),
+    /// Print the model of this file in full form.
+    Print(&'a str),
+    /// Check the vectors of a graph for a model.
+    Check(Names<'a>),
+    /// Lower the vectors so that they pass the check.
+    Lower(Names<'a>),
+}
+
+/// What the words ask for, of which the first is the program's name. None where a file's name isn't there.
+///
+/// # Errors
+///
+/// Words that are no command line, with clap's text; that help or the version is asked for; and want of memory.
+pub fn choose<'a>(alloc: Global, words: &'a [&'a str]) -> Result<Option<Choice<'a>>, Error>
+    // The row of the subcommand and the values that clap's promise for simple commands gives for these words.
+    ensures choice { IfOk result (λ choice.
+        option_map view_of choice ≡ chosen (subcommand_of the_app (map (λ word. word.now) words.entry.now))) }
+
+    // An error comes exactly where clap's promise has a fault for the words, and has one of its kinds; want of memory
+    // aside.
+    ensures faults { FailsBy (fault_of the_app (map (λ word. word.now) words.entry.now)) result }
+{
+    let command = program_command(alloc)?;
+    let matches = command.try_get_matches_from(words)?;
+    Ok(choice_of(&matches))
+}
+
+/// The program's command, with its subcommands.
+fn program_command<'a>(alloc: Global) -> Result<Command<'a>, AllocError>
+    ensures { IfOk result (λ command. app_of command ≡ the_app) }
+{
+    let model = command_with_file(alloc, "model", "Say in one line what a model is, or where it is wrong")?;
+    let print = command_with_file(alloc, "print", "Print a model in full form")?;
+    let check = command_with_files(
+        alloc,
+        "check",
+        "Check exactly what a policy graph and its vectors promise for a model",
+    )?;
+    let lower = command_with_files(
+        alloc,
+        "lower",
+        "Print the vectors, lowered by the least constant by which they pass the check",
+    )?;
+    Command::new(alloc, "polcert")
+        .version("1.0.0")
+        .about("Checks exactly what a policy of a POMDP promises")
+        .subcommand(model)?
+        .subcommand(print)?
+        .subcommand(check)?
+        .subcommand(lower)
+}
+
+/// A subcommand that takes the name of a model's file.
+fn command_with_file<'a>(
+    alloc: Global,
+    name: &'a str,
+    about: &'a str,
+) -> Result<Command<'a>, AllocError>
+    ensures app { IfOk result (λ command. app_of command ≡ one_file name.entry.now) }
+    ensures local { IfOk result (λ command. (out-Command command).has_globals ≡ false) }
+{
+    Command::new(alloc, name)
+        .about(about)
+        .arg(file(alloc, "FILE", "The model, a .POMDP file"))
+}
+
+/// A subcommand that takes the names of the files of a model, a graph and vectors.
+fn command_with_files<'a>(
+    alloc: Global,
+    name: &'a str,
+    about: &'a str,
+) -> Result<Command<'a>, AllocError>
+    ensures app { IfOk result (λ command. app_of command ≡ three_files name.entry.now) }
+    ensures local { IfOk result (λ command. (out-Command command).has_globals ≡ false) }
+{
+    command_with_file(alloc, name, about)?
+        .arg(file(alloc, "PG", "The policy graph, a .pg file"))?
+        .arg(file(alloc, "ALPHA", "The graph's vectors, an .alpha file"))
+}
+
+/// An argument that takes the name of a file.
+fn file<'a>(alloc: Global, id: &'a str, help: &'a str) -> Arg<'a>
+    ensures rule { rule_of result ≡ file_rule id.entry.now }
+    ensures local { result.global ≡ false }
+{
+    Arg::new(alloc, id).action(ArgAction::Set).help(help)
+}
+
+/// The choice of a subcommand and its matches.
+fn choice_of<'a>(matches: &ArgMatches<'a>) -> Option<Choice<'a>>
+    ensures { option_map view_of result ≡ chosen (subcommand_rows_of matches.now) }
+{
+    match matches.subcommand() {
+        None => Some(Choice::Model(None)),
+        Some((name, inner)) => named_choice(name, inner),
+    }
+}
+
+/// The choice of a name and its matches.
+fn named_choice<'a>(name: &str, inner: &ArgMatches<'a>) -> Option<Choice<'a>>
+    ensures { option_map view_of result ≡ chosen_of name.now (rows_of (found_of inner.now)) }
+{
+    match name {
+        "model" => Some(Choice::Model(Some(value_of(inner, "FILE")?))),
+        "print" => Some(Choice::Print(value_of(inner, "FILE")?)),
+        "check" => Some(Choice::Check(names_of(inner)?)),
+        "lower" => Some(Choice::Lower(names_of(inner)?)),
+        _ => None,
+    }
+}
+
+/// The three names.
+fn names_of<'a>(inner: &ArgMatches<'a>) -> Option<Names<'a>>
+    ensures { option_map names_view result ≡ names_in (rows_of (found_of inner.now)) }
+{
+    Some(Names {
+        model: value_of(inner, "FILE")?,
+        graph: value_of(inner, "PG")?,
+        vectors: value_of(inner, "ALPHA")?,
+    })
+}
+
+/// The value of an argument.
+fn value_of<'a>(inner: &ArgMatches<'a>, id: &str) -> Option<&'a str>
+    ensures { option_map (λ text. text.now) result ≡ first_of id.now (rows_of (found_of inner.now)) }
+{
+    inner.get_str(id)
+}
