@@ -66,3 +66,6 @@ pub mod StartShapes
 pub mod WritableTexts
 pub mod FormExamples
 pub mod LineLoops
+pub mod Parts
+pub mod PrintedParts
+pub mod RowCells

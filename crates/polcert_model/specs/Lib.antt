@@ -36,5 +36,6 @@ pub mod StartSteps
 pub mod Tables
 pub mod Drafts
 pub mod FullForm
+pub mod PrintSteps
 pub mod FullFormExamples
 pub mod Writable
