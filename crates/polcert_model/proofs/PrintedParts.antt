@@ -1,5 +1,5 @@
 -- The lines of the full form, as a printer puts them together.
-use Rattle.std.proofs.Common.{◌≡◌, ◌∙◌, ℕ, zero, suc, ◌+◌, ◌/◌, ◌%◌, ◌==◌, ◌<◌, ◌≤◌, ◌||◌, ◌&&◌, Bool, true, false, cond, if◌then◌else◌, ◌⊎◌, ⊎_elim, List, [], ◌∷◌, ◌++◌, length, get_or, map, filter, flat_map, sum, ℤ, pos, decimal, codes, refl, sym, ap, subst, arith, append_assoc, append-nil, zero-add}
+use Rattle.std.proofs.Common.{◌≡◌, ◌∙◌, ℕ, zero, suc, ◌+◌, ◌/◌, ◌==◌, ◌<◌, ◌≤◌, ◌||◌, ◌&&◌, Bool, true, false, cond, if◌then◌else◌, ⊎_elim, List, [], ◌∷◌, ◌++◌, length, get_or, map, filter, flat_map, sum, ℤ, pos, decimal, codes, refl, sym, ap, subst, arith, append_assoc, append-nil, zero-add}
 use Rattle.std.specs.List.{list_all, range_with_len}
 use Rattle.std.proofs.lemmas.Bool.Decides.{nat_tests}
 use Rattle.std.proofs.lemmas.List.FromFn.{length-range_with_len, get_or-range_with_len}
@@ -7,14 +7,14 @@ use Rattle.std.proofs.lemmas.List.Sums.{sum_by-cons, get_or-le-sum_by}
 use Rattle.polcert_text.specs.Lines.{line}
 use Rattle.polcert_text.specs.Millionths.{scaled_text}
 use Rattle.polcert_model.specs.declared.entry.Table.{Table}
-use Rattle.polcert_model.specs.declared.entry.Table.TheVariants.{Transition, Observation, Reward}
+use Rattle.polcert_model.specs.declared.entry.Table.TheVariants.{Reward}
 use Rattle.polcert_model.specs.declared.elements.Elements.{Elements}
 use Rattle.polcert_model.specs.declared.elements.Elements.TheVariants.{Count, Names}
 use Rattle.polcert_model.specs.Numbers.{one}
 use Rattle.polcert_model.specs.Start.{Shares}
-use Rattle.polcert_model.specs.Meaning.{Meaning, states_of, actions_of, observations_of}
+use Rattle.polcert_model.specs.Meaning.{Meaning}
 use Rattle.polcert_model.specs.FullForm.{for_each, values, all_below, millionths_text, element_words, preamble_text, chosen, is_whole, is_choice, start_text, table_word, row_words, is_uniform, is_decimal, cell_text, row_text, written, is_zero, rewards_row}
-use Rattle.polcert_model.specs.PrintSteps.{behind_blank, settings_text, values_line, name_text, elements_text, elements_line, share_of, chosen_text, share_text, pattern_text, blank_before, number_text, decimal_text, body_text, reward_text}
+use Rattle.polcert_model.specs.PrintSteps.{behind_blank, settings_text, values_line, name_text, elements_line, share_of, chosen_text, share_text, pattern_text, blank_before, body_text}
 use Rattle.polcert_model.proofs.Basics.{is_true_or_false, true≢false, and_true}
 use Rattle.polcert_model.proofs.RowEntries.{test_below, test_same, test_itself}
 use Rattle.polcert_model.proofs.SameForms.{same_for_each}

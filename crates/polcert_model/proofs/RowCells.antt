@@ -1,5 +1,5 @@
 -- Rows read at once.
-use Rattle.std.proofs.Common.{◌≡◌, ◌≢◌, ◌∙◌, ℕ, zero, suc, ◌+◌, ◌-◌, ◌*◌, ◌<◌, ◌≤◌, ◌==◌, ◌⊎◌, ⊎_elim, Bool, true, false, ◌&&◌, ◌||◌, replicate, unsigned_abs, List, [], ◌∷◌, ◌++◌, length, take, drop, get_or, All, slice_get, slice_set, Some, Option, ℤ, pos, refl, sym, ap, subst, arith}
+use Rattle.std.proofs.Common.{◌≡◌, ◌≢◌, ◌∙◌, ℕ, ◌+◌, ◌-◌, ◌*◌, ◌<◌, ◌≤◌, ◌==◌, ⊎_elim, Bool, true, false, ◌&&◌, ◌||◌, replicate, unsigned_abs, List, [], ◌∷◌, ◌++◌, length, take, drop, get_or, slice_set, ℤ, pos, refl, sym, ap, subst, arith}
 use Rattle.std.specs.List.{list_any, list_all}
 use Rattle.std.proofs.lemmas.List.{take_more, take_all, take_rest, take-append-drop, length-take-le, get_or-take, get_or-replicate, get_or-set_other}
 use Rattle.std.proofs.lemmas.Grind.{get_or-set_at}
@@ -36,7 +36,7 @@ module _ (p : Preamble) (table : Table) (a s width : ℕ) where
         ∙ sym ((one_more_weight p entries entry table (a ∷ s ∷ c ∷ [])).0 (part c ∙ ap (λ m. k == m) e ∙ rows.this_column k)))
         (λ (d : c ≢ k). get_or-set_other weights k c w 0 d ∙ h.each c l
         ∙ sym ((one_more_weight p entries entry table (a ∷ s ∷ c ∷ [])).1 (part c ∙ rows.other_column k c d)))
-        (rows.same_or_other c k)
+        (rows.same_or_other c k);
   }
 
   pub more_whole : (entries : List Entry) (entry : Entry) (weights : List ℕ) → IsPartOf Whole table a s entry → ((c : ℕ) → c < width → get_or weights c 0 ≡ weight_of p (a ∷ s ∷ c ∷ []) entry)

@@ -65,11 +65,7 @@ fn values_line(is_cost: bool) -> &'static [u8]
 }
 
 /// Writes the line of the elements of one kind, behind its word.
-fn write_elements<W: Sink>(
-    word: &[u8],
-    elements: &Elements,
-    out: &mut W,
-) -> Result<(), SinkFailed>
+fn write_elements<W: Sink>(word: &[u8], elements: &Elements, out: &mut W) -> Result<(), SinkFailed>
     ensures { WritesText W.writes W.failures out.old (elements_line word.now elements.now) result out.new }
 {
     write_all(out, word)?;

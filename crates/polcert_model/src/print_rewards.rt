@@ -23,11 +23,7 @@ pub(crate) fn write_rewards<W: Sink>(model: &Model, out: &mut W) -> Result<(), S
     Ok(())
 }
 
-fn write_rewards_at<W: Sink>(
-    model: &Model,
-    action: usize,
-    out: &mut W,
-) -> Result<(), SinkFailed>
+fn write_rewards_at<W: Sink>(model: &Model, action: usize, out: &mut W) -> Result<(), SinkFailed>
     requires { action < actions_of (meaning model.now) }
     ensures { WritesText W.writes W.failures out.old (rewards_at (meaning model.now) action) result out.new }
 {
@@ -119,11 +115,7 @@ fn write_paid_row<W: Sink>(
 }
 
 /// Writes rewards as the text gives them: minus the reward where it gives costs.
-fn write_written<W: Sink>(
-    is_cost: bool,
-    rewards: &[i64],
-    out: &mut W,
-) -> Result<(), SinkFailed>
+fn write_written<W: Sink>(is_cost: bool, rewards: &[i64], out: &mut W) -> Result<(), SinkFailed>
     requires { EachIndex rewards.now (λ z. unsigned_abs (get_or rewards.now z (pos 0)) ≤ largest) }
     ensures { WritesText W.writes W.failures out.old (for_each (length rewards.now) (reward_text is_cost rewards.now)) result out.new }
 {

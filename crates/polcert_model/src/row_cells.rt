@@ -65,7 +65,11 @@ fn add_entry(
     match row_part(entry, table, action, state) {
         RowPart::Nothing => {}
         RowPart::Column(column) => {
-            weights[column] = draft.weight_of(entry, table, &draft.cell(table, action, state, column));
+            weights[column] = draft.weight_of(
+                entry,
+                table,
+                &draft.cell(table, action, state, column),
+            );
         }
         RowPart::Whole => fill_row(draft, table, action, state, entry, weights),
     }

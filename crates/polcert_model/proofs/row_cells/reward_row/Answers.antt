@@ -1,30 +1,8 @@
-use Rattle.std.proofs.Common.{◌≡◌, ◌∙◌, ◌+◌, ◌*◌, ◌/◌, ◌%◌, ◌<◌, ◌≤◌, ◌++◌, ◌∷◌, [], ℕ, ℤ, List, pos, refl, sym, ap, cond, subst, slice_get, rules, arith, true, false, ◌^◌, ◌==◌, ◌||◌, FitsSigned, Some, None, slice_index_or, get_or, length, codes, decimal}
-use Rattle.polcert_text.specs.Sink.{Takes, TakesFront, WritesText, nothing}
-use Rattle.polcert_text.specs.Millionths.{scaled_text}
-use Rattle.polcert_text.specs.Lines.{line}
-use Rattle.polcert_text.proofs.Taking.{wrote_front}
-use Rattle.polcert_text.proofs.Written.{wrote, one_more, fails_at, fails_before, ends_with, as_text}
-use Rattle.polcert_model.specs.declared.entry.Table.TheVariants.{Transition, Observation, Reward}
-use Rattle.polcert_model.specs.declared.elements.Kind.TheVariants.{State, Action, Observation as ObservationKind}
+use Rattle.std.proofs.Common.{◌∙◌, pos, rules, arith, FitsSigned}
 use Rattle.polcert_model.specs.Contents.{meaning}
-use Rattle.polcert_model.specs.Elements.{count_of}
-use Rattle.polcert_model.specs.Meaning.{states_of, actions_of, observations_of, elements_of}
-use Rattle.polcert_model.specs.Preamble.{columns}
-use Rattle.polcert_model.specs.RowSums.{row_of}
-use Rattle.polcert_model.specs.FullForm.{for_each, values, millionths_text, table_word, row_words, cell_text, row_text, written, rewards_row, preamble_text, start_text, transitions_text, observations_text, rewards_text, full_form}
-use Rattle.polcert_model.specs.PrintSteps.{behind_blank, values_line, settings_text, name_text, elements_text, elements_line, share_of, chosen_text, share_text, mark_before, index_text, pattern_text, blank_before, number_text, decimal_text, body_text, rows_at, rows_text, reward_text, rewards_from, rewards_at}
-use Rattle.polcert_model.proofs.Parts.{parts_fail, one_more_part, wrote_nothing}
-use Rattle.polcert_model.specs.Numbers.{one}
-use Rattle.std.proofs.lemmas.Int.{to_z-of_z, to_z_pos}
+use Rattle.std.proofs.lemmas.Int.{to_z-of_z}
 use mir.Syntax.{w64}
-use mir.Val.{to_z, of_z}
-use Rattle.polcert_model.proofs.PrintedParts as texts
 use Rattle.polcert_model.proofs.row_cells.reward_row.Goals as goal
-use Rattle.polcert_model.specs.Drafts as drafts
-use Rattle.polcert_model.specs.Cells.{weight, weight_of}
-use Rattle.std.proofs.Common.{take, drop}
-use Rattle.polcert_model.specs.RowSums.{AreWeights}
-use Rattle.polcert_model.proofs.RowPartLaws as laws
 use Rattle.polcert_model.proofs.RowCells as cells
 use Rattle.std.proofs.lemmas.List.{length-replicate, length-set}
 
@@ -32,10 +10,12 @@ pub loop-observation-init : goal.loop-observation-init
 loop-observation-init c = record { size = length-replicate 1000 (pos 0); each = λ k l. absurd (omega (arith, l)) }
 
 pub loop-observation-preserved : goal.loop-observation-preserved
-loop-observation-preserved c = record {
-  size = length-set c.loop-observation.rewards c.loop-observation.observation _ ∙ c.loop-observation.invariant.size;
-  each = cells.put_next ((meaning c.args.model.now).r c.args.action c.args.start c.args.end) c.loop-observation.rewards c.loop-observation.observation _ (pos 0) (omega (arith, c.loop-observation.invariant.size, c.loop-observation-test.true, c.observations-observation-end.ensures.count)) c.loop-observation.invariant.each c.r.ensures;
-}
+loop-observation-preserved c =
+    let fits : FitsSigned w64 c.r.result = search rules in
+    record {
+      size = length-set c.loop-observation.rewards c.loop-observation.observation _ ∙ c.loop-observation.invariant.size;
+      each = cells.put_next ((meaning c.args.model.now).r c.args.action c.args.start c.args.end) c.loop-observation.rewards c.loop-observation.observation _ (pos 0) (omega (arith, c.loop-observation.invariant.size, c.loop-observation-test.true, c.observations-observation-end.ensures.count)) c.loop-observation.invariant.each (to_z-of_z w64 c.r.result fits ∙ c.r.ensures);
+    }
 
 pub returns : goal.returns
 returns c = λ k l. c.loop-observation.invariant.each k (omega (arith, l, c.loop-observation-test.false, c.observations-observation-end.ensures.elements))
