@@ -1,4 +1,3 @@
-pub mod Written
 pub mod Refusing
 pub mod Denoted
 pub mod Fitting

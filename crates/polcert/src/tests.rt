@@ -255,3 +255,34 @@ fn costs_and_other_counts(rt: HostRuntime) {
         b"pomdp: 12 states, 1000 actions, 1 observations, discount 1, cost\n".as_slice()
     );
 }
+
+/// Takes pieces whole, and counts the writes.
+#[derive(Drop)]
+struct Counted {
+    writes: u64,
+    bytes: u64,
+}
+
+impl Sink for Counted {
+    ghost failures = { λ s. 0 };
+
+    ghost writes = { λ s answer t. Unit {0} };
+
+    fn write(&mut self, piece: &[u8]) -> Result<usize, SinkFailed> {
+        self.writes = self.writes.saturating_add(1);
+        self.bytes = self.bytes.saturating_add(piece.len() as u64);
+        Ok(piece.len())
+    }
+}
+
+#[test]
+fn a_line_is_one_write(rt: HostRuntime) {
+    let mut sink = Counted {
+        writes: 0,
+        bytes: 0,
+    };
+    let result = run_model(rt.alloc(), &mut SliceSource::new(FIRST), &mut sink);
+    assert_eq!(rt; result, Ok(()));
+    assert_eq!(rt; sink.writes, 1);
+    assert_eq!(rt; sink.bytes, 66);
+}

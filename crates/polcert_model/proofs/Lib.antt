@@ -67,3 +67,6 @@ pub mod WritableTexts
 pub mod FormExamples
 pub mod LineLoops
 pub mod SomeTokens
+pub mod Parts
+pub mod PrintedParts
+pub mod RowCells

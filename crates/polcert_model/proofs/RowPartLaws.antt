@@ -26,7 +26,7 @@ use Rattle.polcert_model.proofs.CellLaws.{last_is, last_is_one}
 use Rattle.polcert_model.proofs.SoundLaws.{is_found, found_sound, found_table, covered_table}
 
 -- ---- what the places fit
-and_false : (b : Bool) → (b && false) ≡ false
+pub and_false : (b : Bool) → (b && false) ≡ false
 and_false true = refl
 and_false false = refl
 
@@ -174,13 +174,13 @@ or_true false = refl
 same_column : (k c : ℕ) → (k == c) ≡ true → k ≡ c
 same_column k c e = search (rules, tests)
 
-other_column : (k c : ℕ) → c ≢ k → (k == c) ≡ false
+pub other_column : (k c : ℕ) → c ≢ k → (k == c) ≡ false
 other_column k c d = ⊎_elim (λ e. absurd (d (sym (same_column k c e)))) (λ e. e) (is_true_or_false (k == c))
 
-this_column : (k : ℕ) → (k == k) ≡ true
+pub this_column : (k : ℕ) → (k == k) ≡ true
 this_column k = search (rules, tests)
 
-same_or_other : (c k : ℕ) → (c ≡ k) ⊎ (c ≢ k)
+pub same_or_other : (c k : ℕ) → (c ≡ k) ⊎ (c ≢ k)
 same_or_other c k = ⊎_elim (λ e. inl (sym (same_column k c e))) (λ e. inr (λ d. true≢false (ap (λ m. k == m) d ∙ this_column k) e)) (is_true_or_false (k == c))
 
 -- ---- the tally, entry by entry
@@ -239,7 +239,7 @@ module _ (p : Preamble) (table : Table) (a s width : ℕ) where
       }
 
   -- entries before those that cover all of the row change nothing
-  in_front : (before entries : List Entry) (c : ℕ) → list_any (covers table (a ∷ s ∷ c ∷ [])) entries ≡ true
+  pub in_front : (before entries : List Entry) (c : ℕ) → list_any (covers table (a ∷ s ∷ c ∷ [])) entries ≡ true
       → (weight p (before ++ entries) table (a ∷ s ∷ c ∷ []) ≡ weight p entries table (a ∷ s ∷ c ∷ [])) × (list_any (covers table (a ∷ s ∷ c ∷ [])) (before ++ entries) ≡ true)
   in_front [] entries c e = (refl, e)
   in_front (x ∷ before) entries c e =

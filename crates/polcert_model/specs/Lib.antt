@@ -36,6 +36,7 @@ pub mod StartSteps
 pub mod Tables
 pub mod Drafts
 pub mod FullForm
+pub mod PrintSteps
 pub mod FullFormExamples
 pub mod Writable
 pub mod Wants

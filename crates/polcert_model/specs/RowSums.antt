@@ -63,3 +63,7 @@ pub record IsTally (p : Preamble) (table : Table) (a s columns : ℕ) (entries :
 -- what the entry gives a column that isn't covered yet
 abbrev pub unseen : Preamble → ℕ → ℕ → Entry → List Bool → ℕ → ℕ
 unseen p a s entry seen c = if slice_index_or seen c false then 0 else weight_of p (a ∷ s ∷ c ∷ []) entry
+
+-- the weights of a row by column, as these entries give them
+pub record AreWeights (p : Preamble) (table : Table) (a s columns : ℕ) (entries : List Entry) (weights : List ℕ) : Type 0 where
+  pub each : (c : ℕ) → c < columns → slice_index_or weights c 0 ≡ weight p entries table (a ∷ s ∷ c ∷ [])

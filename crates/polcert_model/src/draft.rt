@@ -99,12 +99,18 @@ impl Draft {
         requires { index < count_of (elements_of (meaning self.now) kind) }
         ensures { option_map (λ name. name.now) result ≡ name_of (elements_of (meaning self.now) kind) index }
     {
-        let elements = match kind {
+        self.elements(kind).name_of(index)
+    }
+
+    /// The elements of this kind.
+    pub(crate) fn elements(&self, kind: Kind) -> &Elements
+        ensures { result.now ≡ elements_of (meaning self.now) kind }
+    {
+        match kind {
             Kind::State => &self.states,
             Kind::Action => &self.actions,
             Kind::Observation => &self.observations,
-        };
-        elements.name_of(index)
+        }
     }
 
     /// Whether the text gives costs in place of rewards.

@@ -16,7 +16,12 @@ mod lines;
 mod model;
 mod names;
 mod number;
+mod print;
+mod print_rewards;
+mod print_rows;
+mod print_words;
 mod reader;
+mod row_cells;
 mod row_part;
 mod rows;
 mod shares;
@@ -44,6 +49,7 @@ pub use laws::{
     uniform_sums_to_scale, within_limits,
 };
 pub use model::Model;
+pub use print::write_model;
 pub use reader::read_model;
 pub use table::Cells;
 pub use words::Topic;

@@ -44,6 +44,13 @@ impl Model {
         Model { draft }
     }
 
+    /// What the model keeps of its text.
+    pub(crate) fn draft(&self) -> &Draft
+        ensures { result.now ≡ self.now.draft }
+    {
+        &self.draft
+    }
+
     /// How many states there are: 1 to 1,000.
     pub fn states(&self) -> usize
         ensures elements { result ≡ states_of (meaning self.now) }

@@ -34,7 +34,7 @@ pub(crate) fn row_part(entry: &Entry, table: Table, action: usize, state: usize)
 }
 
 /// Whether the entry is one of this table, and its first two places fit the row.
-fn meets_row(entry: &Entry, table: Table, action: usize, state: usize) -> bool
+pub(crate) fn meets_row(entry: &Entry, table: Table, action: usize, state: usize) -> bool
     ensures { result ≡ meets_row table action state entry.now }
 {
     is_table(entry.table, table)

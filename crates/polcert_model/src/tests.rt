@@ -2,4 +2,5 @@
 mod model_rows;
 mod names_and_starts;
 mod numbers;
+mod printing;
 mod refusals;

@@ -10,6 +10,7 @@ pub mod DecimalLaws
 pub mod PrintLaws
 pub mod Taking
 pub mod Buffering
+pub mod Written
 pub mod Giving
 pub mod Known
 pub mod TextLaws

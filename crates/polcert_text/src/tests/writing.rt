@@ -1,5 +1,5 @@
 //! Sinks that take a byte at a time, fail or take nothing.
-use crate::{SinkFailed, SliceSink, WriterSink, write_all};
+use crate::{BUFFER_SIZE, BufferedSink, Sink, SinkFailed, SliceSink, WriterSink, write_all};
 use std::alloc::Global;
 use std::io;
 use std::io::Write;
@@ -96,4 +96,87 @@ fn writes_to_a_writer_of_std(rt: HostRuntime) -> Result<(), Fail> {
     assert_eq!(rt; nothing.failures, 2);
     assert_eq!(rt; write_all(&mut nothing, b""), Ok(()));
     Ok(())
+}
+
+/// Takes pieces whole, notes how long the first four were, and fails at the write of number `failing`, from 0 on.
+#[derive(Drop)]
+struct Pieces {
+    lens: [usize; 4],
+    writes: usize,
+    failing: usize,
+    failures: u64,
+}
+
+impl Pieces {
+    fn new(failing: usize) -> Pieces {
+        Pieces {
+            lens: [0; 4],
+            writes: 0,
+            failing,
+            failures: 0,
+        }
+    }
+}
+
+impl Sink for Pieces {
+    ghost failures = { λ s. s.failures };
+
+    ghost writes = { λ s answer t. Unit {0} };
+
+    fn write(&mut self, piece: &[u8]) -> Result<usize, SinkFailed> {
+        if self.writes >= self.failing || self.writes >= 4 {
+            self.failures = self.failures.saturating_add(1);
+            return Err(SinkFailed);
+        }
+        self.lens[self.writes] = piece.len();
+        self.writes += 1;
+        Ok(piece.len())
+    }
+}
+
+/// Writes 1,250 times `12345678`, 10,000 bytes, through a buffer.
+fn write_ten_thousand(sink: &mut Pieces) -> Result<(), SinkFailed> {
+    let mut buffered = BufferedSink::new(sink);
+    for _ in 0..1250 {
+        write_all(&mut buffered, b"12345678")?;
+    }
+    buffered.flush()
+}
+
+/// The sink below is written to for each 4,096 bytes, and at the end.
+#[test]
+fn a_buffer_writes_whole_pieces(rt: HostRuntime) {
+    let mut sink = Pieces::new(4);
+    assert_eq!(rt; write_ten_thousand(&mut sink), Ok(()));
+    assert_eq!(rt; sink.lens, [BUFFER_SIZE, BUFFER_SIZE, 1808, 0]);
+    assert_eq!(rt; sink.failures, 0);
+    for failing in 0..3usize {
+        let mut sink = Pieces::new(failing);
+        assert_eq!(rt; write_ten_thousand(&mut sink), Err(SinkFailed));
+        assert_eq!(rt; sink.writes, failing);
+        assert_eq!(rt; sink.failures, 1);
+    }
+}
+
+/// A piece longer than the buffer goes through it in parts; nothing is written to the sink below before it is flushed or
+/// full, and a flush of nothing writes nothing.
+#[test]
+fn a_buffer_holds_back(rt: HostRuntime) {
+    let mut room = [0u8; 5000];
+    let mut sink = SliceSink::new(&mut room);
+    let mut buffered = BufferedSink::new(&mut sink);
+    assert_eq!(rt; write_all(&mut buffered, b"a line"), Ok(()));
+    assert_eq!(rt; buffered.sink.written().len(), 0);
+    assert_eq!(rt; buffered.held.as_bytes(), b"a line".as_slice());
+    assert_eq!(rt; buffered.flush(), Ok(()));
+    assert_eq!(rt; buffered.sink.written(), b"a line".as_slice());
+    assert_eq!(rt; buffered.flush(), Ok(()));
+    assert_eq!(rt; write_all(&mut buffered, &[b'x'; 4990]), Ok(()));
+    assert_eq!(rt; buffered.sink.written().len(), 6 + 4096);
+    assert_eq!(rt; buffered.flush(), Ok(()));
+    assert_eq!(rt; write_all(&mut buffered, b"12345"), Ok(()));
+    assert_eq!(rt; buffered.flush(), Err(SinkFailed));
+    assert_eq!(rt; buffered.failures, 1);
+    assert_eq!(rt; buffered.held.as_bytes().len(), 0);
+    assert_eq!(rt; buffered.sink.written().len(), 5000);
 }

@@ -5,7 +5,7 @@ use Rattle.polcert_text.specs.Millionths.{scaled_text}
 use Rattle.polcert_text.proofs.Taking.{wrote_front}
 use Rattle.polcert_model.specs.Contents.{Contents, meaning}
 use Rattle.polcert.specs.Lines.{gains}
-use Rattle.polcert.proofs.Written.{wrote, one_more, fails_at, fails_before, ends_with}
+use Rattle.polcert_text.proofs.Written.{wrote, one_more, fails_at, fails_before, ends_with}
 use Rattle.polcert.proofs.lines.write_values.Goals as goal
 
 -- a small number keeps its value where it is cast

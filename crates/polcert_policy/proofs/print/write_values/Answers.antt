@@ -2,7 +2,7 @@ use Rattle.std.proofs.Common.{◌≡◌, ◌∙◌, ◌+◌, ◌<◌, suc, refl,
 use Rattle.polcert_text.specs.Sink.{Takes, nothing}
 use Rattle.polcert_text.proofs.Taking.{took_then}
 use Rattle.polcert_policy.specs.FullForm.{values_text, value_text}
-use Rattle.polcert_policy.proofs.Printing.{wrote_part}
+use Rattle.polcert_text.proofs.Written.{wrote_part}
 use Rattle.polcert_policy.proofs.print.write_values.Goals as goal
 
 pub loop-state-init : goal.loop-state-init

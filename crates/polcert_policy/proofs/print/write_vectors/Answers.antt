@@ -4,7 +4,7 @@ use Rattle.polcert_text.proofs.Taking.{took_then}
 use Rattle.polcert_policy.specs.Graphs.{nodes}
 use Rattle.polcert_policy.specs.FullForm.{vectors_text_up_to, vector_text}
 use Rattle.polcert_policy.proofs.FullFormLaws.{reads_back}
-use Rattle.polcert_policy.proofs.Printing.{wrote_part}
+use Rattle.polcert_text.proofs.Written.{wrote_part}
 use Rattle.polcert_policy.proofs.print.write_vectors.Goals as goal
 
 pub loop-node-init : goal.loop-node-init
