@@ -185,7 +185,7 @@ pub possible_before : (a o : ℕ) (ts us : List Lexeme) → IsPossible a o (ts +
 possible_before a o ts us h =
     (us ++ h.0, (h.1.0, subst (λ xs. IsLooseGraph a o xs h.1.0) (append_assoc ts us h.0) h.1.1))
 
-possible_loose : (a o : ℕ) (ts : List Lexeme) (g : PolicyGraph) → IsLooseGraph a o ts g → IsPossible a o ts
+pub possible_loose : (a o : ℕ) (ts : List Lexeme) (g : PolicyGraph) → IsLooseGraph a o ts g → IsPossible a o ts
 possible_loose a o ts g h = ([], (g, subst (λ xs. IsLooseGraph a o xs g) (sym (append-nil ts)) h))
 
 -- the name `X`, and the numeral `0`
