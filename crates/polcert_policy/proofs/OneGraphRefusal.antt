@@ -1,10 +1,9 @@
 -- A text is refused as a graph for one reason.
-use Rattle.std.proofs.Common.{◌≡◌, ◌∙◌, ℕ, ◌+◌, ◌*◌, ◌<◌, ◌⊎◌, inl, inr, ⊎_elim, Bool, true, false, Option, Some, None, List, [], ◌∷◌, ◌++◌, length, refl, sym, ap, subst, arith}
-use Rattle.polcert_text.specs.Cut.{Lexeme, Rest, IsCut, text_rest}
+use Rattle.std.proofs.Common.{◌≡◌, ◌∙◌, ℕ, ◌+◌, ◌*◌, ◌<◌, ◌⊎◌, inl, inr, ⊎_elim, Bool, true, false, Option, Some, None, List, length, refl, sym, ap, subst, arith}
+use Rattle.polcert_text.specs.Cut.{Lexeme, IsCut, text_rest}
 use Rattle.polcert_text.specs.TakenTokens.{Taken}
 use Rattle.polcert_text.specs.declared.tokens.TokenFault.{TokenFault}
 use Rattle.polcert_text.proofs.TextLaws.{one_cut}
-use Rattle.polcert_policy.specs.Words.{is_whole}
 use Rattle.polcert_policy.specs.Graphs.{PolicyGraph, nodes, IsLooseGraph, IsFirstBeyond, IsPossible, width, most_nodes}
 use Rattle.polcert_policy.specs.GraphText.{text_limit, IsColumn, is_shaped, joined_minus, IsMisfit, IsWrong, HasWrongToken, IsGraphRefusal}
 use Rattle.polcert_policy.specs.declared.fault.GraphFault.{GraphFault}

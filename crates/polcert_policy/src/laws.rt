@@ -3,10 +3,10 @@ ghost use Rattle.std.specs.Prelude.{◌≡◌, ◌≢◌, ◌<◌, ◌≤◌, �
 ghost use Rattle.polcert_policy.specs.Graphs.{PolicyGraph, IsProperGraph, HasNodesOnly, nodes, action_of, most_nodes, most_elements};
 ghost use Rattle.polcert_policy.specs.GraphText.{IsGraphText, IsGraphRefusal};
 ghost use Rattle.polcert_policy.specs.Vectors.{PolicyVectors, AreProperVectors, IsInRange, value_of};
-ghost use Rattle.polcert_policy.specs.VectorText.{IsVectorsText};
+ghost use Rattle.polcert_policy.specs.VectorText.{IsVectorsText, IsVectorsRefusal};
 ghost use Rattle.polcert_policy.specs.FullForm.{vectors_text};
 
-use crate::GraphFault;
+use crate::{GraphFault, VectorFault};
 
 /// A text is at most one graph.
 pub fn one_graph()
@@ -43,6 +43,13 @@ pub fn graph_within_limits()
 pub fn one_vectors()
     ensures { (graph : PolicyGraph) (states : ℕ) (text : List ℕ) (v w : PolicyVectors) →
         IsVectorsText graph states text v → IsVectorsText graph states text w → v ≡ w }
+{}
+
+/// A text is refused as vectors of a graph for at most one reason, and at one place, want of memory aside.
+pub fn one_vectors_refusal()
+    ensures { (graph : PolicyGraph) (states : ℕ) (text : List ℕ) (f g : VectorFault) →
+        f ≢ VectorFault.Memory → g ≢ VectorFault.Memory →
+        IsVectorsRefusal graph states text f → IsVectorsRefusal graph states text g → f ≡ g }
 {}
 
 /// The vectors that a text denotes are within their limits: there is one for each node of the graph, each has a value for
