@@ -185,7 +185,7 @@ pub possible_before : (a o : ℕ) (ts us : List Lexeme) → IsPossible a o (ts +
 possible_before a o ts us h =
     (us ++ h.0, (h.1.0, subst (λ xs. IsLooseGraph a o xs h.1.0) (append_assoc ts us h.0) h.1.1))
 
-possible_loose : (a o : ℕ) (ts : List Lexeme) (g : PolicyGraph) → IsLooseGraph a o ts g → IsPossible a o ts
+pub possible_loose : (a o : ℕ) (ts : List Lexeme) (g : PolicyGraph) → IsLooseGraph a o ts g → IsPossible a o ts
 possible_loose a o ts g h = ([], (g, subst (λ xs. IsLooseGraph a o xs g) (sym (append-nil ts)) h))
 
 -- the name `X`, and the numeral `0`
@@ -313,17 +313,20 @@ some_columns n (suc o) k h = omega arith
 same_next : (a o : ℕ) (ts : List Lexeme) (g h : PolicyGraph) → IsLooseGraph a o ts g → IsLooseGraph a o ts h
     → (k : ℕ) (x y : Option ℕ) → slice_get g.successors k ≡ Some x → slice_get h.successors k ≡ Some y → x ≡ y
 same_next a o ts g h p q k x y ex ey =
-    let some = some_columns (nodes g) o k (omega (arith, within_get g.successors k x ex, p.successors)) in
-    let row = row_of o k some in
-    let n = row.0 in
-    let z = row.1.0 in
-    let inside : n * o + z < nodes g * o = omega (arith, within_get g.successors k x ex, p.successors, row.1.1) in
-    let rows = row_above (width o) n (nodes g) (row_below o n z (nodes g) inside) in
-    let token = get_within ts (n * width o + (2 + z)) (omega (arith, rows, p.tokens, row.1.2)) in
-    let At : PolicyGraph → Option ℕ → ℕ → Type 0 = λ f v k. slice_get f.successors k ≡ Some v in
-    same_values x y (successor_of token.0)
-    (sym (subst (At g x) row.1.1 ex) ∙ (p.records.next n z token.0 row.1.2 token.1).value)
-    (sym (subst (At h y) row.1.1 ey) ∙ (q.records.next n z token.0 row.1.2 token.1).value)
+    let row = row_of o k (some_columns (nodes g) o k (omega (arith, within_get g.successors k x ex, p.successors))) in
+    at row.0 row.1.0 row.1.1 row.1.2
+  where
+    named : (n z : ℕ) (t : Lexeme) → z < o → slice_get ts (n * width o + (2 + z)) ≡ Some t
+        → slice_get g.successors (n * o + z) ≡ Some x → slice_get h.successors (n * o + z) ≡ Some y → x ≡ y
+    named n z t l e ex ey =
+        same_values x y (successor_of t) (sym ex ∙ (p.records.next n z t l e).value) (sym ey ∙ (q.records.next n z t l e).value)
+
+    at : (n z : ℕ) → k ≡ n * o + z → z < o → x ≡ y
+    at n z e l =
+        let inside : n * o + z < nodes g * o = omega (arith, within_get g.successors k x ex, p.successors, e) in
+        let rows = row_above (width o) n (nodes g) (row_below o n z (nodes g) inside) in
+        let token = get_within ts (n * width o + (2 + z)) (omega (arith, rows, p.tokens, l)) in
+        named n z token.0 l token.1 (subst (λ j. slice_get g.successors j ≡ Some x) e ex) (subst (λ j. slice_get h.successors j ≡ Some y) e ey)
 
 -- tokens are at most one graph
 pub one_loose : (a o : ℕ) (ts : List Lexeme) (g h : PolicyGraph) → IsLooseGraph a o ts g → IsLooseGraph a o ts h → g ≡ h

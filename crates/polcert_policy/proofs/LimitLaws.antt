@@ -1,9 +1,9 @@
 -- What a text denotes is within its limits.
-use Rattle.std.proofs.Common.{◌≡◌, ◌∙◌, ℕ, ◌+◌, ◌*◌, ◌<◌, ◌≤◌, List, Some, None, slice_get, length, refl, sym, ap, subst, arith}
+use Rattle.std.proofs.Common.{◌≡◌, ◌∙◌, ℕ, ◌+◌, ◌*◌, ◌<◌, ◌≤◌, List, Some, None, slice_get, length, sym, ap, subst, arith}
 use Rattle.std.proofs.lemmas.Option.{get_or_from_slice_get, slice_get-get_or}
 use Rattle.polcert_text.specs.Cut.{Lexeme}
-use Rattle.polcert_policy.specs.Graphs.{PolicyGraph, nodes, action_of, IsLooseGraph, IsGraph, IsProper, IsProperGraph, width, most_nodes, most_elements}
-use Rattle.polcert_policy.specs.Vectors.{PolicyVectors, IsVectors, IsInRange, AreProper, AreProperVectors, value_of}
+use Rattle.polcert_policy.specs.Graphs.{PolicyGraph, nodes, action_of, IsLooseGraph, IsGraph, IsProperGraph, width, most_nodes, most_elements}
+use Rattle.polcert_policy.specs.Vectors.{PolicyVectors, IsVectors, IsInRange, AreProperVectors, value_of}
 use Rattle.polcert_policy.proofs.Places.{row_above, row_below, row_of, get_within, within_get}
 use Rattle.polcert_policy.proofs.VectorEndLaws.{values_in_range}
 use Rattle.polcert_policy.proofs.EndLaws.{place_inside}

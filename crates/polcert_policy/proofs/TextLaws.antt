@@ -82,7 +82,7 @@ pub possible_at : (a b o p : ℕ) (ts : List Lexeme) → a ≡ b → o ≡ p →
 possible_at a b o p ts ea eo h = subst (λ x. IsPossible b x ts) eo (subst (λ x. IsPossible x o ts) ea h)
 
 -- only one successor is the first that isn't a node
-one_first : (g : PolicyGraph) (n z m y : ℕ) → IsFirstBeyond g n z → IsFirstBeyond g m y → (n ≡ m) × (z ≡ y)
+pub one_first : (g : PolicyGraph) (n z m y : ℕ) → IsFirstBeyond g n z → IsFirstBeyond g m y → (n ≡ m) × (z ≡ y)
 one_first g n z m y a b = at (order (n * g.observations + z) (m * g.observations + y))
   where
     not_before : (n z m y : ℕ) → IsFirstBeyond g n z → IsFirstBeyond g m y → n * g.observations + z < m * g.observations + y → ⊥

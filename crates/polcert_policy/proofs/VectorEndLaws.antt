@@ -12,7 +12,7 @@ use Rattle.polcert_text.specs.Numbers.{millionth, size_of, largest, signed, IsRe
 use Rattle.polcert_text.proofs.SignedLaws.{signed-mul}
 use Rattle.polcert_text.proofs.SizeLaws.{millionth_pos}
 use Rattle.polcert_policy.specs.Graphs.{PolicyGraph, nodes}
-use Rattle.polcert_policy.specs.Vectors.{PolicyVectors, Part, sign_kind, with_sign, tokens_of, AreVectors, IsVectors, IsInRange, AreProper}
+use Rattle.polcert_policy.specs.Vectors.{PolicyVectors, Part, sign_kind, is_negative, with_sign, tokens_of, AreVectors, IsVectors, IsInRange, AreProper}
 use Rattle.polcert_policy.specs.VectorText.{IsPartColumn}
 use Rattle.polcert_policy.specs.VectorsRead.{AreVectorsUpTo, open_of, IsOpenSign, HasVectors, AreUnfinished}
 use Rattle.polcert_policy.specs.declared.vectors_reading.OpenSign.{OpenSign}
@@ -129,14 +129,20 @@ pub values_in_range : (g : PolicyGraph) (o : ℕ) (ps : List Part) (node : ℕ) 
     → (k : ℕ) (h : ℤ) → slice_get vs k ≡ Some h → IsInRange h
 values_in_range g o ps node vs records count filled k h e =
     let row = row_of o k (some_columns node o k (omega (arith, within_get vs k h e, filled))) in
-    let n = row.0 in
-    let s = row.1.0 in
-    let inside : n * o + s < node * o = omega (arith, within_get vs k h e, filled, row.1.1) in
-    let rows = row_above (1 + o) n node (row_below o n s node inside) in
-    let part = get_within ps (n * (1 + o) + (1 + s)) (omega (arith, rows, count, row.1.2)) in
-    let one = records.value n s part.0 row.1.2 part.1 in
-    let same = same_some h one.0 (sym e ∙ ap (λ j. slice_get vs j) row.1.1 ∙ one.1) in
-    subst IsInRange (sym same) (floor_in_range _ _ one.0 one.2.readable one.2.floor)
+    at row.0 row.1.0 row.1.1 row.1.2
+  where
+    spelled : (n s : ℕ) (part : Part) → s < o → slice_get ps (n * (1 + o) + (1 + s)) ≡ Some part → slice_get vs (n * o + s) ≡ Some h → IsInRange h
+    spelled n s part l here there =
+        let one = records.value n s part l here in
+        let same : h ≡ one.0 = same_some h one.0 (sym there ∙ one.1) in
+        subst IsInRange (sym same) (floor_in_range (is_negative part.sign) part.token.bytes one.0 one.2.readable one.2.floor)
+
+    at : (n s : ℕ) → k ≡ n * o + s → s < o → IsInRange h
+    at n s place l =
+        let inside : n * o + s < node * o = omega (arith, within_get vs k h e, filled, place) in
+        let rows = row_above (1 + o) n node (row_below o n s node inside) in
+        let part = get_within ps (n * (1 + o) + (1 + s)) (omega (arith, rows, count, l)) in
+        spelled n s part.0 l part.1 (subst (λ j. slice_get vs j ≡ Some h) place e)
 
 abbrev pub vectors_of : ℕ → ℕ → List ℤ → PolicyVectors
 vectors_of node o vs = record { nodes = node; states = o; values = vs }

@@ -7,7 +7,7 @@ use Rattle.polcert_text.specs.declared.lexeme.TokenKind.{TokenKind}
 use Rattle.polcert_text.specs.declared.lexeme.TokenKind.TheVariants.{Numeral}
 use Rattle.polcert_policy.specs.Words.{numeral_kind}
 use Rattle.polcert_policy.specs.Graphs.{PolicyGraph, nodes}
-use Rattle.polcert_policy.specs.Vectors.{PolicyVectors, Part, sign_kind, with_sign, tokens_of, IsPart, IsActionPart, AreVectors, IsVectors}
+use Rattle.polcert_policy.specs.Vectors.{PolicyVectors, Part, sign_kind, with_sign, tokens_of, is_negative, IsPart, IsActionPart, IsValuePart, AreVectors, IsVectors}
 use Rattle.polcert_policy.proofs.Places.{row_above, row_below, row_of, get_within, within_get, same_some, some_none, same_list}
 
 pub head_of : {X : Type 0} (x y : X) (xs ys : List X) → x ∷ xs ≡ y ∷ ys → x ≡ y
@@ -101,16 +101,27 @@ same_value : (g : PolicyGraph) (states : ℕ) (ps : List Part) (vs ws : List ℤ
     → (k : ℕ) (x y : ℤ) → slice_get vs k ≡ Some x → slice_get ws k ≡ Some y → x ≡ y
 same_value g states ps vs ws count filled p q k x y ex ey =
     let row = row_of states k (some_columns (nodes g) states k (omega (arith, within_get vs k x ex, filled))) in
-    let n = row.0 in
-    let s = row.1.0 in
-    let inside : n * states + s < nodes g * states = omega (arith, within_get vs k x ex, filled, row.1.1) in
-    let rows = row_above (1 + states) n (nodes g) (row_below states n s (nodes g) inside) in
-    let part = get_within ps (n * (1 + states) + (1 + s)) (omega (arith, rows, count, row.1.2)) in
-    let one = p.value n s part.0 row.1.2 part.1 in
-    let two = q.value n s part.0 row.1.2 part.1 in
-    let first = same_some x one.0 (sym ex ∙ ap (λ j. slice_get vs j) row.1.1 ∙ one.1) in
-    let second = same_some y two.0 (sym ey ∙ ap (λ j. slice_get ws j) row.1.1 ∙ two.1) in
-    first ∙ one_floor _ _ one.0 two.0 one.2.floor two.2.floor ∙ sym second
+    at row.0 row.1.0 row.1.1 row.1.2
+  where
+    floors : (part : Part) (h j : ℤ) → IsValuePart part h → IsValuePart part j → h ≡ j
+    floors part h j a b = one_floor (is_negative part.sign) part.token.bytes h j a.floor b.floor
+
+    spelled : (n s : ℕ) (part : Part) → s < states → slice_get ps (n * (1 + states) + (1 + s)) ≡ Some part
+        → slice_get vs (n * states + s) ≡ Some x → slice_get ws (n * states + s) ≡ Some y → x ≡ y
+    spelled n s part l e ex ey =
+        let one = p.value n s part l e in
+        let two = q.value n s part l e in
+        let first : x ≡ one.0 = same_some x one.0 (sym ex ∙ one.1) in
+        let second : y ≡ two.0 = same_some y two.0 (sym ey ∙ two.1) in
+        let same : one.0 ≡ two.0 = floors part one.0 two.0 one.2 two.2 in
+        cc
+
+    at : (n s : ℕ) → k ≡ n * states + s → s < states → x ≡ y
+    at n s e l =
+        let inside : n * states + s < nodes g * states = omega (arith, within_get vs k x ex, filled, e) in
+        let rows = row_above (1 + states) n (nodes g) (row_below states n s (nodes g) inside) in
+        let part = get_within ps (n * (1 + states) + (1 + s)) (omega (arith, rows, count, l)) in
+        spelled n s part.0 l part.1 (subst (λ j. slice_get vs j ≡ Some x) e ex) (subst (λ j. slice_get ws j ≡ Some y) e ey)
 
 -- tokens are at most one list of vectors
 pub one_list : (g : PolicyGraph) (states : ℕ) (ts : List Lexeme) (v w : PolicyVectors) → IsVectors g states ts v → IsVectors g states ts w → v ≡ w

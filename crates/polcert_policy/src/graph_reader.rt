@@ -234,8 +234,9 @@ fn first_beyond(successors: &[Successor], count: usize) -> Option<usize>
 ///
 /// # Errors
 ///
-/// The first token that can't stand at its place (G1 to G4, G8), the end of the text where it may not end (G6, G7), or
-/// else the first successor by node and observation that isn't a node (G5). G9 where memory ran out.
+/// The first token that can't stand at its place (G1 to G4, G8); a numeral directly behind a `-` is refused at the `-`. A
+/// clean end of the text inside a node or before the first (G6, G7), or else, in a text that ends cleanly behind a node, the
+/// first successor by node and observation that isn't a node (G5). G9 where memory ran out.
 pub fn read_graph(
     alloc: Global,
     text: &[u8],

@@ -1,15 +1,24 @@
 //! Laws of the definitions, each the contract of a function with nothing to do.
-ghost use Rattle.std.specs.Prelude.{◌≡◌, ◌<◌, ◌≤◌, ℕ, List};
+ghost use Rattle.std.specs.Prelude.{◌≡◌, ◌≢◌, ◌<◌, ◌≤◌, ℕ, List};
 ghost use Rattle.polcert_policy.specs.Graphs.{PolicyGraph, IsProperGraph, HasNodesOnly, nodes, action_of, most_nodes, most_elements};
-ghost use Rattle.polcert_policy.specs.GraphText.{IsGraphText};
+ghost use Rattle.polcert_policy.specs.GraphText.{IsGraphText, IsGraphRefusal};
 ghost use Rattle.polcert_policy.specs.Vectors.{PolicyVectors, AreProperVectors, IsInRange, value_of};
-ghost use Rattle.polcert_policy.specs.VectorText.{IsVectorsText};
+ghost use Rattle.polcert_policy.specs.VectorText.{IsVectorsText, IsVectorsRefusal};
 ghost use Rattle.polcert_policy.specs.FullForm.{vectors_text};
+
+use crate::{GraphFault, VectorFault};
 
 /// A text is at most one graph.
 pub fn one_graph()
     ensures { (actions observations : ℕ) (text : List ℕ) (g h : PolicyGraph) →
         IsGraphText actions observations text g → IsGraphText actions observations text h → g ≡ h }
+{}
+
+/// A text is refused as a graph for at most one reason, and at one place, want of memory aside.
+pub fn one_graph_refusal()
+    ensures { (actions observations : ℕ) (text : List ℕ) (f g : GraphFault) →
+        f ≢ GraphFault.Memory → g ≢ GraphFault.Memory →
+        IsGraphRefusal actions observations text f → IsGraphRefusal actions observations text g → f ≡ g }
 {}
 
 /// The graph that a text denotes is within its limits: it has 1 to 10,000 nodes, each takes an action below the count that
@@ -34,6 +43,13 @@ pub fn graph_within_limits()
 pub fn one_vectors()
     ensures { (graph : PolicyGraph) (states : ℕ) (text : List ℕ) (v w : PolicyVectors) →
         IsVectorsText graph states text v → IsVectorsText graph states text w → v ≡ w }
+{}
+
+/// A text is refused as vectors of a graph for at most one reason, and at one place, want of memory aside.
+pub fn one_vectors_refusal()
+    ensures { (graph : PolicyGraph) (states : ℕ) (text : List ℕ) (f g : VectorFault) →
+        f ≢ VectorFault.Memory → g ≢ VectorFault.Memory →
+        IsVectorsRefusal graph states text f → IsVectorsRefusal graph states text g → f ≡ g }
 {}
 
 /// The vectors that a text denotes are within their limits: there is one for each node of the graph, each has a value for

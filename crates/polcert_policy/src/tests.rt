@@ -70,6 +70,7 @@ fn refused_graphs(rt: HostRuntime) -> Result<(), Fail> {
         (b"0 0 0 +", GraphFault::BadShape(6)),
         (b"0 0 0 0 - 0", GraphFault::BadShape(8)),
         (b"0 0 0 -0", GraphFault::BadShape(6)),
+        (b"0 0 - x", GraphFault::BadShape(6)),
         (b"0 X 0 0", GraphFault::BadShape(2)),
     ] {
         assert_eq!(rt; graph_fault(alloc, text, 3, 2), Some(want));

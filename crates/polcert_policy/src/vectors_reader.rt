@@ -182,8 +182,9 @@ impl VectorsReading {
 ///
 /// # Errors
 ///
-/// The first token or number that can't stand at its place (V1 to V4, V6), or the end of the text where it may not end
-/// (V5, V6). V7 where memory ran out.
+/// The first token or number that can't stand at its place (V1 to V4, V6); a number, and what stands in its place behind a
+/// sign (V2, V3), at the sign. A clean end of the text inside a vector (V5), or behind fewer vectors than nodes (V6). V7
+/// where memory ran out.
 pub fn read_vectors(
     alloc: Global,
     text: &[u8],

@@ -4,7 +4,7 @@ use Rattle.std.proofs.lemmas.Int.{ints}
 use Rattle.std.proofs.Math.Nat.{mul-le-mul_right, mul-div_cancel, mul-pos}
 use Rattle.std.proofs.Math.IntN.{pos-*ℤ-pos, negsuc-*ℤ-pos, zero-*ℤ}
 use Rattle.polcert_text.specs.Numbers.{millionth, size_of, signed, IsExact, IsFloor}
-use Rattle.polcert_text.specs.Scaling.{ceiling, Measures}
+use Rattle.polcert_text.specs.Scaling.{ceiling, rounded, Measures}
 
 -- without its sign
 abbrev size_without_sign : ℤ → ℕ
@@ -106,6 +106,11 @@ module _ (bs : List ℕ) (floor : ℕ) where
       greatest (negsuc n) h =
           let l = le_neg (suc n * millionth) (size_of bs) h in
           le_neg_from (suc n) (ceiling floor is_inexact) (above_ceiling is_inexact m (suc n) l)
+
+  -- rounded down is rounded up in size where the number is negative
+  pub floor_signed : (negative is_inexact : Bool) → Measures bs floor is_inexact → IsFloor negative bs (signed negative (rounded negative floor is_inexact))
+  floor_signed true is_inexact m = floor_negative is_inexact m
+  floor_signed false is_inexact m = floor_positive is_inexact m
 
 same_times : (d m n : ℕ) → 0 < d → m * d ≡ n * d → m ≡ n
 same_times d m n some e = sym (mul-div_cancel m some) ∙ ap (λ x. x / d) e ∙ mul-div_cancel n some

@@ -5,7 +5,7 @@ ghost use Rattle.std.specs.Str.Parse.{digits_value};
 ghost use Rattle.polcert_text.specs.Bytes.{is_digit};
 ghost use Rattle.polcert_text.specs.Lexemes.{before, after, is_numeral};
 ghost use Rattle.polcert_text.specs.Numbers.{whole_of, fraction_of, exponent_of, is_lowering, without_sign, largest, signed, IsExact, IsFloor, IsReadable, IsRefused, IsRefusedExactly};
-ghost use Rattle.polcert_text.specs.Scaling.{separates, cap, is_nonzero, IsScaled, Measures, ceiling};
+ghost use Rattle.polcert_text.specs.Scaling.{separates, cap, is_nonzero, IsScaled, Measures, ceiling, rounded};
 
 use crate::bytes::{ByteClass, class_of};
 use crate::lexeme::State;
@@ -53,6 +53,14 @@ impl Size {
             self.floor
         }
     }
+
+    /// The size rounded up, or down.
+    fn rounded(self, up: bool) -> u64
+        requires { self.floor ≤ cap }
+        ensures { result ≡ rounded up self.floor self.is_inexact }
+    {
+        if up { self.ceiling() } else { self.floor }
+    }
 }
 
 /// The exact value of a numeral with the sign before it, in millionths.
@@ -73,11 +81,7 @@ pub fn floor_of(negative: bool, numeral: &[u8]) -> Result<i64, NumberFault>
     ensures fault { IfErr result (IsRefused numeral.now) }
 {
     let size = size_of(numeral)?;
-    if negative {
-        Ok(signed(true, size.ceiling()))
-    } else {
-        Ok(signed(false, size.floor))
-    }
+    Ok(signed(negative, size.rounded(negative)))
 }
 
 fn signed(negative: bool, size: u64) -> i64
