@@ -48,3 +48,4 @@ pub mod StartForms
 pub mod StartShares
 pub mod StartSeen
 pub mod SomeTokens
+pub mod MisfitLaws
