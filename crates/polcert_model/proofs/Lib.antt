@@ -49,3 +49,4 @@ pub mod StartShares
 pub mod StartSeen
 pub mod SomeTokens
 pub mod MisfitLaws
+pub mod WantLaws

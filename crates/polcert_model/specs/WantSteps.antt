@@ -61,7 +61,7 @@ abbrev pub list_wants : {T : Type 0} → Numbers T → List Lexeme → Wanted
 list_wants n ls = numbers_want (is_some n.sign) (n.needed - length n.read) ls
 
 abbrev pub state_wants : List Elements → Table → List Place → EntryState → List Lexeme → Wanted
-state_wants ds table places states.Colon ls = wants.entry_wants ds table false 0 ls
+state_wants ds table places states.Colon ls = wants.cells_want ds table ls
 state_wants ds table places states.Place ls = wants.entry_wants ds table true (length places) ls
 state_wants ds table places states.Body ls = wants.entry_wants ds table false (length places) ls
 state_wants ds table places (states.Probabilities n) ls = list_wants n ls
