@@ -70,3 +70,5 @@ pub mod SomeTokens
 pub mod Parts
 pub mod PrintedParts
 pub mod RowCells
+pub mod MisfitLaws
+pub mod WantLaws

@@ -439,14 +439,14 @@ probabilities_full n body g =
     let none = none_mapped g.further m.none in
     record { sign = m.no_sign; count = ap length (sym (append-nil n.read)) ∙ ap (λ f. length (n.read ++ f)) (sym none) ∙ g.enough }
 
-cells_some : (ds : List Elements) → AreSome ds → 1 ≤ cells_in ds
+pub cells_some : (ds : List Elements) → AreSome ds → 1 ≤ cells_in ds
 cells_some [] some = omega arith
 cells_some (d ∷ ds) some =
     let first : 1 ≤ count_of d = some 0 d (omega arith) in
     let rest = cells_some ds (All-tail (λ d. 1 ≤ count_of d) d ds some) in
     mul-pos first rest
 
-some_dropped : (n : ℕ) (ds : List Elements) → AreSome ds → AreSome (drop n ds)
+pub some_dropped : (n : ℕ) (ds : List Elements) → AreSome ds → AreSome (drop n ds)
 some_dropped zero ds some = some
 some_dropped (suc n) [] some = some
 some_dropped (suc n) (d ∷ ds) some = some_dropped n ds (All-tail (λ d. 1 ≤ count_of d) d ds some)

@@ -13,6 +13,7 @@ use Rattle.polcert_model.specs.Text.{Known, nothing_known, IsInPreamble, IsCompl
 use Rattle.polcert_model.specs.Reading.{IsWrong, CannotGoOn, IsPossible}
 use Rattle.polcert_model.specs.FirstWrong.{wrong_front, wrong_item, wrong_last, wrong_end, IsDecided, before_items, at_word, at_end}
 use Rattle.polcert_model.specs.Reasons.{unsigned as unsigned_number}
+use Rattle.polcert_model.specs.Misfits.{of_value}
 use Rattle.polcert_model.specs.Refusals.{IsItemRefusal, StopsInBody, possible, at_lexeme}
 use Rattle.polcert_model.specs.RefusedExamples.{name_at, numeral_at, colon_at, empty_text, hello, twice, above_one, glued}
 use Rattle.polcert_model.proofs.Basics.{one_some, same_head}
@@ -169,7 +170,7 @@ two_stuck further after (texts.discount {g = g} p e c n l) =
     let r = numbers_go_on further (unsigned (two 10) none) n refl in
     no_fraction g (sym (same_head r.joined)) l
 
-pub above_one_stops : StopsInBody above_one 1 10
+pub above_one_stops : StopsInBody above_one DiscountRange 1 10
 above_one_stops = record {
   before = [];
   item = one_item 0 8 10 (codes "2");
@@ -184,7 +185,7 @@ above_one_stops = record {
   rest = numeral_at 10 (codes "2") ∷ [];
   whole = refl;
   is_taken = possible colon_possible;
-  stops = at_lexeme two_stuck;
+  stops = at_lexeme two_stuck (of_value refl tt);
   place_is = refl;
   clean = λ rest after. refl;
 }

@@ -29,6 +29,9 @@ use Rattle.polcert_model.specs.LineSteps.{CannotTake, CannotEnd}
 use Rattle.polcert_model.specs.StartSteps.{IsReasonIn, IsStartReason}
 use Rattle.polcert_model.specs.ItemSteps.{ItemGoes, topic_in, sign_in, pending_in, IsSeen, IsTokenReason, IsItemReason, IsEndReason}
 use Rattle.polcert_model.specs.ItemSteps as steps_of
+use Rattle.polcert_model.specs.Misfits.{misfit, IsOfValue, IsMisfit}
+use Rattle.polcert_model.specs.Wants.{wanted}
+use Rattle.polcert_model.specs.WantSteps.{item_wants, IfNotStart}
 use Rattle.polcert_model.specs.TextSteps.{IsItemRead, EndsItem, IsRefusedBehind, IsRefusedAt, Refuses}
 use Rattle.polcert_model.specs.TextSteps as texts
 use Rattle.polcert_model.proofs.Basics.{one_some, cons≢nil}
@@ -135,12 +138,12 @@ number_lies ts n place k t (Some sign) body more l h rises ends p =
 record Refused (ts : TextTokens) (n place : ℕ) (kind : ItemFault) : Type 0 where
   lies : LiesIn ts n place
   reason : IsReason ts n place kind
-  stops : StopsInBody ts n place
+  stops : StopsInBody ts kind n place
 
 -- a part of the body was taken, and there it stops
-stops_here : (ts : TextTokens) (n place : ℕ) (k : Known) (t : Topic) (body taken rest : List Lexeme) (h : Here ts n k t body) → body ≡ taken ++ rest
-    → IsTaken k t taken → Stops k t taken rest → place ≡ place_or rest (word_place h.after ts.end 0) → (rest ≡ [] → h.after ≡ [] → ts.ending ≡ None) → StopsInBody ts n place
-stops_here ts n place k t body taken rest h whole is_taken stops at clean = record {
+stops_here : (ts : TextTokens) (kind : ItemFault) (n place : ℕ) (k : Known) (t : Topic) (body taken rest : List Lexeme) (h : Here ts n k t body) → body ≡ taken ++ rest
+    → IsTaken k t taken → Stops k t kind taken rest → place ≡ place_or rest (word_place h.after ts.end 0) → (rest ≡ [] → h.after ≡ [] → ts.ending ≡ None) → StopsInBody ts kind n place
+stops_here ts kind n place k t body taken rest h whole is_taken stops at clean = record {
   before = h.before;
   item = item_here h;
   after = h.after;
@@ -163,65 +166,68 @@ sign_kind : (sign : Sign) (s : Lexeme) → IsSignAt sign s → is_sign s.kind �
 sign_kind sign s (steps.plus kind negative place) = ap is_sign kind
 sign_kind sign s (steps.minus kind negative place) = ap is_sign kind
 
-number_stops : (ts : TextTokens) (n place : ℕ) (k : Known) (t : Topic) (sign : Option Sign) (body more : List Lexeme) (l : Lexeme) → Here ts n k t ((body ++ l ∷ []) ++ more)
-    → SignEnds sign body → place ≡ number_place sign l → l.kind ≡ Numeral → IsPossible k t body → CannotGoOn k t (body ++ l ∷ []) → StopsInBody ts n place
-number_stops ts n place k t None body more l h ends p kind possible stuck =
-    stops_here ts n place k t ((body ++ l ∷ []) ++ more) body (l ∷ more) h (append_assoc body (l ∷ []) more) (refusals.possible possible) (refusals.at_lexeme stuck) p (λ none. absurd (cons≢nil none))
-number_stops ts n place k t (Some sign) body more l h ends p kind possible stuck =
+number_stops : (ts : TextTokens) (kind : ItemFault) (n place : ℕ) (k : Known) (t : Topic) (sign : Option Sign) (body more : List Lexeme) (l : Lexeme) → Here ts n k t ((body ++ l ∷ []) ++ more)
+    → SignEnds sign body → place ≡ number_place sign l → l.kind ≡ Numeral → IsPossible k t body → CannotGoOn k t (body ++ l ∷ []) → IsOfValue kind → IsMisfit (wanted k t body) l kind
+    → StopsInBody ts kind n place
+number_stops ts kind n place k t None body more l h ends p numeral possible stuck value unfit =
+    stops_here ts kind n place k t ((body ++ l ∷ []) ++ more) body (l ∷ more) h (append_assoc body (l ∷ []) more) (refusals.possible possible) (refusals.at_lexeme stuck unfit) p (λ none. absurd (cons≢nil none))
+number_stops ts kind n place k t (Some sign) body more l h ends p numeral possible stuck value unfit =
     let before = ends.0 in
     let s = ends.1.0 in
     let whole = ends.1.1.0 in
-    let front : IsPossible k t before = possible_front k t before (s ∷ []) (subst (IsPossible k t) whole possible) in
+    let signed : IsPossible k t (before ++ s ∷ []) = subst (IsPossible k t) whole possible in
+    let front : IsPossible k t before = possible_front k t before (s ∷ []) signed in
     let pair : CannotGoOn k t (before ++ s ∷ l ∷ []) = subst (CannotGoOn k t) (ap (λ (b : List Lexeme). b ++ l ∷ []) whole ∙ append_assoc before (s ∷ []) (l ∷ [])) stuck in
-    stops_here ts n place k t ((body ++ l ∷ []) ++ more) before (s ∷ l ∷ more) h (signed_whole body before more s l whole) (refusals.possible front)
-    (refusals.at_number (sign_kind sign s ends.1.1.1) kind pair) (p ∙ sign_place sign s ends.1.1.1) (λ none. absurd (cons≢nil none))
+    let behind : IsMisfit (wanted k t (before ++ s ∷ [])) l kind = subst (λ b. IsMisfit (wanted k t b) l kind) whole unfit in
+    stops_here ts kind n place k t ((body ++ l ∷ []) ++ more) before (s ∷ l ∷ more) h (signed_whole body before more s l whole) (refusals.possible front)
+    (refusals.at_number (sign_kind sign s ends.1.1.1) numeral signed pair value behind) (p ∙ sign_place sign s ends.1.1.1) (λ none. absurd (cons≢nil none))
 
 at_number : (ts : TextTokens) (n place : ℕ) (k : Known) (t : Topic) (sign : Option Sign) (body more : List Lexeme) (l : Lexeme) (kind : ItemFault) → Here ts n k t ((body ++ l ∷ []) ++ more)
-    → Rises 0 ts.lexemes ts.end → SignEnds sign body → IsPossible k t body → CannotGoOn k t (body ++ l ∷ []) → l.kind ≡ Numeral → place ≡ number_place sign l → IsReason ts n place kind
-    → Refused ts n place kind
-at_number ts n place k t sign body more l kind h rises ends possible stuck numeral p reason = record {
+    → Rises 0 ts.lexemes ts.end → SignEnds sign body → IsPossible k t body → CannotGoOn k t (body ++ l ∷ []) → IsOfValue kind → IsMisfit (wanted k t body) l kind → l.kind ≡ Numeral → place ≡ number_place sign l
+    → IsReason ts n place kind → Refused ts n place kind
+at_number ts n place k t sign body more l kind h rises ends possible stuck value unfit numeral p reason = record {
   lies = number_lies ts n place k t sign body more l h rises ends p;
   reason = reason;
-  stops = number_stops ts n place k t sign body more l h ends p numeral possible stuck;
+  stops = number_stops ts kind n place k t sign body more l h ends p numeral possible stuck value unfit;
 }
 
 at_lexeme : (ts : TextTokens) (n place : ℕ) (k : Known) (t : Topic) (body more : List Lexeme) (l : Lexeme) (kind : ItemFault) → Here ts n k t ((body ++ l ∷ []) ++ more)
-    → Rises 0 ts.lexemes ts.end → IsPossible k t body → CannotGoOn k t (body ++ l ∷ []) → place ≡ l.place → IsReason ts n place kind → Refused ts n place kind
-at_lexeme ts n place k t body more l kind h rises possible stuck p reason = record {
+    → Rises 0 ts.lexemes ts.end → IsPossible k t body → CannotGoOn k t (body ++ l ∷ []) → IsMisfit (wanted k t body) l kind → place ≡ l.place → IsReason ts n place kind → Refused ts n place kind
+at_lexeme ts n place k t body more l kind h rises possible stuck unfit p reason = record {
   lies = lies_here ts n place k t ((body ++ l ∷ []) ++ more) body (l ∷ more) h rises (append_assoc body (l ∷ []) more) p;
   reason = reason;
-  stops = stops_here ts n place k t ((body ++ l ∷ []) ++ more) body (l ∷ more) h (append_assoc body (l ∷ []) more) (refusals.possible possible) (refusals.at_lexeme stuck) p (λ none. absurd (cons≢nil none));
+  stops = stops_here ts kind n place k t ((body ++ l ∷ []) ++ more) body (l ∷ more) h (append_assoc body (l ∷ []) more) (refusals.possible possible) (refusals.at_lexeme stuck unfit) p (λ none. absurd (cons≢nil none));
 }
 
 stands : (body more : List Lexeme) (l : Lexeme) (place : ℕ) (Is : Lexeme → Type 0) → place ≡ l.place → Is l → reasons.StandsIn ((body ++ l ∷ []) ++ more) place Is
 stands body more l place Is p so = record { before = body; lexeme = l; after = more; whole = append_assoc body (l ∷ []) more; place_is = p; holds = so }
 
 refused_here : (ts : TextTokens) (n place : ℕ) (k : Known) (t : Topic) (sign : Option Sign) (body more : List Lexeme) (l : Lexeme) (kind : ItemFault)
-    → Here ts n k t ((body ++ l ∷ []) ++ more) → Rises 0 ts.lexemes ts.end → SignEnds sign body → IsPossible k t body → CannotGoOn k t (body ++ l ∷ []) → IsTokenReason t sign body l kind place
+    → Here ts n k t ((body ++ l ∷ []) ++ more) → Rises 0 ts.lexemes ts.end → SignEnds sign body → IsPossible k t body → CannotGoOn k t (body ++ l ∷ []) → IsMisfit (wanted k t body) l kind → IsTokenReason t sign body l kind place
     → Refused ts n place kind
-refused_here ts n place k t sign body more l (Number fault) h rises ends possible stuck m =
-    at_number ts n place k t sign body more l (Number fault) h rises ends possible stuck m.1.0 m.0
+refused_here ts n place k t sign body more l (Number fault) h rises ends possible stuck unfit m =
+    at_number ts n place k t sign body more l (Number fault) h rises ends possible stuck tt unfit m.1.0 m.0
     (so_here ts n k t _ _ h (number_stands sign body more l place (reasons.IsRefusedNumber fault) ends m.0 m.1))
-refused_here ts n place k t sign body more l DiscountRange h rises ends possible stuck m =
-    at_number ts n place k t sign body more l DiscountRange h rises ends possible stuck m.2.1.kind m.1
+refused_here ts n place k t sign body more l DiscountRange h rises ends possible stuck unfit m =
+    at_number ts n place k t sign body more l DiscountRange h rises ends possible stuck tt unfit m.2.1.kind m.1
     (so_here ts n k t _ _ h (m.0, number_stands sign body more l place reasons.IsNoFraction ends m.1 m.2))
-refused_here ts n place k t sign body more l ProbabilityRange h rises ends possible stuck m =
-    at_number ts n place k t sign body more l ProbabilityRange h rises ends possible stuck m.1.1.1.kind m.1.0
+refused_here ts n place k t sign body more l ProbabilityRange h rises ends possible stuck unfit m =
+    at_number ts n place k t sign body more l ProbabilityRange h rises ends possible stuck tt unfit m.1.1.1.kind m.1.0
     (so_here ts n k t _ _ h (m.0, number_stands sign body more l place reasons.IsNoFraction ends m.1.0 m.1.1))
-refused_here ts n place k t sign body more l Reset h rises ends possible stuck m =
-    at_lexeme ts n place k t body more l Reset h rises possible stuck m.0 (so_here ts n k t _ _ h (stands body more l place _ m.0 m.1))
-refused_here ts n place k t sign body more l DuplicateName h rises ends possible stuck m =
-    at_lexeme ts n place k t body more l DuplicateName h rises possible stuck m.0
+refused_here ts n place k t sign body more l Reset h rises ends possible stuck unfit m =
+    at_lexeme ts n place k t body more l Reset h rises possible stuck unfit m.0 (so_here ts n k t _ _ h (stands body more l place _ m.0 m.1))
+refused_here ts n place k t sign body more l DuplicateName h rises ends possible stuck unfit m =
+    at_lexeme ts n place k t body more l DuplicateName h rises possible stuck unfit m.0
     (so_here ts n k t _ _ h (m.1, subst (λ b. IsRepeated b place) (sym (append_assoc body (l ∷ []) more)) (m.2 more)))
-refused_here ts n place k t sign body more l UnknownName h rises ends possible stuck m =
-    at_lexeme ts n place k t body more l UnknownName h rises possible stuck m.0 (so_here ts n k t _ _ h (stands body more l place _ m.0 m.1))
-refused_here ts n place k t sign body more l IndexOutOfRange h rises ends possible stuck m =
-    at_lexeme ts n place k t body more l IndexOutOfRange h rises possible stuck m.0 (so_here ts n k t _ _ h (stands body more l place _ m.0 m.1))
-refused_here ts n place k t sign body more l BadCount h rises ends possible stuck m =
-    at_lexeme ts n place k t body more l BadCount h rises possible stuck m.0 (so_here ts n k t _ _ h m.1)
-refused_here ts n place k t sign body more l BadShape h rises ends possible stuck m = at_lexeme ts n place k t body more l BadShape h rises possible stuck m tt
-refused_here ts n place k t sign body more l WrongNumberCount h rises ends possible stuck m = at_lexeme ts n place k t body more l WrongNumberCount h rises possible stuck m tt
-refused_here ts n place k t sign body more l _ h rises ends possible stuck m = absurd m
+refused_here ts n place k t sign body more l UnknownName h rises ends possible stuck unfit m =
+    at_lexeme ts n place k t body more l UnknownName h rises possible stuck unfit m.0 (so_here ts n k t _ _ h (stands body more l place _ m.0 m.1))
+refused_here ts n place k t sign body more l IndexOutOfRange h rises ends possible stuck unfit m =
+    at_lexeme ts n place k t body more l IndexOutOfRange h rises possible stuck unfit m.0 (so_here ts n k t _ _ h (stands body more l place _ m.0 m.1))
+refused_here ts n place k t sign body more l BadCount h rises ends possible stuck unfit m =
+    at_lexeme ts n place k t body more l BadCount h rises possible stuck unfit m.0 (so_here ts n k t _ _ h m.1)
+refused_here ts n place k t sign body more l BadShape h rises ends possible stuck unfit m = at_lexeme ts n place k t body more l BadShape h rises possible stuck unfit m tt
+refused_here ts n place k t sign body more l WrongNumberCount h rises ends possible stuck unfit m = at_lexeme ts n place k t body more l WrongNumberCount h rises possible stuck unfit m tt
+refused_here ts n place k t sign body more l _ h rises ends possible stuck unfit m = absurd m
 
 -- the item doesn't go on with the lexeme
 stuck : (seen : List Lexeme) (r : TextReader) (w : IsItemRead seen r) (l : Lexeme) → CannotTake (ItemGoes r.known) w.item l
@@ -252,8 +258,8 @@ number_further body more place Is (reasons.minus before s l after e kind p so) =
 start_lies : (ts : TextTokens) (n place : ℕ) (k : Known) (t : Topic) (body : List Lexeme) → Here ts n k t body → Rises 0 ts.lexemes ts.end → StandsIn body place (λ l. Unit {0}) → LiesIn ts n place
 start_lies ts n place k t body h rises s = lies_here ts n place k t body s.before (s.lexeme ∷ s.after) h rises s.whole s.place_is
 
-start_stops : (ts : TextTokens) (n place : ℕ) (k : Known) (t : Topic) (body : List Lexeme) → Here ts n k t body → t ≡ Start → StandsIn body place (λ l. Unit {0}) → StopsInBody ts n place
-start_stops ts n place k t body h e s = stops_here ts n place k t body s.before (s.lexeme ∷ s.after) h s.whole (refusals.in_start e) (refusals.at_start e) s.place_is (λ none. absurd (cons≢nil none))
+start_stops : (ts : TextTokens) (kind : ItemFault) (n place : ℕ) (k : Known) (t : Topic) (body : List Lexeme) → Here ts n k t body → t ≡ Start → StandsIn body place (λ l. Unit {0}) → StopsInBody ts kind n place
+start_stops ts kind n place k t body h e s = stops_here ts kind n place k t body s.before (s.lexeme ∷ s.after) h s.whole (refusals.in_start e) (refusals.in_start_item e) s.place_is (λ none. absurd (cons≢nil none))
 
 start_reason : (ts : TextTokens) (n place : ℕ) (k : Known) (t : Topic) (body more : List Lexeme) (kind : ItemFault) → Here ts n k t (body ++ more) → t ≡ Start → IsReasonIn body kind place
     → IsReason ts n place kind
@@ -276,7 +282,7 @@ start_refused text ts n place k t body more kind tokens h free wrong e r = recor
     reason = start_reason ts n place k t body more kind h e r.reason;
     decided = λ fault at x. absurd (free_here ts n k t (body ++ more) h free fault at x);
   };
-  placed = in_body (start_stops ts n place k t (body ++ more) h e (stands_further body more place _ r.stands));
+  placed = in_body (start_stops ts kind n place k t (body ++ more) h e (stands_further body more place _ r.stands));
 }
 
 -- a start item in which the tokens end in a fault behind a number without a value
@@ -294,7 +300,7 @@ pending_refused seen r f x w e text ts tokens same ending =
         reason = start_reason ts r.number x.place r.known w.t w.body [] x.kind h start reason.reason;
         decided = λ fault at y. absurd (free_here ts r.number r.known w.t (w.body ++ []) h w.read.may_stand fault at y);
       };
-      placed = in_body (start_stops ts r.number x.place r.known w.t (w.body ++ []) h start (stands_further w.body [] x.place _ reason.stands));
+      placed = in_body (start_stops ts x.kind r.number x.place r.known w.t (w.body ++ []) h start (stands_further w.body [] x.place _ reason.stands));
     }
   where
     pending_why : (body : List Lexeme) (item : ItemReader) (x : Refusal) → IsSeen body item → pending_in item ≡ Some x → (topic_in item ≡ Start) × IsStartReason body x.kind x.place
@@ -316,9 +322,28 @@ seen_sign body (items.Observations r) other s = s.0
 seen_sign body (items.Start r) other s = absurd (other refl)
 seen_sign body (items.Entry r) other s = s
 
+-- what is said of items that are no start item
+not_start : (t : Topic) (P : Type 0) → (t ≡ Start → ⊥) → IfNotStart t P → P
+not_start Start P other p = absurd (other refl)
+not_start Discount P other p = p
+not_start Values P other p = p
+not_start States P other p = p
+not_start Actions P other p = p
+not_start Observations P other p = p
+not_start (Cells table) P other p = p
+
+wants_here : (k : Known) (t : Topic) (body : List Lexeme) (item : ItemReader) → (t ≡ Start → ⊥) → IfNotStart t ((ls : List Lexeme) → wanted k t (body ++ ls) ≡ item_wants k item ls)
+    → item_wants k item [] ≡ wanted k t body
+wants_here k t body item other wants = sym (ap (wanted k t) (sym (append-nil body)) ∙ not_start t _ other wants [])
+
+here_unfit : (k : Known) (t : Topic) (body : List Lexeme) (item : ItemReader) → (t ≡ Start → ⊥) → IfNotStart t ((ls : List Lexeme) → wanted k t (body ++ ls) ≡ item_wants k item ls)
+    → (l : Lexeme) (kind : ItemFault) → IfNotStart t (IsMisfit (item_wants k item []) l kind) → IsMisfit (wanted k t body) l kind
+here_unfit k t body item other wants l kind unfit = subst (λ x. IsMisfit x l kind) (wants_here k t body item other wants) (not_start t _ other unfit)
+
 pub feed_refused : (seen : List Lexeme) (r : TextReader) (l : Lexeme) (kind : ItemFault) (place : ℕ) (w : IsItemRead seen r) → begins_item l ≡ false
-    → CannotTake (ItemGoes r.known) w.item l → IsItemReason w.item w.body l kind place → IsRefusedBehind (seen ++ l ∷ []) (model_faults.Item kind r.number place)
-feed_refused seen r l kind place w inner none reason text ts further tokens e =
+    → CannotTake (ItemGoes r.known) w.item l → IsItemReason w.item w.body l kind place → IfNotStart (topic_in w.item) (IsMisfit (item_wants r.known w.item []) l kind)
+    → IsRefusedBehind (seen ++ l ∷ []) (model_faults.Item kind r.number place)
+feed_refused seen r l kind place w inner none reason unfit text ts further tokens e =
     let d = has_division further in
     let more : List Lexeme = d.0 in
     let behind = within_goes_on seen l r.known w.t w.body w.within inner in
@@ -329,7 +354,7 @@ feed_refused seen r l kind place w inner none reason text ts further tokens e =
         → Refuses ts (model_faults.Item kind r.number place)
     of_one more h other m =
         let refused = refused_here ts r.number place r.known w.t (sign_in w.item) w.body more l kind h (tokens_rise text ts tokens) (seen_sign w.body w.item other w.read.seen)
-        (w.read.possible (λ s. other (w.read.topic_is ∙ s))) (stuck seen r w l none) (subst (λ t. IsTokenReason t (sign_in w.item) w.body l kind place) w.read.topic_is m) in
+        (w.read.possible (λ s. other (w.read.topic_is ∙ s))) (stuck seen r w l none) (here_unfit r.known w.t w.body w.item (λ s. other (w.read.topic_is ∙ s)) w.read.wants l kind (subst (λ u. IfNotStart u (IsMisfit (item_wants r.known w.item []) l kind)) w.read.topic_is unfit)) (subst (λ t. IsTokenReason t (sign_in w.item) w.body l kind place) w.read.topic_is m) in
         record {
           refusal = record {
             first_wrong = first_here ts r.number r.known w.t ((w.body ++ l ∷ []) ++ more) h (stuck seen r w l none more);
@@ -384,8 +409,8 @@ is_start Observations = inr (λ e. cc)
 is_start (Cells table) = inr (λ e. cc)
 
 pub end_refused : (seen : List Lexeme) (r : TextReader) (kind : ItemFault) (place : ℕ) (w : IsItemRead seen r) → CannotEnd (ItemGoes r.known) w.item
-    → IsEndReason (topic_in w.item) kind → IsRefusedAt seen place (model_faults.Item kind r.number place)
-end_refused seen r kind place w none reason text ts tokens ends =
+    → IsEndReason (topic_in w.item) kind → IfNotStart (topic_in w.item) (kind ≡ misfit (item_wants r.known w.item []) None) → IsRefusedAt seen place (model_faults.Item kind r.number place)
+end_refused seen r kind place w none reason kinds text ts tokens ends =
     let x = ends_here ts r.number place seen w.body r.known w.t w.within w.number_is ends in
     record {
       refusal = record {
@@ -394,13 +419,19 @@ end_refused seen r kind place w none reason text ts tokens ends =
         reason = end_reason ts r.number place r.known w.t (w.body ++ []) kind x.here_is (subst (λ t. IsEndReason t kind) w.read.topic_is reason);
         decided = λ fault at y. absurd (free_here ts r.number r.known w.t (w.body ++ []) x.here_is w.read.may_stand fault at y);
       };
-      placed = in_body (stops_here ts r.number place r.known w.t (w.body ++ []) w.body [] x.here_is refl (taken (is_start w.t))
-          (refusals.at_end (λ after right. none after (w.read.on [] after (subst (λ b. IsRight r.known w.t b after) (sym (append-nil w.body)) right)))) x.place_is (λ nothing. x.clean));
+      placed = in_body (stops_here ts kind r.number place r.known w.t (w.body ++ []) w.body [] x.here_is refl (taken (is_start w.t)) (stops (is_start w.t)) x.place_is (λ nothing. x.clean));
     }
   where
     taken : (w.t ≡ Start) ⊎ (w.t ≡ Start → ⊥) → IsTaken r.known w.t w.body
     taken (inl start) = refusals.in_start start
     taken (inr other) = refusals.possible (w.read.possible other)
+
+    stops : (w.t ≡ Start) ⊎ (w.t ≡ Start → ⊥) → Stops r.known w.t kind w.body []
+    stops (inl start) = refusals.in_start_item start
+    stops (inr other) =
+        let named : IfNotStart w.t (kind ≡ misfit (item_wants r.known w.item []) None) = subst (λ u. IfNotStart u (kind ≡ misfit (item_wants r.known w.item []) None)) w.read.topic_is kinds in
+        refusals.at_end (λ after right. none after (w.read.on [] after (subst (λ b. IsRight r.known w.t b after) (sym (append-nil w.body)) right)))
+        (not_start w.t _ other named ∙ ap (λ v. misfit v None) (wants_here r.known w.t w.body w.item other w.read.wants))
 
 -- a start item that cannot end, for the number before its end
 pub end_refused_before : (seen : List Lexeme) (r : TextReader) (kind : ItemFault) (at place : ℕ) (w : IsItemRead seen r) → CannotEnd (ItemGoes r.known) w.item

@@ -18,6 +18,8 @@ use Rattle.polcert_model.specs.LineSteps.{Takes, CannotTake, CannotEnd}
 use Rattle.polcert_model.specs.StartSteps.{IsStartReason}
 use Rattle.polcert_model.specs.ItemSteps.{ItemGoes, IsItemWithin, IsItemReason, IsEndReason, IsSeen, topic_in, new_item, HasElements}
 use Rattle.polcert_model.specs.KnownView.{learned}
+use Rattle.polcert_model.specs.Misfits.{misfit, IsMisfit}
+use Rattle.polcert_model.specs.WantSteps.{Leads, item_wants, IfNotStart}
 use Rattle.polcert_model.specs.TextSteps.{Refuses, IsTextRead, IsItemRead, IsBodyRead, AreItemsRead, IsRefusedBehind, IsRefusedAt, IsRefusedWhole, at_word, at_end, nothing, item}
 use Rattle.polcert_model.proofs.Basics.{one_some}
 use Rattle.polcert_model.proofs.Dividing.{begins, empty_division}
@@ -66,6 +68,11 @@ item_ended seen r held i known said (item w) e none goes same =
       number_is = w.number_is ∙ sym (length-append w.within.items.items (record { word = w.within.word; body = w.body } ∷ []));
     })
 
+some_elements : (seen : List Lexeme) (r : TextReader) (i : ItemReader) (w : IsItemRead seen r) → r.item ≡ Some i → HasElements r.known (topic_in i)
+some_elements seen r i w e =
+    subst (λ j. HasElements r.known (topic_in j)) (same_item seen r i e w)
+    (subst (HasElements r.known) (sym w.read.topic_is) (has_elements w.within.items.items r.known w.t w.within.items.right w.read.may_stand))
+
 cannot_end : (seen : List Lexeme) (r : TextReader) (i : ItemReader) (w : IsItemRead seen r) → r.item ≡ Some i → (HasElements r.known (topic_in i) → CannotEnd (ItemGoes r.known) i) → CannotEnd (ItemGoes r.known) w.item
 cannot_end seen r i w e stuck =
     let same = same_item seen r i e w in
@@ -75,11 +82,12 @@ cannot_end seen r i w e stuck =
 -- the open item cannot end
 pub item_not_ended : (seen : List Lexeme) (r : TextReader) (i : ItemReader) (kind : ItemFault) (place : ℕ) → IsTextRead seen r → r.item ≡ Some i
     → (HasElements r.known (topic_in i) → CannotEnd (ItemGoes r.known) i) → ((body : List Lexeme) → IsSeen body i → IsEndReason (topic_in i) kind)
-    → IsRefusedAt seen place (model_faults.Item kind r.number place)
-item_not_ended seen r i kind place (nothing n) e stuck reason = absurd (none≢some n.item_is e)
-item_not_ended seen r i kind place (item w) e stuck reason =
+    → (HasElements r.known (topic_in i) → IfNotStart (topic_in i) (kind ≡ misfit (item_wants r.known i []) None)) → IsRefusedAt seen place (model_faults.Item kind r.number place)
+item_not_ended seen r i kind place (nothing n) e stuck reason kinds = absurd (none≢some n.item_is e)
+item_not_ended seen r i kind place (item w) e stuck reason kinds =
     let same = same_item seen r i e w in
     end_refused seen r kind place w (cannot_end seen r i w e stuck) (subst (λ j. IsEndReason (topic_in j) kind) (sym same) (reason w.body (subst (IsSeen w.body) same w.read.seen)))
+    (subst (λ j. IfNotStart (topic_in j) (kind ≡ misfit (item_wants r.known j []) None)) (sym same) (kinds (some_elements seen r i w e)))
 
 -- nor for the number before its end
 pub item_not_ended_before : (seen : List Lexeme) (r : TextReader) (i : ItemReader) (kind : ItemFault) (at place : ℕ) → IsTextRead seen r → r.item ≡ Some i
@@ -101,9 +109,10 @@ not_begun seen r l (item w) e inside = absurd (none≢some e w.item_is)
 
 -- the open item takes it
 pub item_takes : (seen : List Lexeme) (r : TextReader) (l : Lexeme) (old new : ItemReader) → IsTextRead seen r → r.item ≡ Some old → begins_item l ≡ false
-    → topic_in new ≡ topic_in old → IsItemWithin r.known new → Takes (ItemGoes r.known) old l new → ((body : List Lexeme) → IsSeen body old → IsSeen (body ++ l ∷ []) new) → IsTextRead (seen ++ l ∷ []) (reader_of r.known (Some new) r.number)
-item_takes seen r l old new (nothing n) e inside same within takes goes_on = absurd (none≢some n.item_is e)
-item_takes seen r l old new (item w) e inside same within takes goes_on =
+    → topic_in new ≡ topic_in old → IsItemWithin r.known new → Takes (ItemGoes r.known) old l new → ((body : List Lexeme) → IsSeen body old → IsSeen (body ++ l ∷ []) new)
+    → IfNotStart (topic_in old) (Leads (item_wants r.known old) l (item_wants r.known new)) → IsTextRead (seen ++ l ∷ []) (reader_of r.known (Some new) r.number)
+item_takes seen r l old new (nothing n) e inside same within takes goes_on leads = absurd (none≢some n.item_is e)
+item_takes seen r l old new (item w) e inside same within takes goes_on leads =
     let read : IsBodyRead r.known w.t w.body old = subst (IsBodyRead r.known w.t w.body) (same_item seen r old e w) w.read in
     item (record {
       t = w.t;
@@ -112,16 +121,18 @@ item_takes seen r l old new (item w) e inside same within takes goes_on =
       within = within_goes_on seen l r.known w.t w.body w.within inside;
       item_is = refl;
       number_is = w.number_is;
-      read = item_goes_on r.known w.t w.body old new l read same within takes (goes_on w.body read.seen);
+      read = item_goes_on r.known w.t w.body old new l read same within takes (goes_on w.body read.seen) leads;
     })
 
 -- it cannot
 pub item_refuses : (seen : List Lexeme) (r : TextReader) (l : Lexeme) (i : ItemReader) (kind : ItemFault) (place : ℕ) → IsTextRead seen r → r.item ≡ Some i → begins_item l ≡ false
-    → CannotTake (ItemGoes r.known) i l → ((body : List Lexeme) → IsSeen body i → IsItemReason i body l kind place) → IsRefusedBehind (seen ++ l ∷ []) (model_faults.Item kind r.number place)
-item_refuses seen r l i kind place (nothing n) e inside stuck reason = absurd (none≢some n.item_is e)
-item_refuses seen r l i kind place (item w) e inside stuck reason =
+    → CannotTake (ItemGoes r.known) i l → ((body : List Lexeme) → IsSeen body i → IsItemReason i body l kind place)
+    → IfNotStart (topic_in i) (IsMisfit (item_wants r.known i []) l kind) → IsRefusedBehind (seen ++ l ∷ []) (model_faults.Item kind r.number place)
+item_refuses seen r l i kind place (nothing n) e inside stuck reason unfit = absurd (none≢some n.item_is e)
+item_refuses seen r l i kind place (item w) e inside stuck reason unfit =
     let same = sym (same_item seen r i e w) in
     feed_refused seen r l kind place w inside (subst (λ j. CannotTake (ItemGoes r.known) j l) same stuck) (subst (λ j. IsItemReason j w.body l kind place) same (reason w.body (subst (IsSeen w.body) (sym same) w.read.seen)))
+    (subst (λ j. IfNotStart (topic_in j) (IsMisfit (item_wants r.known j []) l kind)) same unfit)
 
 -- ---- an item's word
 

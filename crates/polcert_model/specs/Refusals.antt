@@ -16,6 +16,8 @@ use Rattle.polcert_model.specs.Text.{Known, nothing_known, AreRight, IsRightText
 use Rattle.polcert_model.specs.Reading.{IsWrong, CannotGoOn, IsPossible}
 use Rattle.polcert_model.specs.FirstWrong.{TextTokens, IsFirstWrong, LiesIn, IsDecided, word_place}
 use Rattle.polcert_model.specs.Reasons.{IsReason, is_sign}
+use Rattle.polcert_model.specs.Misfits.{misfit, IsOfValue, IsMisfit}
+use Rattle.polcert_model.specs.Wants.{wanted}
 
 pub record IsItemRefusal (ts : TextTokens) (kind : ItemFault) (number place : ℕ) : Type 0 where
   pub first_wrong : IsFirstWrong ts number
@@ -54,17 +56,18 @@ pub data IsTaken (k : Known) (t : Topic) (taken : List Lexeme) : Type 0 where
   in_start : t ≡ Start → IsTaken k t taken
 
 -- Behind the lexemes taken the item is no longer possible: with the next lexeme, with the next two as a sign and a
--- numeral, or, where nothing is left of it, as it is.
-pub data Stops (k : Known) (t : Topic) (taken : List Lexeme) : List Lexeme → Type 0 where
-  at_lexeme : {l : Lexeme} {behind : List Lexeme} → CannotGoOn k t (taken ++ l ∷ []) → Stops k t taken (l ∷ behind)
-  at_number : {sign l : Lexeme} {behind : List Lexeme} → is_sign sign.kind ≡ true → l.kind ≡ Numeral → CannotGoOn k t (taken ++ sign ∷ l ∷ [])
-      → Stops k t taken (sign ∷ l ∷ behind)
-  at_end : IsWrong k t taken → Stops k t taken []
-  at_start : {rest : List Lexeme} → t ≡ Start → Stops k t taken rest
+-- numeral, or, where nothing is left of it, as it is. The kind is so of what this place is for and of what stands there.
+-- (Of a start item this isn't said.)
+pub data Stops (k : Known) (t : Topic) (kind : ItemFault) (taken : List Lexeme) : List Lexeme → Type 0 where
+  at_lexeme : {l : Lexeme} {behind : List Lexeme} → CannotGoOn k t (taken ++ l ∷ []) → IsMisfit (wanted k t taken) l kind → Stops k t kind taken (l ∷ behind)
+  at_number : {sign l : Lexeme} {behind : List Lexeme} → is_sign sign.kind ≡ true → l.kind ≡ Numeral → IsPossible k t (taken ++ sign ∷ [])
+      → CannotGoOn k t (taken ++ sign ∷ l ∷ []) → IsOfValue kind → IsMisfit (wanted k t (taken ++ sign ∷ [])) l kind → Stops k t kind taken (sign ∷ l ∷ behind)
+  at_end : IsWrong k t taken → kind ≡ misfit (wanted k t taken) None → Stops k t kind taken []
+  in_start_item : {rest : List Lexeme} → t ≡ Start → Stops k t kind taken rest
 
 -- The place stands in the item where its lexemes so far are still possible, and with what stands there they aren't.
 -- Where nothing is left of the item and of the text, the tokens end cleanly.
-pub record StopsInBody (ts : TextTokens) (number place : ℕ) : Type 0 where
+pub record StopsInBody (ts : TextTokens) (kind : ItemFault) (number place : ℕ) : Type 0 where
   pub before : List Item
   pub item : Item
   pub after : List Item
@@ -78,7 +81,7 @@ pub record StopsInBody (ts : TextTokens) (number place : ℕ) : Type 0 where
   pub rest : List Lexeme
   pub whole : item.body ≡ taken ++ rest
   pub is_taken : IsTaken k t taken
-  pub stops : Stops k t taken rest
+  pub stops : Stops k t kind taken rest
   pub place_is : place ≡ place_or rest (word_place after ts.end 0)
   pub clean : rest ≡ [] → after ≡ [] → ts.ending ≡ None
 
@@ -92,7 +95,7 @@ IsOfTokens _ = ⊥
 -- possible, or is a fault of the tokens.
 pub data StandsRight (ts : TextTokens) (kind : ItemFault) (number place : ℕ) : Type 0 where
   before_body : IsDecided ts number kind place → StandsRight ts kind number place
-  in_body : StopsInBody ts number place → StandsRight ts kind number place
+  in_body : StopsInBody ts kind number place → StandsRight ts kind number place
   of_tokens : IsOfTokens kind → StandsRight ts kind number place
 
 abbrev pub IsPlacedRight : TextTokens → ModelFault → Type 0

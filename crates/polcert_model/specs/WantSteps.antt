@@ -19,6 +19,10 @@ use Rattle.polcert_model.specs.declared.lines.ValuesReader.TheVariants as values
 use Rattle.polcert_model.specs.declared.number.Sign.{Sign}
 use Rattle.polcert_model.specs.declared.start_reader.StartReader.{StartReader}
 use Rattle.polcert_model.specs.declared.start_reader.StartReader.TheVariants as starts
+use Rattle.polcert_model.specs.declared.fault.ItemFault.{ItemFault}
+use Rattle.polcert_model.specs.declared.stop.ItemEnd.{ItemEnd}
+use Rattle.polcert_model.specs.declared.stop.ItemEnd.TheVariants as ends
+use Rattle.polcert_model.specs.Words.{Topic, Start}
 use Rattle.polcert_model.specs.Elements.{Elements, count_of}
 use Rattle.polcert_model.specs.Text.{Known}
 use Rattle.polcert_model.specs.ElementSteps.{names_with}
@@ -61,7 +65,7 @@ abbrev pub list_wants : {T : Type 0} → Numbers T → List Lexeme → Wanted
 list_wants n ls = numbers_want (is_some n.sign) (n.needed - length n.read) ls
 
 abbrev pub state_wants : List Elements → Table → List Place → EntryState → List Lexeme → Wanted
-state_wants ds table places states.Colon ls = wants.entry_wants ds table false 0 ls
+state_wants ds table places states.Colon ls = wants.cells_want ds table ls
 state_wants ds table places states.Place ls = wants.entry_wants ds table true (length places) ls
 state_wants ds table places states.Body ls = wants.entry_wants ds table false (length places) ls
 state_wants ds table places (states.Probabilities n) ls = list_wants n ls
@@ -96,3 +100,13 @@ item_wants k (items.Actions r) ls = elements_want r ls
 item_wants k (items.Observations r) ls = elements_want r ls
 item_wants k (items.Start r) ls = start_wants (count_of (preamble_in k).states) r ls
 item_wants k (items.Entry r) ls = entry_wants (indices_in k r.table) r ls
+
+-- this holds of items that are no start item
+abbrev pub IfNotStart : Topic → Type 0 → Type 0
+IfNotStart Start P = Unit {0}
+IfNotStart _ P = P
+
+-- this holds of a refusal where the item ends
+abbrev pub IfAtEnd : ItemEnd → (ItemFault → Type 0) → Type 0
+IfAtEnd (ends.AtEnd kind) P = P kind
+IfAtEnd _ P = Unit {0}

@@ -15,11 +15,15 @@ use Rattle.polcert_model.specs.KnownView.{least_written}
 use Rattle.polcert_model.specs.EntrySteps.{preamble_in, indices_in}
 use Rattle.polcert_model.specs.Misfits.{Wanted, Mark, Index, Listed, CountOrName, FurtherName, StartBody, NumberOrEnd, Number, Digits, EndOfNumbers, EndOfWord}
 
+-- where a number may end: whether a sign stands before it, and how many numbers are still to come
+abbrev pub number_end : Bool → ℕ → Wanted
+number_end true left = Digits
+number_end false zero = EndOfNumbers
+number_end false (suc left) = Number
+
 -- Numbers: whether a sign stands before the lexemes, and how many numbers are still to come.
 abbrev pub numbers_want : Bool → ℕ → List Lexeme → Wanted
-numbers_want true left [] = Digits
-numbers_want false zero [] = EndOfNumbers
-numbers_want false (suc left) [] = Number
+numbers_want signed left [] = number_end signed left
 numbers_want signed left (l ∷ ls) = numbers_want (is_sign l.kind) (if is_sign l.kind then left else left - 1) ls
 
 -- a colon and one number
@@ -60,6 +64,11 @@ entry_wants ds table true written (l ∷ ls) = entry_wants ds table false (writt
 entry_wants ds table false written [] = if nat_lt written (least_written table) then Mark else numbers_want false (cells_in (drop written ds)) []
 entry_wants ds table false written (l ∷ ls) = by_kind l.kind (entry_wants ds table true written ls) (numbers_want false (cells_in (drop written ds)) (l ∷ ls))
 
+-- a colon, the first place, and what follows it
+abbrev pub cells_want : List Elements → Table → List Lexeme → Wanted
+cells_want ds table [] = Mark
+cells_want ds table (colon ∷ ls) = entry_wants ds table true 0 ls
+
 -- digits alone behind `start:` may be a state's number, unless there is one state
 abbrev pub may_be_state : ℕ → TokenKind → List ℕ → Bool
 may_be_state count kinds.Numeral bytes = if count == 1 then false else are_digits bytes
@@ -93,4 +102,4 @@ wanted k States taken = elements_want taken
 wanted k Actions taken = elements_want taken
 wanted k Observations taken = elements_want taken
 wanted k Start taken = start_wants (count_of (preamble_in k).states) taken
-wanted k (Cells table) taken = entry_wants (indices_in k table) table false 0 taken
+wanted k (Cells table) taken = cells_want (indices_in k table) table taken

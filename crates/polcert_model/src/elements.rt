@@ -1,9 +1,10 @@
 //! The states, actions or observations of a model.
-ghost use Rattle.std.specs.Prelude.{◌≡◌, ◌≤◌, ℕ, option_map, IsAscii, IfOk, IfErr, OnErr};
+ghost use Rattle.std.specs.Prelude.{◌≡◌, ◌≤◌, ℕ, option_map, Some, IsAscii, IfOk, IfErr, OnErr};
 ghost use Rattle.polcert_text.specs.Reading.{lexeme_of};
 ghost use Rattle.polcert_model.specs.Elements.{count_of, number_of, name_of, StandsFor, most_elements};
 ghost use Rattle.polcert_model.specs.ElementSteps.{IsText};
 ghost use Rattle.polcert_model.specs.EntrySteps.{IsPlaceReason};
+ghost use Rattle.polcert_model.specs.Misfits.{misfit, Index};
 
 use crate::ItemFault;
 use crate::names::Names;
@@ -68,6 +69,7 @@ pub fn element_of(token: Token<'_>, elements: &Elements) -> Result<usize, Refusa
     ensures element { IfOk result (StandsFor elements.now (lexeme_of token.entry)) }
     ensures refused { OnErr result ((index : ℕ) → StandsFor elements.now (lexeme_of token.entry) index → ⊥) }
     ensures reason { IfErr result (λ r. IsPlaceReason (lexeme_of token.entry) r.kind r.place) }
+    ensures kind { IfErr result (λ r. r.kind ≡ misfit Index (Some (lexeme_of token.entry))) }
 {
     match token.kind {
         TokenKind::Numeral => numbered(token, elements),
@@ -82,6 +84,7 @@ fn numbered(token: Token<'_>, elements: &Elements) -> Result<usize, Refusal>
     ensures element { IfOk result (StandsFor elements.now (lexeme_of token.entry)) }
     ensures refused { OnErr result ((index : ℕ) → StandsFor elements.now (lexeme_of token.entry) index → ⊥) }
     ensures reason { IfErr result (λ r. IsPlaceReason (lexeme_of token.entry) r.kind r.place) }
+    ensures kind { IfErr result (λ r. r.kind ≡ misfit Index (Some (lexeme_of token.entry))) }
 {
     let count = elements.count();
     match whole_number(count + 1, token.bytes) {
@@ -100,6 +103,7 @@ fn named(token: Token<'_>, elements: &Elements) -> Result<usize, Refusal>
     ensures element { IfOk result (StandsFor elements.now (lexeme_of token.entry)) }
     ensures refused { OnErr result ((index : ℕ) → StandsFor elements.now (lexeme_of token.entry) index → ⊥) }
     ensures reason { IfErr result (λ r. IsPlaceReason (lexeme_of token.entry) r.kind r.place) }
+    ensures kind { IfErr result (λ r. r.kind ≡ misfit Index (Some (lexeme_of token.entry))) }
 {
     if is_reserved(token.bytes) {
         return Err(misplaced(token));

@@ -1,5 +1,5 @@
 //! The states, actions or observations of a model, read token by token behind their word.
-ghost use Rattle.std.specs.Prelude.{◌≡◌, ◌↔◌, List, [], ◌∷◌, ◌++◌, false, OnOk, OnErr, IfOk, IfErr, IsTrue};
+ghost use Rattle.std.specs.Prelude.{◌≡◌, ◌↔◌, List, [], ◌∷◌, ◌++◌, false, Some, None, OnOk, OnErr, IfOk, IfErr, IsTrue};
 ghost use Rattle.polcert_text.specs.Cut.{Lexeme};
 ghost use Rattle.polcert_text.specs.Reading.{lexeme_of};
 ghost use Rattle.polcert_model.specs.Elements.{count_of, most_elements};
@@ -9,6 +9,8 @@ ghost use Rattle.polcert_model.specs.ItemSteps.{IsEndReason};
 ghost use Rattle.polcert_model.specs.LineSteps.{Takes, CannotTake, CannotEnd};
 ghost use Rattle.polcert_model.specs.Meaning.{IsCount};
 ghost use Rattle.polcert_model.specs.Reasons.{is_sign};
+ghost use Rattle.polcert_model.specs.Misfits.{misfit, IsMisfit, CountOrName, FurtherName};
+ghost use Rattle.polcert_model.specs.WantSteps.{Leads, elements_want};
 ghost use Rattle.polcert_model.specs.Words.{IsName};
 
 use crate::ItemFault;
@@ -49,6 +51,9 @@ impl ElementsReader {
         ensures seen { (body : List Lexeme) → AreElementsSeen body self.old
             → OnOk result (AreElementsSeen (body ++ lexeme_of token.entry ∷ []) self.new) }
         ensures sign { OnOk result (is_sign (lexeme_of token.entry).kind ≡ false) }
+        ensures leads { OnOk result (Leads (elements_want self.old) (lexeme_of token.entry) (elements_want self.new)) }
+        ensures kind { IfErr result (λ stop. IfRefused stop (λ r.
+            IsMisfit (elements_want self.old []) (lexeme_of token.entry) r.kind)) }
     {
         match self {
             ElementsReader::Colon => {
@@ -71,6 +76,7 @@ impl ElementsReader {
         ensures within { IsElementsRead self → IfOk result (λ e. IsCount most_elements (count_of e)) }
         ensures reason { IfErr result (IsEndReason Topic.States) }
         ensures refused { OnErr result (CannotEnd ElementsGo self) }
+        ensures kind { IfErr result (λ kind. kind ≡ misfit (elements_want self []) None) }
     {
         match self {
             ElementsReader::Colon => Err(ItemFault::BadShape),
@@ -92,6 +98,8 @@ fn begin(alloc: Global, token: Token<'_>) -> Result<ElementsReader, Stop>
         ElementsReason ElementsReader.First (lexeme_of token.entry) r.kind r.place)) }
     ensures seen { (colon : Lexeme) → IfOk result (AreElementsSeen (colon ∷ lexeme_of token.entry ∷ [])) }
     ensures sign { OnOk result (is_sign (lexeme_of token.entry).kind ≡ false) }
+    ensures leads { IfOk result (λ r. Leads (elements_want ElementsReader.First) (lexeme_of token.entry) (elements_want r)) }
+    ensures kind { IfErr result (λ stop. IfRefused stop (λ r. IsMisfit CountOrName (lexeme_of token.entry) r.kind)) }
 {
     match token.kind {
         TokenKind::Numeral => Ok(ElementsReader::Counted(count(token)?)),
@@ -109,6 +117,7 @@ fn count(token: Token<'_>) -> Result<usize, Refusal>
     ensures count { IfOk result (IsCountOf (lexeme_of token.entry)) }
     ensures refused { OnErr result (CannotTake ElementsGo ElementsReader.First (lexeme_of token.entry)) }
     ensures reason { IfErr result (λ r. ElementsReason ElementsReader.First (lexeme_of token.entry) r.kind r.place) }
+    ensures kind { IfErr result (λ r. r.kind ≡ misfit CountOrName (Some (lexeme_of token.entry))) }
 {
     match whole_number(MOST_ELEMENTS + 1, token.bytes) {
         Some(count) if 1 <= count && count <= MOST_ELEMENTS => Ok(count),
@@ -126,6 +135,8 @@ fn add_name(names: &mut Names, alloc: Global, token: Token<'_>) -> Result<(), St
     ensures refused { IfErr result (λ stop. IfRefused stop (λ r. CannotTake NamesGo names.old (lexeme_of token.entry))) }
     ensures reason { IfErr result (λ stop. IfRefused stop (λ r.
         ElementsReason (ElementsReader.Named names.old) (lexeme_of token.entry) r.kind r.place)) }
+    ensures kind { IfErr result (λ stop. IfRefused stop (λ r.
+        r.kind ≡ misfit (FurtherName names.old) (Some (lexeme_of token.entry)))) }
 {
     if !is_name(token) {
         return Err(Stop::Refused(misplaced(token)));

@@ -1,5 +1,5 @@
 //! An entry, read token by token behind the word of its table.
-ghost use Rattle.std.specs.Prelude.{◌≡◌, ◌<◌, ◌≤◌, ◌↔◌, [], List, length, IsTrue, IfOk, OnOk, IfErr, OnErr, IfSome, IfNone, MatchOption, None, unwrap_or};
+ghost use Rattle.std.specs.Prelude.{◌≡◌, ◌<◌, ◌≤◌, ◌↔◌, [], List, length, IsTrue, IfOk, OnOk, IfErr, OnErr, IfSome, IfNone, MatchOption, Some, None, false, unwrap_or};
 ghost use Rattle.polcert_text.specs.Reading.{lexeme_of};
 ghost use Rattle.std.specs.Option.{option_copied};
 ghost use Rattle.polcert_model.specs.Elements.{Elements, Count, count_of, most_elements};
@@ -8,9 +8,12 @@ ghost use Rattle.polcert_model.specs.Entry.{IsPlace};
 ghost use Rattle.polcert_model.specs.KnownView.{least_written};
 ghost use Rattle.polcert_model.specs.LineSteps.{Takes, CannotTake, CannotEnd};
 ghost use Rattle.polcert_model.specs.EntrySteps.{indices_in, ProbabilitiesGo, RewardsGo, EntryGoes, IsWithinIndices, IsEntryReason, IsPlaceReason, IfRefused, IsFull, IsListReason, MayStand, IsWordBehind, AreBegun, CannotBegin, range_of, HasRoom, HasRoomIn, no_numbers, body_of, entry_sign, AreSome};
+ghost use Rattle.polcert_model.specs.Misfits.{misfit, IsMisfit, Index};
 ghost use Rattle.polcert_model.specs.NumberSteps.{SignIs};
 ghost use Rattle.polcert_model.specs.ItemSteps.{IsEndReason};
 ghost use Rattle.polcert_model.specs.Text.{Known};
+ghost use Rattle.polcert_model.specs.Wants.{numbers_want};
+ghost use Rattle.polcert_model.specs.WantSteps.{Leads, list_wants, state_wants, entry_wants};
 ghost use Rattle.polcert_model.specs.Words.{Topic};
 ghost use Rattle.polcert_model.specs.declared.entry.Place.{Place};
 ghost use Rattle.polcert_model.specs.declared.entry_reader.Word.{Word};
@@ -54,6 +57,7 @@ impl<T: Copy> Numbers<T> {
     pub fn end_fault(&self) -> Option<ItemFault>
         ensures full { MatchOption result (IsFull self.now) (λ _. IsFull self.now → ⊥) }
         ensures reason { IfSome result (λ fault. (t : Topic) → IsEndReason t fault) }
+        ensures kind { HasRoom self.now → IfSome result (λ fault. fault ≡ misfit (list_wants self.now []) None) }
     {
         match self.sign {
             Some(_) => Some(ItemFault::BadShape),
@@ -74,6 +78,9 @@ impl Numbers<u32> {
         ensures reason { IfErr result (λ stop. IfRefused stop (λ r.
             IsListReason Range.Probability self.old.sign (lexeme_of token.entry) r.kind r.place)) }
         ensures sign { OnOk result (SignIs self.new.sign (lexeme_of token.entry)) }
+        ensures leads { OnOk result (Leads (list_wants self.old) (lexeme_of token.entry) (list_wants self.new)) }
+        ensures kind { IfErr result (λ stop. IfRefused stop (λ r.
+            IsMisfit (list_wants self.old []) (lexeme_of token.entry) r.kind)) }
     {
         if self.is_full() {
             return Err(Stop::Refused(behind_numbers(token)));
@@ -99,6 +106,9 @@ impl Numbers<i64> {
         ensures reason { IfErr result (λ stop. IfRefused stop (λ r.
             IsListReason Range.Reward self.old.sign (lexeme_of token.entry) r.kind r.place)) }
         ensures sign { OnOk result (SignIs self.new.sign (lexeme_of token.entry)) }
+        ensures leads { OnOk result (Leads (list_wants self.old) (lexeme_of token.entry) (list_wants self.new)) }
+        ensures kind { IfErr result (λ stop. IfRefused stop (λ r.
+            IsMisfit (list_wants self.old []) (lexeme_of token.entry) r.kind)) }
     {
         if self.is_full() {
             return Err(Stop::Refused(behind_numbers(token)));
@@ -169,6 +179,10 @@ impl EntryReader {
         ensures reason { IfErr result (λ stop. IfRefused stop (λ r.
             IsEntryReason self.old (lexeme_of token.entry) r.kind r.place)) }
         ensures sign { OnOk result (SignIs (entry_sign self.new.state) (lexeme_of token.entry)) }
+        ensures leads { OnOk result (Leads (entry_wants (indices_in known.now self.old.table) self.old)
+            (lexeme_of token.entry) (entry_wants (indices_in known.now self.old.table) self.new)) }
+        ensures kind { IfErr result (λ stop. IfRefused stop (λ r.
+            IsMisfit (entry_wants (indices_in known.now self.old.table) self.old []) (lexeme_of token.entry) r.kind)) }
     {
         match &mut self.state {
             EntryState::Colon => {
@@ -198,6 +212,10 @@ impl EntryReader {
         ensures reason { IfErr result (λ stop. IfRefused stop (λ r.
             IsPlaceReason (lexeme_of token.entry) r.kind r.place)) }
         ensures sign { OnOk result (SignIs (entry_sign self.new.state) (lexeme_of token.entry)) }
+        ensures leads { OnOk result (Leads (entry_wants (indices_in known.now self.old.table) self.old)
+            (lexeme_of token.entry) (entry_wants (indices_in known.now self.old.table) self.new)) }
+        ensures kind { IfErr result (λ stop. IfRefused stop (λ r.
+            IsMisfit (entry_wants (indices_in known.now self.old.table) self.old []) (lexeme_of token.entry) r.kind)) }
     {
         let elements = known.elements(self.table, self.places.len());
         let place = place_of(token, elements)?;
@@ -219,6 +237,10 @@ impl EntryReader {
         ensures reason { IfErr result (λ stop. IfRefused stop (λ r.
             IsEntryReason self.old (lexeme_of token.entry) r.kind r.place)) }
         ensures sign { OnOk result (SignIs (entry_sign self.new.state) (lexeme_of token.entry)) }
+        ensures leads { OnOk result (Leads (entry_wants (indices_in known.now self.old.table) self.old)
+            (lexeme_of token.entry) (entry_wants (indices_in known.now self.old.table) self.new)) }
+        ensures kind { IfErr result (λ stop. IfRefused stop (λ r.
+            IsMisfit (entry_wants (indices_in known.now self.old.table) self.old []) (lexeme_of token.entry) r.kind)) }
     {
         let written = self.places.len();
         match token.kind {
@@ -247,6 +269,8 @@ impl EntryReader {
         ensures said { (ds : List Elements) → IfOk result (EntryGoes ds self []) }
         ensures refused { (ds : List Elements) → AreSome ds → OnErr result (CannotEnd (EntryGoes ds) self) }
         ensures reason { IfErr result (IsEndReason (Topic.Cells self.table)) }
+        ensures kind { (ds : List Elements) → AreSome ds → IsWithinIndices ds self →
+            IfErr result (λ kind. kind ≡ misfit (entry_wants ds self []) None) }
     {
         let EntryReader {
             table,
@@ -297,6 +321,10 @@ fn begin_numbers(
     ensures reason { IfErr result (λ stop. IfRefused stop (λ r.
         IsListReason (range_of table) None (lexeme_of token.entry) r.kind r.place)) }
     ensures sign { IfOk result (λ state. SignIs (entry_sign state) (lexeme_of token.entry)) }
+    ensures leads { (ds : List Elements) (places : List Place) → IfOk result (λ state.
+        Leads (numbers_want false needed) (lexeme_of token.entry) (state_wants ds table places state)) }
+    ensures kind { IfErr result (λ stop. IfRefused stop (λ r.
+        IsMisfit (numbers_want false needed []) (lexeme_of token.entry) r.kind)) }
     ensures room { IfOk result HasRoomIn }
 {
     match table {
@@ -315,6 +343,9 @@ fn begin_rewards(alloc: Global, needed: usize, token: Token<'_>) -> Result<Numbe
     ensures reason { IfErr result (λ stop. IfRefused stop (λ r.
         IsListReason Range.Reward None (lexeme_of token.entry) r.kind r.place)) }
     ensures sign { IfOk result (λ n. SignIs n.sign (lexeme_of token.entry)) }
+    ensures leads { IfOk result (λ n. Leads (numbers_want false needed) (lexeme_of token.entry) (list_wants n)) }
+    ensures kind { IfErr result (λ stop. IfRefused stop (λ r.
+        IsMisfit (numbers_want false needed []) (lexeme_of token.entry) r.kind)) }
     ensures room { IfOk result (λ n. HasRoom n) }
 {
     let mut numbers = Numbers::new(alloc, needed);
@@ -330,6 +361,9 @@ fn begin_probabilities(alloc: Global, needed: usize, token: Token<'_>) -> Result
     ensures reason { IfErr result (λ stop. IfRefused stop (λ r.
         IsListReason Range.Probability None (lexeme_of token.entry) r.kind r.place)) }
     ensures sign { IfOk result (λ n. SignIs n.sign (lexeme_of token.entry)) }
+    ensures leads { IfOk result (λ n. Leads (numbers_want false needed) (lexeme_of token.entry) (list_wants n)) }
+    ensures kind { IfErr result (λ stop. IfRefused stop (λ r.
+        IsMisfit (numbers_want false needed []) (lexeme_of token.entry) r.kind)) }
     ensures room { IfOk result (λ n. HasRoom n) }
 {
     let mut numbers = Numbers::new(alloc, needed);
@@ -344,11 +378,12 @@ fn place_of(token: Token<'_>, elements: Option<&Elements>) -> Result<Place, Refu
     ensures place { IfOk result (IsPlace (unwrap_or (option_copied elements.entry) (Count 0)) (lexeme_of token.entry)) }
     ensures refused { OnErr result ((p : Place) → IsPlace (unwrap_or (option_copied elements.entry) (Count 0)) (lexeme_of token.entry) p → ⊥) }
     ensures reason { IfErr result (λ r. IsPlaceReason (lexeme_of token.entry) r.kind r.place) }
+    ensures kind { IfErr result (λ r. r.kind ≡ misfit Index (Some (lexeme_of token.entry))) }
 {
     match (token.kind, elements) {
         (TokenKind::Star, _) => Ok(Place::Every),
         (_, Some(elements)) => Ok(Place::Only(element_of(token, elements)?)),
-        (_, None) => Err(misplaced(token)),
+        (_, None) => Ok(Place::Only(element_of(token, &Elements::Count(0))?)),
     }
 }
 

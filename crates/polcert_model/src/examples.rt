@@ -92,7 +92,7 @@ pub fn refused_texts()
     ensures hello { IsItemRefusal hello BeforeFirstItem 0 0 }
     ensures twice { IsItemRefusal twice DuplicateLine 2 12 }
     ensures above_one { IsItemRefusal above_one DiscountRange 1 10 }
-    ensures above_one_stops { StopsInBody above_one 1 10 }
+    ensures above_one_stops { StopsInBody above_one DiscountRange 1 10 }
     ensures glued { IsItemRefusal glued (Token (Glued 10)) 1 10 }
 {}
 

@@ -1,5 +1,5 @@
 //! An item behind its word, read token by token.
-ghost use Rattle.std.specs.Prelude.{◌≡◌, List, [], ◌∷◌, ◌++◌, IfOk, OnOk, IfErr};
+ghost use Rattle.std.specs.Prelude.{◌≡◌, None, List, [], ◌∷◌, ◌++◌, IfOk, OnOk, IfErr};
 ghost use Rattle.polcert_text.specs.Cut.{Lexeme};
 ghost use Rattle.polcert_text.specs.Reading.{lexeme_of};
 ghost use Rattle.polcert_model.specs.ElementSteps.{IsText};
@@ -7,7 +7,9 @@ ghost use Rattle.polcert_model.specs.EntrySteps.{IfRefused};
 ghost use Rattle.polcert_model.specs.ItemSteps.{ItemGoes, IsItemWithin, IsItemReason, IsItemEndReason, topic_in, IsSeen, new_item, HasElements, pending_in};
 ghost use Rattle.polcert_model.specs.KnownView.{learned, IsSaidWithin};
 ghost use Rattle.polcert_model.specs.LineSteps.{Takes, CannotTake, CannotEnd};
+ghost use Rattle.polcert_model.specs.Misfits.{misfit, IsMisfit};
 ghost use Rattle.polcert_model.specs.StartSteps.{IfNotMemory};
+ghost use Rattle.polcert_model.specs.WantSteps.{Leads, item_wants, IfNotStart, IfAtEnd};
 
 use crate::elements::Elements;
 use crate::elements_reader::ElementsReader;
@@ -75,6 +77,10 @@ impl ItemReader {
             CannotTake (ItemGoes known.now) self.old (lexeme_of token.entry))) }
         ensures reason { (body : List Lexeme) → IsSeen body self.old → IfErr result (λ stop. IfRefused stop (λ r.
             IsItemReason self.old body (lexeme_of token.entry) r.kind r.place)) }
+        ensures leads { OnOk result (IfNotStart (topic_in self.old)
+            (Leads (item_wants known.now self.old) (lexeme_of token.entry) (item_wants known.now self.new))) }
+        ensures kind { IfErr result (λ stop. IfRefused stop (λ r. IfNotStart (topic_in self.old)
+            (IsMisfit (item_wants known.now self.old []) (lexeme_of token.entry) r.kind))) }
     {
         match self {
             ItemReader::Discount(reader) => Ok(reader.feed(token)?),
@@ -104,6 +110,8 @@ impl ItemReader {
         ensures within { IfOk result IsSaidWithin }
         ensures refused { HasElements known.now (topic_in self) → IfErr result (λ e. IfNotMemory e (CannotEnd (ItemGoes known.now) self)) }
         ensures reason { (body : List Lexeme) → IsSeen body self → IfErr result (IsItemEndReason (topic_in self) body) }
+        ensures kind { HasElements known.now (topic_in self) → IfErr result (λ e. IfNotStart (topic_in self)
+            (IfAtEnd e (λ kind. kind ≡ misfit (item_wants known.now self []) None))) }
     {
         match self {
             ItemReader::Discount(reader) => Ok(Said::Discount(reader.end()?)),

@@ -1,9 +1,10 @@
-use Rattle.std.proofs.Common.{◌≢◌, length, rules, subst, sym}
+use Rattle.std.proofs.Common.{◌≢◌, ◌∙◌, length, rules, subst, sym}
 use Rattle.polcert_text.specs.Reading.{lexeme_of}
 use Rattle.polcert_model.specs.Elements.{most_elements}
 use Rattle.polcert_model.specs.ElementSteps.{AreNamesRead}
 use Rattle.polcert_model.proofs.Basics.{true≢false}
 use Rattle.polcert_model.proofs.ElementLaws.{no_name_stuck, known_stuck, more_read}
+use Rattle.polcert_model.proofs.MisfitLaws.{name_too_many, name_again}
 use Rattle.polcert_model.proofs.elements_reader.add_name.Goals as goal
 
 pub returns-then-not-is_name-clause-refused : goal.returns-then-not-is_name-clause-refused
@@ -18,3 +19,9 @@ returns-then-branch-clause-within c =
 
 pub returns-else-branch-clause-refused : goal.returns-else-branch-clause-refused
 returns-else-branch-clause-refused c = known_stuck c.args.names.now (lexeme_of c.args.token) (c.in_ok-push.ensures.known c.if-branch.false).0
+
+pub returns-then-len-eq-MOST_ELEMENTS-clause-kind : goal.returns-then-len-eq-MOST_ELEMENTS-clause-kind
+returns-then-len-eq-MOST_ELEMENTS-clause-kind c = c.bad_count.ensures.kind ∙ name_too_many c.args.names.now (lexeme_of c.args.token) (c.is_name.ensures.0 c.if-not-is_name.false) (search rules)
+
+pub returns-else-branch-clause-kind : goal.returns-else-branch-clause-kind
+returns-else-branch-clause-kind c = let names = c.args.names.now in name_again names (lexeme_of c.args.token) (c.is_name.ensures.0 c.if-not-is_name.false) (search rules)

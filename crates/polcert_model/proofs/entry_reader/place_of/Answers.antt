@@ -18,4 +18,5 @@ returns-in_err-element_of-in_default-Some c =
       place = tt;
       refused = subst (λ d. (q : Place) → IsPlace d l q → ⊥) (sym are) (no_place c.in_default-Some.elements.now l c.in_default-Some.not-Star-0 e.refused);
       reason = e.reason;
+      kind = e.kind;
     })

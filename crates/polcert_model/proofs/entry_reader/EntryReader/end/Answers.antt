@@ -1,8 +1,10 @@
-use Rattle.std.proofs.Common.{[], ap, refl, subst, sym}
+use Rattle.std.proofs.Common.{◌≤◌, [], ap, drop, length, refl, rules, subst, sym}
+use Rattle.polcert_model.specs.KnownView.{least_written}
+use Rattle.polcert_model.proofs.WantLaws.{body_ends_in}
 use Rattle.polcert_model.specs.declared.entry_reader.EntryState.TheVariants as states
 use Rattle.polcert_model.specs.Words.{Cells}
 use Rattle.polcert_model.specs.EntrySteps.{EntryGoes, entry_with}
-use Rattle.polcert_model.proofs.PatternLaws.{full_probabilities, full_rewards, probabilities_full, no_end, cannot_end_in, ends_in}
+use Rattle.polcert_model.proofs.PatternLaws.{cells_some, some_dropped, full_probabilities, full_rewards, probabilities_full, no_end, cannot_end_in, ends_in}
 use Rattle.polcert_model.proofs.entry_reader.EntryReader.end.Goals.{in-Probabilities+in-None, in-Rewards+in-None-end_fault, in-Word}
 use Rattle.polcert_model.proofs.entry_reader.EntryReader.end.Goals as goal
 
@@ -31,3 +33,9 @@ returns-in-Some-clause-reason c = c.in-Some.ensures.reason (Cells c.args.self.ta
 
 pub returns-in-Some-end_fault-clause-reason : goal.returns-in-Some-end_fault-clause-reason
 returns-in-Some-end_fault-clause-reason c = c.in-Some-end_fault.ensures.reason (Cells c.args.self.table)
+
+pub returns-in-Body-clause-kind : goal.returns-in-Body-clause-kind
+returns-in-Body-clause-kind c = λ ds some within.
+    let r = c.args.self in
+    let low : least_written r.table ≤ length r.places = search rules in
+    body_ends_in ds r c.in-Body.is low (cells_some (drop (length r.places) ds) (some_dropped (length r.places) ds some))

@@ -1,4 +1,6 @@
-use Rattle.std.proofs.Common.{◌∙◌, ◌≤◌, drop, length, sym, ap, subst, rules, arith}
+use Rattle.polcert_model.specs.Wants.{numbers_want}
+use Rattle.polcert_model.specs.WantSteps.{Leads, state_wants}
+use Rattle.std.proofs.Common.{false, ◌∙◌, ◌≤◌, drop, length, sym, ap, subst, rules, arith}
 use Rattle.polcert_text.specs.Reading.{lexeme_of}
 use Rattle.polcert_model.specs.Entry.{cells_in}
 use Rattle.polcert_model.specs.KnownView.{least_written}
@@ -7,6 +9,7 @@ use Rattle.polcert_model.specs.declared.entry_reader.EntryState.TheVariants as s
 use Rattle.polcert_model.proofs.Basics.{true≢false}
 use Rattle.polcert_model.proofs.GoOnLaws.{begins_no_number}
 use Rattle.polcert_model.proofs.PatternLaws.{colon_takes, colon_stuck, numbers_begin, numbers_stuck, few_stuck, word_takes, nothing_takes, in_state, stuck_in_state, number_not_colon, number_not_name, if_err_map, refused_map}
+use Rattle.polcert_model.proofs.WantLaws.{numbers_lead, body_leads, number_begins}
 use Rattle.polcert_model.proofs.entry_reader.EntryReader.feed_body.Goals.{in_default-via-in-Colon+else-written-indices_of, in_default-via-in-Numeral+else-takes_numbers, in_default-via-in_default}
 use Rattle.polcert_model.proofs.entry_reader.EntryReader.feed_body.Goals as goal
 
@@ -62,3 +65,13 @@ returns-in-None-clause-refused c =
           (λ ls hs a. begins_no_number w.in_default.not-Numeral w.in_default.not-Plus w.in_default.not-Minus a)
           (λ word is. none word (subst (λ n. IsWordBehind r.table n l word) (sym c.len-written.ensures) is)))
     ]
+
+pub returns-in_ok-self-in-Numeral-clause-leads : goal.returns-in_ok-self-in-Numeral-clause-leads
+returns-in_ok-self-in-Numeral-clause-leads c =
+    let r = c.args.self.now in
+    let ds = indices_in c.args.known.now r.table in
+    let l = lexeme_of c.args.token in
+    let cells = c.cells_behind-needed.ensures ∙ ap (λ n. cells_in (drop n ds)) c.len-written.ensures in
+    body_leads ds r l _ c.requires.state
+    (numbers_lead ds r.table (length r.places) l _ (number_begins l.kind c.in-Numeral.is)
+    (subst (λ m. Leads (numbers_want false m) l (state_wants ds r.table r.places c.in_ok-self-in-Numeral.field-0)) cells (c.in_ok-self-in-Numeral.ensures.leads ds r.places)))
