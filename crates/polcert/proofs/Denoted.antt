@@ -82,7 +82,7 @@ pub same_vectors : {model graph vectors : List ℕ} (m : Meaning) (g : PolicyGra
 same_vectors {model} {graph} {vectors} m g v has are c =
     let same = same_graph m c.meaning g c.policy has (record { is_model = c.is_model; is_graph = c.is_graph }) in
     let moved = subst (λ (h : PolicyGraph). IsVectorsText h (states_of c.meaning) vectors v) same.1
-      (subst (λ s. IsVectorsText g s vectors v) (same_states same.0) are) in
+    (subst (λ s. IsVectorsText g s vectors v) (same_states same.0) are) in
     (same.0, same.1, texts.one_vectors c.policy (states_of c.meaning) vectors v c.values moved c.are_vectors)
 
 -- What is said of what three texts denote, and carries to every same model, is said of whatever they denote.

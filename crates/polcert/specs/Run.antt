@@ -5,6 +5,7 @@ use Rattle.polcert_text.specs.Source.{IsText}
 use Rattle.polcert_text.specs.Sink.{Takes, TakesFront}
 use Rattle.polcert_model.specs.Meaning.{Meaning}
 use Rattle.polcert_model.specs.Text.{IsModelText}
+use Rattle.polcert_model.specs.FullForm.{full_form}
 use Rattle.polcert_policy.specs.Vectors.{PolicyVectors, shifted_by}
 use Rattle.polcert_policy.specs.FullForm.{vectors_text}
 use Rattle.polcert_check.specs.declared.fault.LowerFault.{LowerFault}
@@ -13,6 +14,9 @@ use Rattle.polcert_check.specs.declared.verdict.Verdict.{Verdict}
 use Rattle.polcert_check.specs.declared.verdict.Verdict.TheVariants.{Yes}
 use Rattle.polcert_check.specs.Horizon.{Controller}
 use Rattle.polcert_check.specs.Lower.{HasLeastConstant, IsLeastConstant, IsNotLowered}
+use Rattle.polcert.specs.declared.fault.Fault.TheVariants.{Model}
+use Rattle.polcert.specs.declared.fault.RunFault.{RunFault}
+use Rattle.polcert.specs.declared.fault.RunFault.TheVariants.{Text, ReadModel, Write}
 use Rattle.polcert.specs.Answer.{IsAnswer}
 use Rattle.polcert.specs.Headline.{Certificate, controller}
 use Rattle.polcert.specs.Lines.{summary_line, IsVerdictLine}
@@ -37,12 +41,35 @@ module _ {S W : Type 0} (reads : S → ℕ → Option (List ℕ) → S → Type 
     pub accepted : IsModelText text model
     pub took : TakesFront writes sink (summary_line model) sink'
 
+  -- the text of the source is a model's, and the sink took the model's full form and nothing else
+  pub record Prints : Type 0 where
+    pub text : List ℕ
+    pub model : Meaning
+    pub was_read : IsText reads source text source'
+    pub accepted : IsModelText text model
+    pub took : Takes writes sink (full_form model) sink'
+
+  -- the text of the source is a model's, and the sink took a beginning of the model's full form
+  pub record BeginsToPrint : Type 0 where
+    pub text : List ℕ
+    pub model : Meaning
+    pub was_read : IsText reads source text source'
+    pub accepted : IsModelText text model
+    pub took : TakesFront writes sink (full_form model) sink'
+
 -- ---- devices
 
 -- A device is named as the one that failed only where it failed in the call, and no failure of it is passed over.
 pub record IsNamedRightly (is_named : Type 0) (before after : ℕ) : Type 0 where
   pub failed : is_named → HasFailed before after
   pub passed_over : (is_named → ⊥) → after ≡ before
+
+-- what a run over one model's source may answer: a refusal of the model's text, and its devices
+abbrev pub IsModelRunFault : RunFault → Type 0
+IsModelRunFault (Text (Model fault)) = Unit {0}
+IsModelRunFault ReadModel = Unit {0}
+IsModelRunFault Write = Unit {0}
+IsModelRunFault _ = ⊥
 
 -- ---- three sources
 

@@ -51,7 +51,11 @@ pub fn choose<'a>(alloc: Global, words: &'a [&'a str]) -> Result<Option<Choice<'
 fn program_command<'a>(alloc: Global) -> Result<Command<'a>, AllocError>
     ensures { IfOk result (λ command. app_of command ≡ the_app) }
 {
-    let model = command_with_file(alloc, "model", "Say in one line what a model is, or where it is wrong")?;
+    let model = command_with_file(
+        alloc,
+        "model",
+        "Say in one line what a model is, or where it is wrong",
+    )?;
     let print = command_with_file(alloc, "print", "Print a model in full form")?;
     let check = command_with_files(
         alloc,

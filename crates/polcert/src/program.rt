@@ -4,7 +4,7 @@ ghost use Rattle.std.specs.Prelude.{◌≡◌};
 use crate::choice::{Choice, Names, choose};
 use crate::fault::RunFault;
 use crate::refusal::{LoweredLine, RefusalLine};
-use crate::runs::{run_check, run_lower, run_model};
+use crate::runs::{run_check, run_lower, run_model, run_print};
 use crate::status::{status_of, status_of_verdict};
 use clap::error::ErrorKind;
 use polcert_text::{ReaderSource, WriterSink};
@@ -95,6 +95,14 @@ fn sum_up_file<R: Files + AllocGlobal + Print>(rt: &R, name: &str) -> Result<u8,
     let mut source = opened(rt, name, RunFault::ReadModel)?;
     let mut sink = WriterSink::new(io::writer(rt));
     run_model(rt.alloc(), &mut source, &mut sink)?;
+    Ok(DONE)
+}
+
+/// Prints the model of a file in full form.
+fn print_file<R: Files + AllocGlobal + Print>(rt: &R, name: &str) -> Result<u8, RunFault> {
+    let mut source = opened(rt, name, RunFault::ReadModel)?;
+    let mut sink = WriterSink::new(io::writer(rt));
+    run_print(rt.alloc(), &mut source, &mut sink)?;
     Ok(DONE)
 }
 

@@ -4,8 +4,7 @@ use polcert_check::LowerFault;
 use polcert_model::{ItemFault, ModelFault};
 use polcert_policy::{GraphFault, VectorFault};
 use polcert_text::{NumberFault, SliceSink, TokenFault, write_scaled};
-use std::fmt;
-use std::str;
+use std::{fmt, str};
 
 /// Why a run stopped, as the program prints it, without a line end: `model: M4 in item 8 at byte 106`. An item of a
 /// text goes by its number from 1 on, a byte by its offset, and actions, rows, nodes, states and observations by their
@@ -66,7 +65,12 @@ impl fmt::Display for GraphLine {
     fn fmt<W: fmt::Write>(&self, f: &mut fmt::Formatter<W>) -> fmt::Result {
         match self.0 {
             GraphFault::Token(fault) => {
-                write!(f, "graph: G1 K{} at byte {}", token_code(fault), fault.place())
+                write!(
+                    f,
+                    "graph: G1 K{} at byte {}",
+                    token_code(fault),
+                    fault.place()
+                )
             }
             GraphFault::BadShape(place) => write!(f, "graph: G2 at byte {place}"),
             GraphFault::NodeOutOfOrder(place) => write!(f, "graph: G3 at byte {place}"),
@@ -89,7 +93,12 @@ impl fmt::Display for VectorsLine {
     fn fmt<W: fmt::Write>(&self, f: &mut fmt::Formatter<W>) -> fmt::Result {
         match self.0 {
             VectorFault::Token(fault) => {
-                write!(f, "vectors: V1 K{} at byte {}", token_code(fault), fault.place())
+                write!(
+                    f,
+                    "vectors: V1 K{} at byte {}",
+                    token_code(fault),
+                    fault.place()
+                )
             }
             VectorFault::Number { fault, place } => {
                 write!(f, "vectors: V2 N{} at byte {place}", number_code(fault))
@@ -117,7 +126,10 @@ impl fmt::Display for LowerLine {
                 node,
                 state,
                 observation,
-            } => write!(f, "lower: L3 at node {node}, state {state}, observation {observation}"),
+            } => write!(
+                f,
+                "lower: L3 at node {node}, state {state}, observation {observation}"
+            ),
             LowerFault::Memory => write!(f, "out of memory"),
         }
     }
@@ -136,7 +148,7 @@ impl fmt::Display for LoweredLine {
         let mut room = [0u8; NUMBER_ROOM];
         let mut sink = SliceSink::new(&mut room);
         match write_scaled(self.0, &mut sink) {
-            Ok(()) => match str::from_utf8(sink.taken()) {
+            Ok(()) => match str::from_utf8(sink.written()) {
                 Ok(number) => write!(f, "lowered by {number}"),
                 Err(_) => Err(fmt::Error),
             },
@@ -249,7 +261,10 @@ mod tests {
                 "graph: G5 at node 0, observation 1",
             ),
             (graph(GraphFault::NodeOutOfOrder(8)), "graph: G3 at byte 8"),
-            (graph(GraphFault::ActionOutOfRange(2)), "graph: G4 at byte 2"),
+            (
+                graph(GraphFault::ActionOutOfRange(2)),
+                "graph: G4 at byte 2",
+            ),
             (graph(GraphFault::Truncated(5)), "graph: G6 at byte 5"),
             (graph(GraphFault::NoNodes(0)), "graph: G7 at byte 0"),
             (graph(GraphFault::TooManyNodes(7)), "graph: G8 at byte 7"),
@@ -267,8 +282,14 @@ mod tests {
                 "vectors: V2 N3 at byte 6",
             ),
             (vectors(VectorFault::BadShape(6)), "vectors: V3 at byte 6"),
-            (vectors(VectorFault::ActionMismatch(0)), "vectors: V4 at byte 0"),
-            (vectors(VectorFault::WrongVectorCount(10)), "vectors: V6 at byte 10"),
+            (
+                vectors(VectorFault::ActionMismatch(0)),
+                "vectors: V4 at byte 0",
+            ),
+            (
+                vectors(VectorFault::WrongVectorCount(10)),
+                "vectors: V6 at byte 10",
+            ),
             (vectors(VectorFault::Memory), "out of memory"),
             (
                 RunFault::Lower(LowerFault::NoConstant {

@@ -1,21 +1,24 @@
 //! Runs from sources to sinks.
-ghost use Rattle.std.specs.Prelude.{◌≡◌, ◌≢◌, ℕ, ℤ, List, OnOk, IfOk, IsErrOf};
+ghost use Rattle.std.specs.Prelude.{◌≡◌, ◌≢◌, ℕ, ℤ, List, OnOk, IfOk, IfErr, IsErrOf};
 ghost use Rattle.polcert_text.specs.Device.{HasFailed};
 ghost use Rattle.polcert_text.specs.Sink.{Takes, TakesFront, WritesText};
 ghost use Rattle.polcert_text.specs.Source.{IsText, EachTextThatFits};
+ghost use Rattle.polcert_model.specs.Contents.{meaning};
+ghost use Rattle.polcert_model.specs.FullForm.{full_form};
 ghost use Rattle.polcert_model.specs.Refusals.{SaysOfText};
 ghost use Rattle.polcert_policy.specs.FullForm.{vectors_text};
 ghost use Rattle.polcert_policy.specs.Graphs.{nodes};
 ghost use Rattle.polcert_policy.specs.VectorText.{IsVectorsText};
 ghost use Rattle.polcert_check.specs.declared.verdict.Verdict.{Verdict};
 ghost use Rattle.polcert.specs.Answer.{IsRefused, IsModelFault, IsGraphRefused, AreVectorsRefused};
-ghost use Rattle.polcert.specs.Run.{SumsUp, BeginsToSumUp, IsNamedRightly, text_of, HasVerdict, HasLowered, IsNotLowerable};
+ghost use Rattle.polcert.specs.Run.{SumsUp, BeginsToSumUp, Prints, BeginsToPrint, IsModelRunFault, IsNamedRightly, text_of, HasVerdict, HasLowered, IsNotLowerable};
 
 use crate::controller::{Controller, read_controller};
 use crate::fault::{Fault, RunFault};
 use crate::lines::{write_summary, write_verdict};
 use crate::sources::{SourceFault, read_model_from};
 use polcert_check::{Verdict, check, lowered};
+use polcert_model::{Model, write_model};
 use polcert_policy::{Graph, Vectors, write_vectors};
 use polcert_text::{BufferedSink, Sink, SinkFailed, Source};
 use std::alloc::Global;
@@ -48,8 +51,9 @@ pub fn run_model<S: Source, W: Sink>(
     ensures begun { IsErrOf result RunFault.Write
         → BeginsToSumUp S.reads W.writes source.old source.new sink.old sink.new }
 
-    // With any other fault nothing was written.
+    // With any other fault nothing was written. Nothing but these faults is answered.
     ensures untouched { (fault : RunFault) → IsErrOf result fault → fault ≢ RunFault.Write → sink.new ≡ sink.old }
+    ensures of_a_model { IfErr result IsModelRunFault }
 {
     let model = match read_model_from(alloc, source) {
         Ok(model) => model,
@@ -60,6 +64,52 @@ pub fn run_model<S: Source, W: Sink>(
         Ok(()) => Ok(()),
         Err(_) => Err(RunFault::Write),
     }
+}
+
+/// Reads a model from the source, and writes it in full form, and nothing else. Nothing is written before the whole text is
+/// accepted.
+pub fn run_print<S: Source, W: Sink>(
+    alloc: Global,
+    source: &mut S,
+    sink: &mut W,
+) -> Result<(), RunFault>
+    // The sink took exactly the full form of the model that the text of the source denotes.
+    ensures printed { OnOk result (Prints S.reads W.writes source.old source.new sink.old sink.new) }
+
+    // No text that fits what was read is a model's, and the fault is a right refusal of each of them.
+    ensures refused { (fault : _) → IsErrOf result (RunFault.Text (Fault.Model fault))
+        → EachTextThatFits S.reads source.old source.new (λ text. IsModelFault text fault) }
+
+    // A device is named only where it failed in this call, and no failure of one is passed over.
+    ensures read { IsNamedRightly (IsErrOf result RunFault.ReadModel) (S.failures source.old) (S.failures source.new) }
+    ensures write { IsNamedRightly (IsErrOf result RunFault.Write) (W.failures sink.old) (W.failures sink.new) }
+
+    // Where a write failed, what was written before is a beginning of the full form.
+    ensures begun { IsErrOf result RunFault.Write
+        → BeginsToPrint S.reads W.writes source.old source.new sink.old sink.new }
+
+    // With any other fault nothing was written. Nothing but these faults is answered.
+    ensures untouched { (fault : RunFault) → IsErrOf result fault → fault ≢ RunFault.Write → sink.new ≡ sink.old }
+    ensures of_a_model { IfErr result IsModelRunFault }
+{
+    let model = match read_model_from(alloc, source) {
+        Ok(model) => model,
+        Err(SourceFault::Device) => return Err(RunFault::ReadModel),
+        Err(SourceFault::Refused(fault)) => return Err(RunFault::Text(Fault::Model(fault))),
+    };
+    match write_full_form(&model, sink) {
+        Ok(()) => Ok(()),
+        Err(_) => Err(RunFault::Write),
+    }
+}
+
+/// Writes a model in full form, through a buffer.
+fn write_full_form<W: Sink>(model: &Model, sink: &mut W) -> Result<(), SinkFailed>
+    ensures { WritesText W.writes W.failures sink.old (full_form (meaning model.now)) result sink.new }
+{
+    let mut buffered = BufferedSink::new(sink);
+    write_model(model, &mut buffered)?;
+    buffered.flush()
 }
 
 /// Reads a model, a policy graph and the graph's vectors from three sources, checks them, writes the line of the verdict,
@@ -75,7 +125,7 @@ pub fn run_check<M: Source, G: Source, V: Source, W: Sink>(
     // The sink took exactly the line of the answer to the texts of the three sources.
     ensures answered { IfOk result (λ verdict. (line : List ℕ)
         × HasVerdict (text_of M.reads model.old model.new) (text_of G.reads graph.old graph.new)
-            (text_of V.reads vectors.old vectors.new) verdict line
+        (text_of V.reads vectors.old vectors.new) verdict line
         × Takes W.writes sink.old line sink.new) }
 
     // No text that fits what was read of a source is a model's; or behind the first text a graph's; or behind the first
@@ -98,7 +148,7 @@ pub fn run_check<M: Source, G: Source, V: Source, W: Sink>(
     // Where a write failed, what was written before is a beginning of the line.
     ensures begun { IsErrOf result RunFault.Write → (verdict : Verdict) × (line : List ℕ)
         × HasVerdict (text_of M.reads model.old model.new) (text_of G.reads graph.old graph.new)
-            (text_of V.reads vectors.old vectors.new) verdict line
+        (text_of V.reads vectors.old vectors.new) verdict line
         × TakesFront W.writes sink.old line sink.new }
 
     // With any other fault nothing was written; and lowering is no part of a check.
@@ -127,13 +177,13 @@ pub fn run_lower<M: Source, G: Source, V: Source, W: Sink>(
     // text is yes.
     ensures lowered { IfOk result (λ by. (text : List ℕ)
         × HasLowered (text_of M.reads model.old model.new) (text_of G.reads graph.old graph.new)
-            (text_of V.reads vectors.old vectors.new) by text
+        (text_of V.reads vectors.old vectors.new) by text
         × Takes W.writes sink.old text sink.new) }
 
     // Lowering is refused only where all three texts are accepted, for a right reason.
     ensures not_lowered { (fault : _) → IsErrOf result (RunFault.Lower fault)
         → IsNotLowerable (text_of M.reads model.old model.new) (text_of G.reads graph.old graph.new)
-            (text_of V.reads vectors.old vectors.new) fault }
+        (text_of V.reads vectors.old vectors.new) fault }
 
     // No text that fits what was read of a source is a model's; or behind the first text a graph's; or behind the first
     // two the graph's vectors; and the fault is a right refusal of each of them.
@@ -155,7 +205,7 @@ pub fn run_lower<M: Source, G: Source, V: Source, W: Sink>(
     // Where a write failed, what was written before is a beginning of the lowered vectors.
     ensures begun { IsErrOf result RunFault.Write → (by : ℤ) × (text : List ℕ)
         × HasLowered (text_of M.reads model.old model.new) (text_of G.reads graph.old graph.new)
-            (text_of V.reads vectors.old vectors.new) by text
+        (text_of V.reads vectors.old vectors.new) by text
         × TakesFront W.writes sink.old text sink.new }
 
     // With any other fault nothing was written.

@@ -20,10 +20,7 @@ pub fn status_of(fault: &RunFault) -> u8
         )
         | RunFault::Lower(LowerFault::Memory) => 4,
         RunFault::Text(_) => 2,
-        RunFault::ReadModel
-        | RunFault::ReadGraph
-        | RunFault::ReadVectors
-        | RunFault::Write => 3,
+        RunFault::ReadModel | RunFault::ReadGraph | RunFault::ReadVectors | RunFault::Write => 3,
         RunFault::Lower(_) => 1,
     }
 }

@@ -5,13 +5,20 @@ use Rattle.polcert.proofs.runs.run_check.Goals as goal
 pub returns-in-Ok-clause-answered : goal.returns-in-Ok-clause-answered
 returns-in-Ok-clause-answered g c =
     let d = c.in_ok-read.ensures.accepted in
-    let wrote = c.in-Ok.ensures in
-    (wrote.line, has_verdict _ _ _ (meaning c.in_ok-read.read.model) c.in_ok-read.read.graph c.in_ok-read.read.vectors d c.check-verdict.result wrote.line
-    c.check-verdict.ensures.verdict wrote.is_line, wrote.written.ok)
+    let wrote = c.in-Ok.ensures in (
+      wrote.line,
+      has_verdict _ _ _ (meaning c.in_ok-read.read.model) c.in_ok-read.read.graph c.in_ok-read.read.vectors d c.check-verdict.result wrote.line
+          c.check-verdict.ensures.verdict wrote.is_line,
+      wrote.written.ok,
+    )
 
 pub returns-clause-begun : goal.returns-clause-begun
 returns-clause-begun g c = λ failed.
     let d = c.in_ok-read.ensures.accepted in
-    let wrote = c.in-Err.ensures in
-    (c.check-verdict.result, wrote.line, has_verdict _ _ _ (meaning c.in_ok-read.read.model) c.in_ok-read.read.graph c.in_ok-read.read.vectors d c.check-verdict.result wrote.line
-    c.check-verdict.ensures.verdict wrote.is_line, wrote.written.err)
+    let wrote = c.in-Err.ensures in (
+      c.check-verdict.result,
+      wrote.line,
+      has_verdict _ _ _ (meaning c.in_ok-read.read.model) c.in_ok-read.read.graph c.in_ok-read.read.vectors d c.check-verdict.result wrote.line
+          c.check-verdict.ensures.verdict wrote.is_line,
+      wrote.written.err,
+    )
