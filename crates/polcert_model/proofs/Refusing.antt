@@ -21,7 +21,7 @@ use Rattle.polcert_model.specs.Reading.{IsWithinItem, IsWrong, CannotGoOn, IsPos
 use Rattle.polcert_model.specs.FirstWrong.{TextTokens, AreTokensOf, IsFirstWrong, LiesIn, IsDecided, word_place, wrong_item, wrong_last}
 use Rattle.polcert_model.specs.Reasons.{IsReason, InItem, StandsIn, NumberStandsIn, IsRepeated, is_sign}
 use Rattle.polcert_model.specs.Reasons as reasons
-use Rattle.polcert_model.specs.Refusals.{place_or, IsTaken, Stops, StopsInBody, in_body}
+use Rattle.polcert_model.specs.Refusals.{place_or, IsOfLexemes, IsOfEnd, IsTaken, Stops, StopsInBody, in_body}
 use Rattle.polcert_model.specs.Refusals as refusals
 use Rattle.polcert_model.specs.NumberSteps.{is_negative, number_place, IsSignAt, SignEnds}
 use Rattle.polcert_model.specs.NumberSteps as steps
@@ -258,8 +258,21 @@ number_further body more place Is (reasons.minus before s l after e kind p so) =
 start_lies : (ts : TextTokens) (n place : ℕ) (k : Known) (t : Topic) (body : List Lexeme) → Here ts n k t body → Rises 0 ts.lexemes ts.end → StandsIn body place (λ l. Unit {0}) → LiesIn ts n place
 start_lies ts n place k t body h rises s = lies_here ts n place k t body s.before (s.lexeme ∷ s.after) h rises s.whole s.place_is
 
-start_stops : (ts : TextTokens) (kind : ItemFault) (n place : ℕ) (k : Known) (t : Topic) (body : List Lexeme) → Here ts n k t body → t ≡ Start → StandsIn body place (λ l. Unit {0}) → StopsInBody ts kind n place
-start_stops ts kind n place k t body h e s = stops_here ts kind n place k t body s.before (s.lexeme ∷ s.after) h s.whole (refusals.in_start e) (refusals.in_start_item e) s.place_is (λ none. absurd (cons≢nil none))
+start_kind : (body : List Lexeme) (kind : ItemFault) (place : ℕ) → IsReasonIn body kind place → IsOfLexemes kind
+start_kind body StartSum place r = absurd r
+start_kind body StartEmpty place r = absurd r
+start_kind body _ place r = tt
+
+start_end : (kind : ItemFault) → IsEndReason Start kind → IsOfEnd kind
+start_end BadShape r = tt
+start_end WrongNumberCount r = tt
+start_end StartSum r = tt
+start_end StartEmpty r = tt
+start_end BadCount r = absurd r
+start_end _ r = absurd r
+
+start_stops : (ts : TextTokens) (kind : ItemFault) (n place : ℕ) (k : Known) (t : Topic) (body : List Lexeme) → Here ts n k t body → t ≡ Start → IsOfLexemes kind → StandsIn body place (λ l. Unit {0}) → StopsInBody ts kind n place
+start_stops ts kind n place k t body h e of s = stops_here ts kind n place k t body s.before (s.lexeme ∷ s.after) h s.whole (refusals.in_start e) (refusals.in_start_item e of) s.place_is (λ none. absurd (cons≢nil none))
 
 start_reason : (ts : TextTokens) (n place : ℕ) (k : Known) (t : Topic) (body more : List Lexeme) (kind : ItemFault) → Here ts n k t (body ++ more) → t ≡ Start → IsReasonIn body kind place
     → IsReason ts n place kind
@@ -282,7 +295,7 @@ start_refused text ts n place k t body more kind tokens h free wrong e r = recor
     reason = start_reason ts n place k t body more kind h e r.reason;
     decided = λ fault at x. absurd (free_here ts n k t (body ++ more) h free fault at x);
   };
-  placed = in_body (start_stops ts kind n place k t (body ++ more) h e (stands_further body more place _ r.stands));
+  placed = in_body (start_stops ts kind n place k t (body ++ more) h e (start_kind body kind place r.reason) (stands_further body more place _ r.stands));
 }
 
 -- a start item in which the tokens end in a fault behind a number without a value
@@ -300,7 +313,7 @@ pending_refused seen r f x w e text ts tokens same ending =
         reason = start_reason ts r.number x.place r.known w.t w.body [] x.kind h start reason.reason;
         decided = λ fault at y. absurd (free_here ts r.number r.known w.t (w.body ++ []) h w.read.may_stand fault at y);
       };
-      placed = in_body (start_stops ts x.kind r.number x.place r.known w.t (w.body ++ []) h start (stands_further w.body [] x.place _ reason.stands));
+      placed = in_body (start_stops ts x.kind r.number x.place r.known w.t (w.body ++ []) h start (start_kind w.body x.kind x.place reason.reason) (stands_further w.body [] x.place _ reason.stands));
     }
   where
     pending_why : (body : List Lexeme) (item : ItemReader) (x : Refusal) → IsSeen body item → pending_in item ≡ Some x → (topic_in item ≡ Start) × IsStartReason body x.kind x.place
@@ -311,6 +324,23 @@ pending_refused seen r f x w e text ts tokens same ending =
     pending_why body (items.Actions s) x seen e = absurd (none≢some e)
     pending_why body (items.Observations s) x seen e = absurd (none≢some e)
     pending_why body (items.Entry s) x seen e = absurd (none≢some e)
+
+is_start : (t : Topic) → (t ≡ Start) ⊎ (t ≡ Start → ⊥)
+is_start Start = inl refl
+is_start Discount = inr (λ e. cc)
+is_start Values = inr (λ e. cc)
+is_start States = inr (λ e. cc)
+is_start Actions = inr (λ e. cc)
+is_start Observations = inr (λ e. cc)
+is_start (Cells table) = inr (λ e. cc)
+
+-- what was taken of the open item
+pub is_taken : (k : Known) (t : Topic) (body : List Lexeme) → ((t ≡ Start → ⊥) → IsPossible k t body) → IsTaken k t body
+is_taken k t body possible = of (is_start t)
+  where
+    of : (t ≡ Start) ⊎ (t ≡ Start → ⊥) → IsTaken k t body
+    of (inl start) = refusals.in_start start
+    of (inr other) = refusals.possible (possible other)
 
 -- the sign that waits for its numeral ends the body
 pub seen_sign : (body : List Lexeme) (item : ItemReader) → (topic_in item ≡ Start → ⊥) → IsSeen body item → SignEnds (sign_in item) body
@@ -399,15 +429,6 @@ end_reason ts n place k t body BadShape h m = tt
 end_reason ts n place k t body WrongNumberCount h m = tt
 end_reason ts n place k t body _ h m = absurd m
 
-is_start : (t : Topic) → (t ≡ Start) ⊎ (t ≡ Start → ⊥)
-is_start Start = inl refl
-is_start Discount = inr (λ e. cc)
-is_start Values = inr (λ e. cc)
-is_start States = inr (λ e. cc)
-is_start Actions = inr (λ e. cc)
-is_start Observations = inr (λ e. cc)
-is_start (Cells table) = inr (λ e. cc)
-
 pub end_refused : (seen : List Lexeme) (r : TextReader) (kind : ItemFault) (place : ℕ) (w : IsItemRead seen r) → CannotEnd (ItemGoes r.known) w.item
     → IsEndReason (topic_in w.item) kind → IfNotStart (topic_in w.item) (kind ≡ misfit (item_wants r.known w.item []) None) → IsRefusedAt seen place (model_faults.Item kind r.number place)
 end_refused seen r kind place w none reason kinds text ts tokens ends =
@@ -427,7 +448,9 @@ end_refused seen r kind place w none reason kinds text ts tokens ends =
     taken (inr other) = refusals.possible (w.read.possible other)
 
     stops : (w.t ≡ Start) ⊎ (w.t ≡ Start → ⊥) → Stops r.known w.t kind w.body []
-    stops (inl start) = refusals.in_start_item start
+    stops (inl start) =
+        refusals.at_start_end start (λ after right. none after (w.read.on [] after (subst (λ b. IsRight r.known w.t b after) (sym (append-nil w.body)) right)))
+        (start_end kind (subst (λ u. IsEndReason u kind) (w.read.topic_is ∙ start) reason))
     stops (inr other) =
         let named : IfNotStart w.t (kind ≡ misfit (item_wants r.known w.item []) None) = subst (λ u. IfNotStart u (kind ≡ misfit (item_wants r.known w.item []) None)) w.read.topic_is kinds in
         refusals.at_end (λ after right. none after (w.read.on [] after (subst (λ b. IsRight r.known w.t b after) (sym (append-nil w.body)) right)))

@@ -18,7 +18,8 @@ use Rattle.polcert_model.specs.Text.{Known}
 use Rattle.polcert_model.specs.Order.{is_late, came_before, ends_preamble, has_all_lines, cells_are_too_many, count_in, preamble_fault, word_fault}
 use Rattle.polcert_model.specs.FirstWrong.{TextTokens, AreTokensOf, LiesIn, IsDecided, wrong_front, wrong_fault, wrong_last, wrong_end, before_items, at_word, at_end}
 use Rattle.polcert_model.specs.Reasons.{IsReason}
-use Rattle.polcert_model.specs.Refusals.{IsItemRefusal, IsOfTokens, before_body, of_tokens}
+use Rattle.polcert_model.specs.Refusals.{IsItemRefusal, IsOfTokens, IsTaken, IsLastTaken, before_body, of_tokens}
+use Rattle.polcert_model.specs.Refusals as refusals
 use Rattle.polcert_model.specs.TextSteps.{IsNothingRead, IsItemRead, IsTextRead, AreItemsRead, IsRefusedBehind, Refuses, fault_kind, pending_at, tokens_end}
 use Rattle.polcert_model.specs.TextSteps as texts
 use Rattle.polcert_model.proofs.Basics.{or_false_from, cons≢nil, some≢none}
@@ -28,7 +29,7 @@ use Rattle.polcert_model.proofs.OrderLaws.{wrong_at_word, not_complete, fault_at
 use Rattle.polcert_model.proofs.PlaceLaws.{tokens_rise, fault_rises, lies_at_word, lies_before_items, lies_at_end, lies_at_fault, lies_at_once}
 use Rattle.polcert_model.proofs.DecidedLaws.{one_decided}
 use Rattle.polcert_model.proofs.Within.{item_begins}
-use Rattle.polcert_model.proofs.Refusing.{Here, item_here, here, first_here, free_here, pending_refused}
+use Rattle.polcert_model.proofs.Refusing.{Here, item_here, here, first_here, free_here, pending_refused, is_taken}
 
 -- ---- before the first item
 
@@ -180,13 +181,28 @@ in_item seen r f w text ts tokens e ending =
       decided = λ fault at x. absurd (free_here ts r.number r.known w.t (w.body ++ []) h w.read.may_stand fault at x);
     }
 
+last_taken : (seen : List Lexeme) (r : TextReader) (w : IsItemRead seen r) (ts : TextTokens) → ts.lexemes ≡ seen → IsLastTaken ts r.number
+last_taken seen r w ts e =
+    let h : Here ts r.number r.known w.t (w.body ++ []) = here ts r.number seen w.body [] [] r.known w.t [] w.within (e ∙ sym (append-nil seen)) w.number_is empty_division in
+    record {
+      before = h.before;
+      item = item_here h;
+      divided = h.divided;
+      number_is = h.number_is;
+      k = r.known;
+      t = w.t;
+      known = h.taken;
+      topic_is = h.topic_is;
+      is_taken = subst (IsTaken r.known w.t) (sym (append-nil w.body)) (is_taken r.known w.t w.body w.read.possible);
+    }
+
 pub fault_refused : (seen : List Lexeme) (r : TextReader) (f : TokenFault) → IsTextRead seen r → (text : List ℕ) (ts : TextTokens) → AreTokensOf text ts → ts.lexemes ≡ seen
     → ts.ending ≡ Some f → Refuses ts (tokens_end r.number (pending_at r.item) f)
 fault_refused seen r f (texts.nothing w) text ts tokens e ending =
-    subst (λ o. Refuses ts (tokens_end r.number (pending_at o) f)) (sym w.item_is) (record { refusal = at_once seen r f w text ts tokens e ending; placed = of_tokens (fault_of_tokens f) })
+    subst (λ o. Refuses ts (tokens_end r.number (pending_at o) f)) (sym w.item_is) (record { refusal = at_once seen r f w text ts tokens e ending; placed = of_tokens (fault_of_tokens f) (refusals.at_once (e ∙ w.nothing)) })
 fault_refused seen r f (texts.item w) text ts tokens e ending =
     subst (λ o. Refuses ts (tokens_end r.number (pending_at o) f)) (sym w.item_is) (of_pending (pending_in w.item) refl)
   where
     of_pending : (o : Option Refusal) → pending_in w.item ≡ o → Refuses ts (tokens_end r.number o f)
-    of_pending None none = record { refusal = in_item seen r f w text ts tokens e ending; placed = of_tokens (fault_of_tokens f) }
+    of_pending None none = record { refusal = in_item seen r f w text ts tokens e ending; placed = of_tokens (fault_of_tokens f) (refusals.in_item (last_taken seen r w ts e)) }
     of_pending (Some x) some = pending_refused seen r f x w some text ts tokens e ending

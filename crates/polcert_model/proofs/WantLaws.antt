@@ -1,11 +1,14 @@
 -- What the places of numbers and entries are for, step by step.
-use Rattle.std.proofs.Common.{◌≡◌, ◌≢◌, ◌∙◌, ℕ, zero, suc, ◌+◌, ◌-◌, ◌<◌, ◌≤◌, Bool, true, false, nat_lt, Option, Some, None, is_some, inl, inr, List, [], ◌∷◌, ◌++◌, length, drop, refl, sym, ap, subst, arith, length-append, if◌then◌else◌}
+use Rattle.std.proofs.Common.{◌≡◌, ◌≢◌, ◌∙◌, ℕ, zero, suc, ◌+◌, ◌-◌, ◌<◌, ◌≤◌, Bool, true, false, nat_lt, ◌==◌, ◌⊎◌, Option, Some, None, is_some, inl, inr, List, [], ◌∷◌, ◌++◌, length, drop, refl, sym, ap, subst, arith, length-append, if◌then◌else◌}
 use Rattle.std.proofs.lemmas.Grind.{common_steps}
 use Rattle.polcert_text.specs.Cut.{Lexeme}
 use Rattle.polcert_text.specs.declared.lexeme.TokenKind.{TokenKind}
 use Rattle.polcert_text.specs.declared.lexeme.TokenKind.TheVariants as kinds
 use Rattle.polcert_model.specs.declared.fault.ItemFault.{ItemFault}
-use Rattle.polcert_model.specs.declared.fault.ItemFault.TheVariants.{BadShape, WrongNumberCount, Reset}
+use Rattle.polcert_model.specs.declared.fault.ItemFault.TheVariants.{BadShape, WrongNumberCount, Reset, StartSum}
+use Rattle.polcert_model.specs.declared.stop.ItemEnd.{ItemEnd}
+use Rattle.polcert_model.specs.declared.stop.ItemEnd.TheVariants as ends
+use Rattle.polcert_text.specs.Lexemes.{are_digits}
 use Rattle.polcert_model.specs.declared.entry.Place.{Place}
 use Rattle.polcert_model.specs.declared.entry.Table.{Table}
 use Rattle.polcert_model.specs.declared.entry_reader.Numbers.{Numbers}
@@ -19,10 +22,10 @@ use Rattle.polcert_model.specs.Reasons.{is_sign}
 use Rattle.polcert_model.specs.NumberSteps.{IsSignAt}
 use Rattle.polcert_model.specs.NumberSteps as steps
 use Rattle.polcert_model.specs.EntrySteps.{awaited, HasRoom, IsFull, no_numbers}
-use Rattle.polcert_model.specs.Misfits.{Wanted, Mark, Number, Digits, EndOfNumbers, EndOfWord, misfit, misfit_at, is_reset, begins_number, tests_value, IsMisfit, of_place}
-use Rattle.polcert_model.specs.Wants.{number_end, numbers_want, by_kind, entry_wants}
+use Rattle.polcert_model.specs.Misfits.{Wanted, Mark, NumberOrEnd, Number, Digits, EndOfNumbers, EndOfWord, misfit, misfit_at, is_reset, begins_number, tests_value, IsMisfit, of_place}
+use Rattle.polcert_model.specs.Wants.{number_end, numbers_want, by_kind, entry_wants, may_be_state, start_body_wants}
 use Rattle.polcert_model.proofs.PatternLaws.{BeginsNumber}
-use Rattle.polcert_model.specs.WantSteps.{Leads, number_wants, list_wants, state_wants}
+use Rattle.polcert_model.specs.WantSteps.{Leads, number_wants, list_wants, state_wants, IfAtEnd}
 use Rattle.polcert_model.specs.WantSteps.{entry_wants as reader_wants}
 
 true≢false : true ≡ false → ⊥
@@ -178,3 +181,48 @@ pub number_begins : (k : TokenKind) → BeginsNumber k → begins_number k ≡ t
 number_begins k (inl e) = ap begins_number e
 number_begins k (inr (inl e)) = ap begins_number e
 number_begins k (inr (inr e)) = ap begins_number e
+
+-- ---- a start item
+
+no_state_of : (count : ℕ) (b : Bool) → b ≡ false → (c : Bool) → (if c then false else b) ≡ false
+no_state_of count b e true = refl
+no_state_of count b e false = e
+
+one_is : (count : ℕ) → count ≡ 1 → (count == 1) ≡ true
+one_is count e = grind (arith, common_steps)
+
+pub no_state : (count : ℕ) (l : Lexeme) → l.kind ≡ kinds.Numeral → (count ≡ 1) ⊎ (are_digits l.bytes ≡ false) → may_be_state count l.kind l.bytes ≡ false
+no_state count l e (inl one) = subst (λ k. may_be_state count k l.bytes ≡ false) (sym e) (let same = one_is count one in λ i. if same i then false else are_digits l.bytes)
+no_state count l e (inr none) = subst (λ k. may_be_state count k l.bytes ≡ false) (sym e) (no_state_of count (are_digits l.bytes) none (count == 1))
+
+pub sign_no_state : (count : ℕ) (l : Lexeme) → (l.kind ≡ kinds.Plus) ⊎ (l.kind ≡ kinds.Minus) → may_be_state count l.kind l.bytes ≡ false
+sign_no_state count l (inl e) = ap (λ k. may_be_state count k l.bytes) e
+sign_no_state count l (inr e) = ap (λ k. may_be_state count k l.bytes) e
+
+pub body_lead : (count : ℕ) (l : Lexeme) (new : List Lexeme → Wanted) → may_be_state count l.kind l.bytes ≡ false → begins_number l.kind ≡ true
+    → Leads (numbers_want false count) l new → Leads (start_body_wants count) l new
+body_lead count l new none begins leads = record { same = at }
+  where
+    at : (ls : List Lexeme) → start_body_wants count (l ∷ ls) ≡ new ls
+    at [] =
+        (λ i. if none i then NumberOrEnd else by_kind l.kind EndOfWord (numbers_want false count (l ∷ []))) ∙ number_kind l.kind EndOfWord (numbers_want false count (l ∷ [])) begins ∙ leads.same []
+    at (m ∷ ls) = number_kind l.kind EndOfWord (numbers_want false count (l ∷ m ∷ ls)) begins ∙ leads.same (m ∷ ls)
+
+-- one number is not enough, or all there may be
+pub number_lacks : (count : ℕ) → 1 ≤ count → count ≢ 1 → WrongNumberCount ≡ misfit (number_end false (count - 1)) None
+number_lacks count some more = at (count - 1) (omega (arith, some, more))
+  where
+    at : (left : ℕ) → 1 ≤ left → WrongNumberCount ≡ misfit (number_end false left) None
+    at zero l = absurd (omega (arith, l))
+    at (suc left) l = refl
+
+pub number_is_all : (count : ℕ) → count ≡ 1 → StartSum ≡ misfit (number_end false (count - 1)) None
+number_is_all count one = let none : count - 1 ≡ 0 = omega (arith, one) in sym (ap (λ n. misfit (number_end false n) None) none)
+
+pub sum_of_all : {T : Type 0} (n : Numbers T) → IsFull n → StartSum ≡ misfit (list_wants n []) None
+sum_of_all n full = ap (λ w. misfit w None) (full_wants n full)
+
+pub no_end_kind : (e : ItemEnd) (P : ItemFault → Type 0) → IfAtEnd e (λ kind. ⊥) → IfAtEnd e P
+no_end_kind (ends.AtEnd kind) P none = absurd none
+no_end_kind (ends.At r) P none = tt
+no_end_kind ends.Memory P none = tt

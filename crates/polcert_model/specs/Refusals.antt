@@ -3,7 +3,7 @@ use Rattle.std.specs.Prelude.{◌≡◌, ℕ, ◌+◌, true, List, [], ◌∷◌
 use Rattle.polcert_text.specs.Cut.{Lexeme}
 use Rattle.polcert_text.specs.declared.lexeme.TokenKind.TheVariants.{Numeral}
 use Rattle.polcert_model.specs.declared.fault.ItemFault.{ItemFault}
-use Rattle.polcert_model.specs.declared.fault.ItemFault.TheVariants.{Token, TextTooLong}
+use Rattle.polcert_model.specs.declared.fault.ItemFault.TheVariants.{Token, TextTooLong, BadShape, WrongNumberCount, StartSum, StartEmpty}
 use Rattle.polcert_model.specs.declared.fault.ModelFault.{ModelFault}
 use Rattle.polcert_model.specs.declared.fault.ModelFault.TheVariants.{RowSum, Memory}
 use Rattle.polcert_model.specs.declared.fault.ModelFault.TheVariants as model_faults
@@ -55,15 +55,31 @@ pub data IsTaken (k : Known) (t : Topic) (taken : List Lexeme) : Type 0 where
   possible : IsPossible k t taken → IsTaken k t taken
   in_start : t ≡ Start → IsTaken k t taken
 
+-- what is decided over the whole body of a start item isn't refused at a lexeme of it
+abbrev pub IsOfLexemes : ItemFault → Type 0
+IsOfLexemes StartSum = ⊥
+IsOfLexemes StartEmpty = ⊥
+IsOfLexemes _ = Unit {0}
+
+-- what may be refused where a start item ends
+abbrev pub IsOfEnd : ItemFault → Type 0
+IsOfEnd BadShape = Unit {0}
+IsOfEnd WrongNumberCount = Unit {0}
+IsOfEnd StartSum = Unit {0}
+IsOfEnd StartEmpty = Unit {0}
+IsOfEnd _ = ⊥
+
 -- Behind the lexemes taken the item is no longer possible: with the next lexeme, with the next two as a sign and a
 -- numeral, or, where nothing is left of it, as it is. The kind is so of what this place is for and of what stands there.
--- (Of a start item this isn't said.)
+-- (Of a start item only this is said: what is decided over its whole body is refused at its end, and nothing else is
+-- refused there but a wrong shape or too few numbers.)
 pub data Stops (k : Known) (t : Topic) (kind : ItemFault) (taken : List Lexeme) : List Lexeme → Type 0 where
   at_lexeme : {l : Lexeme} {behind : List Lexeme} → CannotGoOn k t (taken ++ l ∷ []) → IsMisfit (wanted k t taken) l kind → Stops k t kind taken (l ∷ behind)
   at_number : {sign l : Lexeme} {behind : List Lexeme} → is_sign sign.kind ≡ true → l.kind ≡ Numeral → IsPossible k t (taken ++ sign ∷ [])
       → CannotGoOn k t (taken ++ sign ∷ l ∷ []) → IsOfValue kind → IsMisfit (wanted k t (taken ++ sign ∷ [])) l kind → Stops k t kind taken (sign ∷ l ∷ behind)
   at_end : IsWrong k t taken → kind ≡ misfit (wanted k t taken) None → Stops k t kind taken []
-  in_start_item : {rest : List Lexeme} → t ≡ Start → Stops k t kind taken rest
+  in_start_item : {l : Lexeme} {behind : List Lexeme} → t ≡ Start → IsOfLexemes kind → Stops k t kind taken (l ∷ behind)
+  at_start_end : t ≡ Start → IsWrong k t taken → IsOfEnd kind → Stops k t kind taken []
 
 -- The place stands in the item where its lexemes so far are still possible, and with what stands there they aren't.
 -- Where nothing is left of the item and of the text, the tokens end cleanly.
@@ -91,12 +107,29 @@ IsOfTokens (Token fault) = Unit {0}
 IsOfTokens TextTooLong = Unit {0}
 IsOfTokens _ = ⊥
 
+-- what was taken of the last item is still possible
+pub record IsLastTaken (ts : TextTokens) (number : ℕ) : Type 0 where
+  pub before : List Item
+  pub item : Item
+  pub divided : IsDivided ts.lexemes [] (before ++ item ∷ [])
+  pub number_is : number ≡ length before + 1
+  pub k : Known
+  pub t : Topic
+  pub known : AreRight nothing_known before k
+  pub topic_is : topic item.word ≡ Some t
+  pub is_taken : IsTaken k t item.body
+
+-- The tokens end before the first lexeme, or behind what is still possible.
+pub data EndsPossible (ts : TextTokens) (number : ℕ) : Type 0 where
+  at_once : ts.lexemes ≡ [] → EndsPossible ts number
+  in_item : IsLastTaken ts number → EndsPossible ts number
+
 -- Where the refusal of an item stands: it is decided before the item's body, or stands in the body as far as that is
--- possible, or is a fault of the tokens.
+-- possible, or is a fault of the tokens behind what is possible.
 pub data StandsRight (ts : TextTokens) (kind : ItemFault) (number place : ℕ) : Type 0 where
   before_body : IsDecided ts number kind place → StandsRight ts kind number place
   in_body : StopsInBody ts kind number place → StandsRight ts kind number place
-  of_tokens : IsOfTokens kind → StandsRight ts kind number place
+  of_tokens : IsOfTokens kind → EndsPossible ts number → StandsRight ts kind number place
 
 abbrev pub IsPlacedRight : TextTokens → ModelFault → Type 0
 IsPlacedRight ts (model_faults.Item kind number place) = StandsRight ts kind number place

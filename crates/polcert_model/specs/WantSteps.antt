@@ -27,7 +27,7 @@ use Rattle.polcert_model.specs.Elements.{Elements, count_of}
 use Rattle.polcert_model.specs.Text.{Known}
 use Rattle.polcert_model.specs.ElementSteps.{names_with}
 use Rattle.polcert_model.specs.EntrySteps.{preamble_in, indices_in}
-use Rattle.polcert_model.specs.Misfits.{Wanted, Mark, Index, Listed, CountOrName, FurtherName, StartBody, NumberOrEnd, Number, Digits, EndOfNumbers, EndOfWord}
+use Rattle.polcert_model.specs.Misfits.{Wanted, Mark, Index, Listed, CountOrName, FurtherName, StartBody, NumberOrEnd, Number, Digits, EndOfNumbers, EndOfWord, misfit, IsOfValue}
 use Rattle.polcert_model.specs.Wants as wants
 use Rattle.polcert_model.specs.Wants.{numbers_want}
 
@@ -110,3 +110,8 @@ IfNotStart _ P = P
 abbrev pub IfAtEnd : ItemEnd → (ItemFault → Type 0) → Type 0
 IfAtEnd (ends.AtEnd kind) P = P kind
 IfAtEnd _ P = Unit {0}
+
+-- a refusal for a number's value, or as the table of kinds says
+pub data IsValueOr (w : Wanted) (l : Lexeme) (kind : ItemFault) : Type 0 where
+  value : IsOfValue kind → IsValueOr w l kind
+  other : kind ≡ misfit w (Some l) → IsValueOr w l kind

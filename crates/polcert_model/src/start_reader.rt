@@ -1,18 +1,21 @@
 //! A start item, read token by token behind its word.
-ghost use Rattle.std.specs.Prelude.{◌≡◌, ◌<◌, ◌≤◌, ◌⊎◌, ◌++◌, ◌∷◌, [], ℕ, List, length, map, sum, false, None, IfOk, OnOk, IfErr, OnErr, MatchOption, if◌then◌else◌};
+ghost use Rattle.std.specs.Prelude.{◌≡◌, ◌-◌, ◌<◌, ◌≤◌, ◌⊎◌, ◌++◌, ◌∷◌, [], ℕ, List, length, map, sum, false, Some, None, is_some, IfOk, OnOk, IfErr, OnErr, MatchOption, if◌then◌else◌};
 ghost use Rattle.std.specs.List.{count_by};
 ghost use Rattle.polcert_text.specs.Cut.{Lexeme};
 ghost use Rattle.polcert_text.specs.Reading.{lexeme_of};
 ghost use Rattle.polcert_text.specs.Lexemes.{are_digits};
 ghost use Rattle.polcert_model.specs.ElementSteps.{IsText};
 ghost use Rattle.polcert_model.specs.Elements.{Elements as AnyElements, count_of, most_elements};
-ghost use Rattle.polcert_model.specs.EntrySteps.{IfRefused};
+ghost use Rattle.polcert_model.specs.EntrySteps.{IfRefused, HasRoom};
 ghost use Rattle.polcert_model.specs.LineSteps.{Takes, CannotTake, CannotEnd};
 ghost use Rattle.polcert_model.specs.Meaning.{IsCount};
+ghost use Rattle.polcert_model.specs.Misfits.{misfit, IsMisfit, IsOfValue, Mark, Listed, StartBody};
 ghost use Rattle.polcert_model.specs.NumberSteps.{IsMisplaced, SignIs};
 ghost use Rattle.polcert_model.specs.Reasons.{is_sign};
 ghost use Rattle.polcert_model.specs.Start.{alike, all_states, single, shares_of, is_level, is_positive};
 ghost use Rattle.polcert_model.specs.StartSteps.{StartGoes, IsStartWithin, IsStartSeen, IsStartReason, IsStartEndReason, IfNotMemory, new_start, pending, marked, AreUnmarked, picks, NumbersGo, Begins, IsKept, IsReasonAt, IsNumberStop, IsDigitsStop, AreDigits, first_above_0, is_level_at, level_share};
+ghost use Rattle.polcert_model.specs.Wants.{number_end, numbers_want, start_body_wants};
+ghost use Rattle.polcert_model.specs.WantSteps.{Leads, number_wants, list_wants, start_wants, IfAtEnd, IsValueOr};
 
 use crate::elements::{Elements, element_of};
 use crate::entry_reader::Numbers;
@@ -104,6 +107,10 @@ impl StartReader {
             OnOk result (IsStartSeen (body ++ lexeme_of token.entry ∷ []) self.new) }
         ensures reason { (body : List Lexeme) → IsStartSeen body self.old → IfErr result (λ stop. IfRefused stop (λ r.
             IsStartReason (body ++ lexeme_of token.entry ∷ []) r.kind r.place)) }
+        ensures leads { OnOk result (Leads (start_wants (count_of states.now) self.old)
+            (lexeme_of token.entry) (start_wants (count_of states.now) self.new)) }
+        ensures kind { IfErr result (λ stop. IfRefused stop (λ r.
+            IsValueOr (start_wants (count_of states.now) self.old []) (lexeme_of token.entry) r.kind)) }
     {
         match self {
             StartReader::Form => {
@@ -164,6 +171,7 @@ impl StartReader {
         ensures said { IfOk result (StartGoes states.now self []) }
         ensures refused { IfErr result (λ e. IfNotMemory e (CannotEnd (StartGoes states.now) self)) }
         ensures reason { (body : List Lexeme) → IsStartSeen body self → IfErr result (IsStartEndReason body) }
+        ensures kind { IfErr result (λ e. IfAtEnd e (λ kind. kind ≡ misfit (start_wants (count_of states.now) self []) None)) }
     {
         match self {
             StartReader::Form | StartReader::Colon(_) | StartReader::Sign(_) => Err(ItemEnd::AtEnd(
@@ -187,6 +195,8 @@ fn form_of(token: Token<'_>) -> Result<StartReader, Refusal>
     ensures refused { (states : AnyElements) → OnErr result (CannotTake (StartGoes states) StartReader.Form (lexeme_of token.entry)) }
     ensures kept { (count : ℕ) → IfOk result (IsKept count None (lexeme_of token.entry)) }
     ensures reason { IfErr result (λ r. IsMisplaced (lexeme_of token.entry) r.kind r.place) }
+    ensures leads { (count : ℕ) → IfOk result (λ r. Leads (start_wants count StartReader.Form) (lexeme_of token.entry) (start_wants count r)) }
+    ensures kind { IfErr result (λ r. IsMisfit Mark (lexeme_of token.entry) r.kind) }
 {
     if is_word(&token, b"include") {
         return Ok(StartReader::Colon(Choice::Include));
@@ -222,6 +232,7 @@ impl Chosen {
         ensures refused { OnErr result (CannotTake (StartGoes states.now) (StartReader.List self.old) (lexeme_of token.entry)) }
         ensures kept { OnOk result (is_sign (lexeme_of token.entry).kind ≡ false) }
         ensures reason { IfErr result (λ r. IsReasonAt None (lexeme_of token.entry) r.kind r.place) }
+        ensures kind { IfErr result (λ r. r.kind ≡ misfit Listed (Some (lexeme_of token.entry))) }
     {
         let state = element_of(token, states)?;
         self.marks.set(state, true);
@@ -236,6 +247,7 @@ impl Chosen {
         ensures refused { (states : AnyElements) → length self.marks ≡ count_of states →
             IfErr result (λ e. IfNotMemory e (CannotEnd (StartGoes states) (StartReader.List self))) }
         ensures reason { (body : List Lexeme) → IfErr result (IsStartEndReason body) }
+        ensures kind { IfErr result (λ e. IfAtEnd e (λ kind. kind ≡ misfit Listed None)) }
     {
         let shares = self.shares(alloc)?;
         if shares.total == 0 {
@@ -299,6 +311,9 @@ fn begin_body(states: &Elements, token: Token<'_>) -> Result<StartReader, Refusa
     ensures refused { OnErr result (CannotTake (StartGoes states.now) StartReader.Body (lexeme_of token.entry)) }
     ensures kept { IfOk result (IsKept (count_of states.now) None (lexeme_of token.entry)) }
     ensures reason { IfErr result (λ r. IsReasonAt None (lexeme_of token.entry) r.kind r.place) }
+    ensures leads { IfOk result (λ r. Leads (start_body_wants (count_of states.now))
+        (lexeme_of token.entry) (start_wants (count_of states.now) r)) }
+    ensures kind { IfErr result (λ r. IsValueOr StartBody (lexeme_of token.entry) r.kind) }
 {
     match token.kind {
         TokenKind::Name => begin_name(states, token),
@@ -318,6 +333,9 @@ fn begin_name(states: &Elements, token: Token<'_>) -> Result<StartReader, Refusa
     ensures refused { OnErr result (CannotTake (StartGoes states.now) StartReader.Body (lexeme_of token.entry)) }
     ensures kept { IfOk result (IsKept (count_of states.now) None (lexeme_of token.entry)) }
     ensures reason { IfErr result (λ r. IsReasonAt None (lexeme_of token.entry) r.kind r.place) }
+    ensures leads { IfOk result (λ r. Leads (start_body_wants (count_of states.now))
+        (lexeme_of token.entry) (start_wants (count_of states.now) r)) }
+    ensures kind { IfErr result (λ r. IsValueOr StartBody (lexeme_of token.entry) r.kind) }
 {
     if is_word(&token, b"uniform") {
         return Ok(StartReader::Every);
@@ -334,6 +352,9 @@ fn begin_numeral(states: &Elements, token: Token<'_>) -> Result<StartReader, Ref
     ensures refused { OnErr result (CannotTake (StartGoes states.now) StartReader.Body (lexeme_of token.entry)) }
     ensures kept { IfOk result (IsKept (count_of states.now) None (lexeme_of token.entry)) }
     ensures reason { IfErr result (λ r. IsReasonAt None (lexeme_of token.entry) r.kind r.place) }
+    ensures leads { IfOk result (λ r. Leads (start_body_wants (count_of states.now))
+        (lexeme_of token.entry) (start_wants (count_of states.now) r)) }
+    ensures kind { IfErr result (λ r. IsValueOr StartBody (lexeme_of token.entry) r.kind) }
 {
     match digits_of(states.count(), token) {
         Some(digits) => Ok(StartReader::Digits(digits)),
@@ -367,6 +388,9 @@ fn first_number(sign: Option<Sign>, token: Token<'_>) -> Result<StartReader, Ref
     ensures refused { (states : AnyElements) → OnErr result (CannotTake (NumbersGo states []) sign (lexeme_of token.entry)) }
     ensures kept { (count : ℕ) → IfOk result (IsKept count sign (lexeme_of token.entry)) }
     ensures reason { IfErr result (λ r. IsReasonAt sign (lexeme_of token.entry) r.kind r.place) }
+    ensures leads { (count : ℕ) → IfOk result (λ r. Leads (numbers_want (is_some sign) count) (lexeme_of token.entry) (start_wants count r)) }
+    ensures kind { IfErr result (λ r. IsMisfit (number_wants sign) (lexeme_of token.entry) r.kind) }
+    ensures number { IfErr result (λ r. (lexeme_of token.entry).kind ≡ TokenKind.Numeral → IsOfValue r.kind) }
 {
     match number_step(sign, token, Range::Reward)? {
         Step::Sign(sign) => Ok(StartReader::Sign(sign)),
@@ -389,6 +413,9 @@ impl FirstNumber {
         ensures kept { IfOk result (λ n. SignIs n.sign (lexeme_of token.entry)) }
         ensures reason { IfErr result (λ stop. IfRefused stop (λ r.
             IsNumberStop self (lexeme_of token.entry) r.kind r.place)) }
+        ensures leads { IfOk result (λ n. Leads (numbers_want false (count_of states.now - 1)) (lexeme_of token.entry) (list_wants n)) }
+        ensures kind { IfErr result (λ stop. IfRefused stop (λ r.
+            IsValueOr (number_end false (count_of states.now - 1)) (lexeme_of token.entry) r.kind)) }
     {
         match token.kind {
             TokenKind::Numeral | TokenKind::Plus | TokenKind::Minus => self.add(
@@ -409,6 +436,9 @@ impl FirstNumber {
         ensures kept { IfOk result (λ n. SignIs n.sign (lexeme_of token.entry)) }
         ensures reason { IfErr result (λ stop. IfRefused stop (λ r.
             IsNumberStop self (lexeme_of token.entry) r.kind r.place)) }
+        ensures leads { IfOk result (λ n. Leads (numbers_want false (count_of states.now - 1)) (lexeme_of token.entry) (list_wants n)) }
+        ensures kind { IfErr result (λ stop. IfRefused stop (λ r.
+            IsValueOr (number_end false (count_of states.now - 1)) (lexeme_of token.entry) r.kind)) }
     {
         if self.value < 0 || self.value > ONE as i64 {
             return Err(Stop::Refused(Refusal {
@@ -432,6 +462,8 @@ impl FirstNumber {
         ensures said { IfOk result (StartGoes states.now (StartReader.Number self) []) }
         ensures refused { IfErr result (λ e. IfNotMemory e (CannotEnd (StartGoes states.now) (StartReader.Number self))) }
         ensures reason { (body : List Lexeme) → IfErr result (IsStartEndReason body) }
+        ensures kind { IfErr result (λ e. IfAtEnd e (λ kind.
+            kind ≡ misfit (number_end false (count_of states.now - 1)) None)) }
     {
         let count = states.count();
         if count != 1 {
@@ -456,6 +488,9 @@ impl Digits {
         ensures kept { IfOk result (λ n. SignIs n.sign (lexeme_of token.entry)) }
         ensures reason { IfErr result (λ stop. IfRefused stop (λ r.
             IsDigitsStop self (lexeme_of token.entry) r.kind r.place)) }
+        ensures leads { IfOk result (λ n. Leads (numbers_want false (count_of states.now - 1)) (lexeme_of token.entry) (list_wants n)) }
+        ensures kind { IfErr result (λ stop. IfRefused stop (λ r.
+            IsValueOr (number_end false (count_of states.now - 1)) (lexeme_of token.entry) r.kind)) }
     {
         match self.value {
             Ok(value) => {
@@ -479,6 +514,7 @@ impl Digits {
         ensures said { IfOk result (StartGoes states.now (StartReader.Digits self) []) }
         ensures refused { IfErr result (λ e. IfNotMemory e (CannotEnd (StartGoes states.now) (StartReader.Digits self))) }
         ensures reason { (body : List Lexeme) → IsStartSeen body (StartReader.Digits self) → IfErr result (IsStartEndReason body) }
+        ensures kind { IfErr result (λ e. IfAtEnd e (λ kind. ⊥)) }
     {
         match self.state {
             Some(state) => Ok(one_state(alloc, states.count(), state)?),
@@ -497,6 +533,7 @@ fn end_probabilities(alloc: Global, numbers: Numbers<u32>) -> Result<Shares, Ite
     ensures refused { (states : AnyElements) →
         IfErr result (λ e. IfNotMemory e (CannotEnd (StartGoes states) (StartReader.Probabilities numbers))) }
     ensures reason { (body : List Lexeme) → IfErr result (IsStartEndReason body) }
+    ensures kind { HasRoom numbers → IfErr result (λ e. IfAtEnd e (λ kind. kind ≡ misfit (list_wants numbers []) None)) }
 {
     if let Some(fault) = numbers.end_fault() {
         return Err(ItemEnd::AtEnd(fault));

@@ -1,6 +1,9 @@
+use Rattle.std.proofs.Common.{inr}
 use Rattle.polcert_text.specs.Reading.{lexeme_of}
 use Rattle.polcert_model.proofs.StartNumbers.{if_ok_map, on_err_map}
 use Rattle.polcert_model.proofs.StartForms.{body_begins, body_stuck, sign_not_whole, plus_or_minus}
+use Rattle.polcert_model.specs.Elements.{count_of}
+use Rattle.polcert_model.proofs.WantLaws.{sign_no_state, body_lead, number_begins}
 use Rattle.polcert_model.proofs.start_reader.begin_body.Goals as goal
 
 pub returns-in-Plus-clause-begun : goal.returns-in-Plus-clause-begun
@@ -22,3 +25,9 @@ returns-in-Plus-clause-refused c =
 
 pub returns-in-Plus-clause-kept : goal.returns-in-Plus-clause-kept
 returns-in-Plus-clause-kept c = c.first_number.ensures.kept _
+
+pub returns-in-Plus-clause-leads : goal.returns-in-Plus-clause-leads
+returns-in-Plus-clause-leads c =
+    let states = c.args.states.now in
+    let l = lexeme_of c.args.token in
+    if_ok_map _ _ _ (λ r leads. body_lead (count_of states) l _ (sign_no_state (count_of states) l c.in-Plus.is) (number_begins l.kind (inr c.in-Plus.is)) leads) (c.first_number.ensures.leads (count_of states))

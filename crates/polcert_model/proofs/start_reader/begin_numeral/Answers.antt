@@ -1,8 +1,12 @@
+use Rattle.std.proofs.Common.{inl}
 use Rattle.std.proofs.Common.{subst}
 use Rattle.polcert_text.specs.Reading.{lexeme_of}
 use Rattle.polcert_model.specs.StartSteps.{AreDigits}
 use Rattle.polcert_model.proofs.StartNumbers.{if_ok_map, on_err_map}
 use Rattle.polcert_model.proofs.StartForms.{body_begins, body_stuck, digits_begin, not_whole, whole_or_one, numeral_not_name}
+use Rattle.polcert_model.specs.Elements.{count_of}
+use Rattle.polcert_model.proofs.WantLaws.{no_state, body_lead}
+use Rattle.polcert_model.proofs.WantLaws.{number_begins}
 use Rattle.polcert_model.proofs.start_reader.begin_numeral.Goals as goal
 
 pub returns-in-Some-clause-begun : goal.returns-in-Some-clause-begun
@@ -29,3 +33,10 @@ returns-in-None-clause-refused c =
 
 pub returns-in-None-clause-kept : goal.returns-in-None-clause-kept
 returns-in-None-clause-kept c = c.first_number.ensures.kept _
+
+pub returns-in-None-clause-leads : goal.returns-in-None-clause-leads
+returns-in-None-clause-leads c =
+    let states = c.args.states.now in
+    let l = lexeme_of c.args.token in
+    let none = no_state (count_of states) l c.requires.numeral (whole_or_one states l c.count.result c.count.ensures c.in-None.ensures) in
+    if_ok_map _ _ _ (λ r leads. body_lead (count_of states) l _ none (number_begins l.kind (inl c.requires.numeral)) leads) (c.first_number.ensures.leads (count_of states))

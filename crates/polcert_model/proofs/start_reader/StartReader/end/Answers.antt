@@ -3,6 +3,12 @@ use Rattle.polcert_model.specs.StartSteps.{StartGoes, IsStartSeen}
 use Rattle.polcert_model.specs.declared.start_reader.StartReader.TheVariants as reader
 use Rattle.polcert_model.proofs.PatternLaws.{if_err_map}
 use Rattle.polcert_model.proofs.StartSeen.{end_refused}
+use Rattle.std.proofs.Common.{◌≡◌, None, IfErr}
+use Rattle.polcert_model.specs.Elements.{count_of}
+use Rattle.polcert_model.specs.Misfits.{misfit}
+use Rattle.polcert_model.specs.WantSteps.{start_wants, IfAtEnd}
+use Rattle.polcert_model.specs.StartSteps.{IsStartWithin}
+use Rattle.polcert_model.proofs.WantLaws.{no_end_kind}
 use Rattle.polcert_model.proofs.start_reader.StartReader.end.Goals as goal
 
 pub returns-in-List-clause-reason : goal.returns-in-List-clause-reason
@@ -28,3 +34,19 @@ returns-in-Probabilities-clause-refused c =
 
 pub returns-in-Probabilities-clause-reason : goal.returns-in-Probabilities-clause-reason
 returns-in-Probabilities-clause-reason c = λ body seen. c.end_probabilities.ensures.reason body
+
+pub returns-in-List-clause-kind : goal.returns-in-List-clause-kind
+returns-in-List-clause-kind c =
+    subst (λ s. IfErr c.end.result (λ e. IfAtEnd e (λ kind. kind ≡ misfit (start_wants (count_of c.args.states.now) s []) None))) (sym c.in-List.is) c.end.ensures.kind
+
+pub returns-in-Number-clause-kind : goal.returns-in-Number-clause-kind
+returns-in-Number-clause-kind c =
+    subst (λ s. IfErr c.end-in-Number.result (λ e. IfAtEnd e (λ kind. kind ≡ misfit (start_wants (count_of c.args.states.now) s []) None))) (sym c.in-Number.is) c.end-in-Number.ensures.kind
+
+pub returns-in-Digits-clause-kind : goal.returns-in-Digits-clause-kind
+returns-in-Digits-clause-kind c = if_err_map _ _ _ (λ e none. no_end_kind e _ none) c.end-in-Digits.ensures.kind
+
+pub returns-in-Probabilities-clause-kind : goal.returns-in-Probabilities-clause-kind
+returns-in-Probabilities-clause-kind c =
+    let within = subst (IsStartWithin c.args.states.now) c.in-Probabilities.is c.requires.within in
+    subst (λ s. IfErr c.end_probabilities.result (λ e. IfAtEnd e (λ kind. kind ≡ misfit (start_wants (count_of c.args.states.now) s []) None))) (sym c.in-Probabilities.is) (c.end_probabilities.ensures.kind within.room)

@@ -9,6 +9,7 @@ use Rattle.polcert_model.specs.declared.start_reader.StartReader.TheVariants as 
 use Rattle.polcert_model.proofs.PatternLaws.{if_err_map, refused_map, each_refused_map, on_ok_map}
 use Rattle.polcert_model.proofs.StartNumbers.{sign_takes, shares_take, shares_stuck}
 use Rattle.polcert_model.proofs.StartSeen.{seen_in, reason_in, number_reason_in, digits_reason_in, list_reason}
+use Rattle.polcert_model.specs.WantSteps.{Leads, start_wants}
 use Rattle.polcert_model.proofs.start_reader.StartReader.feed.Goals as goal
 
 pub returns-in_err-feed-in-List-clause-reason :
@@ -120,3 +121,13 @@ returns-in-Probabilities-clause-reason c = λ body seen.
     let l = lexeme_of c.args.token in
     let n = c.in-Probabilities.numbers in
     if_err_map _ _ _ (λ stop h. each_refused_map stop (λ r x. reason_in body l c.args.self.now (reader.Probabilities n) r.kind r.place c.in-Probabilities.is seen (list_reason n.sign l r.kind r.place x)) h) c.feed_probability.ensures.reason
+
+pub returns-in_ok-self-in-Form-clause-leads : goal.returns-in_ok-self-in-Form-clause-leads
+returns-in_ok-self-in-Form-clause-leads c =
+    let count = count_of c.args.states.now in
+    subst (λ s. Leads (start_wants count s) (lexeme_of c.args.token) (start_wants count c.in_ok-self-in-Form.field-0)) (sym c.in-Form.is) (c.in_ok-self-in-Form.ensures.leads count)
+
+pub returns-in_ok-self-in-Sign-clause-leads : goal.returns-in_ok-self-in-Sign-clause-leads
+returns-in_ok-self-in-Sign-clause-leads c =
+    let count = count_of c.args.states.now in
+    subst (λ s. Leads (start_wants count s) (lexeme_of c.args.token) (start_wants count c.in_ok-self-in-Sign.field-0)) (sym c.in-Sign.is) (c.in_ok-self-in-Sign.ensures.leads count)
