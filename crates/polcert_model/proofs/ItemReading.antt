@@ -11,7 +11,9 @@ use Rattle.polcert_model.specs.declared.stop.ItemEnd.{ItemEnd}
 use Rattle.polcert_model.specs.declared.stop.ItemEnd.TheVariants as ends
 use Rattle.polcert_model.specs.declared.start_reader.StartReader.{StartReader}
 use Rattle.polcert_model.specs.Words.{Start}
-use Rattle.polcert_model.specs.Elements.{Elements, Count}
+use Rattle.polcert_model.specs.Elements.{Elements, Count, count_of}
+use Rattle.polcert_model.specs.Misfits.{misfit}
+use Rattle.polcert_model.specs.WantSteps.{Leads, start_wants, item_wants, IfAtEnd}
 use Rattle.polcert_model.specs.Text.{Known}
 use Rattle.polcert_model.specs.LineSteps.{Takes, CannotTake}
 use Rattle.polcert_model.specs.EntrySteps.{preamble_in}
@@ -81,6 +83,20 @@ start_stuck k states item old l known is stuck =
     let none : CannotTake (StartGoes (preamble_in k).states) old l = subst (λ s. CannotTake (StartGoes s) old l) (sym (known_states k states known)) stuck in
     let go : CannotTake (ItemGoes k) (items.Start old) l = λ ls next g. none ls g.0 g.1.0 in
     subst (λ i. CannotTake (ItemGoes k) i l) (sym is) go
+
+pub start_leads : (k : Known) (states : Elements) (item : ItemReader) (old new : StartReader) (l : Lexeme) → k.states ≡ Some states → item ≡ items.Start old
+    → Leads (start_wants (count_of states) old) l (start_wants (count_of states) new) → Leads (item_wants k item) l (item_wants k (items.Start new))
+start_leads k states item old new l known is leads =
+    let go : Leads (item_wants k (items.Start old)) l (item_wants k (items.Start new)) =
+    subst (λ s. Leads (start_wants (count_of s) old) l (start_wants (count_of s) new)) (sym (known_states k states known)) leads in
+    subst (λ i. Leads (item_wants k i) l (item_wants k (items.Start new))) (sym is) go
+
+pub start_ends : (k : Known) (states : Elements) (item : ItemReader) (r : StartReader) (e : ItemEnd) → k.states ≡ Some states → item ≡ items.Start r
+    → IfAtEnd e (λ kind. kind ≡ misfit (start_wants (count_of states) r []) None) → IfAtEnd e (λ kind. kind ≡ misfit (item_wants k item []) None)
+start_ends k states item r e known is named =
+    let go : IfAtEnd e (λ kind. kind ≡ misfit (item_wants k (items.Start r) []) None) =
+    subst (λ s. IfAtEnd e (λ kind. kind ≡ misfit (start_wants (count_of s) r []) None)) (sym (known_states k states known)) named in
+    subst (λ i. IfAtEnd e (λ kind. kind ≡ misfit (item_wants k i []) None)) (sym is) go
 
 -- ---- why an item cannot end
 

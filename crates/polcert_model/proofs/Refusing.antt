@@ -21,7 +21,7 @@ use Rattle.polcert_model.specs.Reading.{IsWithinItem, IsWrong, CannotGoOn, IsPos
 use Rattle.polcert_model.specs.FirstWrong.{TextTokens, AreTokensOf, IsFirstWrong, LiesIn, IsDecided, word_place, wrong_item, wrong_last}
 use Rattle.polcert_model.specs.Reasons.{IsReason, InItem, StandsIn, NumberStandsIn, IsRepeated, is_sign}
 use Rattle.polcert_model.specs.Reasons as reasons
-use Rattle.polcert_model.specs.Refusals.{place_or, IsOfLexemes, IsOfEnd, IsTaken, Stops, StopsInBody, in_body}
+use Rattle.polcert_model.specs.Refusals.{place_or, IsOfLexemes, IsTaken, Stops, StopsInBody, in_body}
 use Rattle.polcert_model.specs.Refusals as refusals
 use Rattle.polcert_model.specs.NumberSteps.{is_negative, number_place, IsSignAt, SignEnds}
 use Rattle.polcert_model.specs.NumberSteps as steps
@@ -263,14 +263,6 @@ start_kind body StartSum place r = absurd r
 start_kind body StartEmpty place r = absurd r
 start_kind body _ place r = tt
 
-start_end : (kind : ItemFault) → IsEndReason Start kind → IsOfEnd kind
-start_end BadShape r = tt
-start_end WrongNumberCount r = tt
-start_end StartSum r = tt
-start_end StartEmpty r = tt
-start_end BadCount r = absurd r
-start_end _ r = absurd r
-
 start_stops : (ts : TextTokens) (kind : ItemFault) (n place : ℕ) (k : Known) (t : Topic) (body : List Lexeme) → Here ts n k t body → t ≡ Start → IsOfLexemes kind → StandsIn body place (λ l. Unit {0}) → StopsInBody ts kind n place
 start_stops ts kind n place k t body h e of s = stops_here ts kind n place k t body s.before (s.lexeme ∷ s.after) h s.whole (refusals.in_start e) (refusals.in_start_item e of) s.place_is (λ none. absurd (cons≢nil none))
 
@@ -362,13 +354,12 @@ not_start Actions P other p = p
 not_start Observations P other p = p
 not_start (Cells table) P other p = p
 
-wants_here : (k : Known) (t : Topic) (body : List Lexeme) (item : ItemReader) → (t ≡ Start → ⊥) → IfNotStart t ((ls : List Lexeme) → wanted k t (body ++ ls) ≡ item_wants k item ls)
-    → item_wants k item [] ≡ wanted k t body
-wants_here k t body item other wants = sym (ap (wanted k t) (sym (append-nil body)) ∙ not_start t _ other wants [])
+wants_here : (k : Known) (t : Topic) (body : List Lexeme) (item : ItemReader) → ((ls : List Lexeme) → wanted k t (body ++ ls) ≡ item_wants k item ls) → item_wants k item [] ≡ wanted k t body
+wants_here k t body item wants = sym (ap (wanted k t) (sym (append-nil body)) ∙ wants [])
 
-here_unfit : (k : Known) (t : Topic) (body : List Lexeme) (item : ItemReader) → (t ≡ Start → ⊥) → IfNotStart t ((ls : List Lexeme) → wanted k t (body ++ ls) ≡ item_wants k item ls)
+here_unfit : (k : Known) (t : Topic) (body : List Lexeme) (item : ItemReader) → (t ≡ Start → ⊥) → ((ls : List Lexeme) → wanted k t (body ++ ls) ≡ item_wants k item ls)
     → (l : Lexeme) (kind : ItemFault) → IfNotStart t (IsMisfit (item_wants k item []) l kind) → IsMisfit (wanted k t body) l kind
-here_unfit k t body item other wants l kind unfit = subst (λ x. IsMisfit x l kind) (wants_here k t body item other wants) (not_start t _ other unfit)
+here_unfit k t body item other wants l kind unfit = subst (λ x. IsMisfit x l kind) (wants_here k t body item wants) (not_start t _ other unfit)
 
 pub feed_refused : (seen : List Lexeme) (r : TextReader) (l : Lexeme) (kind : ItemFault) (place : ℕ) (w : IsItemRead seen r) → begins_item l ≡ false
     → CannotTake (ItemGoes r.known) w.item l → IsItemReason w.item w.body l kind place → IfNotStart (topic_in w.item) (IsMisfit (item_wants r.known w.item []) l kind)
@@ -430,7 +421,7 @@ end_reason ts n place k t body WrongNumberCount h m = tt
 end_reason ts n place k t body _ h m = absurd m
 
 pub end_refused : (seen : List Lexeme) (r : TextReader) (kind : ItemFault) (place : ℕ) (w : IsItemRead seen r) → CannotEnd (ItemGoes r.known) w.item
-    → IsEndReason (topic_in w.item) kind → IfNotStart (topic_in w.item) (kind ≡ misfit (item_wants r.known w.item []) None) → IsRefusedAt seen place (model_faults.Item kind r.number place)
+    → IsEndReason (topic_in w.item) kind → kind ≡ misfit (item_wants r.known w.item []) None → IsRefusedAt seen place (model_faults.Item kind r.number place)
 end_refused seen r kind place w none reason kinds text ts tokens ends =
     let x = ends_here ts r.number place seen w.body r.known w.t w.within w.number_is ends in
     record {
@@ -440,21 +431,17 @@ end_refused seen r kind place w none reason kinds text ts tokens ends =
         reason = end_reason ts r.number place r.known w.t (w.body ++ []) kind x.here_is (subst (λ t. IsEndReason t kind) w.read.topic_is reason);
         decided = λ fault at y. absurd (free_here ts r.number r.known w.t (w.body ++ []) x.here_is w.read.may_stand fault at y);
       };
-      placed = in_body (stops_here ts kind r.number place r.known w.t (w.body ++ []) w.body [] x.here_is refl (taken (is_start w.t)) (stops (is_start w.t)) x.place_is (λ nothing. x.clean));
+      placed = in_body (stops_here ts kind r.number place r.known w.t (w.body ++ []) w.body [] x.here_is refl (taken (is_start w.t)) stops x.place_is (λ nothing. x.clean));
     }
   where
     taken : (w.t ≡ Start) ⊎ (w.t ≡ Start → ⊥) → IsTaken r.known w.t w.body
     taken (inl start) = refusals.in_start start
     taken (inr other) = refusals.possible (w.read.possible other)
 
-    stops : (w.t ≡ Start) ⊎ (w.t ≡ Start → ⊥) → Stops r.known w.t kind w.body []
-    stops (inl start) =
-        refusals.at_start_end start (λ after right. none after (w.read.on [] after (subst (λ b. IsRight r.known w.t b after) (sym (append-nil w.body)) right)))
-        (start_end kind (subst (λ u. IsEndReason u kind) (w.read.topic_is ∙ start) reason))
-    stops (inr other) =
-        let named : IfNotStart w.t (kind ≡ misfit (item_wants r.known w.item []) None) = subst (λ u. IfNotStart u (kind ≡ misfit (item_wants r.known w.item []) None)) w.read.topic_is kinds in
+    stops : Stops r.known w.t kind w.body []
+    stops =
         refusals.at_end (λ after right. none after (w.read.on [] after (subst (λ b. IsRight r.known w.t b after) (sym (append-nil w.body)) right)))
-        (not_start w.t _ other named ∙ ap (λ v. misfit v None) (wants_here r.known w.t w.body w.item other w.read.wants))
+        (kinds ∙ ap (λ v. misfit v None) (wants_here r.known w.t w.body w.item w.read.wants))
 
 -- a start item that cannot end, for the number before its end
 pub end_refused_before : (seen : List Lexeme) (r : TextReader) (kind : ItemFault) (at place : ℕ) (w : IsItemRead seen r) → CannotEnd (ItemGoes r.known) w.item

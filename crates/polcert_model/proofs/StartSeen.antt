@@ -21,6 +21,8 @@ use Rattle.polcert_model.specs.ItemSteps.{IsEndReason}
 use Rattle.polcert_model.specs.Reasons.{StandsIn, NumberStandsIn, unsigned, plus, minus, IsRefusedNumber, IsNoFraction, IsDigits, is_sign, ends_in_sign}
 use Rattle.polcert_model.specs.NumberSteps.{is_negative, number_place, IsSignAt, SignIs, SignEnds}
 use Rattle.polcert_model.specs.NumberSteps as steps
+use Rattle.polcert_model.specs.Misfits.{Wanted, IsOfValue}
+use Rattle.polcert_model.specs.WantSteps.{IsAtToken, of_number, at_token, IsValueOr, value, other, IsStartMisfit, number, token}
 use Rattle.polcert_model.specs.EntrySteps.{IsListReason, no_number, no_further}
 use Rattle.polcert_model.specs.StartSteps.{start_sign, pending_of, pending, IsValue, IsKept, IsStartSeen, IsReasonAt, IsOutside, IsNumberStop, behind_number, no_probability, IsDigitsStop, behind_digits, digits_no_probability, digits_no_number, IsReasonIn, IsStartReason, IsStartEndKind, IfNotMemory, StartGoes}
 
@@ -213,3 +215,40 @@ end_kind _ r = absurd r
 
 pub end_refused : (states : Elements) (old r : StartReader) (e : ItemEnd) → old ≡ r → IfNotMemory e (CannotEnd (StartGoes states) r) → IfNotMemory e (CannotEnd (StartGoes states) old)
 end_refused states old r e is none = subst (λ s. IfNotMemory e (CannotEnd (StartGoes states) s)) (sym is) none
+
+-- ---- where a token is refused
+
+pub reason_place : (sign : Option Sign) (l : Lexeme) (kind : ItemFault) (place : ℕ) → IsReasonAt sign l kind place → IsAtToken l kind place
+reason_place sign l (Number fault) place r = of_number tt
+reason_place sign l ProbabilityRange place r = of_number tt
+reason_place sign l Reset place r = at_token r.0
+reason_place sign l UnknownName place r = at_token r.0
+reason_place sign l IndexOutOfRange place r = at_token r.0
+reason_place sign l BadShape place r = at_token r
+reason_place sign l WrongNumberCount place r = at_token r
+reason_place sign l _ place r = absurd r
+
+pub misplaced_place : (l : Lexeme) (kind : ItemFault) (place : ℕ) → steps.IsMisplaced l kind place → IsAtToken l kind place
+misplaced_place l Reset place r = at_token r.0
+misplaced_place l BadShape place r = at_token r
+misplaced_place l _ place r = absurd r
+
+of_range : (kind : ItemFault) → kind ≡ ProbabilityRange → IsOfValue kind
+of_range kind e = subst IsOfValue (sym e) tt
+
+of_fault : (kind : ItemFault) (f : NumberFault) → kind ≡ Number f → IsOfValue kind
+of_fault kind f e = subst IsOfValue (sym e) tt
+
+pub number_place_of : (f : FirstNumber) (l : Lexeme) (kind : ItemFault) (place : ℕ) → IsNumberStop f l kind place → IsAtToken l kind place
+number_place_of f l kind place (behind_number r) = reason_place None l kind place r
+number_place_of f l kind place (no_probability is p out) = of_number (of_range kind is)
+
+pub digits_place_of : (d : Digits) (l : Lexeme) (kind : ItemFault) (place : ℕ) → IsDigitsStop d l kind place → IsAtToken l kind place
+digits_place_of d l kind place (behind_digits r) = reason_place None l kind place r
+digits_place_of d l kind place (digits_no_probability h is p v out) = of_number (of_range kind is)
+digits_place_of d l kind place (digits_no_number f is p v) = of_number (of_fault kind f is)
+
+pub start_misfit : (w : Wanted) (l : Lexeme) (kind : ItemFault) (place : ℕ) → IsValueOr w l kind → IsAtToken l kind place → IsStartMisfit w l kind place
+start_misfit w l kind place (value v) at = number v
+start_misfit w l kind place (other e) (of_number v) = number v
+start_misfit w l kind place (other e) (at_token p) = token p e

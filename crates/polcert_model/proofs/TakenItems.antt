@@ -24,7 +24,7 @@ use Rattle.polcert_model.specs.Start.{IsStart}
 use Rattle.polcert_model.specs.StartSteps.{new_start}
 use Rattle.polcert_model.specs.ItemSteps.{ItemGoes, IsItemWithin, topic_in, IsSeen, new_item, new_entry, HasElements}
 use Rattle.polcert_model.specs.Wants.{wanted}
-use Rattle.polcert_model.specs.WantSteps.{Leads, item_wants, IfNotStart}
+use Rattle.polcert_model.specs.WantSteps.{Leads, item_wants}
 use Rattle.polcert_model.specs.TextSteps.{IsBodyRead}
 use Rattle.polcert_model.proofs.FirstPlaces.{entry_begins}
 use Rattle.polcert_model.proofs.Continuing.{can_end}
@@ -165,25 +165,14 @@ new_seen Observations = (refl, refl)
 new_seen Start = new_start_seen
 new_seen (Cells table) = refl
 
-new_wants : (k : Known) (t : Topic) → IfNotStart t ((ls : List Lexeme) → wanted k t ls ≡ item_wants k (new_item t) ls)
-new_wants k Discount = λ ls. refl
-new_wants k Values = λ ls. refl
-new_wants k States = λ ls. refl
-new_wants k Actions = λ ls. refl
-new_wants k Observations = λ ls. refl
-new_wants k Start = tt
-new_wants k (Cells table) = λ ls. refl
-
--- what the places are for behind one more lexeme
-wants_on : (k : Known) (t : Topic) (body : List Lexeme) (old new : ItemReader) (l : Lexeme) → IfNotStart t ((ls : List Lexeme) → wanted k t (body ++ ls) ≡ item_wants k old ls)
-    → IfNotStart t (Leads (item_wants k old) l (item_wants k new)) → IfNotStart t ((ls : List Lexeme) → wanted k t ((body ++ l ∷ []) ++ ls) ≡ item_wants k new ls)
-wants_on k Start body old new l before leads = tt
-wants_on k Discount body old new l before leads = λ ls. ap (wanted k Discount) (append_assoc body (l ∷ []) ls) ∙ before (l ∷ ls) ∙ leads.same ls
-wants_on k Values body old new l before leads = λ ls. ap (wanted k Values) (append_assoc body (l ∷ []) ls) ∙ before (l ∷ ls) ∙ leads.same ls
-wants_on k States body old new l before leads = λ ls. ap (wanted k States) (append_assoc body (l ∷ []) ls) ∙ before (l ∷ ls) ∙ leads.same ls
-wants_on k Actions body old new l before leads = λ ls. ap (wanted k Actions) (append_assoc body (l ∷ []) ls) ∙ before (l ∷ ls) ∙ leads.same ls
-wants_on k Observations body old new l before leads = λ ls. ap (wanted k Observations) (append_assoc body (l ∷ []) ls) ∙ before (l ∷ ls) ∙ leads.same ls
-wants_on k (Cells table) body old new l before leads = λ ls. ap (wanted k (Cells table)) (append_assoc body (l ∷ []) ls) ∙ before (l ∷ ls) ∙ leads.same ls
+new_wants : (k : Known) (t : Topic) (ls : List Lexeme) → wanted k t ls ≡ item_wants k (new_item t) ls
+new_wants k Discount ls = refl
+new_wants k Values ls = refl
+new_wants k States ls = refl
+new_wants k Actions ls = refl
+new_wants k Observations ls = refl
+new_wants k Start ls = refl
+new_wants k (Cells table) ls = refl
 
 -- an item whose word may stand, before its first lexeme
 pub item_begun : (k : Known) (t : Topic) → word_fault k t ≡ None → IsBodyRead k t [] (new_item t)
@@ -204,7 +193,7 @@ item_begun k t free =
 
 -- one lexeme more
 pub item_goes_on : (k : Known) (t : Topic) (body : List Lexeme) (old new : ItemReader) (l : Lexeme) → IsBodyRead k t body old → topic_in new ≡ topic_in old → IsItemWithin k new
-    → Takes (ItemGoes k) old l new → IsSeen (body ++ l ∷ []) new → IfNotStart (topic_in old) (Leads (item_wants k old) l (item_wants k new)) → IsBodyRead k t (body ++ l ∷ []) new
+    → Takes (ItemGoes k) old l new → IsSeen (body ++ l ∷ []) new → Leads (item_wants k old) l (item_wants k new) → IsBodyRead k t (body ++ l ∷ []) new
 item_goes_on k t body old new l r same within takes seen leads =
     record {
       may_stand = r.may_stand;
@@ -218,7 +207,7 @@ item_goes_on k t body old new l r same within takes seen leads =
           let on : IsRight k t ((body ++ l ∷ []) ++ last.more) last.after =
           subst (λ x. IsRight k t x last.after) (sym (append_assoc body (l ∷ []) last.more)) (r.back (l ∷ last.more) last.after (takes.back last.more last.after last.goes)) in
           record { more = last.more; after = last.after; taken = on };
-      wants = wants_on k t body old new l r.wants (subst (λ u. IfNotStart u (Leads (item_wants k old) l (item_wants k new))) r.topic_is leads);
+      wants = λ ls. ap (wanted k t) (append_assoc body (l ∷ []) ls) ∙ r.wants (l ∷ ls) ∙ leads.same ls;
     }
 
 -- ---- elements

@@ -82,12 +82,12 @@ cannot_end seen r i w e stuck =
 -- the open item cannot end
 pub item_not_ended : (seen : List Lexeme) (r : TextReader) (i : ItemReader) (kind : ItemFault) (place : ℕ) → IsTextRead seen r → r.item ≡ Some i
     → (HasElements r.known (topic_in i) → CannotEnd (ItemGoes r.known) i) → ((body : List Lexeme) → IsSeen body i → IsEndReason (topic_in i) kind)
-    → (HasElements r.known (topic_in i) → IfNotStart (topic_in i) (kind ≡ misfit (item_wants r.known i []) None)) → IsRefusedAt seen place (model_faults.Item kind r.number place)
+    → (HasElements r.known (topic_in i) → kind ≡ misfit (item_wants r.known i []) None) → IsRefusedAt seen place (model_faults.Item kind r.number place)
 item_not_ended seen r i kind place (nothing n) e stuck reason kinds = absurd (none≢some n.item_is e)
 item_not_ended seen r i kind place (item w) e stuck reason kinds =
     let same = same_item seen r i e w in
     end_refused seen r kind place w (cannot_end seen r i w e stuck) (subst (λ j. IsEndReason (topic_in j) kind) (sym same) (reason w.body (subst (IsSeen w.body) same w.read.seen)))
-    (subst (λ j. IfNotStart (topic_in j) (kind ≡ misfit (item_wants r.known j []) None)) (sym same) (kinds (some_elements seen r i w e)))
+    (subst (λ j. kind ≡ misfit (item_wants r.known j []) None) (sym same) (kinds (some_elements seen r i w e)))
 
 -- nor for the number before its end
 pub item_not_ended_before : (seen : List Lexeme) (r : TextReader) (i : ItemReader) (kind : ItemFault) (at place : ℕ) → IsTextRead seen r → r.item ≡ Some i
@@ -110,7 +110,7 @@ not_begun seen r l (item w) e inside = absurd (none≢some e w.item_is)
 -- the open item takes it
 pub item_takes : (seen : List Lexeme) (r : TextReader) (l : Lexeme) (old new : ItemReader) → IsTextRead seen r → r.item ≡ Some old → begins_item l ≡ false
     → topic_in new ≡ topic_in old → IsItemWithin r.known new → Takes (ItemGoes r.known) old l new → ((body : List Lexeme) → IsSeen body old → IsSeen (body ++ l ∷ []) new)
-    → IfNotStart (topic_in old) (Leads (item_wants r.known old) l (item_wants r.known new)) → IsTextRead (seen ++ l ∷ []) (reader_of r.known (Some new) r.number)
+    → Leads (item_wants r.known old) l (item_wants r.known new) → IsTextRead (seen ++ l ∷ []) (reader_of r.known (Some new) r.number)
 item_takes seen r l old new (nothing n) e inside same within takes goes_on leads = absurd (none≢some n.item_is e)
 item_takes seen r l old new (item w) e inside same within takes goes_on leads =
     let read : IsBodyRead r.known w.t w.body old = subst (IsBodyRead r.known w.t w.body) (same_item seen r old e w) w.read in

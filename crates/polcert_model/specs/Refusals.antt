@@ -3,7 +3,7 @@ use Rattle.std.specs.Prelude.{◌≡◌, ℕ, ◌+◌, true, List, [], ◌∷◌
 use Rattle.polcert_text.specs.Cut.{Lexeme}
 use Rattle.polcert_text.specs.declared.lexeme.TokenKind.TheVariants.{Numeral}
 use Rattle.polcert_model.specs.declared.fault.ItemFault.{ItemFault}
-use Rattle.polcert_model.specs.declared.fault.ItemFault.TheVariants.{Token, TextTooLong, BadShape, WrongNumberCount, StartSum, StartEmpty}
+use Rattle.polcert_model.specs.declared.fault.ItemFault.TheVariants.{Token, TextTooLong, StartSum, StartEmpty}
 use Rattle.polcert_model.specs.declared.fault.ModelFault.{ModelFault}
 use Rattle.polcert_model.specs.declared.fault.ModelFault.TheVariants.{RowSum, Memory}
 use Rattle.polcert_model.specs.declared.fault.ModelFault.TheVariants as model_faults
@@ -61,25 +61,15 @@ IsOfLexemes StartSum = ⊥
 IsOfLexemes StartEmpty = ⊥
 IsOfLexemes _ = Unit {0}
 
--- what may be refused where a start item ends
-abbrev pub IsOfEnd : ItemFault → Type 0
-IsOfEnd BadShape = Unit {0}
-IsOfEnd WrongNumberCount = Unit {0}
-IsOfEnd StartSum = Unit {0}
-IsOfEnd StartEmpty = Unit {0}
-IsOfEnd _ = ⊥
-
 -- Behind the lexemes taken the item is no longer possible: with the next lexeme, with the next two as a sign and a
 -- numeral, or, where nothing is left of it, as it is. The kind is so of what this place is for and of what stands there.
--- (Of a start item only this is said: what is decided over its whole body is refused at its end, and nothing else is
--- refused there but a wrong shape or too few numbers.)
+-- (At a lexeme of a start item only this is said: what is decided over its whole body isn't refused there.)
 pub data Stops (k : Known) (t : Topic) (kind : ItemFault) (taken : List Lexeme) : List Lexeme → Type 0 where
   at_lexeme : {l : Lexeme} {behind : List Lexeme} → CannotGoOn k t (taken ++ l ∷ []) → IsMisfit (wanted k t taken) l kind → Stops k t kind taken (l ∷ behind)
   at_number : {sign l : Lexeme} {behind : List Lexeme} → is_sign sign.kind ≡ true → l.kind ≡ Numeral → IsPossible k t (taken ++ sign ∷ [])
       → CannotGoOn k t (taken ++ sign ∷ l ∷ []) → IsOfValue kind → IsMisfit (wanted k t (taken ++ sign ∷ [])) l kind → Stops k t kind taken (sign ∷ l ∷ behind)
   at_end : IsWrong k t taken → kind ≡ misfit (wanted k t taken) None → Stops k t kind taken []
   in_start_item : {l : Lexeme} {behind : List Lexeme} → t ≡ Start → IsOfLexemes kind → Stops k t kind taken (l ∷ behind)
-  at_start_end : t ≡ Start → IsWrong k t taken → IsOfEnd kind → Stops k t kind taken []
 
 -- The place stands in the item where its lexemes so far are still possible, and with what stands there they aren't.
 -- Where nothing is left of the item and of the text, the tokens end cleanly.

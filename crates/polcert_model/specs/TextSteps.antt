@@ -21,7 +21,7 @@ use Rattle.polcert_model.specs.Refusals.{IsRefusal, IsPlacedRight}
 use Rattle.polcert_model.specs.Drafts.{Draft}
 use Rattle.polcert_model.specs.EntrySteps.{preamble_in}
 use Rattle.polcert_model.specs.Wants.{wanted}
-use Rattle.polcert_model.specs.WantSteps.{item_wants, IfNotStart}
+use Rattle.polcert_model.specs.WantSteps.{item_wants}
 use Rattle.polcert_model.specs.ItemSteps.{ItemGoes, IsItemWithin, IsSeen, topic_in, pending_in}
 
 -- the item's body so far, and what its reader makes of what is still to come of it
@@ -33,7 +33,7 @@ pub record IsBodyRead (k : Known) (t : Topic) (body : List Lexeme) (item : ItemR
   pub back : (ls : List Lexeme) (next : Known) → ItemGoes k item ls next → IsRight k t (body ++ ls) next
   pub on : (ls : List Lexeme) (next : Known) → IsRight k t (body ++ ls) next → ItemGoes k item ls next
   pub possible : (t ≡ Start → ⊥) → IsPossible k t body
-  pub wants : IfNotStart t ((ls : List Lexeme) → wanted k t (body ++ ls) ≡ item_wants k item ls)
+  pub wants : (ls : List Lexeme) → wanted k t (body ++ ls) ≡ item_wants k item ls
 
 -- within an item, behind right ones
 pub record IsItemRead (seen : List Lexeme) (r : TextReader) : Type 0 where

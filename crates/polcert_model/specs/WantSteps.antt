@@ -115,3 +115,18 @@ IfAtEnd _ P = Unit {0}
 pub data IsValueOr (w : Wanted) (l : Lexeme) (kind : ItemFault) : Type 0 where
   value : IsOfValue kind → IsValueOr w l kind
   other : kind ≡ misfit w (Some l) → IsValueOr w l kind
+
+-- a refusal for a number's value, perhaps of one before, or at this token
+pub data IsAtToken (l : Lexeme) (kind : ItemFault) (place : ℕ) : Type 0 where
+  of_number : IsOfValue kind → IsAtToken l kind place
+  at_token : place ≡ l.place → IsAtToken l kind place
+
+-- the same as the table of kinds says
+pub data IsStartMisfit (w : Wanted) (l : Lexeme) (kind : ItemFault) (place : ℕ) : Type 0 where
+  number : IsOfValue kind → IsStartMisfit w l kind place
+  token : place ≡ l.place → kind ≡ misfit w (Some l) → IsStartMisfit w l kind place
+
+-- this holds of start items
+abbrev pub IfStart : Topic → Type 0 → Type 0
+IfStart Start P = P
+IfStart _ P = Unit {0}

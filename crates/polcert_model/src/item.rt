@@ -77,8 +77,7 @@ impl ItemReader {
             CannotTake (ItemGoes known.now) self.old (lexeme_of token.entry))) }
         ensures reason { (body : List Lexeme) → IsSeen body self.old → IfErr result (λ stop. IfRefused stop (λ r.
             IsItemReason self.old body (lexeme_of token.entry) r.kind r.place)) }
-        ensures leads { OnOk result (IfNotStart (topic_in self.old)
-            (Leads (item_wants known.now self.old) (lexeme_of token.entry) (item_wants known.now self.new))) }
+        ensures leads { OnOk result (Leads (item_wants known.now self.old) (lexeme_of token.entry) (item_wants known.now self.new)) }
         ensures kind { IfErr result (λ stop. IfRefused stop (λ r. IfNotStart (topic_in self.old)
             (IsMisfit (item_wants known.now self.old []) (lexeme_of token.entry) r.kind))) }
     {
@@ -110,8 +109,8 @@ impl ItemReader {
         ensures within { IfOk result IsSaidWithin }
         ensures refused { HasElements known.now (topic_in self) → IfErr result (λ e. IfNotMemory e (CannotEnd (ItemGoes known.now) self)) }
         ensures reason { (body : List Lexeme) → IsSeen body self → IfErr result (IsItemEndReason (topic_in self) body) }
-        ensures kind { HasElements known.now (topic_in self) → IfErr result (λ e. IfNotStart (topic_in self)
-            (IfAtEnd e (λ kind. kind ≡ misfit (item_wants known.now self []) None))) }
+        ensures kind { HasElements known.now (topic_in self) → IfErr result (λ e.
+            IfAtEnd e (λ kind. kind ≡ misfit (item_wants known.now self []) None)) }
     {
         match self {
             ItemReader::Discount(reader) => Ok(Said::Discount(reader.end()?)),

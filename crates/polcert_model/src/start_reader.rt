@@ -15,7 +15,7 @@ ghost use Rattle.polcert_model.specs.Reasons.{is_sign};
 ghost use Rattle.polcert_model.specs.Start.{alike, all_states, single, shares_of, is_level, is_positive};
 ghost use Rattle.polcert_model.specs.StartSteps.{StartGoes, IsStartWithin, IsStartSeen, IsStartReason, IsStartEndReason, IfNotMemory, new_start, pending, marked, AreUnmarked, picks, NumbersGo, Begins, IsKept, IsReasonAt, IsNumberStop, IsDigitsStop, AreDigits, first_above_0, is_level_at, level_share};
 ghost use Rattle.polcert_model.specs.Wants.{number_end, numbers_want, start_body_wants};
-ghost use Rattle.polcert_model.specs.WantSteps.{Leads, number_wants, list_wants, start_wants, IfAtEnd, IsValueOr};
+ghost use Rattle.polcert_model.specs.WantSteps.{Leads, number_wants, list_wants, start_wants, IfAtEnd, IsValueOr, IsAtToken};
 
 use crate::elements::{Elements, element_of};
 use crate::entry_reader::Numbers;
@@ -111,6 +111,7 @@ impl StartReader {
             (lexeme_of token.entry) (start_wants (count_of states.now) self.new)) }
         ensures kind { IfErr result (λ stop. IfRefused stop (λ r.
             IsValueOr (start_wants (count_of states.now) self.old []) (lexeme_of token.entry) r.kind)) }
+        ensures place { IfErr result (λ stop. IfRefused stop (λ r. IsAtToken (lexeme_of token.entry) r.kind r.place)) }
     {
         match self {
             StartReader::Form => {

@@ -4,7 +4,7 @@ use Rattle.polcert_model.specs.EntrySteps.{entry_sign}
 use Rattle.polcert_model.specs.LineSteps.{discount_sign}
 use Rattle.polcert_model.specs.ItemSteps.{IsSeen}
 use Rattle.polcert_model.proofs.PatternLaws.{if_err_map, refused_map, each_refused_map, on_ok_map}
-use Rattle.polcert_model.proofs.ItemReading.{sign_ends, elements_seen, states_reason, actions_reason, observations_reason, start_reason, start_takes, start_stuck}
+use Rattle.polcert_model.proofs.ItemReading.{sign_ends, elements_seen, states_reason, actions_reason, observations_reason, start_reason, start_takes, start_stuck, start_leads}
 use Rattle.polcert_model.proofs.item.ItemReader.feed.Goals as goal
 
 pub returns-in_ok-feed-in-Discount-clause-seen : goal.returns-in_ok-feed-in-Discount-clause-seen
@@ -58,3 +58,8 @@ returns-in-Start-clause-reason c = λ body s.
 
 pub returns-in-Entry-clause-seen : goal.returns-in-Entry-clause-seen
 returns-in-Entry-clause-seen c = λ body s. on_ok_map _ (sign_ends (entry_sign c.feed-in-Entry.new.self.state) body (lexeme_of c.args.token)) c.feed-in-Entry.ensures.sign
+
+pub returns-in-Start-clause-leads : goal.returns-in-Start-clause-leads
+returns-in-Start-clause-leads c =
+    on_ok_map _ (start_leads c.args.known.now c.states.result.now c.args.self.now c.in-Start.reader c.feed-in-Start.new.self (lexeme_of c.args.token) c.states.ensures.states c.in-Start.is)
+    c.feed-in-Start.ensures.leads

@@ -8,7 +8,7 @@ use Rattle.polcert_model.specs.StartSteps.{StartGoes, IsReasonAt, IsNumberStop, 
 use Rattle.polcert_model.specs.declared.start_reader.StartReader.TheVariants as reader
 use Rattle.polcert_model.proofs.PatternLaws.{if_err_map, refused_map, each_refused_map, on_ok_map}
 use Rattle.polcert_model.proofs.StartNumbers.{sign_takes, shares_take, shares_stuck}
-use Rattle.polcert_model.proofs.StartSeen.{seen_in, reason_in, number_reason_in, digits_reason_in, list_reason}
+use Rattle.polcert_model.proofs.StartSeen.{seen_in, reason_in, number_reason_in, digits_reason_in, list_reason, reason_place, number_place_of, digits_place_of}
 use Rattle.polcert_model.specs.WantSteps.{Leads, start_wants}
 use Rattle.polcert_model.proofs.start_reader.StartReader.feed.Goals as goal
 
@@ -131,3 +131,34 @@ pub returns-in_ok-self-in-Sign-clause-leads : goal.returns-in_ok-self-in-Sign-cl
 returns-in_ok-self-in-Sign-clause-leads c =
     let count = count_of c.args.states.now in
     subst (λ s. Leads (start_wants count s) (lexeme_of c.args.token) (start_wants count c.in_ok-self-in-Sign.field-0)) (sym c.in-Sign.is) (c.in_ok-self-in-Sign.ensures.leads count)
+
+pub returns-in_err-feed-in-List-clause-place : goal.returns-in_err-feed-in-List-clause-place
+returns-in_err-feed-in-List-clause-place c =
+    let l = lexeme_of c.args.token in
+    if_err_map c.from_residual-in_err-feed-in-List.result (λ stop. IfRefused stop (λ r. IsReasonAt None l r.kind r.place)) _ (λ stop h. each_refused_map stop (λ r x. reason_place None l r.kind r.place x) h) (search rules)
+
+pub returns-in_err-self-in-Body-clause-place : goal.returns-in_err-self-in-Body-clause-place
+returns-in_err-self-in-Body-clause-place c =
+    let l = lexeme_of c.args.token in
+    if_err_map c.from_residual-in_err-self-in-Body.result (λ stop. IfRefused stop (λ r. IsReasonAt None l r.kind r.place)) _ (λ stop h. each_refused_map stop (λ r x. reason_place None l r.kind r.place x) h) (search rules)
+
+pub returns-in_err-self-in-Sign-clause-place : goal.returns-in_err-self-in-Sign-clause-place
+returns-in_err-self-in-Sign-clause-place c =
+    let l = lexeme_of c.args.token in
+    if_err_map c.from_residual-in_err-self-in-Sign.result (λ stop. IfRefused stop (λ r. IsReasonAt (Some c.in-Sign.sign) l r.kind r.place)) _ (λ stop h. each_refused_map stop (λ r x. reason_place (Some c.in-Sign.sign) l r.kind r.place x) h) (search rules)
+
+pub returns-in_err-go_on-in-Number-clause-place : goal.returns-in_err-go_on-in-Number-clause-place
+returns-in_err-go_on-in-Number-clause-place c =
+    let l = lexeme_of c.args.token in
+    if_err_map c.from_residual-in_err-go_on-in-Number.result (λ stop. IfRefused stop (λ r. IsNumberStop c.in-Number.first l r.kind r.place)) _ (λ stop h. each_refused_map stop (λ r x. number_place_of c.in-Number.first l r.kind r.place x) h) (search rules)
+
+pub returns-in_err-go_on-in-Digits-clause-place : goal.returns-in_err-go_on-in-Digits-clause-place
+returns-in_err-go_on-in-Digits-clause-place c =
+    let l = lexeme_of c.args.token in
+    if_err_map c.from_residual-in_err-go_on-in-Digits.result (λ stop. IfRefused stop (λ r. IsDigitsStop c.in-Digits.digits l r.kind r.place)) _ (λ stop h. each_refused_map stop (λ r x. digits_place_of c.in-Digits.digits l r.kind r.place x) h) (search rules)
+
+pub returns-in-Probabilities-clause-place : goal.returns-in-Probabilities-clause-place
+returns-in-Probabilities-clause-place c =
+    let l = lexeme_of c.args.token in
+    let n = c.in-Probabilities.numbers in
+    if_err_map _ _ _ (λ stop h. each_refused_map stop (λ r x. reason_place n.sign l r.kind r.place (list_reason n.sign l r.kind r.place x)) h) c.feed_probability.ensures.reason
