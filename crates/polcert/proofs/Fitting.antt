@@ -1,7 +1,7 @@
 -- What a call says of the bytes that it read of a source, it says of each text that fits them.
 use Rattle.std.proofs.Common.{◌≡◌, ◌∙◌, ◌+◌, ◌<◌, ◌≤◌, ◌++◌, ℕ, List, Option, Some, None, true, false, length, inl, inr, sym, ap, subst, arith}
 use Rattle.std.proofs.lemmas.Bool.{cases_lt}
-use Rattle.polcert_text.specs.Cut.{Lexeme, Rest, text_rest, IsCut}
+use Rattle.polcert_text.specs.Cut.{Lexeme, Rest, text_rest, IsCut, text_limit}
 use Rattle.polcert_text.specs.TakenTokens.{Taken}
 use Rattle.polcert_text.specs.Source.{Gives, IsText, EachTextThatFits}
 use Rattle.polcert_model.specs.declared.fault.ModelFault.{ModelFault}
@@ -9,7 +9,7 @@ use Rattle.polcert_model.specs.declared.fault.ModelFault.TheVariants as model_fa
 use Rattle.polcert_model.specs.FirstWrong.{TextTokens, AreTokensOf}
 use Rattle.polcert_model.specs.Meaning.{Meaning, states_of, actions_of, observations_of}
 use Rattle.polcert_model.specs.Refusals.{IsRefusal, IsPlacedRight}
-use Rattle.polcert_model.specs.Text.{most_bytes, IsModelText}
+use Rattle.polcert_model.specs.Text.{IsModelText}
 use Rattle.polcert_policy.specs.declared.fault.GraphFault.{GraphFault}
 use Rattle.polcert_policy.specs.declared.fault.GraphFault.TheVariants as graph_faults
 use Rattle.polcert_policy.specs.declared.fault.VectorFault.{VectorFault}
@@ -24,21 +24,21 @@ use Rattle.polcert.proofs.Refusing.{same_rest, refused_with, ends_cleanly, past_
 
 -- The text has the same tokens as the bytes below the limit, and is the bytes where these are within it.
 pub record HasSameTokens (bytes text : List ℕ) : Type 0 where
-  pub rest : text_rest text most_bytes ≡ text_rest bytes most_bytes
-  pub whole : length bytes ≤ most_bytes → text ≡ bytes
+  pub rest : text_rest text text_limit ≡ text_rest bytes text_limit
+  pub whole : length bytes ≤ text_limit → text ≡ bytes
 
 -- what holds of each text with the same tokens as the bytes that a source gave holds of each text that fits
 pub each_fits : {S : Type 0} (reads : S → ℕ → Option (List ℕ) → S → Type 0) (old new : S) (P : List ℕ → Type 0) (bytes : List ℕ)
-    → (length bytes ≤ most_bytes → IsText reads old bytes new)
-    → (most_bytes < length bytes → (length bytes ≡ most_bytes + 1) × Gives reads old bytes new)
+    → (length bytes ≤ text_limit → IsText reads old bytes new)
+    → (text_limit < length bytes → (length bytes ≡ text_limit + 1) × Gives reads old bytes new)
     → ((text : List ℕ) → HasSameTokens bytes text → P text) → EachTextThatFits reads old new P
-each_fits reads old new P bytes whole beyond holds = elim (cases_lt most_bytes (length bytes)) [
+each_fits reads old new P bytes whole beyond holds = elim (cases_lt text_limit (length bytes)) [
   | inl past ↦ record {
     bytes = bytes;
     is_whole = false;
     was_read = (beyond past).1;
     each = λ text fits. holds text (record {
-      rest = ap (λ t. text_rest t most_bytes) fits.1 ∙ same_rest bytes fits.0 most_bytes past;
+      rest = ap (λ t. text_rest t text_limit) fits.1 ∙ same_rest bytes fits.0 text_limit past;
       whole = λ within. absurd (omega (arith, past, within));
     });
   }
@@ -46,7 +46,7 @@ each_fits reads old new P bytes whole beyond holds = elim (cases_lt most_bytes (
     bytes = bytes;
     is_whole = true;
     was_read = whole within;
-    each = λ text fits. holds text (record { rest = ap (λ t. text_rest t most_bytes) fits; whole = λ _. fits });
+    each = λ text fits. holds text (record { rest = ap (λ t. text_rest t text_limit) fits; whole = λ _. fits });
   }
 ]
 
@@ -56,14 +56,14 @@ pub each_of_any : {S : Type 0} (reads : S → ℕ → Option (List ℕ) → S �
 each_of_any reads old new P bytes gave holds = record { bytes = bytes; is_whole = false; was_read = gave; each = λ text fits. holds text }
 
 -- where the tokens end cleanly, the bytes are within the limit
-pub clean_is_within : (bytes : List ℕ) (ts : List Lexeme) → IsCut (text_rest bytes most_bytes) ts None → length bytes ≤ most_bytes
-clean_is_within bytes ts cut = elim (cases_lt most_bytes (length bytes)) [
-  | inl past ↦ absurd (some≢none _ (sym (past_limit bytes most_bytes past) ∙ ends_cleanly (text_rest bytes most_bytes) ts cut))
+pub clean_is_within : (bytes : List ℕ) (ts : List Lexeme) → IsCut (text_rest bytes text_limit) ts None → length bytes ≤ text_limit
+clean_is_within bytes ts cut = elim (cases_lt text_limit (length bytes)) [
+  | inl past ↦ absurd (some≢none _ (sym (past_limit bytes text_limit past) ∙ ends_cleanly (text_rest bytes text_limit) ts cut))
   | inr within ↦ within
 ]
 
 -- where the tokens of the bytes end cleanly, the text is these bytes
-clean_text : {bytes text : List ℕ} → HasSameTokens bytes text → (ts : List Lexeme) → IsCut (text_rest bytes most_bytes) ts None → bytes ≡ text
+clean_text : {bytes text : List ℕ} → HasSameTokens bytes text → (ts : List Lexeme) → IsCut (text_rest bytes text_limit) ts None → bytes ≡ text
 clean_text {bytes} same ts cut = sym (same.whole (clean_is_within bytes ts cut))
 
 -- ---- a model's text

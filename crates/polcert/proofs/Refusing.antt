@@ -2,14 +2,14 @@
 use Rattle.std.proofs.Common.{◌≡◌, ◌+◌, ◌<◌, ◌≤◌, ◌++◌, ◌∙◌, ℕ, List, [], ◌∷◌, drop, Option, Some, None, true, false, length, length-append, arith, inl, inr, refl, sym, ap, subst}
 use Rattle.std.proofs.lemmas.Bool.{cases_lt, lt-ltb}
 use Rattle.std.proofs.lemmas.List.{take-append-le}
-use Rattle.polcert_text.specs.Cut.{Lexeme, Rest, text_rest, end_place, IsCut, EndsAt}
+use Rattle.polcert_text.specs.Cut.{Lexeme, Rest, text_rest, end_place, IsCut, EndsAt, text_limit}
 use Rattle.polcert_text.specs.Source.{Gives, IsText, EachTextThatFits}
 use Rattle.polcert_text.specs.declared.tokens.TokenFault.{TokenFault}
 use Rattle.polcert_text.specs.declared.tokens.TokenFault.TheVariants.{TextTooLong}
 use Rattle.polcert_model.specs.declared.fault.ModelFault.{ModelFault}
 use Rattle.polcert_model.specs.declared.fault.ModelFault.TheVariants as faults
 use Rattle.polcert_model.specs.Meaning.{Meaning}
-use Rattle.polcert_model.specs.Text.{most_bytes, IsModelText}
+use Rattle.polcert_model.specs.Text.{IsModelText}
 use Rattle.polcert_model.specs.FirstWrong.{TextTokens, AreTokensOf, tokens_of}
 use Rattle.polcert_model.specs.Refusals.{IsRefusal, IsPlacedRight, SaysOfText}
 use Rattle.polcert_model.proofs.RefusalLaws.{not_accepted}
@@ -31,9 +31,9 @@ pub past_limit : (text : List ℕ) (limit : ℕ) → limit < length text → (te
 past_limit text limit past = let here = lt-ltb limit (length text) past in rw here refl
 
 -- a model's text lies below the limit
-pub within_limit : (text : List ℕ) (m : Meaning) → IsModelText text m → length text ≤ most_bytes
-within_limit text m accepted = elim (cases_lt most_bytes (length text)) [
-  | inl past ↦ absurd (some≢none _ (sym (past_limit text most_bytes past) ∙ ends_cleanly (text_rest text most_bytes) accepted.lexemes accepted.cut))
+pub within_limit : (text : List ℕ) (m : Meaning) → IsModelText text m → length text ≤ text_limit
+within_limit text m accepted = elim (cases_lt text_limit (length text)) [
+  | inl past ↦ absurd (some≢none _ (sym (past_limit text text_limit past) ∙ ends_cleanly (text_rest text text_limit) accepted.lexemes accepted.cut))
   | inr within ↦ within
 ]
 
@@ -47,7 +47,7 @@ same_rest bytes rest limit past =
     rw (there, here, take-append-le limit bytes rest) refl
 
 -- what a refusal of a text's tokens says of a text with the same tokens
-pub refused_with : (bytes text : List ℕ) (fault : ModelFault) → text_rest text most_bytes ≡ text_rest bytes most_bytes → SaysOfText fault
+pub refused_with : (bytes text : List ℕ) (fault : ModelFault) → text_rest text text_limit ≡ text_rest bytes text_limit → SaysOfText fault
     → ((ts : TextTokens) → AreTokensOf bytes ts → IsRefusal ts fault) → ((ts : TextTokens) → AreTokensOf bytes ts → IsPlacedRight ts fault) → IsRefused fault text
 refused_with bytes text fault same says refusal placed = record { no_model = no_model; refusal = of_text; placed = λ ts tokens. placed ts (of_bytes ts tokens) }
   where
@@ -59,28 +59,28 @@ refused_with bytes text fault same says refusal placed = record { no_model = no_
 
     no_model : (m : Meaning) → IsModelText text m → ⊥
     no_model m accepted =
-        let ts = tokens_of accepted.lexemes None (end_place (text_rest text most_bytes)) in
+        let ts = tokens_of accepted.lexemes None (end_place (text_rest text text_limit)) in
         let tokens : AreTokensOf text ts = record { cut = accepted.cut; end_is = refl } in
         not_accepted text ts fault m tokens (of_text ts tokens) says accepted
 
 -- where what was read whole, or past the limit, is refused, so is each text that fits it
 pub each_refused : {S : Type 0} (reads : S → ℕ → Option (List ℕ) → S → Type 0) (old new : S) (bytes : List ℕ) (fault : ModelFault)
-    → (length bytes ≤ most_bytes → IsText reads old bytes new)
-    → (most_bytes < length bytes → (length bytes ≡ most_bytes + 1) × Gives reads old bytes new)
+    → (length bytes ≤ text_limit → IsText reads old bytes new)
+    → (text_limit < length bytes → (length bytes ≡ text_limit + 1) × Gives reads old bytes new)
     → SaysOfText fault → ((ts : TextTokens) → AreTokensOf bytes ts → IsRefusal ts fault) → ((ts : TextTokens) → AreTokensOf bytes ts → IsPlacedRight ts fault)
     → EachTextThatFits reads old new (IsRefused fault)
-each_refused reads old new bytes fault whole beyond says refusal placed = elim (cases_lt most_bytes (length bytes)) [
+each_refused reads old new bytes fault whole beyond says refusal placed = elim (cases_lt text_limit (length bytes)) [
   | inl past ↦ record {
     bytes = bytes;
     is_whole = false;
     was_read = (beyond past).1;
-    each = λ text fits. refused_with bytes text fault (ap (λ t. text_rest t most_bytes) fits.1 ∙ same_rest bytes fits.0 most_bytes past) says refusal placed;
+    each = λ text fits. refused_with bytes text fault (ap (λ t. text_rest t text_limit) fits.1 ∙ same_rest bytes fits.0 text_limit past) says refusal placed;
   }
   | inr within ↦ record {
     bytes = bytes;
     is_whole = true;
     was_read = whole within;
-    each = λ text fits. refused_with bytes text fault (ap (λ t. text_rest t most_bytes) fits) says refusal placed;
+    each = λ text fits. refused_with bytes text fault (ap (λ t. text_rest t text_limit) fits) says refusal placed;
   }
 ]
 

@@ -1,10 +1,11 @@
 //! What sources give: a model, a policy graph, and vectors, each source read to its end first.
 ghost use Rattle.std.specs.Prelude.{◌≡◌, ◌≢◌, ◌+◌, ◌<◌, ◌≤◌, ℕ, List, length, IfOk, IsErrOf};
+ghost use Rattle.polcert_text.specs.Cut.{text_limit};
 ghost use Rattle.polcert_text.specs.Device.{HasFailed};
 ghost use Rattle.polcert_text.specs.Source.{Gives, IsText, EachTextThatFits};
 ghost use Rattle.polcert_model.specs.Contents.{meaning};
 ghost use Rattle.polcert_model.specs.Meaning.{states_of, actions_of, observations_of};
-ghost use Rattle.polcert_model.specs.Text.{most_bytes, IsModelText};
+ghost use Rattle.polcert_model.specs.Text.{IsModelText};
 ghost use Rattle.polcert_policy.specs.GraphText.{IsGraphText};
 ghost use Rattle.polcert_policy.specs.VectorText.{IsVectorsText};
 ghost use Rattle.polcert.specs.Answer.{HasGraph, IsModelFault, IsGraphRefused, AreVectorsRefused};
@@ -30,10 +31,10 @@ fn bytes_of<S: Source, F: Copy>(
     source: &mut S,
     memory: F,
 ) -> Result<Vec<u8>, SourceFault<F>>
-    ensures whole { IfOk result (λ bytes. length bytes.items ≤ most_bytes
+    ensures whole { IfOk result (λ bytes. length bytes.items ≤ text_limit
         → IsText S.reads source.old bytes.items source.new) }
-    ensures beyond { IfOk result (λ bytes. most_bytes < length bytes.items
-        → (length bytes.items ≡ most_bytes + 1) × Gives S.reads source.old bytes.items source.new) }
+    ensures beyond { IfOk result (λ bytes. text_limit < length bytes.items
+        → (length bytes.items ≡ text_limit + 1) × Gives S.reads source.old bytes.items source.new) }
     ensures memory { (fault : F) → IsErrOf result (SourceFault.Refused fault)
         → (fault ≡ memory) × ((bytes : List ℕ) × Gives S.reads source.old bytes source.new) }
     ensures device { IsErrOf result SourceFault.Device → HasFailed (S.failures source.old) (S.failures source.new) }

@@ -2,11 +2,10 @@
 use Rattle.std.proofs.Common.{◌≡◌, ◌∙◌, ℕ, suc, ◌+◌, ◌-◌, ◌<◌, ◌≤◌, ◌⊎◌, inl, inr, ⊎_elim, Bool, true, false, cond, Option, Some, None, List, [], ◌∷◌, ◌++◌, length, take, drop, nat_lt, flat_map, refl, sym, ap, subst, arith, length-drop, length-take-le, add-one}
 use Rattle.std.proofs.lemmas.List.{append_assoc}
 use Rattle.std.proofs.lemmas.Bool.Decides.{nat_tests}
-use Rattle.polcert_text.specs.Cut.{Lexeme, Rest, TakesToken, EndsAt, IsCut, text_rest, end_place}
+use Rattle.polcert_text.specs.Cut.{Lexeme, Rest, TakesToken, EndsAt, IsCut, text_rest, end_place, text_limit}
 use Rattle.polcert_text.specs.Reading.{fault_place}
 use Rattle.polcert_text.specs.declared.tokens.TokenFault.TheVariants.{BadByte, TokenTooLong, Glued, TextTooLong}
 use Rattle.polcert_model.specs.Items.{Item, lexemes_of, IsDivided}
-use Rattle.polcert_model.specs.Text.{most_bytes}
 use Rattle.polcert_model.specs.FirstWrong.{TextTokens, AreTokensOf, word_place, item_begin, LiesIn}
 use Rattle.polcert_model.specs.Refusals.{place_or}
 use Rattle.polcert_model.proofs.Dividing.{all_append, empty_division}
@@ -52,7 +51,7 @@ cut_rises rest (l ∷ ls) ending cut =
 pub tokens_rise : (text : List ℕ) (ts : TextTokens) → AreTokensOf text ts → Rises 0 ts.lexemes ts.end
 tokens_rise text ts tokens =
     subst (Rises 0 ts.lexemes) (sym tokens.end_is)
-    (rises_from 0 (text_rest text most_bytes).place (end_place (text_rest text most_bytes)) ts.lexemes (omega arith) (cut_rises (text_rest text most_bytes) ts.lexemes ts.ending tokens.cut))
+    (rises_from 0 (text_rest text text_limit).place (end_place (text_rest text text_limit)) ts.lexemes (omega arith) (cut_rises (text_rest text text_limit) ts.lexemes ts.ending tokens.cut))
 
 -- ---- items
 
@@ -199,8 +198,8 @@ too_long_there text limit false e f last = absurd cc
 
 pub fault_rises : (text : List ℕ) (ts : TextTokens) (f : TokenFault) → AreTokensOf text ts → ts.ending ≡ Some f → Rises 0 ts.lexemes (fault_place f) × (fault_place f ≤ ts.end)
 fault_rises text ts f tokens e =
-    let rest : Rest = text_rest text most_bytes in
-    let cut = cut_fault rest ts.lexemes f (too_long_there text most_bytes (nat_lt most_bytes (length text)) refl) (subst (IsCut rest ts.lexemes) e tokens.cut) in
+    let rest : Rest = text_rest text text_limit in
+    let cut = cut_fault rest ts.lexemes f (too_long_there text text_limit (nat_lt text_limit (length text)) refl) (subst (IsCut rest ts.lexemes) e tokens.cut) in
     (rises_from 0 rest.place (fault_place f) ts.lexemes (omega arith) cut.0, subst (λ n. fault_place f ≤ n) (sym tokens.end_is) cut.1)
 
 -- a fault lies in the last item

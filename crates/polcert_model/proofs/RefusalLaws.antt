@@ -1,6 +1,6 @@
 -- What is refused isn't accepted.
 use Rattle.std.proofs.Common.{◌≡◌, ◌∙◌, ℕ, zero, suc, ◌<◌, None, List, refl, sym, subst, arith}
-use Rattle.polcert_text.specs.Cut.{text_rest, end_place}
+use Rattle.polcert_text.specs.Cut.{text_rest, end_place, text_limit}
 use Rattle.polcert_text.proofs.TextLaws.{one_cut}
 use Rattle.polcert_model.specs.declared.entry.Table.{Table}
 use Rattle.polcert_model.specs.declared.entry.Table.TheVariants.{Transition, Observation, Reward}
@@ -9,7 +9,7 @@ use Rattle.polcert_model.specs.declared.fault.ModelFault.TheVariants.{Item, RowS
 use Rattle.polcert_model.specs.Preamble.{Preamble}
 use Rattle.polcert_model.specs.Meaning.{Meaning, meaning_of, sum_below, states_of, actions_of, observations_of, t_scale, o_scale, IsSame, HasProperRows}
 use Rattle.polcert_model.specs.Rows.{IsProperRow, IsFirstWrongRow}
-use Rattle.polcert_model.specs.Text.{most_bytes, IsRightText, IsModelText}
+use Rattle.polcert_model.specs.Text.{IsRightText, IsModelText}
 use Rattle.polcert_model.specs.FirstWrong.{TextTokens, tokens_of, AreTokensOf}
 use Rattle.polcert_model.specs.Refusals.{IsRefusal, SaysOfText, IsNoModel}
 use Rattle.polcert_model.proofs.TextLaws.{one_right_text}
@@ -49,12 +49,12 @@ no_wrong_row m n Observation a s same rows w =
 
 pub not_accepted : (text : List ℕ) (ts : TextTokens) (fault : ModelFault) (m : Meaning) → AreTokensOf text ts → IsRefusal ts fault → SaysOfText fault → IsModelText text m → ⊥
 not_accepted text ts (Item kind number place) m tokens refusal says accepted =
-    let cut = one_cut (text_rest text most_bytes) ts.lexemes accepted.lexemes ts.ending None tokens.cut accepted.cut in
+    let cut = one_cut (text_rest text text_limit) ts.lexemes accepted.lexemes ts.ending None tokens.cut accepted.cut in
     let d = accepted.denotes in
     not_taken ts number d.preamble d.known refusal.first_wrong cut.1
     (subst (λ ls. IsRightText ls d.preamble d.known) (sym cut.0) d.right)
 not_accepted text ts (RowSum table action row) m tokens refusal says accepted =
-    let cut = one_cut (text_rest text most_bytes) ts.lexemes accepted.lexemes ts.ending None tokens.cut accepted.cut in
+    let cut = one_cut (text_rest text text_limit) ts.lexemes accepted.lexemes ts.ending None tokens.cut accepted.cut in
     let d = accepted.denotes in
     let same = one_right_text accepted.lexemes d.preamble refusal.1.0 d.known refusal.1.1 d.right (subst (λ ls. IsRightText ls refusal.1.0 refusal.1.1) cut.0 refusal.1.2) in
     let known : meaning_of d.preamble d.known.start d.known.entries ≡ meaning_of refusal.1.0 refusal.1.1.start refusal.1.1.entries =
@@ -64,11 +64,11 @@ not_accepted text ts Memory m tokens refusal says accepted = absurd says
 
 pub no_model : (text : List ℕ) (fault : ModelFault) → ((ts : TextTokens) → AreTokensOf text ts → IsRefusal ts fault) → IsNoModel text fault
 no_model text (Item kind number place) refused = λ m accepted.
-    let ts : TextTokens = tokens_of accepted.lexemes None (end_place (text_rest text most_bytes)) in
+    let ts : TextTokens = tokens_of accepted.lexemes None (end_place (text_rest text text_limit)) in
     let tokens : AreTokensOf text ts = record { cut = accepted.cut; end_is = refl } in
     not_accepted text ts (Item kind number place) m tokens (refused ts tokens) tt accepted
 no_model text (RowSum table action row) refused = λ m accepted.
-    let ts : TextTokens = tokens_of accepted.lexemes None (end_place (text_rest text most_bytes)) in
+    let ts : TextTokens = tokens_of accepted.lexemes None (end_place (text_rest text text_limit)) in
     let tokens : AreTokensOf text ts = record { cut = accepted.cut; end_is = refl } in
     not_accepted text ts (RowSum table action row) m tokens (refused ts tokens) tt accepted
 no_model text Memory refused = tt

@@ -1,6 +1,6 @@
 -- A text denotes at most one model.
 use Rattle.std.proofs.Common.{◌≡◌, ◌∙◌, ℕ, ◌<◌, Some, None, List, [], ◌∷◌, ◌++◌, pos, codes, refl, sym, ap, subst, arith}
-use Rattle.polcert_text.specs.Cut.{Lexeme, text_rest}
+use Rattle.polcert_text.specs.Cut.{Lexeme, text_rest, text_limit}
 use Rattle.polcert_text.proofs.CutLaws.{one_cut}
 use Rattle.polcert_model.specs.Words.{Topic, IsWord, IsName}
 use Rattle.polcert_model.specs.Numbers.{IsWhole, IsNumber}
@@ -11,7 +11,7 @@ use Rattle.polcert_model.specs.declared.entry.Entry.{Entry}
 use Rattle.polcert_model.specs.Entry.{IsEntry}
 use Rattle.polcert_model.specs.Start.{Shares, IsStart}
 use Rattle.polcert_model.specs.Meaning.{Meaning, meaning_of, IsSame}
-use Rattle.polcert_model.specs.Text.{Known, nothing_known, IsComplete, IsRight, discount, rewards, costs, states, actions, observations, start, entry, AreRight, none, more, IsRightText, Denotes, most_bytes, IsModelText}
+use Rattle.polcert_model.specs.Text.{Known, nothing_known, IsComplete, IsRight, discount, rewards, costs, states, actions, observations, start, entry, AreRight, none, more, IsRightText, Denotes, IsModelText}
 use Rattle.polcert_model.proofs.Basics.{one_some, same_head}
 use Rattle.polcert_model.proofs.NumberLaws.{one_whole, one_list}
 use Rattle.polcert_model.proofs.EntryLaws.{one_entry}
@@ -110,5 +110,5 @@ one_meaning ls m n a b =
 
 pub one_model : (text : List ℕ) (m n : Meaning) → IsModelText text m → IsModelText text n → IsSame m n
 one_model text m n a b =
-    let cut = one_cut (text_rest text most_bytes) a.lexemes b.lexemes None None a.cut b.cut in
+    let cut = one_cut (text_rest text text_limit) a.lexemes b.lexemes None None a.cut b.cut in
     one_meaning b.lexemes m n (subst (λ ls. Denotes ls m) cut.0 a.denotes) b.denotes

@@ -1,6 +1,6 @@
 -- A text that was read to its end, and the model that is made of it.
 use Rattle.std.proofs.Common.{◌≡◌, ◌∙◌, ℕ, Bool, false, Option, None, unwrap_or, Result, Ok, Err, IfOk, IfErr, MatchResult, List, refl, sym, ap, subst}
-use Rattle.polcert_text.specs.Cut.{Lexeme, IsCut, text_rest, end_place}
+use Rattle.polcert_text.specs.Cut.{Lexeme, IsCut, text_rest, end_place, text_limit}
 use Rattle.polcert_model.specs.declared.entry.Entry.{Entry}
 use Rattle.polcert_model.specs.declared.entry.Table.{Table}
 use Rattle.polcert_model.specs.declared.fault.ModelFault.{ModelFault}
@@ -10,7 +10,7 @@ use Rattle.polcert_model.specs.KnownView.{known_of}
 use Rattle.polcert_model.specs.Start.{Shares}
 use Rattle.polcert_model.specs.Meaning.{Meaning, IsSame, HasProperRows, IsWithinLimits}
 use Rattle.polcert_model.specs.Rows.{IsFirstWrongRow}
-use Rattle.polcert_model.specs.Text.{Known, IsComplete, IsRightText, Denotes, most_bytes, IsModelText}
+use Rattle.polcert_model.specs.Text.{Known, IsComplete, IsRightText, Denotes, IsModelText}
 use Rattle.polcert_model.specs.FirstWrong.{TextTokens, AreTokensOf}
 use Rattle.polcert_model.specs.Refusals.{IsRefusal}
 use Rattle.polcert_model.specs.Drafts.{meaning}
@@ -49,11 +49,11 @@ pub whole_within : (seen : List Lexeme) (k : Known) → IsWholeRead seen k → H
 whole_within seen k w rows = within_limits seen (meaning (kept k)) (whole_denotes seen k w rows)
 
 -- and the text is the text of this model
-pub whole_accepted : (text : List ℕ) (seen : List Lexeme) (k : Known) → IsCut (text_rest text most_bytes) seen None → IsWholeRead seen k → HasProperRows (meaning (kept k)) → IsModelText text (meaning (kept k))
+pub whole_accepted : (text : List ℕ) (seen : List Lexeme) (k : Known) → IsCut (text_rest text text_limit) seen None → IsWholeRead seen k → HasProperRows (meaning (kept k)) → IsModelText text (meaning (kept k))
 whole_accepted text seen k cut w rows = record { lexemes = seen; cut = cut; denotes = whole_denotes seen k w rows }
 
 -- and otherwise the first row that isn't is refused
-pub row_refused : (text : List ℕ) (seen : List Lexeme) (k : Known) (table : Table) (a s : ℕ) → IsCut (text_rest text most_bytes) seen None → IsWholeRead seen k
+pub row_refused : (text : List ℕ) (seen : List Lexeme) (k : Known) (table : Table) (a s : ℕ) → IsCut (text_rest text text_limit) seen None → IsWholeRead seen k
     → IsFirstWrongRow (meaning (kept k)) table a s → (ts : TextTokens) → AreTokensOf text ts → IsRefusal ts (model_faults.RowSum table a s)
 row_refused text seen k table a s cut w wrong ts tokens =
     let these = these_tokens text seen None ts cut tokens in
@@ -61,12 +61,12 @@ row_refused text seen k table a s cut w wrong ts tokens =
 
 -- ---- what the end of the text gives
 
-pub read_to_end : (text : List ℕ) (result : Result Known ModelFault) (seen : List Lexeme) (place : ℕ) → IsCut (text_rest text most_bytes) seen None
-    → MatchResult result (IsWholeRead seen) (IsRefusedWhole seen place) → IfOk result (λ k. (xs : List Lexeme) × IsCut (text_rest text most_bytes) xs None × IsWholeRead xs k)
+pub read_to_end : (text : List ℕ) (result : Result Known ModelFault) (seen : List Lexeme) (place : ℕ) → IsCut (text_rest text text_limit) seen None
+    → MatchResult result (IsWholeRead seen) (IsRefusedWhole seen place) → IfOk result (λ k. (xs : List Lexeme) × IsCut (text_rest text text_limit) xs None × IsWholeRead xs k)
 read_to_end text (Ok k) seen place cut w = (seen, cut, w)
 read_to_end text (Err fault) seen place cut w = tt
 
-pub refused_at_text_end : (text : List ℕ) (result : Result Known ModelFault) (seen : List Lexeme) (place : ℕ) → IsCut (text_rest text most_bytes) seen None → end_place (text_rest text most_bytes) ≡ place
+pub refused_at_text_end : (text : List ℕ) (result : Result Known ModelFault) (seen : List Lexeme) (place : ℕ) → IsCut (text_rest text text_limit) seen None → end_place (text_rest text text_limit) ≡ place
     → MatchResult result (IsWholeRead seen) (IsRefusedWhole seen place) → IfErr result (λ fault. (ts : TextTokens) → AreTokensOf text ts → Refuses ts fault)
 refused_at_text_end text (Ok k) seen place cut stop w = tt
 refused_at_text_end text (Err fault) seen place cut stop refused = λ ts tokens.

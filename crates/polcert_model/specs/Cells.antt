@@ -1,6 +1,6 @@
 -- Cells: what the entries together give at each index.
 -- Source: the POMDP file format page at pomdp.org: a later entry holds in place of an earlier one. A cell that no
--- entry covers is 0. Probabilities are kept as whole numbers: a row of n columns has the scale 1,000,000 * n, so that
+-- entry covers is 0. Our own is the scale: probabilities are kept as whole numbers: a row of n columns has the scale 1,000,000 * n, so that
 -- `uniform`, which gives each column 1,000,000, is exactly one part in n.
 use Rattle.std.specs.Prelude.{◌≡◌, ℕ, ◌+◌, ◌*◌, ◌==◌, Bool, true, false, ◌&&◌, List, [], ◌∷◌, ◌++◌, length, drop, reverse, get_or, ℤ, pos, neg_ℤ, Option, Some, None, if◌then◌else◌}
 use Rattle.std.specs.List.{find, list_any}

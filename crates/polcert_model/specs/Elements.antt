@@ -1,6 +1,7 @@
 -- States, actions and observations: so many, or names in order.
 -- Source: the POMDP file format page at pomdp.org, "states:", "actions:" and "observations:": "either a number or a
--- list of names"; an element of a list may also be given by its number, from 0 on.
+-- list of names"; an element of a list may also be given by its number, from 0 on. Our own: at most 1,000 elements, all
+-- names of a list different, and leading zeros of a number.
 use Rattle.std.specs.Prelude.{◌≡◌, ◌≢◌, ℕ, ◌<◌, ◌≤◌, List, [], ◌∷◌, length, map, Option, Some, None, All, AllPairs, bytes_eq, position, slice_get}
 use Rattle.polcert_text.specs.Cut.{Lexeme}
 pub use Rattle.polcert_model.specs.declared.elements.Elements.{Elements}

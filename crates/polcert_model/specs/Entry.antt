@@ -1,7 +1,8 @@
 -- Entries: the lines of T, O and R. An entry is a table, a pattern of places, and a body that fills the cells which
 -- the places leave open, row after row.
 -- Source: the POMDP file format page at pomdp.org, "the transition probabilities", "the observation probabilities"
--- and "the rewards": these forms are its list of forms, written as one table.
+-- and "the rewards": these forms are its list of forms, written as one table (but for a matrix behind `R: a`, which is not
+-- taken). Our own: `identity` stands for T alone.
 use Rattle.std.specs.Prelude.{◌≡◌, ℕ, ◌*◌, ◌≤◌, ◌==◌, true, List, [], ◌∷◌, ◌++◌, length, drop, map, All, ℤ, pos, codes}
 use Rattle.std.specs.List.{list_any}
 use Rattle.polcert_text.specs.Cut.{Lexeme}

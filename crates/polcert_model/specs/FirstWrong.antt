@@ -1,13 +1,13 @@
 -- The first wrong item of a text, where the place of its refusal may lie, and what is decided by where it stands.
 use Rattle.std.specs.Prelude.{◌≡◌, ℕ, suc, zero, ◌+◌, ◌≤◌, List, [], ◌∷◌, ◌++◌, length, Option, Some, None}
-use Rattle.polcert_text.specs.Cut.{Lexeme, IsCut, text_rest, end_place}
+use Rattle.polcert_text.specs.Cut.{Lexeme, IsCut, text_rest, end_place, text_limit}
 use Rattle.polcert_text.specs.declared.tokens.TokenFault.{TokenFault}
 use Rattle.polcert_model.specs.declared.fault.ItemFault.{ItemFault}
 use Rattle.polcert_model.specs.declared.fault.ItemFault.TheVariants.{BeforeFirstItem}
 use Rattle.polcert_model.specs.Words.{Topic, topic}
 use Rattle.polcert_model.specs.Items.{Item, IsDivided}
 use Rattle.polcert_model.specs.Preamble.{Preamble}
-use Rattle.polcert_model.specs.Text.{Known, nothing_known, IsComplete, most_bytes, AreRight}
+use Rattle.polcert_model.specs.Text.{Known, nothing_known, IsComplete, AreRight}
 use Rattle.polcert_model.specs.Order.{preamble_fault, word_fault}
 use Rattle.polcert_model.specs.Reading.{IsWrong}
 
@@ -21,8 +21,8 @@ abbrev pub tokens_of : List Lexeme → Option TokenFault → ℕ → TextTokens
 tokens_of lexemes ending end = record { lexemes = lexemes; ending = ending; end = end }
 
 pub record AreTokensOf (text : List ℕ) (ts : TextTokens) : Type 0 where
-  pub cut : IsCut (text_rest text most_bytes) ts.lexemes ts.ending
-  pub end_is : ts.end ≡ end_place (text_rest text most_bytes)
+  pub cut : IsCut (text_rest text text_limit) ts.lexemes ts.ending
+  pub end_is : ts.end ≡ end_place (text_rest text text_limit)
 
 abbrev pub HasTokens : List ℕ → Type 0
 HasTokens text = (ts : TextTokens) × AreTokensOf text ts

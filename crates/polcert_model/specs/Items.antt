@@ -1,6 +1,7 @@
 -- Items: the lexemes of a text, cut before each word that begins an item. Items are counted from 1; what stands
 -- before the first is item 0, and the text's end counts as one item more than the last.
--- Source: the POMDP file format page at pomdp.org, whose preamble lines, start line and entries these are.
+-- Source: the POMDP file format page at pomdp.org, whose preamble lines, start line and entries these are. Our own: their
+-- numbers.
 use Rattle.std.specs.Prelude.{◌≡◌, true, false, List, ◌∷◌, ◌++◌, All, flat_map}
 use Rattle.std.specs.List.{list_any}
 use Rattle.polcert_text.specs.Cut.{Lexeme}

@@ -1,5 +1,5 @@
 -- What callers see of a model: what its text denotes.
--- Source: the POMDP file format page at pomdp.org. Probabilities are whole numbers over a scale (a row sums to its
+-- Source: the POMDP file format page at pomdp.org. Our own is how it is kept: probabilities are whole numbers over a scale (a row sums to its
 -- scale exactly), discount and rewards are in millionths, and a reward is what is written, or minus that under
 -- `values: cost`, so that more is better.
 use Rattle.std.specs.Prelude.{◌≡◌, ℕ, zero, suc, ◌+◌, ◌*◌, ◌<◌, ◌≤◌, List, [], ◌∷◌, ℤ, unsigned_abs, Option, unwrap_or, length, get_or, sum}

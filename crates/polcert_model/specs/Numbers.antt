@@ -1,5 +1,5 @@
 -- Whole numbers and signed numbers among the lexemes of a model.
--- Source: the grammar at pomdp.org (INT, FLOAT, an optional sign before either). Every number of a model is a whole
+-- Source: the grammar at pomdp.org (INT, FLOAT, an optional sign before either). Our own: every number of a model is a whole
 -- number of millionths, and blanks may stand between its sign and its numeral.
 use Rattle.std.specs.Prelude.{◌≡◌, ℕ, Bool, true, false, List, [], ◌∷◌, ℤ}
 use Rattle.std.specs.Str.Parse.{digits_value}

@@ -1,5 +1,6 @@
 -- Which items may stand where: what is decided at an item's word, before its body.
--- Source: the POMDP file format page at pomdp.org: the preamble first, then the start item, then the entries.
+-- Source: the POMDP file format page at pomdp.org: the preamble first, then the start item, then the entries. Our own:
+-- which of these faults comes first, and its name.
 use Rattle.std.specs.Prelude.{ℕ, ◌*◌, Bool, true, false, ◌||◌, ◌&&◌, Option, Some, None, is_some, List, [], ◌∷◌, nat_lt, if◌then◌else◌}
 use Rattle.polcert_model.specs.declared.fault.ItemFault.{ItemFault}
 use Rattle.polcert_model.specs.declared.fault.ItemFault.TheVariants.{DuplicateLine, LateLine, MissingLine, TooManyCells}

@@ -1,5 +1,5 @@
 -- What the lines before the start item and the entries say together.
--- Source: the POMDP file format page at pomdp.org, "the preamble".
+-- Source: the POMDP file format page at pomdp.org, "the preamble". Our own: the discount is kept in millionths.
 use Rattle.std.specs.Prelude.{ℕ, Bool, List, [], ◌∷◌}
 use Rattle.polcert_model.specs.declared.entry.Table.{Table}
 use Rattle.polcert_model.specs.declared.entry.Table.TheVariants.{Transition, Observation, Reward}

@@ -1,7 +1,8 @@
 -- The start item: the share that each state has, and the total of the shares.
 -- Source: the POMDP file format page at pomdp.org, "the starting state": `start:` with `uniform`, a probability for
 -- each state or one state; `start include:` and `start exclude:` with a list of states.
--- Where one state is all there is, a single number stands for it: 0, its number, or 1, its probability.
+-- Our own: where one state is all there is, a single number stands for it: 0, its number, or 1, its probability; a list of
+-- no states; and that the probabilities sum to one exactly.
 use Rattle.std.specs.Prelude.{◌≡◌, ℕ, ◌<◌, ◌||◌, ◌==◌, Bool, true, not, List, [], ◌∷◌, length, ℤ, pos, ◌⊎◌, Some, codes, sum, map, if◌then◌else◌}
 use Rattle.std.specs.List.{list_any, list_all, range_with_len, count_by, AllZip}
 use Rattle.polcert_text.specs.Cut.{Lexeme}

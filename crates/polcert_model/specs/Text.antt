@@ -1,8 +1,9 @@
 -- Right texts: each item is right behind those before it, and a text denotes a model where its rows sum to one.
 -- Source: the POMDP file format page and its grammar at pomdp.org. The lines of the preamble stand in any order, each
--- once, before the start item and all entries; at most one start item stands before all entries.
+-- once, before the start item and all entries; at most one start item stands before all entries. Our own: no line is
+-- missing (a line of observations too, until MDP files are taken), the limits of cells, and that rows sum exactly.
 use Rattle.std.specs.Prelude.{◌≡◌, ℕ, ◌*◌, ◌≤◌, Bool, true, false, List, [], ◌∷◌, ◌++◌, pos, Option, Some, None, codes}
-use Rattle.polcert_text.specs.Cut.{Lexeme, text_rest, IsCut}
+use Rattle.polcert_text.specs.Cut.{Lexeme, text_rest, IsCut, text_limit}
 use Rattle.polcert_text.specs.declared.lexeme.TokenKind.TheVariants.{Colon}
 use Rattle.polcert_model.specs.declared.entry.Table.{Table}
 use Rattle.polcert_model.specs.declared.entry.Entry.{Entry}
@@ -98,12 +99,8 @@ pub record Denotes (lexemes : List Lexeme) (m : Meaning) : Type 0 where
   pub same : IsSame m (meaning_of preamble known.start known.entries)
   pub rows : HasProperRows m
 
--- the bytes that a model's text may have
-abbrev pub most_bytes : ℕ
-most_bytes = 4_294_967_296
-
 -- The text is the text of this model: its tokens end cleanly, and denote the model.
 pub record IsModelText (text : List ℕ) (m : Meaning) : Type 0 where
   pub lexemes : List Lexeme
-  pub cut : IsCut (text_rest text most_bytes) lexemes None
+  pub cut : IsCut (text_rest text text_limit) lexemes None
   pub denotes : Denotes lexemes m

@@ -1,7 +1,7 @@
 //! Laws of the definitions: each function has an empty body, and its contract is the law.
 ghost use Rattle.std.specs.Prelude.{◌≡◌, ◌<◌, ℕ, List, ℤ, pos, Option, Some, None, ◌+◌, ◌++◌, ◌∷◌, [], true, false, length};
 ghost use Rattle.std.specs.List.{list_any};
-ghost use Rattle.polcert_text.specs.Cut.{Lexeme};
+ghost use Rattle.polcert_text.specs.Cut.{Lexeme, text_limit};
 ghost use Rattle.polcert_text.specs.declared.tokens.TokenFault.{TokenFault};
 ghost use Rattle.polcert_model.specs.declared.entry.Table.{Table};
 ghost use Rattle.polcert_model.specs.Numbers.{AreNumbers};
@@ -11,7 +11,7 @@ ghost use Rattle.polcert_model.specs.Entry.{IsEntry};
 ghost use Rattle.polcert_model.specs.declared.entry.Entry.{Entry};
 ghost use Rattle.polcert_model.specs.Start.{Shares, IsStart};
 ghost use Rattle.polcert_model.specs.Meaning.{Meaning, IsSame, IsWithinLimits};
-ghost use Rattle.polcert_model.specs.Text.{most_bytes, Denotes, IsModelText, Known, nothing_known, IsComplete, IsRight, AreRight, IsRightText};
+ghost use Rattle.polcert_model.specs.Text.{Denotes, IsModelText, Known, nothing_known, IsComplete, IsRight, AreRight, IsRightText};
 ghost use Rattle.polcert_model.specs.declared.entry.Table.TheVariants.{Reward};
 ghost use Rattle.polcert_model.specs.Cells.{covers, weight, reward};
 ghost use Rattle.polcert_model.specs.Laws.{HasDivision, HasOneDivision, GivesLastCovering, OneMoreWeight, OneMoreReward, UniformRowSums};
@@ -198,7 +198,7 @@ pub fn one_full_form()
 /// The full form of what a `Model` means is a text of it, and shorter than a text may be. So is that of whatever a text
 /// denotes.
 pub fn full_form_reads_back()
-    ensures short { (c : Contents) → length (full_form (meaning c)) < most_bytes }
+    ensures short { (c : Contents) → length (full_form (meaning c)) < text_limit }
     ensures contents { (c : Contents) → IsModelText (full_form (meaning c)) (meaning c) }
     ensures text { (text : List ℕ) (m : Meaning) → IsModelText text m → IsModelText (full_form m) m }
 {}

@@ -1,10 +1,10 @@
 //! A model's text, read item by item.
 ghost use Rattle.std.specs.Prelude.{None, IfOk, IfErr, ◌≡◌, ◌+◌, ◌<◌, ◌≤◌, ◌^◌, ◌++◌, ◌∷◌, [], Some, false, List, MatchResult};
-ghost use Rattle.polcert_text.specs.Cut.{Lexeme, IsCut, text_rest};
+ghost use Rattle.polcert_text.specs.Cut.{Lexeme, IsCut, text_rest, text_limit};
 ghost use Rattle.polcert_text.specs.Reading.{lexeme_of};
 ghost use Rattle.polcert_model.specs.Words.{topic, begins_item};
 ghost use Rattle.polcert_model.specs.ElementSteps.{IsText};
-ghost use Rattle.polcert_model.specs.Text.{most_bytes, IsModelText};
+ghost use Rattle.polcert_model.specs.Text.{IsModelText};
 ghost use Rattle.polcert_model.specs.FirstWrong.{TextTokens, AreTokensOf};
 ghost use Rattle.polcert_model.specs.Refusals.{IsRefusal, IsPlacedRight, IsNoModel};
 ghost use Rattle.polcert_model.specs.Contents.{meaning};
@@ -162,7 +162,7 @@ impl TextReader {
 
 /// What the items of a whole text say.
 fn read_text(alloc: Global, text: &[u8]) -> Result<Known, ModelFault>
-    ensures read { IfOk result (λ k. (seen : List Lexeme) × IsCut (text_rest text.now most_bytes) seen None × IsWholeRead seen k) }
+    ensures read { IfOk result (λ k. (seen : List Lexeme) × IsCut (text_rest text.now text_limit) seen None × IsWholeRead seen k) }
     ensures refused { IfErr result (λ fault. (ts : TextTokens) → AreTokensOf text.now ts → Refuses ts fault) }
 {
     let mut tokens = Tokens::new(text, TEXT_LIMIT);

@@ -8,14 +8,13 @@ use Rattle.std.proofs.lemmas.List.{take_more}
 use Rattle.std.proofs.lemmas.Option.{slice_get-get_or}
 use Rattle.std.proofs.Math.Nat.{mul-le-mul_right}
 use Rattle.polcert_text.specs.Bytes.{class_of, is_blank}
-use Rattle.polcert_text.specs.Cut.{IsCut, text_rest}
+use Rattle.polcert_text.specs.Cut.{IsCut, text_rest, text_limit}
 use Rattle.polcert_text.specs.Millionths.{unsigned_text, scaled_text}
 use Rattle.polcert_text.specs.Numbers.{largest}
 use Rattle.polcert_text.specs.Scaling.{Measures}
 use Rattle.polcert_text.proofs.SignedLaws.{floor_positive, floor_negative}
 use Rattle.polcert_text.proofs.SizeLaws.{millionth_pos}
 use Rattle.polcert_policy.specs.Graphs.{PolicyGraph, nodes, action_of, IsProperGraph}
-use Rattle.polcert_policy.specs.GraphText.{text_limit}
 use Rattle.polcert_policy.specs.Vectors.{PolicyVectors, Part, sign_kind, tokens_of, value_of, IsActionPart, IsValuePart, IsVectors, IsInRange, AreProperVectors}
 use Rattle.polcert_policy.specs.VectorText.{IsVectorsText}
 use Rattle.polcert_policy.specs.VectorsRead.{AreVectorsUpTo}

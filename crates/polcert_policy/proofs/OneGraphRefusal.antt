@@ -1,11 +1,11 @@
 -- A text is refused as a graph for one reason.
 use Rattle.std.proofs.Common.{◌≡◌, ◌∙◌, ℕ, ◌+◌, ◌*◌, ◌<◌, ◌⊎◌, inl, inr, ⊎_elim, Bool, true, false, Option, Some, None, List, length, refl, sym, ap, subst, arith}
-use Rattle.polcert_text.specs.Cut.{Lexeme, IsCut, text_rest}
+use Rattle.polcert_text.specs.Cut.{Lexeme, IsCut, text_rest, text_limit}
 use Rattle.polcert_text.specs.TakenTokens.{Taken}
 use Rattle.polcert_text.specs.declared.tokens.TokenFault.{TokenFault}
 use Rattle.polcert_text.proofs.TextLaws.{one_cut}
 use Rattle.polcert_policy.specs.Graphs.{PolicyGraph, nodes, IsLooseGraph, IsFirstBeyond, IsPossible, width, most_nodes}
-use Rattle.polcert_policy.specs.GraphText.{text_limit, IsColumn, is_shaped, joined_minus, IsMisfit, IsWrong, HasWrongToken, IsGraphRefusal}
+use Rattle.polcert_policy.specs.GraphText.{IsColumn, is_shaped, joined_minus, IsMisfit, IsWrong, HasWrongToken, IsGraphRefusal}
 use Rattle.polcert_policy.specs.declared.fault.GraphFault.{GraphFault}
 use Rattle.polcert_policy.specs.declared.fault.GraphFault.TheVariants as faults
 use Rattle.polcert_policy.proofs.Places.{same_row, same_column}

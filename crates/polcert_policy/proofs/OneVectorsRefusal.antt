@@ -1,12 +1,11 @@
 -- A text is refused as vectors for one reason.
 use Rattle.std.proofs.Common.{◌≡◌, ◌∙◌, ℕ, suc, ◌+◌, ◌*◌, ◌<◌, ◌⊎◌, inl, inr, ⊎_elim, Bool, true, false, ◌||◌, Option, Some, None, List, ◌++◌, length, refl, sym, ap, subst, arith, append_assoc}
-use Rattle.polcert_text.specs.Cut.{Lexeme, IsCut, text_rest}
+use Rattle.polcert_text.specs.Cut.{Lexeme, IsCut, text_rest, text_limit}
 use Rattle.polcert_text.specs.TakenTokens.{Taken}
 use Rattle.polcert_text.specs.declared.tokens.TokenFault.{TokenFault}
 use Rattle.polcert_text.proofs.TextLaws.{one_cut, one_number_fault}
 use Rattle.polcert_policy.specs.Words.{numeral_kind}
 use Rattle.polcert_policy.specs.Graphs.{PolicyGraph, nodes}
-use Rattle.polcert_policy.specs.GraphText.{text_limit}
 use Rattle.polcert_policy.specs.Vectors.{sign_kind, IsVectors, ArePossible}
 use Rattle.polcert_policy.specs.VectorText.{IsPartColumn, last_sign, is_part_shaped, IsPartMisfit, HasWrongPart, IsVectorsRefusal}
 use Rattle.polcert_policy.specs.declared.fault.VectorFault.{VectorFault}

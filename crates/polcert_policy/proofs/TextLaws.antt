@@ -1,10 +1,10 @@
 -- What a refused or accepted list of tokens says of the whole text.
 use Rattle.std.proofs.Common.{◌≡◌, ℕ, Some, None, Result, Ok, Err, List, length, ◌<◌, ◌+◌, ◌*◌, ◌⊎◌, inl, inr, IsErrAnd, MatchResult, IfErr, subst, arith}
-use Rattle.polcert_text.specs.Cut.{Lexeme, Rest, IsCut, text_rest}
+use Rattle.polcert_text.specs.Cut.{Lexeme, Rest, IsCut, text_rest, text_limit}
 use Rattle.polcert_text.proofs.TextLaws.{one_cut}
 use Rattle.polcert_text.specs.TakenTokens.{Taken}
 use Rattle.polcert_policy.specs.Graphs.{PolicyGraph, IsLooseGraph, IsGraph, IsFirstBeyond, HasNodesOnly, IsPossible}
-use Rattle.polcert_policy.specs.GraphText.{text_limit, IsGraphText, EndsEarly, HasWrongToken, HasFirstBeyond, IsGraphRefusal, IsNoGraphText, NamesSuccessor}
+use Rattle.polcert_policy.specs.GraphText.{IsGraphText, EndsEarly, HasWrongToken, HasFirstBeyond, IsGraphRefusal, IsNoGraphText, NamesSuccessor}
 use Rattle.polcert_policy.specs.GraphRead.{IsTokenRefusal, IsEndRefusal, IsUnfinished}
 use Rattle.polcert_policy.specs.declared.fault.GraphFault.{GraphFault}
 use Rattle.polcert_policy.specs.declared.fault.GraphFault.TheVariants as faults

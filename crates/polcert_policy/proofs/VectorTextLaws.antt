@@ -1,10 +1,9 @@
 -- What a refused or accepted list of tokens says of the whole text of vectors.
 use Rattle.std.proofs.Common.{◌≡◌, ℕ, inl, inr, ⊎_elim, Some, None, Result, Ok, Err, List, length, MatchResult, IfErr, subst}
-use Rattle.polcert_text.specs.Cut.{Lexeme, Rest, IsCut, text_rest}
+use Rattle.polcert_text.specs.Cut.{Lexeme, Rest, IsCut, text_rest, text_limit}
 use Rattle.polcert_text.proofs.TextLaws.{one_cut}
 use Rattle.polcert_text.specs.TakenTokens.{Taken}
 use Rattle.polcert_policy.specs.Graphs.{PolicyGraph}
-use Rattle.polcert_policy.specs.GraphText.{text_limit}
 use Rattle.polcert_policy.specs.Vectors.{PolicyVectors, IsVectors}
 use Rattle.polcert_policy.specs.VectorText.{IsVectorsText, EndVectorsEarly, HasWrongPart, IsVectorsRefusal, IsNoVectorsText}
 use Rattle.polcert_policy.specs.VectorsRead.{IsPartRefusal, AreEndRefusal, AreUnfinished}

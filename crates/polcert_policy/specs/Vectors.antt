@@ -1,8 +1,8 @@
 -- The token lists of vectors.
 --
 -- Restates the description of pomdp-solve's value function file, https://www.pomdp.org/code/alpha-file-spec.html: for
--- each vector the number of its action, and then a value for each state. Here vector n belongs to node n of a policy
--- graph, any line ends may stand between the tokens, and values are rounded down to whole millionths.
+-- each vector the number of its action, and then a value for each state. Our own: vector n belongs to node n of a policy
+-- graph, any line ends and comments may stand between the tokens, and values are rounded down to whole millionths.
 use Rattle.std.specs.Prelude.{◌≡◌, ℕ, ℤ, ◌+◌, ◌*◌, ◌<◌, ◌≤◌, ◌≤ℤ◌, ◌+ℤ◌, neg_ℤ, map, Bool, true, false, Option, Some, None, List, [], ◌∷◌, ◌++◌, length, slice_get, slice_index_or, pos}
 use Rattle.polcert_text.specs.Cut.{Lexeme}
 use Rattle.polcert_text.specs.Numbers.{IsFloor, IsReadable, largest}

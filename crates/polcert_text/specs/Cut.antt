@@ -82,6 +82,10 @@ IsCut rest (token ∷ tokens) answer = (behind : Rest) × TakesToken rest token 
 abbrev pub HasCut : Rest → Type 0
 HasCut rest = (tokens : List Lexeme) × (answer : Option TokenFault) × IsCut rest tokens answer
 
+-- how many bytes a text of any kind may have; our own
+abbrev pub text_limit : ℕ
+text_limit = 4_294_967_296
+
 -- the bytes of a text below the limit; a byte at the limit is a fault there
 abbrev pub text_rest : List ℕ → ℕ → Rest
 text_rest text limit =

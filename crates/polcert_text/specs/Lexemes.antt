@@ -1,6 +1,6 @@
 -- What a lexeme is: a name, a numeral, or one of `: * + -`.
 -- Source: the POMDP file format page and its grammar (pomdp.org): names begin with a letter and go on with letters,
--- digits, `_` and `-`; numbers may have a point and an exponent.
+-- digits, `_` and `-`; numbers may have a point and an exponent. Our own: a point may end the digits, or begin them.
 use Rattle.std.specs.Prelude.{ℕ, Bool, true, false, not, ◌||◌, ◌&&◌, Option, Some, None, List, [], ◌∷◌, if◌then◌else◌}
 use Rattle.std.specs.List.{list_all, list_any}
 use Rattle.polcert_text.specs.Bytes.{class_of, is_letter, is_digit, is_exponent_mark, is_point, is_sign, is_name_byte}

@@ -1,10 +1,9 @@
 use Rattle.std.proofs.Common.{◌≡◌, ◌∙◌, ◌≤◌, ◌++◌, ◌∷◌, [], None, Some, length, sym, ap, subst, arith}
 use Rattle.std.proofs.lemmas.Result.{err_from_is_err_and}
-use Rattle.polcert_text.specs.Cut.{Rest, text_rest, end_place}
+use Rattle.polcert_text.specs.Cut.{Rest, text_rest, end_place, text_limit}
 use Rattle.polcert_text.specs.Reading.{lexeme_of}
 use Rattle.polcert_text.specs.TakenTokens.{Taken, nothing, token}
 use Rattle.polcert_text.proofs.TakenTokens.{all_taken}
-use Rattle.polcert_model.specs.Text.{most_bytes}
 use Rattle.polcert_model.specs.TextSteps.{Refuses}
 use Rattle.polcert_model.proofs.FrontLaws.{taken_end, shorter, tokens_begin, these_tokens, text_is_short}
 use Rattle.polcert_model.proofs.TokenTexts.{token_is_text}
@@ -14,10 +13,10 @@ use Rattle.polcert_model.proofs.reader.read_text.Goals as goal
 
 pub loop-next-init : goal.loop-next-init
 loop-next-init c =
-    let short : length c.new-tokens.result.bytes ≤ most_bytes = subst (λ (r : Rest). length r.bytes ≤ most_bytes) (sym c.new-tokens.ensures) (text_is_short c.args.text.now) in
+    let short : length c.new-tokens.result.bytes ≤ text_limit = subst (λ (r : Rest). length r.bytes ≤ text_limit) (sym c.new-tokens.ensures) (text_is_short c.args.text.now) in
     let none = c.new-reader.ensures.number in
     record {
-      seen = ([], subst (λ r. Taken (text_rest c.args.text.now most_bytes) [] r) (sym c.new-tokens.ensures) (nothing _), c.new-reader.ensures.read);
+      seen = ([], subst (λ r. Taken (text_rest c.args.text.now text_limit) [] r) (sym c.new-tokens.ensures) (nothing _), c.new-reader.ensures.read);
       few = omega (arith, short, none);
     }
 
@@ -64,5 +63,5 @@ pub returns-clause-refused : goal.returns-clause-refused
 returns-clause-refused c =
     let was = c.loop-next.invariant.seen in
     let gives = rw c.in_default.is at c.next_token.ensures in
-    let stop : end_place (text_rest c.args.text.now most_bytes) ≡ c.end.result = sym (taken_end _ _ was.0 was.1) ∙ ap end_place (sym gives.1) ∙ sym c.end.ensures in
+    let stop : end_place (text_rest c.args.text.now text_limit) ≡ c.end.result = sym (taken_end _ _ was.0 was.1) ∙ ap end_place (sym gives.1) ∙ sym c.end.ensures in
     refused_at_text_end c.args.text.now c.finish.result was.0 c.end.result (all_taken _ _ was.0 None was.1 gives.0) stop (c.finish.ensures was.0 was.2)

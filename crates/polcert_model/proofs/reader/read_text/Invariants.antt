@@ -1,14 +1,13 @@
 use Rattle.std.proofs.Common.{List, length, ◌+◌, ◌≤◌}
-use Rattle.polcert_text.specs.Cut.{Lexeme, text_rest}
+use Rattle.polcert_text.specs.Cut.{Lexeme, text_rest, text_limit}
 use Rattle.polcert_text.specs.TakenTokens.{Taken}
-use Rattle.polcert_model.specs.Text.{most_bytes}
 use Rattle.polcert_model.specs.TextSteps.{IsTextRead}
 use Rattle.polcert_model.proofs.reader.read_text.Given as goal
 
 abbrev pub invariant-loop-next : goal.invariant-loop-next
 invariant-loop-next l = record {
-  seen : (seen : List Lexeme) × Taken (text_rest l.text most_bytes) seen l.tokens × IsTextRead seen l.reader;
-  few : l.reader.number + length l.tokens.bytes ≤ most_bytes;
+  seen : (seen : List Lexeme) × Taken (text_rest l.text text_limit) seen l.tokens × IsTextRead seen l.reader;
+  few : l.reader.number + length l.tokens.bytes ≤ text_limit;
 }
 
 abbrev pub decreases-loop-next : goal.decreases-loop-next

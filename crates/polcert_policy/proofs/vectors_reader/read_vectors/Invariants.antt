@@ -1,7 +1,6 @@
 use Rattle.std.proofs.Common.{◌≡◌, List, length}
-use Rattle.polcert_text.specs.Cut.{Lexeme, text_rest}
+use Rattle.polcert_text.specs.Cut.{Lexeme, text_rest, text_limit}
 use Rattle.polcert_text.specs.TakenTokens.{Taken}
-use Rattle.polcert_policy.specs.GraphText.{text_limit}
 use Rattle.polcert_policy.specs.VectorsRead.{HasVectors}
 use Rattle.polcert_policy.proofs.vectors_reader.read_vectors.Given as goal
 
