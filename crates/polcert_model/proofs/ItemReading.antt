@@ -1,5 +1,5 @@
 -- An item's reader, token by token: what it keeps of the body, and why a token is refused.
-use Rattle.std.proofs.Common.{◌≡◌, ◌∙◌, ℕ, false, Option, Some, None, List, [], ◌∷◌, ◌++◌, Result, Ok, Err, OnOk, unwrap_or, refl, sym, ap, subst}
+use Rattle.std.proofs.Common.{◌≡◌, ◌∙◌, ℕ, false, Option, Some, None, List, [], ◌∷◌, ◌++◌, Result, Ok, Err, OnOk, IfErr, unwrap_or, refl, sym, ap, subst}
 use Rattle.polcert_text.specs.Cut.{Lexeme}
 use Rattle.polcert_model.specs.declared.elements_reader.ElementsReader.{ElementsReader}
 use Rattle.polcert_model.specs.declared.fault.ItemFault.{ItemFault}
@@ -13,10 +13,13 @@ use Rattle.polcert_model.specs.declared.start_reader.StartReader.{StartReader}
 use Rattle.polcert_model.specs.Words.{Start}
 use Rattle.polcert_model.specs.Elements.{Elements, Count, count_of}
 use Rattle.polcert_model.specs.Misfits.{misfit}
-use Rattle.polcert_model.specs.WantSteps.{Leads, start_wants, item_wants, IfAtEnd}
+use Rattle.polcert_model.specs.WantSteps.{Leads, start_wants, item_wants, IfAtEnd, IfStart, IsValueOr, IsAtToken, IsStartMisfit}
+use Rattle.polcert_model.specs.declared.stop.Stop.{Stop}
+use Rattle.polcert_model.specs.declared.stop.Stop.TheVariants as stops
+use Rattle.polcert_model.proofs.StartSeen.{start_misfit}
 use Rattle.polcert_model.specs.Text.{Known}
 use Rattle.polcert_model.specs.LineSteps.{Takes, CannotTake}
-use Rattle.polcert_model.specs.EntrySteps.{preamble_in}
+use Rattle.polcert_model.specs.EntrySteps.{preamble_in, IfRefused}
 use Rattle.polcert_model.specs.Reasons.{is_sign, ends_in_sign, IsOfElements}
 use Rattle.polcert_model.specs.NumberSteps.{SignIs, SignEnds}
 use Rattle.polcert_model.specs.ElementSteps.{ElementsReason, AreElementsSeen}
@@ -91,6 +94,19 @@ start_leads k states item old new l known is leads =
     subst (λ s. Leads (start_wants (count_of s) old) l (start_wants (count_of s) new)) (sym (known_states k states known)) leads in
     subst (λ i. Leads (item_wants k i) l (item_wants k (items.Start new))) (sym is) go
 
+pub start_named : (k : Known) (states : Elements) (item : ItemReader) (old : StartReader) (l : Lexeme) (stop : Stop) → k.states ≡ Some states → item ≡ items.Start old
+    → IfRefused stop (λ r. IsValueOr (start_wants (count_of states) old []) l r.kind) → IfRefused stop (λ r. IsAtToken l r.kind r.place)
+    → IfRefused stop (λ r. IfStart (topic_in item) (IsStartMisfit (item_wants k item []) l r.kind r.place))
+start_named k states item old l (stops.Refused r) known is named at =
+    let go : IsStartMisfit (item_wants k (items.Start old) []) l r.kind r.place =
+    subst (λ s. IsStartMisfit (start_wants (count_of s) old []) l r.kind r.place) (sym (known_states k states known)) (start_misfit (start_wants (count_of states) old []) l r.kind r.place named at) in
+    subst (λ i. IfStart (topic_in i) (IsStartMisfit (item_wants k i []) l r.kind r.place)) (sym is) go
+start_named k states item old l stops.Memory known is named at = tt
+
+pub if_err_both : {T E : Type 0} (r : Result T E) (P Q R : E → Type 0) → ((e : E) → P e → Q e → R e) → IfErr r P → IfErr r Q → IfErr r R
+if_err_both (Ok v) P Q R f x y = tt
+if_err_both (Err e) P Q R f x y = f e x y
+
 pub start_ends : (k : Known) (states : Elements) (item : ItemReader) (r : StartReader) (e : ItemEnd) → k.states ≡ Some states → item ≡ items.Start r
     → IfAtEnd e (λ kind. kind ≡ misfit (start_wants (count_of states) r []) None) → IfAtEnd e (λ kind. kind ≡ misfit (item_wants k item []) None)
 start_ends k states item r e known is named =
@@ -112,5 +128,5 @@ start_end_reason item r body end e m = subst (λ i. IsItemEndReason (topic_in i)
         at_end StartSum m = refl
         at_end StartEmpty m = refl
         at_end _ m = absurd m
-    at (ends.At r) m = (refl, m.1)
+    at (ends.At r) m = (refl, m.0, m.1)
     at ends.Memory m = tt

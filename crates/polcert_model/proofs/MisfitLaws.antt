@@ -1,13 +1,12 @@
 -- The kind of a refusal, where something else is found than is wanted.
-use Rattle.std.proofs.Common.{◌≡◌, ◌≢◌, ℕ, ◌+◌, ◌-◌, ◌<◌, ◌≤◌, Bool, true, false, ◌||◌, ◌==◌, bytes_eq, Some, List, [], ◌∷◌, ◌++◌, length, is_some, codes, refl, sym, ap, subst, arith, if◌then◌else◌}
+use Rattle.std.proofs.Common.{◌≡◌, ◌≢◌, ℕ, Bool, true, false, ◌||◌, ◌==◌, bytes_eq, Some, List, length, is_some, codes, refl, sym, subst, arith, if◌then◌else◌}
 use Rattle.std.proofs.lemmas.Grind.{common_steps}
-use Rattle.std.specs.List.{list_any}
 use Rattle.polcert_text.specs.Cut.{Lexeme}
 use Rattle.polcert_text.specs.declared.lexeme.TokenKind.TheVariants.{Name}
 use Rattle.polcert_model.specs.declared.fault.ItemFault.TheVariants.{BadShape, BadCount, DuplicateName, UnknownName, Reset}
-use Rattle.polcert_model.specs.Words.{topic_of, inner_words, is_reserved, IsName}
+use Rattle.polcert_model.specs.Words.{topic_of, is_reserved, IsName}
 use Rattle.polcert_model.specs.Elements.{most_elements}
-use Rattle.polcert_model.specs.Misfits.{misfit, misfit_at, no_index, no_name, is_reset, Index, FurtherName}
+use Rattle.polcert_model.specs.Misfits.{misfit, no_index, no_name, is_reset, Index, FurtherName}
 
 or_right : (a b : Bool) → a || b ≡ false → b ≡ false
 or_right true b e = absurd (true≢false e)

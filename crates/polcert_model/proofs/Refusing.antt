@@ -21,7 +21,7 @@ use Rattle.polcert_model.specs.Reading.{IsWithinItem, IsWrong, CannotGoOn, IsPos
 use Rattle.polcert_model.specs.FirstWrong.{TextTokens, AreTokensOf, IsFirstWrong, LiesIn, IsDecided, word_place, wrong_item, wrong_last}
 use Rattle.polcert_model.specs.Reasons.{IsReason, InItem, StandsIn, NumberStandsIn, IsRepeated, is_sign}
 use Rattle.polcert_model.specs.Reasons as reasons
-use Rattle.polcert_model.specs.Refusals.{place_or, IsOfLexemes, IsTaken, Stops, StopsInBody, in_body}
+use Rattle.polcert_model.specs.Refusals.{place_or, IsTaken, Stops, StopsInBody, in_body}
 use Rattle.polcert_model.specs.Refusals as refusals
 use Rattle.polcert_model.specs.NumberSteps.{is_negative, number_place, IsSignAt, SignEnds}
 use Rattle.polcert_model.specs.NumberSteps as steps
@@ -31,7 +31,8 @@ use Rattle.polcert_model.specs.ItemSteps.{ItemGoes, topic_in, sign_in, pending_i
 use Rattle.polcert_model.specs.ItemSteps as steps_of
 use Rattle.polcert_model.specs.Misfits.{misfit, IsOfValue, IsMisfit}
 use Rattle.polcert_model.specs.Wants.{wanted}
-use Rattle.polcert_model.specs.WantSteps.{item_wants, IfNotStart}
+use Rattle.polcert_model.specs.WantSteps.{item_wants, IfNotStart, IfStart, IsStartMisfit}
+use Rattle.polcert_model.specs.WantSteps as want_steps
 use Rattle.polcert_model.specs.TextSteps.{IsItemRead, EndsItem, IsRefusedBehind, IsRefusedAt, Refuses}
 use Rattle.polcert_model.specs.TextSteps as texts
 use Rattle.polcert_model.proofs.Basics.{one_some, cons≢nil}
@@ -42,7 +43,7 @@ use Rattle.polcert_model.proofs.PlaceLaws.{Rises, tokens_rise, lies_in_item}
 use Rattle.polcert_model.proofs.DecidedLaws.{nothing_decided}
 use Rattle.polcert_model.proofs.Possible.{possible_front}
 use Rattle.polcert_model.proofs.Within.{within_goes_on}
-use Rattle.polcert_model.proofs.StartSeen.{pending_reason}
+use Rattle.polcert_model.proofs.StartSeen.{pending_reason, pending_value}
 
 none≢some : {A : Type 0} {x : A} → None ≡ Some x → ⊥
 none≢some e = cc
@@ -258,13 +259,11 @@ number_further body more place Is (reasons.minus before s l after e kind p so) =
 start_lies : (ts : TextTokens) (n place : ℕ) (k : Known) (t : Topic) (body : List Lexeme) → Here ts n k t body → Rises 0 ts.lexemes ts.end → StandsIn body place (λ l. Unit {0}) → LiesIn ts n place
 start_lies ts n place k t body h rises s = lies_here ts n place k t body s.before (s.lexeme ∷ s.after) h rises s.whole s.place_is
 
-start_kind : (body : List Lexeme) (kind : ItemFault) (place : ℕ) → IsReasonIn body kind place → IsOfLexemes kind
-start_kind body StartSum place r = absurd r
-start_kind body StartEmpty place r = absurd r
-start_kind body _ place r = tt
-
-start_stops : (ts : TextTokens) (kind : ItemFault) (n place : ℕ) (k : Known) (t : Topic) (body : List Lexeme) → Here ts n k t body → t ≡ Start → IsOfLexemes kind → StandsIn body place (λ l. Unit {0}) → StopsInBody ts kind n place
-start_stops ts kind n place k t body h e of s = stops_here ts kind n place k t body s.before (s.lexeme ∷ s.after) h s.whole (refusals.in_start e) (refusals.in_start_item e of) s.place_is (λ none. absurd (cons≢nil none))
+-- a number of it that is tested late
+start_stops : (ts : TextTokens) (kind : ItemFault) (n place : ℕ) (k : Known) (t : Topic) (body : List Lexeme) → Here ts n k t body → t ≡ Start
+    → ((taken : List Lexeme) (l : Lexeme) (behind : List Lexeme) → Stops k t kind taken (l ∷ behind)) → StandsIn body place (λ l. Unit {0}) → StopsInBody ts kind n place
+start_stops ts kind n place k t body h e stops s =
+    stops_here ts kind n place k t body s.before (s.lexeme ∷ s.after) h s.whole (refusals.in_start e) (stops s.before s.lexeme s.after) s.place_is (λ none. absurd (cons≢nil none))
 
 start_reason : (ts : TextTokens) (n place : ℕ) (k : Known) (t : Topic) (body more : List Lexeme) (kind : ItemFault) → Here ts n k t (body ++ more) → t ≡ Start → IsReasonIn body kind place
     → IsReason ts n place kind
@@ -279,15 +278,15 @@ start_reason ts n place k t body more BadShape h e m = tt
 start_reason ts n place k t body more _ h e m = absurd m
 
 start_refused : (text : List ℕ) (ts : TextTokens) (n place : ℕ) (k : Known) (t : Topic) (body more : List Lexeme) (kind : ItemFault) → AreTokensOf text ts → Here ts n k t (body ++ more) → word_fault k t ≡ None
-    → IsWrong k t (body ++ more) → t ≡ Start → IsStartReason body kind place → Refuses ts (model_faults.Item kind n place)
-start_refused text ts n place k t body more kind tokens h free wrong e r = record {
+    → IsWrong k t (body ++ more) → t ≡ Start → IsStartReason body kind place → StopsInBody ts kind n place → Refuses ts (model_faults.Item kind n place)
+start_refused text ts n place k t body more kind tokens h free wrong e r stops = record {
   refusal = record {
     first_wrong = first_here ts n k t (body ++ more) h wrong;
     lies = start_lies ts n place k t (body ++ more) h (tokens_rise text ts tokens) (stands_further body more place _ r.stands);
     reason = start_reason ts n place k t body more kind h e r.reason;
     decided = λ fault at x. absurd (free_here ts n k t (body ++ more) h free fault at x);
   };
-  placed = in_body (start_stops ts kind n place k t (body ++ more) h e (start_kind body kind place r.reason) (stands_further body more place _ r.stands));
+  placed = in_body stops;
 }
 
 -- a start item in which the tokens end in a fault behind a number without a value
@@ -305,11 +304,11 @@ pending_refused seen r f x w e text ts tokens same ending =
         reason = start_reason ts r.number x.place r.known w.t w.body [] x.kind h start reason.reason;
         decided = λ fault at y. absurd (free_here ts r.number r.known w.t (w.body ++ []) h w.read.may_stand fault at y);
       };
-      placed = in_body (start_stops ts x.kind r.number x.place r.known w.t (w.body ++ []) h start (start_kind w.body x.kind x.place reason.reason) (stands_further w.body [] x.place _ reason.stands));
+      placed = in_body (start_stops ts x.kind r.number x.place r.known w.t (w.body ++ []) h start (λ taken l behind. refusals.late_number start why.2) (stands_further w.body [] x.place _ reason.stands));
     }
   where
-    pending_why : (body : List Lexeme) (item : ItemReader) (x : Refusal) → IsSeen body item → pending_in item ≡ Some x → (topic_in item ≡ Start) × IsStartReason body x.kind x.place
-    pending_why body (items.Start s) x seen e = (refl, pending_reason body s x seen e)
+    pending_why : (body : List Lexeme) (item : ItemReader) (x : Refusal) → IsSeen body item → pending_in item ≡ Some x → (topic_in item ≡ Start) × IsStartReason body x.kind x.place × IsOfValue x.kind
+    pending_why body (items.Start s) x seen e = (refl, pending_reason body s x seen e, pending_value s x e)
     pending_why body (items.Discount s) x seen e = absurd (none≢some e)
     pending_why body (items.Values s) x seen e = absurd (none≢some e)
     pending_why body (items.States s) x seen e = absurd (none≢some e)
@@ -363,8 +362,8 @@ here_unfit k t body item other wants l kind unfit = subst (λ x. IsMisfit x l ki
 
 pub feed_refused : (seen : List Lexeme) (r : TextReader) (l : Lexeme) (kind : ItemFault) (place : ℕ) (w : IsItemRead seen r) → begins_item l ≡ false
     → CannotTake (ItemGoes r.known) w.item l → IsItemReason w.item w.body l kind place → IfNotStart (topic_in w.item) (IsMisfit (item_wants r.known w.item []) l kind)
-    → IsRefusedBehind (seen ++ l ∷ []) (model_faults.Item kind r.number place)
-feed_refused seen r l kind place w inner none reason unfit text ts further tokens e =
+    → IfStart (topic_in w.item) (IsStartMisfit (item_wants r.known w.item []) l kind place) → IsRefusedBehind (seen ++ l ∷ []) (model_faults.Item kind r.number place)
+feed_refused seen r l kind place w inner none reason unfit named text ts further tokens e =
     let d = has_division further in
     let more : List Lexeme = d.0 in
     let behind = within_goes_on seen l r.known w.t w.body w.within inner in
@@ -386,10 +385,21 @@ feed_refused seen r l kind place w inner none reason unfit text ts further token
           placed = in_body refused.stops;
         }
 
+    of_start : (more : List Lexeme) (h : Here ts r.number r.known w.t ((w.body ++ l ∷ []) ++ more)) → w.t ≡ Start → IsStartReason (w.body ++ l ∷ []) kind place
+        → IsStartMisfit (wanted r.known w.t w.body) l kind place → StopsInBody ts kind r.number place
+    of_start more h start m (want_steps.number v) =
+        start_stops ts kind r.number place r.known w.t ((w.body ++ l ∷ []) ++ more) h start (λ taken x behind. refusals.late_number start v) (stands_further (w.body ++ l ∷ []) more place _ m.stands)
+    of_start more h start m (want_steps.token p e) =
+        stops_here ts kind r.number place r.known w.t ((w.body ++ l ∷ []) ++ more) w.body (l ∷ more) h (append_assoc w.body (l ∷ []) more) (refusals.in_start start) (refusals.in_start_item start e) p
+        (λ none. absurd (cons≢nil none))
+
     at : IsItemReason w.item w.body l kind place → (more : List Lexeme) → Here ts r.number r.known w.t ((w.body ++ l ∷ []) ++ more) → Refuses ts (model_faults.Item kind r.number place)
     at (steps_of.of_token other m) more h = of_one more h other m
     at (steps_of.of_start start m) more h =
+        let misfits : IsStartMisfit (wanted r.known w.t w.body) l kind place =
+        subst (λ x. IsStartMisfit x l kind place) (wants_here r.known w.t w.body w.item w.read.wants) (subst (λ u. IfStart u (IsStartMisfit (item_wants r.known w.item []) l kind place)) start named) in
         start_refused text ts r.number place r.known w.t (w.body ++ l ∷ []) more kind tokens h w.read.may_stand (stuck seen r w l none more) (sym w.read.topic_is ∙ start) m
+        (of_start more h (sym w.read.topic_is ∙ start) m misfits)
 
 -- ---- an item that cannot end
 
@@ -445,7 +455,9 @@ end_refused seen r kind place w none reason kinds text ts tokens ends =
 
 -- a start item that cannot end, for the number before its end
 pub end_refused_before : (seen : List Lexeme) (r : TextReader) (kind : ItemFault) (at place : ℕ) (w : IsItemRead seen r) → CannotEnd (ItemGoes r.known) w.item
-    → topic_in w.item ≡ Start → IsStartReason w.body kind at → IsRefusedAt seen place (model_faults.Item kind r.number at)
-end_refused_before seen r kind at place w none start reason text ts tokens ends =
+    → topic_in w.item ≡ Start → kind ≡ IndexOutOfRange → IsStartReason w.body kind at → IsRefusedAt seen place (model_faults.Item kind r.number at)
+end_refused_before seen r kind at place w none start late reason text ts tokens ends =
     let x = ends_here ts r.number place seen w.body r.known w.t w.within w.number_is ends in
     start_refused text ts r.number at r.known w.t w.body [] kind tokens x.here_is w.read.may_stand (λ after taken. none after (w.read.on [] after taken)) (sym w.read.topic_is ∙ start) reason
+    (start_stops ts kind r.number at r.known w.t (w.body ++ []) x.here_is (sym w.read.topic_is ∙ start) (λ taken l behind. refusals.late_state (sym w.read.topic_is ∙ start) late)
+    (stands_further w.body [] at _ reason.stands))

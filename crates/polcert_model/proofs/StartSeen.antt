@@ -252,3 +252,20 @@ pub start_misfit : (w : Wanted) (l : Lexeme) (kind : ItemFault) (place : ℕ) �
 start_misfit w l kind place (value v) at = number v
 start_misfit w l kind place (other e) (of_number v) = number v
 start_misfit w l kind place (other e) (at_token p) = token p e
+
+-- digits without a value are refused for their value
+pub pending_value : (r : StartReader) (f : Refusal) → pending r ≡ Some f → IsOfValue f.kind
+pending_value (reader.Digits d) f e = of_value d.value e
+  where
+    of_value : (v : Result ℤ NumberFault) → pending_of v d.place ≡ Some f → IsOfValue f.kind
+    of_value (Ok h) e = absurd (none≢some e)
+    of_value (Err g) e = subst (λ (x : Refusal). IsOfValue x.kind) (some_once e) tt
+pending_value reader.Form f e = absurd (none≢some e)
+pending_value (reader.Colon c) f e = absurd (none≢some e)
+pending_value (reader.List c) f e = absurd (none≢some e)
+pending_value reader.Body f e = absurd (none≢some e)
+pending_value reader.Every f e = absurd (none≢some e)
+pending_value (reader.Only n) f e = absurd (none≢some e)
+pending_value (reader.Sign x) f e = absurd (none≢some e)
+pending_value (reader.Number x) f e = absurd (none≢some e)
+pending_value (reader.Probabilities n) f e = absurd (none≢some e)

@@ -3,7 +3,7 @@ use Rattle.std.proofs.Common.{◌≡◌, ◌∙◌, ℕ, ◌+◌, false, Option,
 use Rattle.std.proofs.lemmas.List.{append-nil}
 use Rattle.polcert_text.specs.Cut.{Lexeme}
 use Rattle.polcert_model.specs.declared.fault.ItemFault.{ItemFault}
-use Rattle.polcert_model.specs.declared.fault.ItemFault.TheVariants.{BeforeFirstItem}
+use Rattle.polcert_model.specs.declared.fault.ItemFault.TheVariants.{BeforeFirstItem, IndexOutOfRange}
 use Rattle.polcert_model.specs.declared.fault.ModelFault.{ModelFault}
 use Rattle.polcert_model.specs.declared.fault.ModelFault.TheVariants as model_faults
 use Rattle.polcert_model.specs.declared.item.ItemReader.{ItemReader}
@@ -19,7 +19,7 @@ use Rattle.polcert_model.specs.StartSteps.{IsStartReason}
 use Rattle.polcert_model.specs.ItemSteps.{ItemGoes, IsItemWithin, IsItemReason, IsEndReason, IsSeen, topic_in, new_item, HasElements}
 use Rattle.polcert_model.specs.KnownView.{learned}
 use Rattle.polcert_model.specs.Misfits.{misfit, IsMisfit}
-use Rattle.polcert_model.specs.WantSteps.{Leads, item_wants, IfNotStart}
+use Rattle.polcert_model.specs.WantSteps.{Leads, item_wants, IfNotStart, IfStart, IsStartMisfit}
 use Rattle.polcert_model.specs.TextSteps.{Refuses, IsTextRead, IsItemRead, IsBodyRead, AreItemsRead, IsRefusedBehind, IsRefusedAt, IsRefusedWhole, at_word, at_end, nothing, item}
 use Rattle.polcert_model.proofs.Basics.{one_some}
 use Rattle.polcert_model.proofs.Dividing.{begins, empty_division}
@@ -91,13 +91,13 @@ item_not_ended seen r i kind place (item w) e stuck reason kinds =
 
 -- nor for the number before its end
 pub item_not_ended_before : (seen : List Lexeme) (r : TextReader) (i : ItemReader) (kind : ItemFault) (at place : ℕ) → IsTextRead seen r → r.item ≡ Some i
-    → (HasElements r.known (topic_in i) → CannotEnd (ItemGoes r.known) i) → ((body : List Lexeme) → IsSeen body i → (topic_in i ≡ Start) × IsStartReason body kind at)
+    → (HasElements r.known (topic_in i) → CannotEnd (ItemGoes r.known) i) → ((body : List Lexeme) → IsSeen body i → (topic_in i ≡ Start) × (kind ≡ IndexOutOfRange) × IsStartReason body kind at)
     → IsRefusedAt seen place (model_faults.Item kind r.number at)
 item_not_ended_before seen r i kind at place (nothing n) e stuck reason = absurd (none≢some n.item_is e)
 item_not_ended_before seen r i kind at place (item w) e stuck reason =
     let same = same_item seen r i e w in
     let why = reason w.body (subst (IsSeen w.body) same w.read.seen) in
-    end_refused_before seen r kind at place w (cannot_end seen r i w e stuck) (ap topic_in same ∙ why.0) why.1
+    end_refused_before seen r kind at place w (cannot_end seen r i w e stuck) (ap topic_in same ∙ why.0) why.1 why.2
 
 -- ---- one lexeme more
 
@@ -127,12 +127,13 @@ item_takes seen r l old new (item w) e inside same within takes goes_on leads =
 -- it cannot
 pub item_refuses : (seen : List Lexeme) (r : TextReader) (l : Lexeme) (i : ItemReader) (kind : ItemFault) (place : ℕ) → IsTextRead seen r → r.item ≡ Some i → begins_item l ≡ false
     → CannotTake (ItemGoes r.known) i l → ((body : List Lexeme) → IsSeen body i → IsItemReason i body l kind place)
-    → IfNotStart (topic_in i) (IsMisfit (item_wants r.known i []) l kind) → IsRefusedBehind (seen ++ l ∷ []) (model_faults.Item kind r.number place)
-item_refuses seen r l i kind place (nothing n) e inside stuck reason unfit = absurd (none≢some n.item_is e)
-item_refuses seen r l i kind place (item w) e inside stuck reason unfit =
+    → IfNotStart (topic_in i) (IsMisfit (item_wants r.known i []) l kind) → IfStart (topic_in i) (IsStartMisfit (item_wants r.known i []) l kind place) → IsRefusedBehind (seen ++ l ∷ []) (model_faults.Item kind r.number place)
+item_refuses seen r l i kind place (nothing n) e inside stuck reason unfit named = absurd (none≢some n.item_is e)
+item_refuses seen r l i kind place (item w) e inside stuck reason unfit named =
     let same = sym (same_item seen r i e w) in
     feed_refused seen r l kind place w inside (subst (λ j. CannotTake (ItemGoes r.known) j l) same stuck) (subst (λ j. IsItemReason j w.body l kind place) same (reason w.body (subst (IsSeen w.body) (sym same) w.read.seen)))
     (subst (λ j. IfNotStart (topic_in j) (IsMisfit (item_wants r.known j []) l kind)) same unfit)
+    (subst (λ j. IfStart (topic_in j) (IsStartMisfit (item_wants r.known j []) l kind place)) same named)
 
 -- ---- an item's word
 

@@ -1,5 +1,5 @@
 -- What the places of numbers and entries are for, step by step.
-use Rattle.std.proofs.Common.{◌≡◌, ◌≢◌, ◌∙◌, ℕ, zero, suc, ◌+◌, ◌-◌, ◌<◌, ◌≤◌, Bool, true, false, nat_lt, ◌==◌, ◌⊎◌, Option, Some, None, is_some, inl, inr, List, [], ◌∷◌, ◌++◌, length, drop, refl, sym, ap, subst, arith, length-append, if◌then◌else◌}
+use Rattle.std.proofs.Common.{◌≡◌, ◌≢◌, ◌∙◌, ℕ, zero, suc, ◌+◌, ◌-◌, ◌≤◌, Bool, true, false, nat_lt, ◌==◌, ◌⊎◌, Option, Some, None, is_some, inl, inr, List, [], ◌∷◌, ◌++◌, length, drop, refl, sym, ap, subst, arith, length-append, if◌then◌else◌}
 use Rattle.std.proofs.lemmas.Grind.{common_steps}
 use Rattle.polcert_text.specs.Cut.{Lexeme}
 use Rattle.polcert_text.specs.declared.lexeme.TokenKind.{TokenKind}
@@ -9,7 +9,6 @@ use Rattle.polcert_model.specs.declared.fault.ItemFault.TheVariants.{BadShape, W
 use Rattle.polcert_model.specs.declared.stop.ItemEnd.{ItemEnd}
 use Rattle.polcert_model.specs.declared.stop.ItemEnd.TheVariants as ends
 use Rattle.polcert_text.specs.Lexemes.{are_digits}
-use Rattle.polcert_model.specs.declared.entry.Place.{Place}
 use Rattle.polcert_model.specs.declared.entry.Table.{Table}
 use Rattle.polcert_model.specs.declared.entry_reader.Numbers.{Numbers}
 use Rattle.polcert_model.specs.declared.entry_reader.EntryReader.{EntryReader}
@@ -22,7 +21,7 @@ use Rattle.polcert_model.specs.Reasons.{is_sign}
 use Rattle.polcert_model.specs.NumberSteps.{IsSignAt}
 use Rattle.polcert_model.specs.NumberSteps as steps
 use Rattle.polcert_model.specs.EntrySteps.{awaited, HasRoom, IsFull, no_numbers}
-use Rattle.polcert_model.specs.Misfits.{Wanted, Mark, NumberOrEnd, Number, Digits, EndOfNumbers, EndOfWord, misfit, misfit_at, is_reset, begins_number, tests_value, IsMisfit, of_place}
+use Rattle.polcert_model.specs.Misfits.{Wanted, Mark, NumberOrEnd, Number, EndOfNumbers, EndOfWord, misfit, is_reset, begins_number, tests_value, IsMisfit, of_place}
 use Rattle.polcert_model.specs.Wants.{number_end, numbers_want, by_kind, entry_wants, may_be_state, start_body_wants}
 use Rattle.polcert_model.proofs.PatternLaws.{BeginsNumber}
 use Rattle.polcert_model.specs.WantSteps.{Leads, number_wants, list_wants, state_wants, IfAtEnd}

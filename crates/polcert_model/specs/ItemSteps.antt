@@ -3,7 +3,7 @@
 use Rattle.std.specs.Prelude.{◌≡◌, ℕ, Bool, false, Option, Some, None, List, [], ◌∷◌, ◌++◌}
 use Rattle.polcert_text.specs.Cut.{Lexeme}
 use Rattle.polcert_model.specs.declared.fault.ItemFault.{ItemFault}
-use Rattle.polcert_model.specs.declared.fault.ItemFault.TheVariants.{BadShape, BadCount, DuplicateName, WrongNumberCount, ProbabilityRange, DiscountRange, StartSum, StartEmpty}
+use Rattle.polcert_model.specs.declared.fault.ItemFault.TheVariants.{BadShape, BadCount, DuplicateName, IndexOutOfRange, WrongNumberCount, ProbabilityRange, DiscountRange, StartSum, StartEmpty}
 use Rattle.polcert_model.specs.declared.entry.Entry.{Entry}
 use Rattle.polcert_model.specs.declared.entry.Table.{Table}
 use Rattle.polcert_model.specs.declared.item.Said.TheVariants as said
@@ -115,7 +115,7 @@ IsEndReason t _ = ⊥
 -- why an item of this topic and body cannot end, and where
 abbrev pub IsItemEndReason : Topic → List Lexeme → ItemEnd → Type 0
 IsItemEndReason t body (ends.AtEnd kind) = IsEndReason t kind
-IsItemEndReason t body (ends.At r) = (t ≡ Start) × IsStartReason body r.kind r.place
+IsItemEndReason t body (ends.At r) = (t ≡ Start) × (r.kind ≡ IndexOutOfRange) × IsStartReason body r.kind r.place
 IsItemEndReason t body ends.Memory = Unit {0}
 
 -- in an entry, every index of its table numbers something

@@ -3,7 +3,7 @@ use Rattle.std.specs.Prelude.{◌≡◌, ℕ, ◌+◌, true, List, [], ◌∷◌
 use Rattle.polcert_text.specs.Cut.{Lexeme}
 use Rattle.polcert_text.specs.declared.lexeme.TokenKind.TheVariants.{Numeral}
 use Rattle.polcert_model.specs.declared.fault.ItemFault.{ItemFault}
-use Rattle.polcert_model.specs.declared.fault.ItemFault.TheVariants.{Token, TextTooLong, StartSum, StartEmpty}
+use Rattle.polcert_model.specs.declared.fault.ItemFault.TheVariants.{Token, TextTooLong, IndexOutOfRange}
 use Rattle.polcert_model.specs.declared.fault.ModelFault.{ModelFault}
 use Rattle.polcert_model.specs.declared.fault.ModelFault.TheVariants.{RowSum, Memory}
 use Rattle.polcert_model.specs.declared.fault.ModelFault.TheVariants as model_faults
@@ -55,21 +55,18 @@ pub data IsTaken (k : Known) (t : Topic) (taken : List Lexeme) : Type 0 where
   possible : IsPossible k t taken → IsTaken k t taken
   in_start : t ≡ Start → IsTaken k t taken
 
--- what is decided over the whole body of a start item isn't refused at a lexeme of it
-abbrev pub IsOfLexemes : ItemFault → Type 0
-IsOfLexemes StartSum = ⊥
-IsOfLexemes StartEmpty = ⊥
-IsOfLexemes _ = Unit {0}
-
 -- Behind the lexemes taken the item is no longer possible: with the next lexeme, with the next two as a sign and a
 -- numeral, or, where nothing is left of it, as it is. The kind is so of what this place is for and of what stands there.
--- (At a lexeme of a start item only this is said: what is decided over its whole body isn't refused there.)
+-- (At a lexeme of a start item only the kind is said, and not where a number is refused for its value or as no state's: its
+-- first number is tested late, only where more follow or the item ends.)
 pub data Stops (k : Known) (t : Topic) (kind : ItemFault) (taken : List Lexeme) : List Lexeme → Type 0 where
   at_lexeme : {l : Lexeme} {behind : List Lexeme} → CannotGoOn k t (taken ++ l ∷ []) → IsMisfit (wanted k t taken) l kind → Stops k t kind taken (l ∷ behind)
   at_number : {sign l : Lexeme} {behind : List Lexeme} → is_sign sign.kind ≡ true → l.kind ≡ Numeral → IsPossible k t (taken ++ sign ∷ [])
       → CannotGoOn k t (taken ++ sign ∷ l ∷ []) → IsOfValue kind → IsMisfit (wanted k t (taken ++ sign ∷ [])) l kind → Stops k t kind taken (sign ∷ l ∷ behind)
   at_end : IsWrong k t taken → kind ≡ misfit (wanted k t taken) None → Stops k t kind taken []
-  in_start_item : {l : Lexeme} {behind : List Lexeme} → t ≡ Start → IsOfLexemes kind → Stops k t kind taken (l ∷ behind)
+  in_start_item : {l : Lexeme} {behind : List Lexeme} → t ≡ Start → kind ≡ misfit (wanted k t taken) (Some l) → Stops k t kind taken (l ∷ behind)
+  late_number : {l : Lexeme} {behind : List Lexeme} → t ≡ Start → IsOfValue kind → Stops k t kind taken (l ∷ behind)
+  late_state : {l : Lexeme} {behind : List Lexeme} → t ≡ Start → kind ≡ IndexOutOfRange → Stops k t kind taken (l ∷ behind)
 
 -- The place stands in the item where its lexemes so far are still possible, and with what stands there they aren't.
 -- Where nothing is left of the item and of the text, the tokens end cleanly.

@@ -1,6 +1,6 @@
 -- What each place of an item's body is for, behind what its reader holds.
 -- Nobody has to believe this: only contracts of private functions cite it.
-use Rattle.std.specs.Prelude.{◌≡◌, ℕ, ◌-◌, Bool, true, false, Option, Some, None, is_some, List, [], ◌∷◌, length}
+use Rattle.std.specs.Prelude.{◌≡◌, ℕ, ◌-◌, true, false, Option, Some, None, is_some, List, [], ◌∷◌, length}
 use Rattle.polcert_text.specs.Cut.{Lexeme}
 use Rattle.polcert_model.specs.declared.elements_reader.ElementsReader.{ElementsReader}
 use Rattle.polcert_model.specs.declared.elements_reader.ElementsReader.TheVariants as elements
@@ -27,7 +27,7 @@ use Rattle.polcert_model.specs.Elements.{Elements, count_of}
 use Rattle.polcert_model.specs.Text.{Known}
 use Rattle.polcert_model.specs.ElementSteps.{names_with}
 use Rattle.polcert_model.specs.EntrySteps.{preamble_in, indices_in}
-use Rattle.polcert_model.specs.Misfits.{Wanted, Mark, Index, Listed, CountOrName, FurtherName, StartBody, NumberOrEnd, Number, Digits, EndOfNumbers, EndOfWord, misfit, IsOfValue}
+use Rattle.polcert_model.specs.Misfits.{Wanted, Mark, Listed, FurtherName, NumberOrEnd, Number, Digits, EndOfWord, misfit, IsOfValue}
 use Rattle.polcert_model.specs.Wants as wants
 use Rattle.polcert_model.specs.Wants.{numbers_want}
 

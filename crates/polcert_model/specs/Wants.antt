@@ -1,6 +1,6 @@
 -- What each place of an item's body is for, by the item's topic and the lexemes of the body before it.
 -- Source: the POMDP file format page at pomdp.org, whose forms of items these are, read from left to right.
-use Rattle.std.specs.Prelude.{ℕ, zero, suc, ◌+◌, ◌-◌, ◌==◌, ◌||◌, not, nat_lt, Bool, true, false, List, [], ◌∷◌, length, map, drop, codes, unwrap_or, if◌then◌else◌}
+use Rattle.std.specs.Prelude.{ℕ, zero, suc, ◌+◌, ◌-◌, ◌==◌, nat_lt, Bool, true, false, List, [], ◌∷◌, map, drop, if◌then◌else◌}
 use Rattle.polcert_text.specs.Cut.{Lexeme}
 use Rattle.polcert_text.specs.Lexemes.{are_digits}
 use Rattle.polcert_text.specs.declared.lexeme.TokenKind.{TokenKind}

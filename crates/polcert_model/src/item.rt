@@ -9,7 +9,7 @@ ghost use Rattle.polcert_model.specs.KnownView.{learned, IsSaidWithin};
 ghost use Rattle.polcert_model.specs.LineSteps.{Takes, CannotTake, CannotEnd};
 ghost use Rattle.polcert_model.specs.Misfits.{misfit, IsMisfit};
 ghost use Rattle.polcert_model.specs.StartSteps.{IfNotMemory};
-ghost use Rattle.polcert_model.specs.WantSteps.{Leads, item_wants, IfNotStart, IfAtEnd};
+ghost use Rattle.polcert_model.specs.WantSteps.{Leads, item_wants, IfNotStart, IfStart, IsStartMisfit, IfAtEnd};
 
 use crate::elements::Elements;
 use crate::elements_reader::ElementsReader;
@@ -80,6 +80,8 @@ impl ItemReader {
         ensures leads { OnOk result (Leads (item_wants known.now self.old) (lexeme_of token.entry) (item_wants known.now self.new)) }
         ensures kind { IfErr result (λ stop. IfRefused stop (λ r. IfNotStart (topic_in self.old)
             (IsMisfit (item_wants known.now self.old []) (lexeme_of token.entry) r.kind))) }
+        ensures start { IfErr result (λ stop. IfRefused stop (λ r. IfStart (topic_in self.old)
+            (IsStartMisfit (item_wants known.now self.old []) (lexeme_of token.entry) r.kind r.place))) }
     {
         match self {
             ItemReader::Discount(reader) => Ok(reader.feed(token)?),

@@ -4,7 +4,7 @@ use Rattle.polcert_model.specs.EntrySteps.{entry_sign}
 use Rattle.polcert_model.specs.LineSteps.{discount_sign}
 use Rattle.polcert_model.specs.ItemSteps.{IsSeen}
 use Rattle.polcert_model.proofs.PatternLaws.{if_err_map, refused_map, each_refused_map, on_ok_map}
-use Rattle.polcert_model.proofs.ItemReading.{sign_ends, elements_seen, states_reason, actions_reason, observations_reason, start_reason, start_takes, start_stuck, start_leads}
+use Rattle.polcert_model.proofs.ItemReading.{sign_ends, elements_seen, states_reason, actions_reason, observations_reason, start_reason, start_takes, start_stuck, start_leads, start_named, if_err_both}
 use Rattle.polcert_model.proofs.item.ItemReader.feed.Goals as goal
 
 pub returns-in_ok-feed-in-Discount-clause-seen : goal.returns-in_ok-feed-in-Discount-clause-seen
@@ -63,3 +63,8 @@ pub returns-in-Start-clause-leads : goal.returns-in-Start-clause-leads
 returns-in-Start-clause-leads c =
     on_ok_map _ (start_leads c.args.known.now c.states.result.now c.args.self.now c.in-Start.reader c.feed-in-Start.new.self (lexeme_of c.args.token) c.states.ensures.states c.in-Start.is)
     c.feed-in-Start.ensures.leads
+
+pub returns-in-Start-clause-start : goal.returns-in-Start-clause-start
+returns-in-Start-clause-start c =
+    if_err_both _ _ _ _ (λ stop named at. start_named c.args.known.now c.states.result.now c.args.self.now c.in-Start.reader (lexeme_of c.args.token) stop c.states.ensures.states c.in-Start.is named at)
+    c.feed-in-Start.ensures.kind c.feed-in-Start.ensures.place
