@@ -8,7 +8,10 @@ use polcert_text::{
 };
 use std::alloc::Global;
 
+mod answers;
+mod devices;
 mod memory;
+mod words;
 
 /// A model of two states, one action and two observations.
 const FIRST: &[u8] =
@@ -58,10 +61,13 @@ impl Source for Pieces<'_> {
     }
 }
 
-/// Takes a byte at a time into a slice, and fails at the write of number `failing`, from 0 on.
+/// The bytes that a sink of one byte at a time has room for.
+const ROOM: usize = 200;
+
+/// Takes a byte at a time, and fails at the write of number `failing`, from 0 on.
 #[derive(Drop)]
 struct OneByte {
-    taken: [u8; 80],
+    taken: [u8; ROOM],
     len: usize,
     failing: Option<usize>,
     failures: u64,
@@ -70,7 +76,7 @@ struct OneByte {
 impl OneByte {
     fn new(failing: Option<usize>) -> OneByte {
         OneByte {
-            taken: [0; 80],
+            taken: [0; ROOM],
             len: 0,
             failing,
             failures: 0,
@@ -78,7 +84,7 @@ impl OneByte {
     }
 
     fn taken(&self) -> &[u8] {
-        &self.taken[..self.len.min(80)]
+        &self.taken[..self.len.min(ROOM)]
     }
 }
 
@@ -91,7 +97,7 @@ impl Sink for OneByte {
         let Some(byte) = piece.first() else {
             return Ok(0);
         };
-        if self.failing == Some(self.len) || self.len >= 80 {
+        if self.failing == Some(self.len) || self.len >= ROOM {
             self.failures = self.failures.saturating_add(1);
             return Err(SinkFailed);
         }
@@ -101,7 +107,7 @@ impl Sink for OneByte {
     }
 }
 
-/// What a run of a slice answers, and the bytes that it wrote, of which there are at most 80.
+/// What a run of a slice answers, and the bytes that it wrote, of which there are at most ROOM.
 fn summed(alloc: Global, text: &[u8]) -> (Result<(), RunFault>, OneByte) {
     let mut sink = OneByte::new(None);
     let result = run_model(alloc, &mut SliceSource::new(text), &mut sink);
