@@ -1,6 +1,6 @@
 //! Names and start items: texts that are accepted, and what they say.
 use crate::tests::numbers::{Number, is_named, read_is_cost, read_number};
-use crate::{Kind, ModelFault, read_model};
+use crate::Kind;
 
 const TIGER: &[u8] = b"discount: 0.95
 values: reward
@@ -294,20 +294,5 @@ fn starts_of_four_states(rt: HostRuntime) {
             read_number(rt.alloc(), text, Number::StartTotal),
             Some(total)
         );
-    }
-}
-
-/// Where a growth of memory is refused, want of memory is answered, and nothing else.
-#[test]
-fn right_or_out_of_memory(rt: HostRuntime) {
-    let text =
-        b"discount: 1 values: reward states: a b actions: 1 observations: 1 start: 0.5 0.5 T: 0 identity O: 0 uniform";
-    match read_model(rt.alloc(), text) {
-        Ok(model) => {
-            assert_eq!(rt; model.states(), 2);
-            assert_eq!(rt; model.start_weight(1), 1);
-            assert_eq!(rt; model.name_of(Kind::State, 1), Some("b"));
-        }
-        Err(fault) => assert_eq!(rt; fault, ModelFault::Memory),
     }
 }
