@@ -1,6 +1,6 @@
 //! Names and start items: texts that are accepted, and what they say.
-use crate::tests::numbers::{Number, is_named, read_is_cost, read_number};
 use crate::Kind;
+use crate::tests::numbers::{Number, is_named, read_is_cost, read_number};
 
 const TIGER: &[u8] = b"discount: 0.95
 values: reward
