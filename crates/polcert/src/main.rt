@@ -1,4 +1,4 @@
-//! Reads a model from standard input, and writes the line that sums it up.
+//! Reads a model, a policy graph and its value vectors, and checks exactly what the policy promises.
 #![tactic(auto)]
 
 mod answer;

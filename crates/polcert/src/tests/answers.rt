@@ -31,7 +31,7 @@ const GREAT_LOSS: &[u8] =
     b"discount: 0.999999 values: reward states: 1 actions: 1 observations: 1 T: 0 identity O: 0 uniform R: 0 : 0 : 0 : 0 -10000000";
 
 /// Two observations, of which always the first comes.
-const ALWAYS_FIRST: &[u8] =
+pub const ALWAYS_FIRST: &[u8] =
     b"discount: 0.5 values: reward states: 1 actions: 1 observations: 2 T: 0 identity O: 0 1 0";
 
 /// Two observations, of which either may come.
@@ -46,7 +46,7 @@ const TWO_STATES: &[u8] =
 pub type Texts<'a> = (&'a [u8], &'a [u8], &'a [u8]);
 
 /// What a run of a check answers, over sources that give a byte at a time, and what it wrote.
-fn checked(alloc: Global, texts: Texts<'_>) -> (Result<Verdict, RunFault>, OneByte) {
+pub fn checked(alloc: Global, texts: Texts<'_>) -> (Result<Verdict, RunFault>, OneByte) {
     let mut model = Pieces::new(texts.0, 1, None);
     let mut graph = Pieces::new(texts.1, 1, None);
     let mut vectors = Pieces::new(texts.2, 1, None);
@@ -56,7 +56,7 @@ fn checked(alloc: Global, texts: Texts<'_>) -> (Result<Verdict, RunFault>, OneBy
 }
 
 /// What a run of lowering answers, over sources that give a byte at a time, and what it wrote.
-fn lowered(alloc: Global, texts: Texts<'_>) -> (Result<i64, RunFault>, OneByte) {
+pub fn lower_run(alloc: Global, texts: Texts<'_>) -> (Result<i64, RunFault>, OneByte) {
     let mut model = Pieces::new(texts.0, 1, None);
     let mut graph = Pieces::new(texts.1, 1, None);
     let mut vectors = Pieces::new(texts.2, 1, None);
@@ -66,7 +66,7 @@ fn lowered(alloc: Global, texts: Texts<'_>) -> (Result<i64, RunFault>, OneByte) 
 }
 
 /// The answer to the texts.
-fn answer(alloc: Global, texts: Texts<'_>) -> Result<Verdict, Fault> {
+pub fn answer(alloc: Global, texts: Texts<'_>) -> Result<Verdict, Fault> {
     check_texts(alloc, texts.0, texts.1, texts.2)
 }
 
@@ -185,7 +185,7 @@ fn lowers(rt: HostRuntime) {
         ((COST, b"0 0 0", b"0 -2"), 0, b"0\n-2\n\n"),
     ];
     for (texts, by, text) in rows {
-        let (result, sink) = lowered(rt.alloc(), texts);
+        let (result, sink) = lower_run(rt.alloc(), texts);
         assert_eq!(rt; result, Ok(by));
         assert_eq!(rt; sink.taken(), text);
         let given_back = (texts.0, texts.1, sink.taken());
@@ -223,7 +223,7 @@ fn refuses_to_lower(rt: HostRuntime) {
         ),
     ];
     for (texts, fault) in rows {
-        let (result, sink) = lowered(rt.alloc(), texts);
+        let (result, sink) = lower_run(rt.alloc(), texts);
         assert_eq!(rt; result, Err(RunFault::Lower(fault)));
         assert_eq!(rt; status_of(&RunFault::Lower(fault)), 1);
         assert_eq!(rt; sink.taken().len(), 0);
@@ -336,7 +336,7 @@ fn refuses_texts(rt: HostRuntime) {
         let (result, sink) = checked(rt.alloc(), texts);
         assert_eq!(rt; result, Err(RunFault::Text(fault)));
         assert_eq!(rt; sink.taken().len(), 0);
-        let (result, sink) = lowered(rt.alloc(), texts);
+        let (result, sink) = lower_run(rt.alloc(), texts);
         assert_eq!(rt; result, Err(RunFault::Text(fault)));
         assert_eq!(rt; sink.taken().len(), 0);
     }

@@ -7,7 +7,7 @@ use polcert_check::Verdict;
 use std::alloc::Global;
 
 /// The model FIRST in full form.
-const FULL: &[u8] =
+pub const FULL: &[u8] =
     b"discount: 0.95\nvalues: reward\nstates: 2\nactions: 1\nobservations: 2\nstart: uniform\nT: 0 : 0\n1 0\nT: 0 : 1\n0 1\nO: 0 : 0\n0.85 0.15\nO: 0 : 1\n0.15 0.85\nR: 0 : 0 : 0\n-1 0\n";
 
 /// A model, a graph and vectors that are short.
@@ -19,14 +19,14 @@ const LOWERED: &[u8] = b"0\n-20 -20\n\n";
 
 /// The devices of a run, with the number of the read or the write at which each of them fails.
 #[derive(Clone, Copy)]
-struct Failing {
+pub struct Failing {
     model: Option<u64>,
     graph: Option<u64>,
     vectors: Option<u64>,
     sink: Option<usize>,
 }
 
-const SOUND: Failing = Failing {
+pub const SOUND: Failing = Failing {
     model: None,
     graph: None,
     vectors: None,
@@ -34,7 +34,7 @@ const SOUND: Failing = Failing {
 };
 
 /// What printing FIRST answers, and what it wrote.
-fn printed(alloc: Global, failing: Failing) -> (Result<(), RunFault>, OneByte) {
+pub fn printed(alloc: Global, failing: Failing) -> (Result<(), RunFault>, OneByte) {
     let mut model = Pieces::new(FIRST, 1, failing.model);
     let mut sink = OneByte::new(failing.sink);
     let result = run_print(alloc, &mut model, &mut sink);

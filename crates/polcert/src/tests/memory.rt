@@ -1,8 +1,13 @@
 //! Memory that is refused is answered as that, with nothing written, and as nothing else. `tests/refused-allocations` says
 //! how many allocations each test makes; `tests/run` refuses each of them in turn.
+use super::answers::{ALWAYS_FIRST, answer, checked, lower_run};
+use super::devices::{FULL, SOUND, printed};
+use super::words::{NAMES, chosen};
 use super::{FIRST, LINE, summed};
+use crate::choice::Choice;
 use crate::fault::{Fault, RunFault};
 use crate::status::status_of;
+use clap::error::ErrorKind;
 use polcert_check::{LowerFault, Verdict, check, fits, lowered};
 use polcert_model::{Kind, Model, ModelFault, read_model};
 use polcert_policy::{Graph, GraphFault, VectorFault, Vectors, read_graph, read_vectors};
@@ -72,7 +77,7 @@ const COST: &[u8] =
     b"discount: 0.5 values: cost states: 1 actions: 1 observations: 1 T: 0 identity O: 0 uniform R: * : * : * : * 1";
 
 /// What lowering answers, and the verdict on the lowered vectors.
-fn lowering(
+fn lowered_and_checked(
     alloc: Global,
     model: &Model,
     graph: &Graph,
@@ -101,7 +106,7 @@ fn lowered_or_no_memory(alloc: Global) -> bool {
         Ok(vectors) => vectors,
         Err(fault) => return fault == VectorFault::Memory,
     };
-    match lowering(alloc, &model, &graph, &vectors) {
+    match lowered_and_checked(alloc, &model, &graph, &vectors) {
         Some(Ok(answer)) => answer == (4_000_000, Verdict::Yes),
         Some(Err(fault)) => fault == LowerFault::Memory,
         None => false,
@@ -125,4 +130,84 @@ fn summing_up_a_model(rt: HostRuntime) {
         }
     }
     assert_eq!(rt; status_of(&fault), 4);
+}
+
+/// Whether a fault is want of memory for one of the three texts.
+fn is_memory(fault: Fault) -> bool {
+    match fault {
+        Fault::Model(fault) => fault == ModelFault::Memory,
+        Fault::Graph(fault) => fault == GraphFault::Memory,
+        Fault::Vectors(fault) => fault == VectorFault::Memory,
+    }
+}
+
+/// Whether a run stopped for want of memory: for one of the three texts, or for lowering.
+fn is_memory_of_run(fault: RunFault) -> bool {
+    match fault {
+        RunFault::Text(fault) => is_memory(fault),
+        RunFault::Lower(fault) => fault == LowerFault::Memory,
+        _ => false,
+    }
+}
+
+#[test]
+fn answering_three_texts(rt: HostRuntime) {
+    match answer(rt.alloc(), (ALWAYS_FIRST, b"0 0 0 -", b"0 0")) {
+        Ok(verdict) => assert_eq!(rt; verdict, Verdict::Yes),
+        Err(fault) => assert!(rt; is_memory(fault)),
+    }
+}
+
+#[test]
+fn checking(rt: HostRuntime) {
+    let (result, sink) = checked(rt.alloc(), (ALWAYS_FIRST, b"0 0 0 -", b"0 0"));
+    match result {
+        Ok(verdict) => {
+            assert_eq!(rt; verdict, Verdict::Yes);
+            assert_eq!(rt; sink.taken(), b"yes: start node 0, at least 0\n".as_slice());
+        }
+        Err(fault) => {
+            assert!(rt; is_memory_of_run(fault));
+            assert_eq!(rt; status_of(&fault), 4);
+            assert_eq!(rt; sink.taken().len(), 0);
+        }
+    }
+}
+
+/// The value of 5 promises 5, and one half of it is backed.
+#[test]
+fn lowering(rt: HostRuntime) {
+    let (result, sink) = lower_run(rt.alloc(), (ALWAYS_FIRST, b"0 0 0 -", b"0 5"));
+    match result {
+        Ok(by) => {
+            assert_eq!(rt; by, 5_000_000);
+            assert_eq!(rt; sink.taken(), b"0\n0\n\n".as_slice());
+        }
+        Err(fault) => {
+            assert!(rt; is_memory_of_run(fault));
+            assert_eq!(rt; status_of(&fault), 4);
+            assert_eq!(rt; sink.taken().len(), 0);
+        }
+    }
+}
+
+#[test]
+fn printing(rt: HostRuntime) {
+    let (result, sink) = printed(rt.alloc(), SOUND);
+    match result {
+        Ok(()) => assert_eq!(rt; sink.taken(), FULL),
+        Err(fault) => {
+            assert!(rt; is_memory_of_run(fault));
+            assert_eq!(rt; sink.taken().len(), 0);
+        }
+    }
+}
+
+/// The program's command alone makes some fifty allocations, of which the first are refused in turn.
+#[test]
+fn choosing(rt: HostRuntime) {
+    match chosen(rt.alloc(), &["polcert", "check", "a", "b", "c"]) {
+        Ok(choice) => assert_eq!(rt; choice, Some(Choice::Check(NAMES))),
+        Err(kind) => assert_eq!(rt; kind, ErrorKind::OutOfMemory),
+    }
 }

@@ -4,14 +4,14 @@ use clap::error::ErrorKind;
 use std::alloc::Global;
 
 /// What is chosen; or the kind of fault with which the words are refused.
-fn chosen<'a>(alloc: Global, words: &'a [&'a str]) -> Result<Option<Choice<'a>>, ErrorKind> {
+pub fn chosen<'a>(alloc: Global, words: &'a [&'a str]) -> Result<Option<Choice<'a>>, ErrorKind> {
     match choose(alloc, words) {
         Ok(choice) => Ok(choice),
         Err(error) => Err(error.kind()),
     }
 }
 
-const NAMES: Names<'static> = Names {
+pub const NAMES: Names<'static> = Names {
     model: "a",
     graph: "b",
     vectors: "c",
