@@ -1,6 +1,6 @@
 -- What a run says of the texts of three sources, from what its calls say of what these denote.
 use Rattle.std.proofs.Common.{◌≡◌, ℕ, ℤ, neg_ℤ, List, ◌⊎◌, inl, inr, Ok, subst, sym, ap, refl}
-use Rattle.polcert_model.specs.Meaning.{Meaning, states_of}
+use Rattle.polcert_cells.specs.Meaning.{Meaning, states_of}
 use Rattle.polcert_policy.specs.Graphs.{PolicyGraph}
 use Rattle.polcert_policy.specs.Vectors.{PolicyVectors, shifted_by}
 use Rattle.polcert_policy.specs.VectorText.{IsVectorsText}

@@ -1,9 +1,9 @@
 -- What three texts denote: one controller, whatever stands for it.
 use Rattle.std.proofs.Common.{◌≡◌, ℕ, ◌*◌, ◌<◌, ℤ, List, ap, ap₂, refl, subst}
-use Rattle.polcert_model.specs.Elements.{count_of}
-use Rattle.polcert_model.specs.Preamble.{Preamble, observed}
-use Rattle.polcert_model.specs.Meaning.{Meaning, IsSame, states_of, actions_of, observations_of}
-use Rattle.polcert_model.specs.Tables.{table_of}
+use Rattle.polcert_cells.specs.Elements.{count_of}
+use Rattle.polcert_cells.specs.Preamble.{Preamble, observed}
+use Rattle.polcert_cells.specs.Meaning.{Meaning, IsSame, states_of, actions_of, observations_of}
+use Rattle.polcert_cells.specs.Tables.{table_of}
 use Rattle.polcert_model.specs.Text.{IsModelText}
 use Rattle.polcert_model.proofs.LimitLaws.{within_limits}
 use Rattle.polcert_model.proofs.TextLaws as models
@@ -23,7 +23,7 @@ use Rattle.polcert_check.specs.Lower.{IsLeastConstant, IsNotLowered}
 use Rattle.polcert_check.specs.declared.fault.LowerFault.{LowerFault}
 use Rattle.polcert_check.specs.StartWorth.{IsCeilQuotient}
 use Rattle.polcert_check.specs.Verdict.{IsVerdict}
-use Rattle.polcert_check.specs.SameCells.{HasSameCells}
+use Rattle.polcert_cells.specs.SameCells.{HasSameCells}
 use Rattle.polcert_check.proofs.SameAnswers as answers
 use Rattle.polcert_check.proofs.SameModels as models_same
 use Rattle.polcert.specs.Headline.{Certificate, controller, IsCertified, AreRewardsCertified}

@@ -7,7 +7,7 @@ use Rattle.polcert_text.specs.Source.{Gives, IsText, EachTextThatFits}
 use Rattle.polcert_model.specs.declared.fault.ModelFault.{ModelFault}
 use Rattle.polcert_model.specs.declared.fault.ModelFault.TheVariants as model_faults
 use Rattle.polcert_model.specs.FirstWrong.{TextTokens, AreTokensOf}
-use Rattle.polcert_model.specs.Meaning.{Meaning, states_of, actions_of, observations_of}
+use Rattle.polcert_cells.specs.Meaning.{Meaning, states_of, actions_of, observations_of}
 use Rattle.polcert_model.specs.Refusals.{IsRefusal, IsPlacedRight}
 use Rattle.polcert_model.specs.Text.{IsModelText}
 use Rattle.polcert_policy.specs.declared.fault.GraphFault.{GraphFault}

@@ -4,8 +4,8 @@
 -- graph and value function files (the graph and the vectors); the textbook step relation of a finite controller (the
 -- promise). Each word is a definition of the crate that it comes from, and `docs/DEFINITIONS.md` walks through them all.
 use Rattle.std.specs.Prelude.{ℕ, ◌<◌, List}
-use Rattle.polcert_model.specs.Meaning.{Meaning, states_of, actions_of, observations_of}
-use Rattle.polcert_model.specs.Tables.{table_of}
+use Rattle.polcert_cells.specs.Meaning.{Meaning, states_of, actions_of, observations_of}
+use Rattle.polcert_cells.specs.Tables.{table_of}
 use Rattle.polcert_model.specs.Text.{IsModelText}
 use Rattle.polcert_policy.specs.Graphs.{PolicyGraph, nodes}
 use Rattle.polcert_policy.specs.GraphText.{IsGraphText}

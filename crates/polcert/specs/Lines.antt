@@ -6,7 +6,7 @@
 use Rattle.std.specs.Prelude.{◌≡◌, ◌++◌, ◌*◌, ℕ, ℤ, Bool, true, false, List, Option, Result, codes, decimal, pos}
 use Rattle.polcert_text.specs.Millionths.{scaled_text}
 use Rattle.polcert_text.specs.Sink.{WritesText}
-use Rattle.polcert_model.specs.Meaning.{Meaning, states_of, actions_of, observations_of}
+use Rattle.polcert_cells.specs.Meaning.{Meaning, states_of, actions_of, observations_of}
 use Rattle.polcert_policy.specs.Vectors.{PolicyVectors}
 use Rattle.polcert_check.specs.declared.verdict.Verdict.{Verdict}
 use Rattle.polcert_check.specs.declared.verdict.Verdict.TheVariants.{Yes, Short, NoSuccessor}

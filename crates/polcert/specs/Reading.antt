@@ -1,9 +1,10 @@
 -- Helper definitions of private functions: what is read of three sources. Nobody has to believe them.
 use Rattle.std.specs.Prelude.{ℕ, List}
-use Rattle.polcert_model.specs.Meaning.{Meaning, states_of}
+use Rattle.polcert_cells.specs.Meaning.{Meaning, states_of}
 use Rattle.polcert_policy.specs.Graphs.{PolicyGraph}
 use Rattle.polcert_policy.specs.Vectors.{PolicyVectors}
 use Rattle.polcert_policy.specs.VectorText.{IsVectorsText}
+use Rattle.polcert.specs.declared.fault.Fault.TheVariants.{Model}
 use Rattle.polcert.specs.declared.fault.RunFault.{RunFault}
 use Rattle.polcert.specs.declared.fault.RunFault.TheVariants.{Text, ReadModel, ReadGraph, ReadVectors, Write, Lower}
 use Rattle.polcert.specs.Answer.{HasGraph}
@@ -18,6 +19,12 @@ pub record AreDenoted (of_model of_graph of_vectors : List ℕ → Type 0) (m : 
   pub vectors_read : of_vectors third
   pub has_graph : HasGraph first second m g
   pub are_vectors : IsVectorsText g (states_of m) third v
+
+-- a fault of a model's text or of its source
+abbrev pub IsModelReadFault : RunFault → Type 0
+IsModelReadFault (Text (Model fault)) = Unit {0}
+IsModelReadFault ReadModel = Unit {0}
+IsModelReadFault _ = ⊥
 
 -- a fault of a text or of a source
 abbrev pub IsReadFault : RunFault → Type 0

@@ -3,7 +3,7 @@ use Rattle.std.specs.Prelude.{◌≡◌, ℕ, ℤ, neg_ℤ, List, Option, Ok}
 use Rattle.polcert_text.specs.Device.{HasFailed}
 use Rattle.polcert_text.specs.Source.{IsText}
 use Rattle.polcert_text.specs.Sink.{Takes, TakesFront}
-use Rattle.polcert_model.specs.Meaning.{Meaning}
+use Rattle.polcert_cells.specs.Meaning.{Meaning}
 use Rattle.polcert_model.specs.Text.{IsModelText}
 use Rattle.polcert_model.specs.FullForm.{full_form}
 use Rattle.polcert_policy.specs.Vectors.{PolicyVectors, shifted_by}
@@ -14,9 +14,9 @@ use Rattle.polcert_check.specs.declared.verdict.Verdict.{Verdict}
 use Rattle.polcert_check.specs.declared.verdict.Verdict.TheVariants.{Yes}
 use Rattle.polcert_check.specs.Horizon.{Controller}
 use Rattle.polcert_check.specs.Lower.{HasLeastConstant, IsLeastConstant, IsNotLowered}
-use Rattle.polcert.specs.declared.fault.Fault.TheVariants.{Model}
+use Rattle.polcert.specs.declared.fault.Fault.TheVariants.{Model, Graph}
 use Rattle.polcert.specs.declared.fault.RunFault.{RunFault}
-use Rattle.polcert.specs.declared.fault.RunFault.TheVariants.{Text, ReadModel, Write}
+use Rattle.polcert.specs.declared.fault.RunFault.TheVariants.{Text, ReadModel, ReadGraph, Write}
 use Rattle.polcert.specs.Answer.{IsAnswer}
 use Rattle.polcert.specs.Headline.{Certificate, controller}
 use Rattle.polcert.specs.Lines.{summary_line, IsVerdictLine}
@@ -81,6 +81,15 @@ IsWhy c v fault = IsNotLowered c v fault
 -- the text of a source, between two of its states
 abbrev pub text_of : {S : Type 0} → (S → ℕ → Option (List ℕ) → S → Type 0) → S → S → List ℕ → Type 0
 text_of reads before after text = IsText reads before text after
+
+-- Each source is read to its end before the next: where the model's text or source is at fault, the other two are as they
+-- were, and where the graph's is, the vectors' is.
+abbrev pub ReadsInOrder : {G V : Type 0} → RunFault → G → G → V → V → Type 0
+ReadsInOrder (Text (Model fault)) graph graph' vectors vectors' = (graph' ≡ graph) × (vectors' ≡ vectors)
+ReadsInOrder (Text (Graph fault)) graph graph' vectors vectors' = vectors' ≡ vectors
+ReadsInOrder ReadModel graph graph' vectors vectors' = (graph' ≡ graph) × (vectors' ≡ vectors)
+ReadsInOrder ReadGraph graph graph' vectors vectors' = vectors' ≡ vectors
+ReadsInOrder _ graph graph' vectors vectors' = Unit {0}
 
 module _ (of_model of_graph of_vectors : List ℕ → Type 0) where
   -- the texts of the three sources, which denote a controller

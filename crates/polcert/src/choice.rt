@@ -47,6 +47,41 @@ pub fn choose<'a>(alloc: Global, words: &'a [&'a str]) -> Result<Option<Choice<'
     Ok(choice_of(&matches))
 }
 
+/// What the help of the program ends with.
+const CERTIFICATE: &str = "Without a command a model on standard input is summed up, as by `model`.
+
+From a solver's files to a certificate:
+  polcert lower tiger.POMDP tiger.pg tiger.alpha > tiger.lowered.alpha
+  polcert check tiger.POMDP tiger.pg tiger.lowered.alpha
+
+Exit status: 0 done, or the answer is yes; 1 it is no, or nothing can be lowered;
+2 a file or the command line is refused; 3 a file cannot be read, or the output
+not be written; 4 out of memory.";
+
+const MODEL_EXAMPLE: &str = "Example:
+  $ polcert model tiger.POMDP
+  pomdp: 2 states, 3 actions, 2 observations, discount 0.95, reward";
+
+const PRINT_EXAMPLE: &str =
+    "Equal models have the same full form, and it reads back as an equal model.
+
+Example:
+  $ polcert print tiger.POMDP > tiger.full.POMDP";
+
+const CHECK_EXAMPLE: &str = "A yes holds for every number of steps, from every node and every state.
+
+Example:
+  $ polcert check tiger.POMDP tiger.pg tiger.alpha
+  no: node 1, state 0, short by 0.000001
+  $ polcert check tiger.POMDP tiger.pg tiger.lowered.alpha
+  yes: start node 0, at least 19.37136";
+
+const LOWER_EXAMPLE: &str = "The vectors go to standard output, the constant to standard error.
+
+Example:
+  $ polcert lower tiger.POMDP tiger.pg tiger.alpha > tiger.lowered.alpha
+  lowered by 0.000008";
+
 /// The program's command, with its subcommands.
 fn program_command<'a>(alloc: Global) -> Result<Command<'a>, AllocError>
     ensures { IfOk result (λ command. app_of command ≡ the_app) }
@@ -55,21 +90,25 @@ fn program_command<'a>(alloc: Global) -> Result<Command<'a>, AllocError>
         alloc,
         "model",
         "Say in one line what a model is, or where it is wrong",
+        MODEL_EXAMPLE,
     )?;
-    let print = command_with_file(alloc, "print", "Print a model in full form")?;
+    let print = command_with_file(alloc, "print", "Print a model in full form", PRINT_EXAMPLE)?;
     let check = command_with_files(
         alloc,
         "check",
         "Check exactly what a policy graph and its vectors promise for a model",
+        CHECK_EXAMPLE,
     )?;
     let lower = command_with_files(
         alloc,
         "lower",
         "Print the vectors, lowered by the least constant by which they pass the check",
+        LOWER_EXAMPLE,
     )?;
     Command::new(alloc, "polcert")
         .version("1.0.0")
         .about("Checks exactly what a policy of a POMDP promises")
+        .after_help(CERTIFICATE)
         .subcommand(model)?
         .subcommand(print)?
         .subcommand(check)?
@@ -81,13 +120,19 @@ fn command_with_file<'a>(
     alloc: Global,
     name: &'a str,
     about: &'a str,
+    example: &'a str,
 ) -> Result<Command<'a>, AllocError>
     ensures app { IfOk result (λ command. app_of command ≡ one_file name.entry.now) }
     ensures local { IfOk result (λ command. (out-Command command).has_globals ≡ false) }
 {
     Command::new(alloc, name)
         .about(about)
-        .arg(file(alloc, "FILE", "The model, a .POMDP file"))
+        .after_help(example)
+        .arg(file(
+            alloc,
+            "FILE",
+            "The model: a file in Cassandra's .POMDP format",
+        ))
 }
 
 /// A subcommand that takes the names of the files of a model, a graph and vectors.
@@ -95,13 +140,22 @@ fn command_with_files<'a>(
     alloc: Global,
     name: &'a str,
     about: &'a str,
+    example: &'a str,
 ) -> Result<Command<'a>, AllocError>
     ensures app { IfOk result (λ command. app_of command ≡ three_files name.entry.now) }
     ensures local { IfOk result (λ command. (out-Command command).has_globals ≡ false) }
 {
-    command_with_file(alloc, name, about)?
-        .arg(file(alloc, "PG", "The policy graph, a .pg file"))?
-        .arg(file(alloc, "ALPHA", "The graph's vectors, an .alpha file"))
+    command_with_file(alloc, name, about, example)?
+        .arg(file(
+            alloc,
+            "PG",
+            "The policy graph: a .pg file, as pomdp-solve writes it",
+        ))?
+        .arg(file(
+            alloc,
+            "ALPHA",
+            "The vectors of the graph's nodes: the .alpha file of the same run",
+        ))
 }
 
 /// An argument that takes the name of a file.

@@ -2,9 +2,10 @@
 ghost use Rattle.std.specs.Prelude.{◌≡◌, ◌≢◌, ℕ, ⊤, List, IfOk, IfErr, IsErrOf};
 ghost use Rattle.polcert_text.specs.Source.{IsText, EachTextThatFits};
 ghost use Rattle.polcert_model.specs.Contents.{meaning};
+ghost use Rattle.polcert_model.specs.Text.{IsModelText};
 ghost use Rattle.polcert.specs.Answer.{IsModelFault, IsGraphRefused, AreVectorsRefused};
-ghost use Rattle.polcert.specs.Run.{text_of, IsNamedRightly};
-ghost use Rattle.polcert.specs.Reading.{AreDenoted, IsReadFault};
+ghost use Rattle.polcert.specs.Run.{text_of, IsNamedRightly, ReadsInOrder};
+ghost use Rattle.polcert.specs.Reading.{AreDenoted, IsModelReadFault, IsReadFault};
 
 use crate::fault::{Fault, RunFault};
 use crate::sources::{SourceFault, read_graph_from, read_model_from, read_vectors_from};
@@ -19,6 +20,22 @@ pub struct Controller {
     pub model: Model,
     pub graph: Graph,
     pub vectors: Vectors,
+}
+
+/// The model whose text the source gives, with the fault of a run where there is none.
+pub fn model_of_run<S: Source>(alloc: Global, source: &mut S) -> Result<Model, RunFault>
+    ensures accepted { IfOk result (λ m. (text : List ℕ) × IsText S.reads source.old text source.new
+        × IsModelText text (meaning m)) }
+    ensures refused { (fault : _) → IsErrOf result (RunFault.Text (Fault.Model fault))
+        → EachTextThatFits S.reads source.old source.new (λ text. IsModelFault text fault) }
+    ensures read { IsNamedRightly (IsErrOf result RunFault.ReadModel) (S.failures source.old) (S.failures source.new) }
+    ensures of_a_model { IfErr result IsModelReadFault }
+{
+    match read_model_from(alloc, source) {
+        Ok(model) => Ok(model),
+        Err(SourceFault::Device) => Err(RunFault::ReadModel),
+        Err(SourceFault::Refused(fault)) => Err(RunFault::Text(Fault::Model(fault))),
+    }
 }
 
 /// What the texts of three sources denote. Each source is read to its end before the next.
@@ -41,13 +58,10 @@ pub fn read_controller<M: Source, G: Source, V: Source>(
     ensures model_read { IsNamedRightly (IsErrOf result RunFault.ReadModel) (M.failures model.old) (M.failures model.new) }
     ensures graph_read { IsNamedRightly (IsErrOf result RunFault.ReadGraph) (G.failures graph.old) (G.failures graph.new) }
     ensures vectors_read { IsNamedRightly (IsErrOf result RunFault.ReadVectors) (V.failures vectors.old) (V.failures vectors.new) }
+    ensures in_order { IfErr result (λ fault. ReadsInOrder fault graph.old graph.new vectors.old vectors.new) }
     ensures of_reading { IfErr result IsReadFault }
 {
-    let model = match read_model_from(alloc, model) {
-        Ok(model) => model,
-        Err(SourceFault::Device) => return Err(RunFault::ReadModel),
-        Err(SourceFault::Refused(fault)) => return Err(RunFault::Text(Fault::Model(fault))),
-    };
+    let model = model_of_run(alloc, model)?;
     let graph = match read_graph_from(alloc, &model, graph) {
         Ok(graph) => graph,
         Err(SourceFault::Device) => return Err(RunFault::ReadGraph),

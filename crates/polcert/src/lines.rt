@@ -2,7 +2,7 @@
 ghost use Rattle.std.specs.Prelude.{◌≡◌, codes};
 ghost use Rattle.polcert_text.specs.Sink.{WritesText};
 ghost use Rattle.polcert_model.specs.Contents.{meaning};
-ghost use Rattle.polcert_model.specs.Tables.{table_of};
+ghost use Rattle.polcert_cells.specs.Tables.{table_of};
 ghost use Rattle.polcert_check.specs.Horizon.{Fits, controller_of};
 ghost use Rattle.polcert_check.specs.Verdict.{IsVerdict, NamesSmallAmount};
 ghost use Rattle.polcert.specs.Lines.{counted, gains, counts_text, values_text, summary_line, pair_text, yes_line, short_line, lack_line, IsVerdictLine, WritesLine};

@@ -11,12 +11,11 @@ ghost use Rattle.polcert_policy.specs.Graphs.{nodes};
 ghost use Rattle.polcert_policy.specs.VectorText.{IsVectorsText};
 ghost use Rattle.polcert_check.specs.declared.verdict.Verdict.{Verdict};
 ghost use Rattle.polcert.specs.Answer.{IsRefused, IsModelFault, IsGraphRefused, AreVectorsRefused};
-ghost use Rattle.polcert.specs.Run.{SumsUp, BeginsToSumUp, Prints, BeginsToPrint, IsModelRunFault, IsNamedRightly, text_of, HasVerdict, HasLowered, IsNotLowerable};
+ghost use Rattle.polcert.specs.Run.{SumsUp, BeginsToSumUp, Prints, BeginsToPrint, IsModelRunFault, IsNamedRightly, ReadsInOrder, text_of, HasVerdict, HasLowered, IsNotLowerable};
 
-use crate::controller::{Controller, read_controller};
+use crate::controller::{model_of_run, read_controller};
 use crate::fault::{Fault, RunFault};
 use crate::lines::{write_summary, write_verdict};
-use crate::sources::{SourceFault, read_model_from};
 use polcert_check::{Verdict, check, lowered};
 use polcert_model::{Model, write_model};
 use polcert_policy::{Graph, Vectors, write_vectors};
@@ -55,11 +54,7 @@ pub fn run_model<S: Source, W: Sink>(
     ensures untouched { (fault : RunFault) → IsErrOf result fault → fault ≢ RunFault.Write → sink.new ≡ sink.old }
     ensures of_a_model { IfErr result IsModelRunFault }
 {
-    let model = match read_model_from(alloc, source) {
-        Ok(model) => model,
-        Err(SourceFault::Device) => return Err(RunFault::ReadModel),
-        Err(SourceFault::Refused(fault)) => return Err(RunFault::Text(Fault::Model(fault))),
-    };
+    let model = model_of_run(alloc, source)?;
     match write_summary(&model, sink) {
         Ok(()) => Ok(()),
         Err(_) => Err(RunFault::Write),
@@ -92,12 +87,8 @@ pub fn run_print<S: Source, W: Sink>(
     ensures untouched { (fault : RunFault) → IsErrOf result fault → fault ≢ RunFault.Write → sink.new ≡ sink.old }
     ensures of_a_model { IfErr result IsModelRunFault }
 {
-    let model = match read_model_from(alloc, source) {
-        Ok(model) => model,
-        Err(SourceFault::Device) => return Err(RunFault::ReadModel),
-        Err(SourceFault::Refused(fault)) => return Err(RunFault::Text(Fault::Model(fault))),
-    };
-    match write_full_form(&model, sink) {
+    let accepted = model_of_run(alloc, source)?;
+    match write_full_form(&accepted, sink) {
         Ok(()) => Ok(()),
         Err(_) => Err(RunFault::Write),
     }
@@ -150,6 +141,9 @@ pub fn run_check<M: Source, G: Source, V: Source, W: Sink>(
         × HasVerdict (text_of M.reads model.old model.new) (text_of G.reads graph.old graph.new)
         (text_of V.reads vectors.old vectors.new) verdict line
         × TakesFront W.writes sink.old line sink.new }
+
+    // Each source is read to its end before the next.
+    ensures in_order { IfErr result (λ fault. ReadsInOrder fault graph.old graph.new vectors.old vectors.new) }
 
     // With any other fault nothing was written; and lowering is no part of a check.
     ensures untouched { (fault : RunFault) → IsErrOf result fault → fault ≢ RunFault.Write → sink.new ≡ sink.old }
@@ -207,6 +201,9 @@ pub fn run_lower<M: Source, G: Source, V: Source, W: Sink>(
         × HasLowered (text_of M.reads model.old model.new) (text_of G.reads graph.old graph.new)
         (text_of V.reads vectors.old vectors.new) by text
         × TakesFront W.writes sink.old text sink.new }
+
+    // Each source is read to its end before the next.
+    ensures in_order { IfErr result (λ fault. ReadsInOrder fault graph.old graph.new vectors.old vectors.new) }
 
     // With any other fault nothing was written.
     ensures untouched { (fault : RunFault) → IsErrOf result fault → fault ≢ RunFault.Write → sink.new ≡ sink.old }

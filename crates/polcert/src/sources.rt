@@ -4,7 +4,7 @@ ghost use Rattle.polcert_text.specs.Cut.{text_limit};
 ghost use Rattle.polcert_text.specs.Device.{HasFailed};
 ghost use Rattle.polcert_text.specs.Source.{Gives, IsText, EachTextThatFits};
 ghost use Rattle.polcert_model.specs.Contents.{meaning};
-ghost use Rattle.polcert_model.specs.Meaning.{states_of, actions_of, observations_of};
+ghost use Rattle.polcert_cells.specs.Meaning.{states_of, actions_of, observations_of};
 ghost use Rattle.polcert_model.specs.Text.{IsModelText};
 ghost use Rattle.polcert_policy.specs.GraphText.{IsGraphText};
 ghost use Rattle.polcert_policy.specs.VectorText.{IsVectorsText};

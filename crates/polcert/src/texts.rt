@@ -1,7 +1,7 @@
 //! What the second and the third of three texts denote, behind what the first denotes.
 ghost use Rattle.std.specs.Prelude.{List, ℕ, IfOk, IfErr};
 ghost use Rattle.polcert_model.specs.Contents.{meaning};
-ghost use Rattle.polcert_model.specs.Meaning.{states_of, actions_of, observations_of};
+ghost use Rattle.polcert_cells.specs.Meaning.{states_of, actions_of, observations_of};
 ghost use Rattle.polcert_model.specs.Text.{IsModelText};
 ghost use Rattle.polcert_policy.specs.GraphText.{IsGraphText};
 ghost use Rattle.polcert_policy.specs.VectorText.{IsVectorsText};

@@ -1,7 +1,7 @@
 -- Where every pair passes, and only there, the promise holds for every horizon.
 use Rattle.std.proofs.Common.{ℕ, zero, suc, ℤ, pos, negsuc, ◌≤ℤ◌, ◌<ℤ◌, arith}
 use Rattle.std.proofs.lemmas.Int.{ints}
-use Rattle.polcert_model.specs.Tables.{Table, IsProper}
+use Rattle.polcert_cells.specs.Tables.{Table, IsProper}
 use Rattle.polcert_policy.specs.Graphs.{PolicyGraph, IsProperGraph}
 use Rattle.polcert_policy.specs.Vectors.{PolicyVectors}
 use Rattle.polcert_check.specs.Horizon.{Controller, controller_of, Fits, Promise, MeetsEveryHorizon}

@@ -1,17 +1,16 @@
 -- The greatest short, and the least constant that it gives.
-use Rattle.std.proofs.Common.{◌≡◌, ℕ, ◌+◌, ◌-◌, ◌*◌, ◌^◌, ◌<◌, ◌≤◌, ℤ, pos, ◌≤ℤ◌, ◌<ℤ◌, ◌⊎◌, inl, inr, ⊎_elim, sym, refl, ap, ◌∙◌, subst, arith, lit<, ◌+ℤ◌, ◌-ℤ◌, neg_ℤ, FitsSigned, to_z, of_z, unsigned_abs}
+use Rattle.std.proofs.Common.{◌≡◌, ℕ, ◌+◌, ◌-◌, ◌*◌, ◌^◌, ◌<◌, ◌≤◌, ℤ, pos, ◌≤ℤ◌, ◌<ℤ◌, inl, ⊎_elim, sym, refl, subst, arith, lit<, ◌+ℤ◌, ◌-ℤ◌, neg_ℤ, FitsSigned, to_z, of_z, unsigned_abs}
 use mir.Syntax.{w128}
 use Rattle.std.proofs.lemmas.Int.{to_z-of_z, ints, fits_signed_from_abs}
 use Rattle.polcert_check.proofs.Bounds.{fits_128}
-use borrow.Author.Count.{below_more}
 use Rattle.polcert_text.specs.Numbers.{largest}
-use Rattle.polcert_model.specs.Tables.{Table, IsWithinLimits}
+use Rattle.polcert_cells.specs.Tables.{Table, IsWithinLimits}
 use Rattle.polcert_check.specs.Horizon.{Controller, one, step_scale}
-use Rattle.polcert_check.specs.Shortfall.{short, most_short, Passes}
+use Rattle.polcert_check.specs.Shortfall.{short, Passes}
 use Rattle.polcert_check.specs.Verdict.{PassesBefore, IsBefore}
-use Rattle.polcert_check.specs.Rows.{IsController}
+use Rattle.polcert_check.specs.Rows.{IsController, most_scales, most_sum}
 use Rattle.polcert_check.specs.Lower.{lowered_by, NoneLacks, IsLeast, CanLower}
-use Rattle.polcert_check.specs.Worst.{IsWorst, IsWorstBefore}
+use Rattle.polcert_check.specs.Worst.{IsWorst}
 use Rattle.std.proofs.Common.{w64}
 use Rattle.std.proofs.Math.Nat.{mul-le-mul}
 use Rattle.polcert_check.proofs.Verdicts.{positive_product}
@@ -21,34 +20,8 @@ use Rattle.polcert_check.proofs.Ring.{linear}
 use Rattle.polcert_check.proofs.Kept.{LacksNone}
 use Rattle.polcert_check.proofs.Lowering.{passes_lowered, from_passes_lowered}
 
-abbrev pub IsOneOf : Controller → ℕ → Type 0
-IsOneOf c worst = (worst ≡ 0) ⊎ ((m : ℕ) × (t : ℕ) × (m < c.nodes) × (t < c.cells.states) × (pos worst ≡ short c m t))
-
-one_of : (c : Controller) (n s a b w : ℕ) → n < c.nodes → s < c.cells.states → (a ≡ 0) ⊎ (pos a ≡ short c n s) → IsOneOf c w → (b ≡ w) ⊎ (b ≡ a) → IsOneOf c b
-one_of c n s a b w nl sl here before (inl e) = subst (λ (x : ℕ). IsOneOf c x) (sym e) before
-one_of c n s a b w nl sl (inl h) before (inr e) = inl (e ∙ h)
-one_of c n s a b w nl sl (inr h) before (inr e) = inr (n, s, nl, sl, ap pos e ∙ h)
-
 wider : (x : ℤ) (a b : ℕ) → x ≤ℤ pos a → a ≤ b → x ≤ℤ pos b
 wider x a b h l = omega (arith, linear)
-
-pub worst_more : (c : Controller) (n s a w b : ℕ) → n < c.nodes → s < c.cells.states → short c n s ≤ℤ pos a → (a ≡ 0) ⊎ (pos a ≡ short c n s) → a ≤ most_short c → IsWorstBefore c w n s → a ≤ b → (b ≡ w) ⊎ (b ≡ a) → w ≤ b → IsWorstBefore c b n (s + 1)
-worst_more c n s a w b nl sl le here small before al is wl =
-    record {
-      nodes = λ m t ml tl. wider (short c m t) w b (before.nodes m t ml tl) wl;
-      states = below_more (λ t. short c n t ≤ℤ pos b) s (λ t tl. wider (short c n t) w b (before.states t tl) wl) (wider (short c n s) a b le al);
-      is_reached = one_of c n s a b w nl sl here before.is_reached is;
-      small = ⊎_elim (λ (e : b ≡ w). subst (λ (x : ℕ). x ≤ most_short c) (sym e) before.small) (λ (e : b ≡ a). subst (λ (x : ℕ). x ≤ most_short c) (sym e) small) is;
-    }
-
-pub worst_node : (c : Controller) (n s w : ℕ) → c.cells.states ≤ s → IsWorstBefore c w n s → IsWorstBefore c w (n + 1) 0
-worst_node c n s w all before =
-    record {
-      nodes = λ m t ml tl. below_more (λ m. (t : ℕ) → t < c.cells.states → short c m t ≤ℤ pos w) n (λ m k t l. before.nodes m t k l) (λ t l. before.states t (omega arith)) m ml t tl;
-      states = λ t l. absurd (omega arith);
-      is_reached = before.is_reached;
-      small = before.small;
-    }
 
 mul_assoc : (a b d : ℕ) → a * b * d ≡ a * (b * d)
 mul_assoc a b d = omega arith
@@ -69,14 +42,6 @@ less_fails c p gl worst d w h passes =
     at_most_nat worst (step_scale c * (one - c.cells.discount) * d) (subst (λ (x : ℤ). x ≤ℤ pos (step_scale c * (one - c.cells.discount) * d)) (sym r.4) (subst (λ (x : ℕ). short c r.0 r.1 ≤ℤ pos x) (sym (mul_assoc (step_scale c) (one - c.cells.discount) d)) le)) h)
     w.is_reached
 
--- what the code knows of the positive part
-pub part_facts : (x y : ℤ) (a most : ℕ) → FitsSigned w128 x → x ≡ y → to_z w128 (of_z w128 x) ≤ℤ pos a → (a ≡ 0) ⊎ (pos a ≡ to_z w128 (of_z w128 x)) → a ≤ unsigned_abs (to_z w128 (of_z w128 x)) → unsigned_abs x ≤ most → (y ≤ℤ pos a) × ((a ≡ 0) ⊎ (pos a ≡ y)) × (a ≤ most)
-part_facts x y a most f e above is small h =
-    let same : to_z w128 (of_z w128 x) ≡ y = to_z-of_z w128 x f ∙ e in
-    let small' : a ≤ unsigned_abs y = rw same at small in
-    let h' : unsigned_abs y ≤ most = rw e at h in
-    (rw same at above, rw same at is, omega arith)
-
 -- ---- the value less `by`
 within : (v : ℤ) → IsInRange v → unsigned_abs v ≤ 10000000000000
 within v r = omega (arith, ints, r.0, r.1)
@@ -95,21 +60,16 @@ low_is_small : (v : ℤ) (by : ℕ) → IsInRange v → IsInRange (v +ℤ neg_�
 low_is_small v by r l = omega (arith, ints, r.0, r.1, l.0, l.1)
 
 -- ---- the factor by which a constant lowers each short
-pub factor_room : (t o d x : ℕ) → t ≤ 1000000000 → o ≤ 1000000000 → x ≤ 3 * 10 ^ 37 → (t * o < 2 ^ 64) × (t * o * (1000000 - d) < 2 ^ 128) × (x + t * o * (1000000 - d) ≤ 2 ^ 127)
-factor_room t o d x tl ol xl =
-    let q : t * o ≤ 1000000000 * 1000000000 = mul-le-mul tl ol in
-    let f : t * o * (1000000 - d) ≤ (1000000000 * 1000000000) * 1000000 = mul-le-mul q (at_most_million d) in
-    (omega arith, omega arith, omega arith)
+pub factor_room : (t o d x : ℕ) → t * o ≤ most_scales → x ≤ 3 * most_sum → (t * o < 2 ^ 64) × (t * o * (1000000 - d) < 2 ^ 128) × (x + t * o * (1000000 - d) ≤ 2 ^ 127)
+factor_room t o d x q xl =
+    let f : t * o * (1000000 - d) ≤ most_scales * 1000000 = mul-le-mul q (at_most_million d) in
+    (omega (arith, q), omega (arith, f), omega (arith, f, xl))
   where
     at_most_million : (d : ℕ) → 1000000 - d ≤ 1000000
     at_most_million d = omega arith
 
 pub factor_positive : (t o d : ℕ) → 0 < t → 0 < o → d < 1000000 → 0 < t * o * (1000000 - d)
 factor_positive t o d tl ol dl = let f : 0 < 1000000 - d = omega arith in positive_product (t * o) (1000000 - d) (positive_product t o tl ol) f
-
-pub scales : (m : Table) → IsWithinLimits m → (0 < m.t_scale) × (0 < m.o_scale)
-unfolding one
-scales m limits = (omega (arith, limits.t_scale, limits.states.0), omega (arith, limits.o_scale, limits.observations.0))
 
 pub NoneLacks-gives : (c : Controller) → NoneLacks c → LacksNone c
 NoneLacks-gives c none n s z nl sl zl = none n s nl sl z zl

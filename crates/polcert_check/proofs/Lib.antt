@@ -8,6 +8,7 @@ pub mod Cuts
 pub mod Refused
 pub mod Rewards
 pub mod Bounds
+pub mod Scales
 pub mod Rows
 pub mod Verdicts
 pub mod RowTotals
@@ -22,3 +23,12 @@ pub mod SameAnswers
 pub mod SameModels
 pub mod OneAnswer
 pub mod EveryHorizon
+pub mod Gaps
+pub mod Earning
+pub mod Missing
+pub mod Expecting
+pub mod Splitting
+pub mod Amounts
+pub mod Answering
+pub mod Greatest
+pub mod Passing

@@ -6,4 +6,4 @@ pub mod Lower
 pub mod Worst
 pub mod Examples
 pub mod StartWorth
-pub mod SameCells
+pub mod Factored

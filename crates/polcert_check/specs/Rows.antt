@@ -1,8 +1,7 @@
 -- Helper definitions of private functions: a controller's ranges, and the sums of one row. Nobody has to believe them.
 use Rattle.std.specs.Prelude.{◌≡◌, ℕ, ◌<◌, ◌≤◌, unsigned_abs, ℤ, pos, ◌+ℤ◌, ◌*ℤ◌, ◌*◌, Option, Some}
 use Rattle.polcert_text.specs.Numbers.{largest}
-use Rattle.polcert_model.specs.Tables.{Table, IsProper}
-use Rattle.polcert_policy.specs.Graphs.{PolicyGraph, action_of}
+use Rattle.polcert_cells.specs.Tables.{IsProper}
 use Rattle.polcert_check.specs.Horizon.{Controller, one, sum_below}
 use Rattle.polcert_check.specs.Shortfall.{at_node}
 
@@ -26,6 +25,12 @@ row_term c n s e z at = at_node (λ m. pos (c.cells.o (c.action n) e z) *ℤ (po
 abbrev pub row_backing_of : Controller → ℕ → ℕ → ℕ → ℤ
 row_backing_of c n s e = sum_below (λ z. row_term c n s e z (c.next n z)) c.cells.observations
 
--- observation z can be received at n and s
-abbrev pub CanReceive : Table → PolicyGraph → ℕ → ℕ → ℕ → Type 0
-CanReceive cells graph n s z = (e : ℕ) × (e < cells.states) × (0 < cells.t (action_of graph n) s e * cells.o (action_of graph n) e z)
+-- ---- how large a sum may get
+
+-- the largest product of the scales of T and O
+abbrev pub most_scales : ℕ
+most_scales = 1_000_000_000_000_000_000
+
+-- the largest of what a value comes to on the scale of one step, in millionths of millionths
+abbrev pub most_sum : ℕ
+most_sum = most_scales * 1_000_000 * largest

@@ -1,15 +1,21 @@
 //! The check of a policy certificate: whether a policy graph earns what its vectors say.
 #![tactic(auto)]
 
+mod actions;
+mod earned;
+mod ends;
 mod examples;
 mod fault;
+mod lacks;
 mod laws;
 mod lower;
+mod pairs;
 mod parts;
 mod rounded;
 mod shortfall;
 mod start;
 mod verdict;
+mod worst;
 
 pub use examples::{a_missing_successor, minus_one_for_each_step, runs_of_four_steps};
 pub use fault::LowerFault;

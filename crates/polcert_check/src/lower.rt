@@ -1,16 +1,16 @@
 //! The least constant by which all vectors can be lowered to pass.
-ghost use Rattle.std.specs.Prelude.{◌≡◌, ℕ, ◌+◌, ◌*◌, ◌^◌, ◌<◌, ◌≤◌, pos, neg_ℤ, ◌+ℤ◌, ◌≤ℤ◌, ◌⊎◌, ◌↔◌, IsTrue, IfOk, IfErr, unsigned_abs};
+ghost use Rattle.std.specs.Prelude.{◌≡◌, ℕ, ◌+◌, ◌*◌, ◌^◌, ◌<◌, ◌≤◌, pos, neg_ℤ, ◌+ℤ◌, ◌⊎◌, ◌↔◌, IsTrue, IfOk, IfErr};
 ghost use Rattle.polcert_policy.specs.Vectors.{IsInRange, shifted_by};
 ghost use Rattle.polcert_check.specs.Horizon.{Fits, controller_of, one};
-ghost use Rattle.polcert_check.specs.Shortfall.{Passes, most_short};
+ghost use Rattle.polcert_check.specs.Shortfall.{Passes};
 ghost use Rattle.polcert_check.specs.Rows.{IsController};
 ghost use Rattle.polcert_check.specs.Lower.{NoneLacks, IsLeast, CanLower, IsLeastConstant, HasLeastConstant, IsNotLowered, RefusesSmallAmount};
-ghost use Rattle.polcert_check.specs.Worst.{IsWorst, IsFirstLacking};
 ghost use Rattle.polcert_check.specs.declared.fault.LowerFault.TheVariants.{Memory};
 
 use crate::fault::LowerFault;
-use crate::shortfall::amount_short;
-use crate::verdict::{Verdict, check, lacking};
+use crate::lacks::first_lacking;
+use crate::verdict::{Verdict, check};
+use crate::worst::worst_short;
 use polcert_model::Cells;
 use polcert_policy::{Graph, Vectors};
 use std::alloc::Global;
@@ -23,60 +23,6 @@ pub(crate) fn ceil_quotient(amount: u128, divisor: u128) -> u128
     ensures least { (d : ℕ) → d < result → divisor * d < amount }
 {
     (amount + (divisor - 1)) / divisor
-}
-
-/// The number itself, or 0 where it is below 0.
-fn positive_part(amount: i128) -> u128
-    ensures above { amount ≤ℤ pos result }
-    ensures is_reached { (result ≡ 0) ⊎ (pos result ≡ amount) }
-    ensures small { result ≤ unsigned_abs amount }
-{
-    if amount > 0 { amount as u128 } else { 0 }
-}
-
-/// The greatest shortfall of all pairs, or 0 where none is above 0.
-fn worst_short<C: Cells>(cells: &C, graph: &Graph, vectors: &Vectors) -> u128
-    requires fits { Fits (C.table cells.now) graph.now vectors.now }
-    ensures worst { IsWorst (controller_of (C.table cells.now) graph.now vectors.now) result }
-    ensures small { result ≤ most_short (controller_of (C.table cells.now) graph.now vectors.now) }
-{
-    let mut worst: u128 = 0;
-    for n in 0..graph.nodes() {
-        for s in 0..cells.states() {
-            let amount = positive_part(amount_short(cells, graph, vectors, n, s));
-            if amount > worst {
-                worst = amount;
-            }
-        }
-    }
-    worst
-}
-
-/// An observation that a node lacks at a state.
-#[derive(Clone, Copy)]
-struct Lack {
-    node: usize,
-    state: usize,
-    observation: usize,
-}
-
-/// The first pair of a node and a state that lacks an observation, and the least that it lacks.
-fn first_lacking<C: Cells>(cells: &C, graph: &Graph, vectors: &Vectors) -> Option<Lack>
-    requires fits { Fits (C.table cells.now) graph.now vectors.now }
-    ensures { IsFirstLacking (controller_of (C.table cells.now) graph.now vectors.now) result }
-{
-    for n in 0..graph.nodes() {
-        for s in 0..cells.states() {
-            if let Some(observation) = lacking(cells, graph, n, s) {
-                return Some(Lack {
-                    node: n,
-                    state: s,
-                    observation,
-                });
-            }
-        }
-    }
-    None
 }
 
 /// Whether the value less `by` is in range.

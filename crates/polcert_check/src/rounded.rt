@@ -1,7 +1,8 @@
 //! Amounts in millionths.
-ghost use Rattle.std.specs.Prelude.{ℕ, ◌*◌, ◌^◌, ◌<◌, ◌≤◌, pos, ◌<ℤ◌, unsigned_abs};
+ghost use Rattle.std.specs.Prelude.{◌*◌, ◌<◌, ◌≤◌, pos, ◌<ℤ◌, unsigned_abs};
 ghost use Rattle.polcert_text.specs.Numbers.{largest};
 ghost use Rattle.polcert_check.specs.Horizon.{one};
+ghost use Rattle.polcert_check.specs.Rows.{most_scales};
 ghost use Rattle.polcert_check.specs.StartWorth.{IsCeilQuotient};
 
 use crate::lower::ceil_quotient;
@@ -11,7 +12,7 @@ use polcert_model::Cells;
 fn small_quotient(amount: u128, scale: u128) -> i64
     requires some { 0 < amount }
     requires scale { 0 < scale }
-    requires room { scale ≤ 10 ^ 24 }
+    requires room { scale ≤ most_scales * 1_000_000 }
     requires small { amount ≤ scale * (3 * largest) }
     ensures { IsCeilQuotient (pos amount) scale result }
 {

@@ -4,8 +4,9 @@ ghost use Rattle.polcert_text.specs.Numbers.{largest};
 ghost use Rattle.polcert_policy.specs.Graphs.{nodes};
 ghost use Rattle.polcert_check.specs.Horizon.{Fits, controller_of, one};
 ghost use Rattle.polcert_check.specs.Shortfall.{most_short, short};
-ghost use Rattle.polcert_check.specs.Rows.{IsController, ValuesAreWithin, row_term, row_backing_of};
+ghost use Rattle.polcert_check.specs.Rows.{IsController, ValuesAreWithin, most_scales, row_term, row_backing_of};
 
+use crate::ends::Sight;
 use polcert_model::Cells;
 use polcert_policy::{Graph, Vectors};
 
@@ -20,32 +21,31 @@ fn step_worth(reward: i64, discount: u32, value: i64) -> i128
     1_000_000 * (reward as i128) + (discount as i128) * (value as i128)
 }
 
-/// What the step from node `n` and state `s` to state `e` with observation `z` adds, without the weight of reaching `e`.
+/// What the step from node `n` and state `s` to an end state with one observation adds, without the weight of reaching it.
 fn cell_worth<C: Cells>(
     cells: &C,
     graph: &Graph,
     vectors: &Vectors,
     n: usize,
     s: usize,
-    e: usize,
-    z: usize,
+    sight: Sight,
 ) -> i128
     requires fits { Fits (C.table cells.now) graph.now vectors.now }
     requires node { n < nodes graph.now }
     requires start { s < (C.table cells.now).states }
-    requires end { e < (C.table cells.now).states }
-    requires observation { z < (C.table cells.now).observations }
+    requires end { sight.end < (C.table cells.now).states }
+    requires observation { sight.observation < (C.table cells.now).observations }
+    requires weight { sight.weight ≡ (C.table cells.now).o ((controller_of (C.table cells.now) graph.now vectors.now).action n) sight.end sight.observation }
     requires proper { IsController (controller_of (C.table cells.now) graph.now vectors.now) }
     requires values { ValuesAreWithin (controller_of (C.table cells.now) graph.now vectors.now) }
-    ensures { result ≡ row_term (controller_of (C.table cells.now) graph.now vectors.now) n s e z
-        ((controller_of (C.table cells.now) graph.now vectors.now).next n z) }
+    ensures { result ≡ row_term (controller_of (C.table cells.now) graph.now vectors.now) n s sight.end sight.observation
+        ((controller_of (C.table cells.now) graph.now vectors.now).next n sight.observation) }
 {
-    match graph.next(n, z) {
+    match graph.next(n, sight.observation) {
         Some(m) => {
-            let a = graph.action(n);
-            let worth = step_worth(cells.r(a, s, e, z), cells.discount(), vectors.at(m, e));
-            let weight = cells.o(a, e, z);
-            (weight as i128) * worth
+            let reward = cells.r(graph.action(n), s, sight.end, sight.observation);
+            let worth = step_worth(reward, cells.discount(), vectors.at(m, sight.end));
+            (sight.weight as i128) * worth
         }
         None => 0,
     }
@@ -68,17 +68,24 @@ fn row_backing<C: Cells>(
     requires values { ValuesAreWithin (controller_of (C.table cells.now) graph.now vectors.now) }
     ensures { result ≡ row_backing_of (controller_of (C.table cells.now) graph.now vectors.now) n s e }
 {
+    let a = graph.action(n);
     let mut sum: i128 = 0;
-    for z in 0..cells.observations() {
-        sum += cell_worth(cells, graph, vectors, n, s, e, z);
+    let mut from = 0;
+    while let Some((z, weight)) = cells.next_o(a, e, from) {
+        let sight = Sight {
+            end: e,
+            observation: z,
+            weight,
+        };
+        sum += cell_worth(cells, graph, vectors, n, s, sight);
+        from = z + 1;
     }
     sum
 }
 
 /// A value on the scale of the weights of one step, in millionths of millionths.
-fn scaled_value(t_scale: u64, o_scale: u64, value: i64) -> i128
-    requires t_scale { t_scale ≤ 1_000_000_000 }
-    requires o_scale { o_scale ≤ 1_000_000_000 }
+pub(crate) fn scaled_value(t_scale: u64, o_scale: u64, value: i64) -> i128
+    requires scales { t_scale * o_scale ≤ most_scales }
     requires value { unsigned_abs value ≤ largest }
     ensures { result ≡ pos (t_scale * o_scale * one) *ℤ value }
 {
@@ -107,10 +114,11 @@ pub fn amount_short<C: Cells>(
     prove!(nodes == vector_count);
     let mut backing: i128 = 0;
     let a = graph.action(n);
-    for e in 0..cells.states() {
+    let mut from = 0;
+    while let Some((e, weight)) = cells.next_t(a, s, from) {
         let row = row_backing(cells, graph, vectors, n, s, e);
-        let weight = cells.t(a, s, e);
         backing += (weight as i128) * row;
+        from = e + 1;
     }
     scaled_value(cells.t_scale(), cells.o_scale(), vectors.at(n, s)) - backing
 }

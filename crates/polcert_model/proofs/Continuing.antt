@@ -3,12 +3,12 @@ use Rattle.std.proofs.Common.{◌≡◌, ◌∙◌, ℕ, zero, suc, ◌+◌, ◌
 use Rattle.std.specs.List.{list_any}
 use Rattle.polcert_text.specs.Cut.{Lexeme}
 use Rattle.polcert_text.specs.declared.lexeme.TokenKind.TheVariants.{Name}
-use Rattle.polcert_model.specs.declared.entry.Body.TheVariants as bodies
-use Rattle.polcert_model.specs.declared.entry.Entry.{Entry}
-use Rattle.polcert_model.specs.declared.entry.Place.{Place}
-use Rattle.polcert_model.specs.declared.entry.Place.TheVariants.{Every}
-use Rattle.polcert_model.specs.declared.entry.Table.{Table}
-use Rattle.polcert_model.specs.declared.entry.Table.TheVariants.{Transition, Observation, Reward}
+use Rattle.polcert_cells.specs.declared.entry.Body.TheVariants as bodies
+use Rattle.polcert_cells.specs.declared.entry.Entry.{Entry}
+use Rattle.polcert_cells.specs.declared.entry.Place.{Place}
+use Rattle.polcert_cells.specs.declared.entry.Place.TheVariants.{Every}
+use Rattle.polcert_cells.specs.declared.entry.Table.{Table}
+use Rattle.polcert_cells.specs.declared.entry.Table.TheVariants.{Transition, Observation, Reward}
 use Rattle.polcert_model.specs.declared.entry_reader.EntryState.{EntryState}
 use Rattle.polcert_model.specs.declared.entry_reader.EntryState.TheVariants as states
 use Rattle.polcert_model.specs.declared.entry_reader.Numbers.{Numbers}
@@ -18,11 +18,11 @@ use Rattle.polcert_model.specs.declared.item.Said.TheVariants as said
 use Rattle.polcert_model.specs.declared.lines.DiscountReader.TheVariants as discount
 use Rattle.polcert_model.specs.declared.lines.ValuesReader.TheVariants as values
 use Rattle.polcert_model.specs.declared.number.Sign.{Sign}
-use Rattle.polcert_model.specs.Words.{Start}
-use Rattle.polcert_model.specs.Elements.{Elements}
-use Rattle.polcert_model.specs.Entry as entries
-use Rattle.polcert_model.specs.Entry.{forms, cells_in}
-use Rattle.polcert_model.specs.Numbers as numbers
+use Rattle.polcert_cells.specs.declared.words.Topic.TheVariants.{Start}
+use Rattle.polcert_cells.specs.declared.elements.Elements.{Elements}
+use Rattle.polcert_cells.specs.Entry as entries
+use Rattle.polcert_cells.specs.Entry.{forms, cells_in}
+use Rattle.polcert_cells.specs.Numbers as numbers
 use Rattle.polcert_model.specs.Text.{Known}
 use Rattle.polcert_model.specs.NumberSteps.{AreNumbersBehind}
 use Rattle.polcert_model.specs.EntrySteps.{indices_in, IsFirstPlace, entry_with, ProbabilitiesGo, RewardsGo, StateGoes, HasRoom, awaited, IsStateWithin}

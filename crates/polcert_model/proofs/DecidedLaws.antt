@@ -2,12 +2,13 @@
 use Rattle.std.proofs.Common.{◌≡◌, ◌∙◌, ℕ, suc, ◌+◌, Option, Some, None, List, [], ◌∷◌, ◌++◌, length, refl, sym, ap, subst, arith, length-append}
 use Rattle.polcert_text.specs.Cut.{Lexeme}
 use Rattle.polcert_model.specs.declared.fault.ItemFault.{ItemFault}
-use Rattle.polcert_model.specs.Words.{Topic, topic}
+use Rattle.polcert_cells.specs.declared.words.Topic.{Topic}
+use Rattle.polcert_cells.specs.Words.{topic}
 use Rattle.polcert_model.specs.Items.{Item, IsDivided}
 use Rattle.polcert_model.specs.Text.{Known, nothing_known, AreRight}
 use Rattle.polcert_model.specs.Order.{preamble_fault, word_fault}
 use Rattle.polcert_model.specs.FirstWrong.{TextTokens, IsDecided, before_items, at_word, at_end}
-use Rattle.polcert_model.proofs.Basics.{one_some, same_head, same_tail}
+use Rattle.polcert_cells.proofs.Basics.{one_some, same_head, same_tail}
 use Rattle.polcert_model.proofs.ItemLaws.{one_division}
 use Rattle.polcert_model.proofs.TextLaws.{one_known}
 

@@ -4,9 +4,10 @@ use Rattle.std.proofs.lemmas.List.{append_assoc}
 use Rattle.std.proofs.lemmas.List.Elements.{All-cons, All-nil, All-append}
 use Rattle.std.specs.List.{list_any}
 use Rattle.polcert_text.specs.Cut.{Lexeme}
-use Rattle.polcert_model.specs.Words.{Topic, topic, begins_item}
+use Rattle.polcert_cells.specs.declared.words.Topic.{Topic}
+use Rattle.polcert_cells.specs.Words.{topic, begins_item}
 use Rattle.polcert_model.specs.Items.{Item, lexemes_of, IsItem, IsDivided}
-use Rattle.polcert_model.proofs.Basics.{or_false, or_false_from}
+use Rattle.polcert_cells.proofs.Basics.{or_false, or_false_from}
 
 pub all_append : (xs ys : List Item) → flat_map lexemes_of (xs ++ ys) ≡ flat_map lexemes_of xs ++ flat_map lexemes_of ys
 all_append [] ys = refl

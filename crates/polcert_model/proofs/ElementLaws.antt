@@ -14,13 +14,15 @@ use Rattle.polcert_model.specs.declared.fault.ItemFault.{ItemFault}
 use Rattle.polcert_model.specs.declared.fault.ItemFault.TheVariants.{DuplicateName}
 use Rattle.polcert_model.specs.declared.elements_reader.ElementsReader.{ElementsReader}
 use Rattle.polcert_model.specs.declared.elements_reader.ElementsReader.TheVariants as readers
-use Rattle.polcert_model.specs.Words.{IsName}
-use Rattle.polcert_model.specs.Numbers.{IsWhole}
-use Rattle.polcert_model.specs.Elements.{Elements, Count, Names, AreElements, counted, named, most_elements}
+use Rattle.polcert_cells.specs.Words.{IsName}
+use Rattle.polcert_cells.specs.Numbers.{IsWhole}
+use Rattle.polcert_cells.specs.declared.elements.Elements.{Elements}
+use Rattle.polcert_cells.specs.declared.elements.Elements.TheVariants.{Count, Names}
+use Rattle.polcert_cells.specs.Elements.{AreElements, counted, named, most_elements}
 use Rattle.polcert_model.specs.Reasons.{IsRepeated}
 use Rattle.polcert_model.specs.LineSteps.{Takes, CannotTake}
 use Rattle.polcert_model.specs.ElementSteps.{names_with, NamesGo, ElementsGo, AreNamesRead, IsElementsRead, ElementsReason, AreElementsSeen, IsCountOf}
-use Rattle.polcert_model.proofs.Basics.{true≢false, same_head, same_tail}
+use Rattle.polcert_cells.proofs.Basics.{true≢false, same_head, same_tail}
 use Rattle.polcert_model.proofs.Possible.{a_colon}
 
 -- ---- a count

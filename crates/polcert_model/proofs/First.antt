@@ -5,18 +5,21 @@ use Rattle.std.specs.List.{list_any}
 use Rattle.polcert_text.specs.Bytes.{class_of}
 use Rattle.polcert_text.specs.Numbers.{IsExact, number_of, exponent_size, power_of, size_of, millionth}
 use Rattle.polcert_text.specs.Cut.{Lexeme}
-use Rattle.polcert_model.specs.declared.entry.Table.TheVariants.{Transition, Observation, Reward}
-use Rattle.polcert_model.specs.declared.entry.Place.TheVariants.{Only}
-use Rattle.polcert_model.specs.declared.entry.Body.TheVariants.{Probabilities}
-use Rattle.polcert_model.specs.declared.entry.Entry.{Entry}
-use Rattle.polcert_model.specs.Words.{topic_of, begins_item, IsWord, Discount, Values, States, Actions, Observations, Cells}
-use Rattle.polcert_model.specs.Numbers.{IsWhole, IsMillionths, AreNumbers}
-use Rattle.polcert_model.specs.Numbers as numbers
-use Rattle.polcert_model.specs.Elements.{Elements, Count, StandsFor, count_of, counted, by_number}
+use Rattle.polcert_cells.specs.declared.entry.Table.TheVariants.{Transition, Observation, Reward}
+use Rattle.polcert_cells.specs.declared.entry.Place.TheVariants.{Only}
+use Rattle.polcert_cells.specs.declared.entry.Body.TheVariants.{Probabilities}
+use Rattle.polcert_cells.specs.declared.entry.Entry.{Entry}
+use Rattle.polcert_cells.specs.declared.words.Topic.TheVariants.{Discount, Values, States, Actions, Observations, Cells}
+use Rattle.polcert_cells.specs.Words.{topic_of, begins_item, IsWord}
+use Rattle.polcert_cells.specs.Numbers.{IsWhole, IsMillionths, AreNumbers}
+use Rattle.polcert_cells.specs.Numbers as numbers
+use Rattle.polcert_cells.specs.declared.elements.Elements.{Elements}
+use Rattle.polcert_cells.specs.declared.elements.Elements.TheVariants.{Count}
+use Rattle.polcert_cells.specs.Elements.{StandsFor, count_of, counted, by_number}
 use Rattle.polcert_model.specs.Items.{Item, IsItem, IsDivided}
-use Rattle.polcert_model.specs.Entry as entries
-use Rattle.polcert_model.specs.Entry.{ArePlaces, IsEntry}
-use Rattle.polcert_model.specs.Meaning.{HasProperRows, sum_below}
+use Rattle.polcert_cells.specs.Entry as entries
+use Rattle.polcert_cells.specs.Entry.{ArePlaces, IsEntry}
+use Rattle.polcert_cells.specs.Meaning.{HasProperRows, sum_below}
 use Rattle.polcert_model.specs.Text as texts
 use Rattle.polcert_model.specs.Text.{Known, nothing_known, IsInPreamble, IsComplete, AreRight, IsRightText, Denotes}
 use Rattle.polcert_model.specs.Examples.{name, numeral, colon, transition, observation, rewards}

@@ -3,15 +3,15 @@ use Rattle.std.proofs.Common.{◌≡◌, ◌==◌, true, List, ◌∷◌, ◌++�
 use Rattle.std.specs.List.{list_any}
 use Rattle.polcert_text.specs.Cut.{Lexeme}
 use Rattle.polcert_text.specs.declared.lexeme.TokenKind.TheVariants.{Colon}
-use Rattle.polcert_model.specs.declared.entry.Table.{Table}
-use Rattle.polcert_model.specs.declared.entry.Table.TheVariants.{Transition, Observation, Reward}
-use Rattle.polcert_model.specs.declared.entry.Place.{Place}
-use Rattle.polcert_model.specs.declared.entry.Body.{Body}
-use Rattle.polcert_model.specs.declared.entry.Body.TheVariants.{Probabilities, Rewards, Uniform, Identity}
-use Rattle.polcert_model.specs.Words.{Cells}
-use Rattle.polcert_model.specs.Elements.{Elements}
-use Rattle.polcert_model.specs.Entry as entries
-use Rattle.polcert_model.specs.Entry.{ArePlaces, IsEntry, forms}
+use Rattle.polcert_cells.specs.declared.entry.Table.{Table}
+use Rattle.polcert_cells.specs.declared.entry.Table.TheVariants.{Transition, Observation, Reward}
+use Rattle.polcert_cells.specs.declared.entry.Place.{Place}
+use Rattle.polcert_cells.specs.declared.entry.Body.{Body}
+use Rattle.polcert_cells.specs.declared.entry.Body.TheVariants.{Probabilities, Rewards, Uniform, Identity}
+use Rattle.polcert_cells.specs.declared.words.Topic.TheVariants.{Cells}
+use Rattle.polcert_cells.specs.declared.elements.Elements.{Elements}
+use Rattle.polcert_cells.specs.Entry as entries
+use Rattle.polcert_cells.specs.Entry.{ArePlaces, IsEntry, forms}
 use Rattle.polcert_model.specs.Text as texts
 use Rattle.polcert_model.specs.Text.{Known, IsRight}
 

@@ -2,9 +2,9 @@
 use Rattle.std.proofs.Common.{◌≡◌, true, false, List, ◌∷◌, ◌++◌, ℤ, refl, sym, subst}
 use Rattle.polcert_text.specs.Cut.{Lexeme}
 use Rattle.polcert_text.specs.declared.lexeme.TokenKind.TheVariants.{Numeral, Plus, Minus}
-use Rattle.polcert_model.specs.Numbers.{IsMillionths, AreNumbers, none, unsigned, plus, minus}
-use Rattle.polcert_model.proofs.Basics.{cons≢nil, same_head, same_tail}
-use Rattle.polcert_model.proofs.NumberLaws.{one_millionths, numeral_not_plus, numeral_not_minus, plus_not_minus}
+use Rattle.polcert_cells.specs.Numbers.{IsMillionths, AreNumbers, none, unsigned, plus, minus}
+use Rattle.polcert_cells.proofs.Basics.{cons≢nil, same_head, same_tail}
+use Rattle.polcert_cells.proofs.NumberLaws.{one_millionths, numeral_not_plus, numeral_not_minus, plus_not_minus}
 
 -- the rest of some numbers, behind the first of them
 pub record RestOfNumbers (further : List Lexeme) (hs ks : List ℤ) : Type 0 where

@@ -10,8 +10,10 @@ use Rattle.polcert_model.specs.declared.number.Sign.{Sign}
 use Rattle.polcert_model.specs.declared.stop.ItemEnd.{ItemEnd}
 use Rattle.polcert_model.specs.declared.stop.ItemEnd.TheVariants as ends
 use Rattle.polcert_model.specs.declared.start_reader.StartReader.{StartReader}
-use Rattle.polcert_model.specs.Words.{Start}
-use Rattle.polcert_model.specs.Elements.{Elements, Count, count_of}
+use Rattle.polcert_cells.specs.declared.words.Topic.TheVariants.{Start}
+use Rattle.polcert_cells.specs.declared.elements.Elements.{Elements}
+use Rattle.polcert_cells.specs.declared.elements.Elements.TheVariants.{Count}
+use Rattle.polcert_cells.specs.Elements.{count_of}
 use Rattle.polcert_model.specs.Misfits.{misfit}
 use Rattle.polcert_model.specs.WantSteps.{Leads, start_wants, item_wants, IfAtEnd, IfStart, IsValueOr, IsAtToken, IsStartMisfit}
 use Rattle.polcert_model.specs.declared.stop.Stop.{Stop}

@@ -1,9 +1,4 @@
-pub mod Basics
 pub mod ItemLaws
-pub mod NumberLaws
-pub mod EntryLaws
-pub mod CellLaws
-pub mod StartLaws
 pub mod TextLaws
 pub mod Dividing
 pub mod RightItems
@@ -19,12 +14,10 @@ pub mod GoOnLaws
 pub mod FirstPlaces
 pub mod Possible
 pub mod Continuing
-pub mod StartLimits
 pub mod LimitLaws
 pub mod StepLaws
 pub mod LineLaws
 pub mod ListLaws
-pub mod NameLaws
 pub mod PatternLaws
 pub mod TakenItems
 pub mod TextReading
@@ -32,12 +25,12 @@ pub mod Tiger
 pub mod RefusedExamples
 pub mod StartExamples
 pub mod First
-pub mod AxisLaws
-pub mod SoundLaws
 pub mod SoundTexts
 pub mod RowSumLaws
-pub mod RowPartLaws
 pub mod FrontLaws
+pub mod SameRows
+pub mod KeptLaws
+pub mod DraftLaws
 pub mod WholeTexts
 pub mod ElementLaws
 pub mod StartReading
@@ -72,3 +65,4 @@ pub mod PrintedParts
 pub mod RowCells
 pub mod MisfitLaws
 pub mod WantLaws
+pub mod FilledLaws

@@ -5,26 +5,28 @@ use Rattle.std.proofs.lemmas.Int.{unsigned_abs-mul}
 use Rattle.std.proofs.Math.Nat.{mul-le-mul_right}
 use Rattle.polcert_text.specs.Numbers.{millionth, largest, signed, size_of}
 use Rattle.polcert_text.specs.Cut.{Lexeme}
-use Rattle.polcert_model.specs.declared.entry.Table.TheVariants.{Reward}
-use Rattle.polcert_model.specs.Words.{Topic}
-use Rattle.polcert_model.specs.Numbers.{IsMillionths, AreNumbers}
-use Rattle.polcert_model.specs.Numbers as numbers
-use Rattle.polcert_model.specs.Elements.{Elements, count_of, most_elements, AreElements, counted, named}
+use Rattle.polcert_cells.specs.declared.entry.Table.TheVariants.{Reward}
+use Rattle.polcert_cells.specs.declared.words.Topic.{Topic}
+use Rattle.polcert_cells.specs.Numbers.{IsMillionths, AreNumbers}
+use Rattle.polcert_cells.specs.Numbers as numbers
+use Rattle.polcert_cells.specs.declared.elements.Elements.{Elements}
+use Rattle.polcert_cells.specs.Elements.{count_of, most_elements, AreElements, counted, named}
 use Rattle.polcert_model.specs.Items.{Item}
-use Rattle.polcert_model.specs.Preamble.{Preamble}
-use Rattle.polcert_model.specs.declared.entry.Body.{Body}
-use Rattle.polcert_model.specs.declared.entry.Body.TheVariants.{Probabilities, Rewards, Uniform, Identity}
-use Rattle.polcert_model.specs.declared.entry.Entry.{Entry}
-use Rattle.polcert_model.specs.Entry.{IsBody, IsEntry}
-use Rattle.polcert_model.specs.Entry as entries
-use Rattle.polcert_model.specs.Cells.{last_covering, reward, reward_of, reward_in, value_or, row_major, IsLastCovering, last, none}
-use Rattle.polcert_model.specs.Meaning.{Meaning, sum_below, IsCount, IsWithinLimits, states_of, observations_of}
+use Rattle.polcert_cells.specs.Preamble.{Preamble}
+use Rattle.polcert_cells.specs.declared.entry.Body.{Body}
+use Rattle.polcert_cells.specs.declared.entry.Body.TheVariants.{Probabilities, Rewards, Uniform, Identity}
+use Rattle.polcert_cells.specs.declared.entry.Entry.{Entry}
+use Rattle.polcert_cells.specs.Entry.{IsBody, IsEntry}
+use Rattle.polcert_cells.specs.Entry as entries
+use Rattle.polcert_cells.specs.Cells.{last_covering, reward, reward_of, reward_in, value_or, row_major, IsLastCovering, last, none}
+use Rattle.polcert_cells.specs.Meaning.{Meaning, sum_below, IsCount, IsWithinLimits, states_of, observations_of}
 use Rattle.polcert_model.specs.Text as texts
 use Rattle.polcert_model.specs.Text.{Known, nothing_known, IsInPreamble, IsComplete, IsRight, AreRight, Denotes}
-use Rattle.polcert_model.proofs.NumberLaws.{millionth_pos}
-use Rattle.polcert_model.specs.Start.{Shares, alike}
-use Rattle.polcert_model.proofs.CellLaws.{last_is}
-use Rattle.polcert_model.proofs.StartLimits.{IsFair, start_fair, no_start_fair}
+use Rattle.polcert_cells.proofs.NumberLaws.{millionth_pos}
+use Rattle.polcert_cells.specs.declared.shares.Shares.{Shares}
+use Rattle.polcert_cells.specs.Start.{alike}
+use Rattle.polcert_cells.proofs.CellLaws.{last_is}
+use Rattle.polcert_cells.proofs.StartLimits.{IsFair, start_fair, no_start_fair}
 
 -- ---- one number
 abs-negative : (n : ℕ) → unsigned_abs (neg_ℤ (pos n)) ≡ n

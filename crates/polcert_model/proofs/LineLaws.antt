@@ -7,7 +7,7 @@ use Rattle.polcert_model.specs.declared.number.Sign.{Sign}
 use Rattle.polcert_model.specs.declared.number.Range.TheVariants.{Discount}
 use Rattle.polcert_model.specs.declared.lines.DiscountReader.{DiscountReader}
 use Rattle.polcert_model.specs.declared.lines.DiscountReader.TheVariants as discount
-use Rattle.polcert_model.specs.Numbers.{IsMillionths, AreNumbers, none, one}
+use Rattle.polcert_cells.specs.Numbers.{IsMillionths, AreNumbers, none, one}
 use Rattle.polcert_model.specs.NumberSteps.{AreNumbersBehind, IsInRange, is_negative, IsSignAt, IsNoNumber}
 use Rattle.polcert_model.specs.LineSteps.{Takes, CannotTake, DiscountRest, DiscountGoes}
 use Rattle.polcert_model.proofs.StepLaws.{sign_back, sign_on, value_back, value_on}

@@ -3,12 +3,12 @@ use Rattle.std.proofs.Common.{◌≡◌, ◌∙◌, ℕ, ◌≤◌, Some, None, 
 use lib.IntN.{nat_abs}
 use Rattle.std.proofs.lemmas.List.Elements.{All-cons, All-tail}
 use Rattle.polcert_text.specs.Cut.{Lexeme}
-use Rattle.polcert_model.specs.declared.entry.Body.TheVariants as bodies
-use Rattle.polcert_model.specs.declared.entry.Body.{Body}
+use Rattle.polcert_cells.specs.declared.entry.Body.TheVariants as bodies
+use Rattle.polcert_cells.specs.declared.entry.Body.{Body}
 use Rattle.polcert_model.specs.declared.entry_reader.Numbers.{Numbers}
 use Rattle.polcert_model.specs.declared.number.Sign.{Sign}
 use Rattle.polcert_model.specs.declared.number.Range.TheVariants.{Probability}
-use Rattle.polcert_model.specs.Numbers.{IsMillionths, AreNumbers, one}
+use Rattle.polcert_cells.specs.Numbers.{IsMillionths, AreNumbers, one}
 use Rattle.polcert_model.specs.NumberSteps.{AreNumbersBehind, IsInRange, is_negative, IsSignAt, IsNoNumber}
 use Rattle.polcert_model.specs.LineSteps.{Takes, CannotTake}
 use Rattle.polcert_model.specs.EntrySteps.{ProbabilitiesGo, RewardsGo, IfRefused}

@@ -4,8 +4,8 @@ use Rattle.std.proofs.lemmas.Grind.{common_steps}
 use Rattle.polcert_text.specs.Cut.{Lexeme}
 use Rattle.polcert_text.specs.declared.lexeme.TokenKind.TheVariants.{Name}
 use Rattle.polcert_model.specs.declared.fault.ItemFault.TheVariants.{BadShape, BadCount, DuplicateName, UnknownName, Reset}
-use Rattle.polcert_model.specs.Words.{topic_of, is_reserved, IsName}
-use Rattle.polcert_model.specs.Elements.{most_elements}
+use Rattle.polcert_cells.specs.Words.{topic_of, is_reserved, IsName}
+use Rattle.polcert_cells.specs.Elements.{most_elements}
 use Rattle.polcert_model.specs.Misfits.{misfit, no_index, no_name, is_reset, Index, FurtherName}
 
 or_right : (a b : Bool) → a || b ≡ false → b ≡ false

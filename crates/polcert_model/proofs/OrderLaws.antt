@@ -4,16 +4,18 @@ use Rattle.std.proofs.lemmas.Bool.Decides.{nat_tests}
 use Rattle.polcert_text.specs.Cut.{Lexeme}
 use Rattle.polcert_model.specs.declared.fault.ItemFault.{ItemFault}
 use Rattle.polcert_model.specs.declared.fault.ItemFault.TheVariants.{DuplicateLine, LateLine, MissingLine, TooManyCells}
-use Rattle.polcert_model.specs.declared.entry.Entry.{Entry}
-use Rattle.polcert_model.specs.declared.entry.Table.{Table}
-use Rattle.polcert_model.specs.Words.{Topic, Discount, Values, States, Actions, Observations, Start, Cells}
-use Rattle.polcert_model.specs.Elements.{Elements, count_of}
-use Rattle.polcert_model.specs.Preamble.{Preamble, observed}
+use Rattle.polcert_cells.specs.declared.entry.Entry.{Entry}
+use Rattle.polcert_cells.specs.declared.entry.Table.{Table}
+use Rattle.polcert_cells.specs.declared.words.Topic.{Topic}
+use Rattle.polcert_cells.specs.declared.words.Topic.TheVariants.{Discount, Values, States, Actions, Observations, Start, Cells}
+use Rattle.polcert_cells.specs.declared.elements.Elements.{Elements}
+use Rattle.polcert_cells.specs.Elements.{count_of}
+use Rattle.polcert_cells.specs.Preamble.{Preamble, observed}
 use Rattle.polcert_model.specs.Text as texts
 use Rattle.polcert_model.specs.Text.{Known, IsInPreamble, HasLines, IsWithinCells, IsComplete, IsRight, most_cells}
 use Rattle.polcert_model.specs.Order.{has_entries, has_all_lines, count_in, cells_are_too_many, preamble_fault, word_fault}
 use Rattle.polcert_model.specs.Reading.{IsWrong}
-use Rattle.polcert_model.proofs.Basics.{or_false}
+use Rattle.polcert_cells.proofs.Basics.{or_false}
 
 -- ---- a complete preamble has no fault
 

@@ -9,13 +9,13 @@ use Rattle.std.proofs.Math.Nat.{mul-pos}
 use Rattle.polcert_text.specs.Cut.{Lexeme}
 use Rattle.polcert_text.specs.declared.lexeme.TokenKind.{TokenKind}
 use Rattle.polcert_text.specs.declared.lexeme.TokenKind.TheVariants.{Name, Numeral, Colon, Plus, Minus, Star}
-use Rattle.polcert_model.specs.declared.entry.Table.{Table}
-use Rattle.polcert_model.specs.declared.entry.Table.TheVariants.{Transition, Observation, Reward}
-use Rattle.polcert_model.specs.declared.entry.Place.{Place}
-use Rattle.polcert_model.specs.declared.entry.Place.TheVariants.{Every, Only}
-use Rattle.polcert_model.specs.declared.entry.Body.{Body}
-use Rattle.polcert_model.specs.declared.entry.Body.TheVariants as bodies
-use Rattle.polcert_model.specs.declared.entry.Entry.{Entry}
+use Rattle.polcert_cells.specs.declared.entry.Table.{Table}
+use Rattle.polcert_cells.specs.declared.entry.Table.TheVariants.{Transition, Observation, Reward}
+use Rattle.polcert_cells.specs.declared.entry.Place.{Place}
+use Rattle.polcert_cells.specs.declared.entry.Place.TheVariants.{Every, Only}
+use Rattle.polcert_cells.specs.declared.entry.Body.{Body}
+use Rattle.polcert_cells.specs.declared.entry.Body.TheVariants as bodies
+use Rattle.polcert_cells.specs.declared.entry.Entry.{Entry}
 use Rattle.polcert_model.specs.declared.entry_reader.Word.{Word}
 use Rattle.polcert_model.specs.declared.entry_reader.Word.TheVariants as words
 use Rattle.polcert_model.specs.declared.entry_reader.EntryState.{EntryState}
@@ -28,12 +28,13 @@ use Rattle.polcert_model.specs.declared.number.Sign.{Sign}
 use Rattle.polcert_model.specs.declared.number.Range.TheVariants.{Probability}
 use Rattle.polcert_model.specs.declared.stop.Stop.{Stop}
 use Rattle.polcert_model.specs.declared.stop.Stop.TheVariants.{Refused, Memory}
-use Rattle.polcert_model.specs.Words.{IsWord}
-use Rattle.polcert_model.specs.Numbers.{AreNumbers, one}
-use Rattle.polcert_model.specs.Numbers as numbers
-use Rattle.polcert_model.specs.Elements.{Elements, count_of, StandsFor}
-use Rattle.polcert_model.specs.Entry.{cells_in, IsPlace, ArePlaces, IsBody}
-use Rattle.polcert_model.specs.Entry as entries
+use Rattle.polcert_cells.specs.Words.{IsWord}
+use Rattle.polcert_cells.specs.Numbers.{AreNumbers, one}
+use Rattle.polcert_cells.specs.Numbers as numbers
+use Rattle.polcert_cells.specs.declared.elements.Elements.{Elements}
+use Rattle.polcert_cells.specs.Elements.{count_of, StandsFor}
+use Rattle.polcert_cells.specs.Entry.{cells_in, IsPlace, ArePlaces, IsBody}
+use Rattle.polcert_cells.specs.Entry as entries
 use Rattle.polcert_model.specs.Text.{Known}
 use Rattle.polcert_model.specs.KnownView.{least_written}
 use Rattle.polcert_model.specs.LineSteps.{Takes, CannotTake, CannotEnd}
@@ -41,8 +42,8 @@ use Rattle.polcert_model.specs.NumberSteps.{AreNumbersBehind}
 use Rattle.polcert_model.specs.EntrySteps as reasons
 use Rattle.polcert_model.proofs.ListLaws.{all_none}
 use Rattle.polcert_model.specs.EntrySteps.{indices_in, IsEntryBehind, IsFirstPlace, PlaceRest, entry_with, ProbabilitiesGo, RewardsGo, StateGoes, EntryGoes, IfRefused, body_of, word_text, MayStand, IsWordBehind, no_numbers, AreBegun, CannotBegin, IsFull, IsListReason, IsEntryReason, entry_sign, AreSome}
-use Rattle.polcert_model.proofs.Basics.{cons≢nil, same_head, same_tail}
-use Rattle.polcert_model.proofs.EntryLaws.{NoColonFirst, body_no_colon, uniform_not_identity}
+use Rattle.polcert_cells.proofs.Basics.{cons≢nil, same_head, same_tail}
+use Rattle.polcert_cells.proofs.EntryLaws.{NoColonFirst, body_no_colon, uniform_not_identity}
 use Rattle.polcert_model.proofs.GoOnLaws.{begins_no_number}
 
 module _ (ds : List Elements) (table : Table) (before : List Place) where

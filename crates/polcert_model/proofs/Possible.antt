@@ -6,12 +6,12 @@ use Rattle.polcert_text.specs.Bytes.{class_of}
 use Rattle.polcert_text.specs.Numbers.{number_of, exponent_size, power_of, size_of, millionth}
 use Rattle.polcert_text.specs.Cut.{Lexeme}
 use Rattle.polcert_text.specs.declared.lexeme.TokenKind.TheVariants.{Numeral, Star, Colon}
-use Rattle.polcert_model.specs.declared.entry.Table.{Table}
-use Rattle.polcert_model.specs.declared.entry.Table.TheVariants.{Transition, Observation, Reward}
-use Rattle.polcert_model.specs.declared.entry.Body.TheVariants.{Probabilities}
-use Rattle.polcert_model.specs.Words.{Topic}
-use Rattle.polcert_model.specs.Numbers.{IsMillionths, AreNumbers, none, unsigned, one}
-use Rattle.polcert_model.specs.Entry.{forms}
+use Rattle.polcert_cells.specs.declared.entry.Table.{Table}
+use Rattle.polcert_cells.specs.declared.entry.Table.TheVariants.{Transition, Observation, Reward}
+use Rattle.polcert_cells.specs.declared.entry.Body.TheVariants.{Probabilities}
+use Rattle.polcert_cells.specs.declared.words.Topic.{Topic}
+use Rattle.polcert_cells.specs.Numbers.{IsMillionths, AreNumbers, none, unsigned, one}
+use Rattle.polcert_cells.specs.Entry.{forms}
 use Rattle.polcert_model.specs.Text.{Known, IsRight}
 use Rattle.polcert_model.specs.Reading.{IsPossible}
 

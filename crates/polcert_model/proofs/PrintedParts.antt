@@ -6,16 +6,16 @@ use Rattle.std.proofs.lemmas.List.FromFn.{length-range_with_len, get_or-range_wi
 use Rattle.std.proofs.lemmas.List.Sums.{sum_by-cons, get_or-le-sum_by}
 use Rattle.polcert_text.specs.Lines.{line}
 use Rattle.polcert_text.specs.Millionths.{scaled_text}
-use Rattle.polcert_model.specs.declared.entry.Table.{Table}
-use Rattle.polcert_model.specs.declared.entry.Table.TheVariants.{Reward}
-use Rattle.polcert_model.specs.declared.elements.Elements.{Elements}
-use Rattle.polcert_model.specs.declared.elements.Elements.TheVariants.{Count, Names}
-use Rattle.polcert_model.specs.Numbers.{one}
-use Rattle.polcert_model.specs.Start.{Shares}
-use Rattle.polcert_model.specs.Meaning.{Meaning}
+use Rattle.polcert_cells.specs.declared.entry.Table.{Table}
+use Rattle.polcert_cells.specs.declared.entry.Table.TheVariants.{Reward}
+use Rattle.polcert_cells.specs.declared.elements.Elements.{Elements}
+use Rattle.polcert_cells.specs.declared.elements.Elements.TheVariants.{Count, Names}
+use Rattle.polcert_cells.specs.Numbers.{one}
+use Rattle.polcert_cells.specs.declared.shares.Shares.{Shares}
+use Rattle.polcert_cells.specs.Meaning.{Meaning}
 use Rattle.polcert_model.specs.FullForm.{for_each, values, all_below, millionths_text, element_words, preamble_text, chosen, is_whole, is_choice, start_text, table_word, row_words, is_uniform, is_decimal, cell_text, row_text, written, is_zero, rewards_row}
 use Rattle.polcert_model.specs.PrintSteps.{behind_blank, settings_text, values_line, name_text, elements_line, share_of, chosen_text, share_text, pattern_text, blank_before, body_text}
-use Rattle.polcert_model.proofs.Basics.{is_true_or_false, true≢false, and_true}
+use Rattle.polcert_cells.proofs.Basics.{is_true_or_false, true≢false, and_true}
 use Rattle.polcert_model.proofs.RowEntries.{test_below, test_same, test_itself}
 use Rattle.polcert_model.proofs.SameForms.{same_for_each}
 use Rattle.polcert_model.proofs.LineLoops as lines
@@ -143,16 +143,16 @@ pub unpaid_is : (costs : Bool) (a s e n : ℕ) (r : ℕ → ℤ) → all_below n
 unpaid_is costs a s e n r f = sym (ap (λ b. cond b [] (line (row_words Reward a s ++ codes ":" ∷ decimal e ∷ []) ++ line (values n (λ z. scaled_text (written costs (r z)))))) f)
 
 -- no row is written where there are no rewards
-pub none_paid : (costs : Bool) (a s n k : ℕ) (r : ℕ → ℕ → ℤ) → ((e z : ℕ) → r e z ≡ pos 0) → [] ≡ for_each k (λ e. rewards_row costs a s e n (r e))
+pub none_paid : (costs : Bool) (a s n k : ℕ) (r : ℕ → ℕ → ℤ) → ((e z : ℕ) → e < k → z < n → r e z ≡ pos 0) → [] ≡ for_each k (λ e. rewards_row costs a s e n (r e))
 none_paid costs a s n zero r h = refl
 none_paid costs a s n (suc k) r h =
-    let before = none_paid costs a s n k r h in
-    let here = unpaid_is costs a s k n (r k) (all_zero n (r k) (h k)) in
+    let before = none_paid costs a s n k r (λ e z l. h e z (omega (arith, l))) in
+    let here = unpaid_is costs a s k n (r k) (all_zero n (r k) (λ z l. h k z (omega arith) l)) in
     λ i. before i ++ here i
   where
-    all_zero : (n : ℕ) (q : ℕ → ℤ) → ((z : ℕ) → q z ≡ pos 0) → all_below n (λ z. is_zero (q z)) ≡ true
+    all_zero : (n : ℕ) (q : ℕ → ℤ) → ((z : ℕ) → z < n → q z ≡ pos 0) → all_below n (λ z. is_zero (q z)) ≡ true
     all_zero zero q h = refl
-    all_zero (suc n) q h = let before = all_zero n q h in λ i. before i && is_zero (h n i)
+    all_zero (suc n) q h = let before = all_zero n q (λ z l. h z (omega (arith, l))) in let here = h n (omega arith) in λ i. before i && is_zero (here i)
 
 -- ---- the start
 chosen_parts : (picks : ℕ → Bool) (xs : List ℕ) → flat_map (λ s. cond (picks s) (behind_blank (decimal s)) []) xs ≡ flat_map behind_blank (map decimal (filter picks xs))

@@ -3,13 +3,14 @@ use Rattle.std.proofs.Common.{◌≡◌, ◌∙◌, ℕ, suc, ◌+◌, arith, le
 use Rattle.std.proofs.lemmas.List.{append_assoc, append-nil}
 use Rattle.polcert_text.specs.Cut.{Lexeme}
 use Rattle.polcert_text.specs.declared.tokens.TokenFault.{TokenFault}
-use Rattle.polcert_model.specs.Words.{Topic, topic, begins_item}
+use Rattle.polcert_cells.specs.declared.words.Topic.{Topic}
+use Rattle.polcert_cells.specs.Words.{topic, begins_item}
 use Rattle.polcert_model.specs.Items.{Item, IsDivided}
-use Rattle.polcert_model.specs.Preamble.{Preamble}
+use Rattle.polcert_cells.specs.Preamble.{Preamble}
 use Rattle.polcert_model.specs.Text.{Known, nothing_known, IsComplete, IsRight, AreRight, none, more, IsRightText}
 use Rattle.polcert_model.specs.Reading.{AreRightItems, IsWithinItem, CannotGoOn, IsWrong}
 use Rattle.polcert_model.specs.FirstWrong.{TextTokens, tokens_of, IsFirstWrong, wrong_front, wrong_fault, wrong_item, wrong_last, wrong_end}
-use Rattle.polcert_model.proofs.Basics.{one_some, or_false_from, cons≢nil, same_head, same_tail}
+use Rattle.polcert_cells.proofs.Basics.{one_some, or_false_from, cons≢nil, same_head, same_tail}
 use Rattle.polcert_model.proofs.ItemLaws.{one_division, has_division}
 use Rattle.polcert_model.proofs.TextLaws.{one_right, one_known}
 use Rattle.polcert_model.proofs.Dividing.{begins, append_division, next_division, empty_division}

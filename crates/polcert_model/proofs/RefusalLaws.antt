@@ -2,13 +2,13 @@
 use Rattle.std.proofs.Common.{◌≡◌, ◌∙◌, ℕ, zero, suc, ◌<◌, None, List, refl, sym, subst, arith}
 use Rattle.polcert_text.specs.Cut.{text_rest, end_place, text_limit}
 use Rattle.polcert_text.proofs.TextLaws.{one_cut}
-use Rattle.polcert_model.specs.declared.entry.Table.{Table}
-use Rattle.polcert_model.specs.declared.entry.Table.TheVariants.{Transition, Observation, Reward}
+use Rattle.polcert_cells.specs.declared.entry.Table.{Table}
+use Rattle.polcert_cells.specs.declared.entry.Table.TheVariants.{Transition, Observation, Reward}
 use Rattle.polcert_model.specs.declared.fault.ModelFault.{ModelFault}
 use Rattle.polcert_model.specs.declared.fault.ModelFault.TheVariants.{Item, RowSum, Memory}
-use Rattle.polcert_model.specs.Preamble.{Preamble}
-use Rattle.polcert_model.specs.Meaning.{Meaning, meaning_of, sum_below, states_of, actions_of, observations_of, t_scale, o_scale, IsSame, HasProperRows}
-use Rattle.polcert_model.specs.Rows.{IsProperRow, IsFirstWrongRow}
+use Rattle.polcert_cells.specs.Preamble.{Preamble}
+use Rattle.polcert_cells.specs.Meaning.{Meaning, meaning_of, sum_below, states_of, actions_of, observations_of, t_scale, o_scale, IsSame, HasProperRows}
+use Rattle.polcert_cells.specs.Rows.{IsProperRow, IsFirstWrongRow}
 use Rattle.polcert_model.specs.Text.{IsRightText, IsModelText}
 use Rattle.polcert_model.specs.FirstWrong.{TextTokens, tokens_of, AreTokensOf}
 use Rattle.polcert_model.specs.Refusals.{IsRefusal, SaysOfText, IsNoModel}

@@ -5,8 +5,9 @@ use Rattle.polcert_text.specs.Bytes.{class_of}
 use Rattle.polcert_text.specs.Numbers.{number_of, exponent_size, power_of, size_of, millionth}
 use Rattle.polcert_text.specs.declared.tokens.TokenFault.TheVariants.{Glued}
 use Rattle.polcert_model.specs.declared.fault.ItemFault.TheVariants.{Token, BeforeFirstItem, DuplicateLine, MissingLine, DiscountRange}
-use Rattle.polcert_model.specs.Words.{Discount, topic, topic_of}
-use Rattle.polcert_model.specs.Numbers.{IsMillionths, none, unsigned, one}
+use Rattle.polcert_cells.specs.declared.words.Topic.TheVariants.{Discount}
+use Rattle.polcert_cells.specs.Words.{topic, topic_of}
+use Rattle.polcert_cells.specs.Numbers.{IsMillionths, none, unsigned, one}
 use Rattle.polcert_model.specs.Items.{Item, IsItem, IsDivided}
 use Rattle.polcert_model.specs.Text as texts
 use Rattle.polcert_model.specs.Text.{Known, nothing_known, IsInPreamble, IsComplete, IsRight, AreRight}
@@ -16,8 +17,8 @@ use Rattle.polcert_model.specs.Reasons.{unsigned as unsigned_number}
 use Rattle.polcert_model.specs.Misfits.{of_value}
 use Rattle.polcert_model.specs.Refusals.{IsItemRefusal, StopsInBody, possible, at_lexeme}
 use Rattle.polcert_model.specs.RefusedExamples.{name_at, numeral_at, colon_at, empty_text, hello, twice, above_one, glued}
-use Rattle.polcert_model.proofs.Basics.{one_some, same_head}
-use Rattle.polcert_model.proofs.NumberLaws.{one_list}
+use Rattle.polcert_cells.proofs.Basics.{one_some, same_head}
+use Rattle.polcert_cells.proofs.NumberLaws.{one_list}
 use Rattle.polcert_model.proofs.GoOnLaws.{numbers_go_on}
 use Rattle.polcert_model.proofs.Possible.{a_zero, zero_is}
 use Rattle.polcert_model.proofs.Dividing.{empty_division}

@@ -13,7 +13,9 @@ use Rattle.polcert_model.specs.declared.item.ItemReader.TheVariants as items
 use Rattle.polcert_model.specs.declared.number.Refusal.{Refusal}
 use Rattle.polcert_model.specs.declared.number.Sign.{Sign}
 use Rattle.polcert_model.specs.declared.reader.TextReader.{TextReader}
-use Rattle.polcert_model.specs.Words.{Topic, Discount, Values, States, Actions, Observations, Start, Cells, topic, begins_item}
+use Rattle.polcert_cells.specs.declared.words.Topic.{Topic}
+use Rattle.polcert_cells.specs.declared.words.Topic.TheVariants.{Discount, Values, States, Actions, Observations, Start, Cells}
+use Rattle.polcert_cells.specs.Words.{topic, begins_item}
 use Rattle.polcert_model.specs.Items.{Item, IsDivided}
 use Rattle.polcert_model.specs.Text.{Known, nothing_known, IsRight, AreRight}
 use Rattle.polcert_model.specs.Order.{word_fault}
@@ -35,7 +37,7 @@ use Rattle.polcert_model.specs.WantSteps.{item_wants, IfNotStart, IfStart, IsSta
 use Rattle.polcert_model.specs.WantSteps as want_steps
 use Rattle.polcert_model.specs.TextSteps.{IsItemRead, EndsItem, IsRefusedBehind, IsRefusedAt, Refuses}
 use Rattle.polcert_model.specs.TextSteps as texts
-use Rattle.polcert_model.proofs.Basics.{one_some, cons≢nil}
+use Rattle.polcert_cells.proofs.Basics.{one_some, cons≢nil}
 use Rattle.polcert_model.proofs.ItemLaws.{has_division}
 use Rattle.polcert_model.proofs.Dividing.{next_division, empty_division}
 use Rattle.polcert_model.proofs.ReadLaws.{within_division}

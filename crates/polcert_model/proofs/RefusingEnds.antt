@@ -12,7 +12,8 @@ use Rattle.polcert_model.specs.declared.fault.ModelFault.TheVariants as model_fa
 use Rattle.polcert_model.specs.declared.number.Refusal.{Refusal}
 use Rattle.polcert_model.specs.declared.reader.TextReader.{TextReader}
 use Rattle.polcert_model.specs.ItemSteps.{pending_in}
-use Rattle.polcert_model.specs.Words.{Topic, topic, begins_item}
+use Rattle.polcert_cells.specs.declared.words.Topic.{Topic}
+use Rattle.polcert_cells.specs.Words.{topic, begins_item}
 use Rattle.polcert_model.specs.Items.{Item, IsDivided}
 use Rattle.polcert_model.specs.Text.{Known}
 use Rattle.polcert_model.specs.Order.{is_late, came_before, ends_preamble, has_all_lines, cells_are_too_many, count_in, preamble_fault, word_fault}
@@ -22,7 +23,7 @@ use Rattle.polcert_model.specs.Refusals.{IsItemRefusal, IsOfTokens, IsTaken, IsL
 use Rattle.polcert_model.specs.Refusals as refusals
 use Rattle.polcert_model.specs.TextSteps.{IsNothingRead, IsItemRead, IsTextRead, AreItemsRead, IsRefusedBehind, Refuses, fault_kind, pending_at, tokens_end}
 use Rattle.polcert_model.specs.TextSteps as texts
-use Rattle.polcert_model.proofs.Basics.{or_false_from, cons≢nil, some≢none}
+use Rattle.polcert_cells.proofs.Basics.{or_false_from, cons≢nil, some≢none}
 use Rattle.polcert_model.proofs.ItemLaws.{has_division, one_division}
 use Rattle.polcert_model.proofs.Dividing.{append_division, empty_division}
 use Rattle.polcert_model.proofs.OrderLaws.{wrong_at_word, not_complete, fault_at}

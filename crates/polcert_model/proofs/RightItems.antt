@@ -1,10 +1,11 @@
 -- Right items, put together and taken apart.
 use Rattle.std.proofs.Common.{◌≡◌, Some, List, ◌∷◌, ◌++◌, subst}
-use Rattle.polcert_model.specs.Words.{Topic, topic}
+use Rattle.polcert_cells.specs.declared.words.Topic.{Topic}
+use Rattle.polcert_cells.specs.Words.{topic}
 use Rattle.polcert_model.specs.Items.{Item}
 use Rattle.polcert_model.specs.Text.{Known, IsRight, AreRight, none, more}
 use Rattle.polcert_model.specs.Reading.{IsWrong}
-use Rattle.polcert_model.proofs.Basics.{one_some}
+use Rattle.polcert_cells.proofs.Basics.{one_some}
 use Rattle.polcert_model.proofs.TextLaws.{one_right}
 
 pub append_right : (k m n : Known) (items ys : List Item) → AreRight k items m → AreRight m ys n → AreRight k (items ++ ys) n

@@ -6,24 +6,26 @@ use Rattle.std.proofs.lemmas.List.Elements.{All-append}
 use Rattle.std.proofs.lemmas.List.Quantifiers.{position-Some}
 use Rattle.polcert_text.specs.Cut.{Lexeme}
 use Rattle.polcert_text.specs.Numbers.{largest}
-use Rattle.polcert_model.specs.declared.entry.Table.{Table}
-use Rattle.polcert_model.specs.declared.entry.Place.{Place}
-use Rattle.polcert_model.specs.declared.entry.Place.TheVariants.{Every, Only}
-use Rattle.polcert_model.specs.declared.entry.Body.{Body}
-use Rattle.polcert_model.specs.declared.entry.Entry.{Entry}
-use Rattle.polcert_model.specs.Words.{Topic}
-use Rattle.polcert_model.specs.Numbers.{AreNumbers, one}
-use Rattle.polcert_model.specs.Numbers as numbers
-use Rattle.polcert_model.specs.Elements.{Elements, Count, Names, count_of, number_of, StandsFor, by_number, by_name}
+use Rattle.polcert_cells.specs.declared.entry.Table.{Table}
+use Rattle.polcert_cells.specs.declared.entry.Place.{Place}
+use Rattle.polcert_cells.specs.declared.entry.Place.TheVariants.{Every, Only}
+use Rattle.polcert_cells.specs.declared.entry.Body.{Body}
+use Rattle.polcert_cells.specs.declared.entry.Entry.{Entry}
+use Rattle.polcert_cells.specs.declared.words.Topic.{Topic}
+use Rattle.polcert_cells.specs.Numbers.{AreNumbers, one}
+use Rattle.polcert_cells.specs.Numbers as numbers
+use Rattle.polcert_cells.specs.declared.elements.Elements.{Elements}
+use Rattle.polcert_cells.specs.declared.elements.Elements.TheVariants.{Count, Names}
+use Rattle.polcert_cells.specs.Elements.{count_of, number_of, StandsFor, by_number, by_name}
 use Rattle.polcert_model.specs.Items.{Item}
-use Rattle.polcert_model.specs.Preamble.{Preamble, dimensions}
-use Rattle.polcert_model.specs.Entry.{IsPlace, ArePlaces, IsBody, IsEntry, forms, cells_in}
-use Rattle.polcert_model.specs.Entry as entries
+use Rattle.polcert_cells.specs.Preamble.{Preamble, dimensions}
+use Rattle.polcert_cells.specs.Entry.{IsPlace, ArePlaces, IsBody, IsEntry, forms, cells_in}
+use Rattle.polcert_cells.specs.Entry as entries
 use Rattle.polcert_model.specs.Text as texts
 use Rattle.polcert_model.specs.Text.{Known, nothing_known, HasLines, IsComplete, IsInPreamble, IsRight, AreRight, IsRightText, Denotes}
-use Rattle.polcert_model.specs.Start.{Shares}
-use Rattle.polcert_model.specs.Sound.{IsPlaceIn, ArePlacesIn, Fills, IsSoundEntry, IsSound}
-use Rattle.polcert_model.proofs.Basics.{one_some, some≢none}
+use Rattle.polcert_cells.specs.declared.shares.Shares.{Shares}
+use Rattle.polcert_cells.specs.Sound.{IsPlaceIn, ArePlacesIn, Fills, IsSoundEntry, IsSound}
+use Rattle.polcert_cells.proofs.Basics.{one_some, some≢none}
 use Rattle.polcert_model.proofs.LimitLaws.{number_within, CountWithin, DiscountWithin, StartWithin, all_within}
 
 -- ---- one entry

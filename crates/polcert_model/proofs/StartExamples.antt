@@ -3,17 +3,18 @@ use Rattle.std.proofs.Common.{◌≡◌, ◌∙◌, ℕ, ◌<◌, false, inl, in
 use Rattle.polcert_text.specs.Bytes.{class_of}
 use Rattle.polcert_text.specs.Numbers.{number_of, exponent_size, power_of, size_of, millionth}
 use Rattle.polcert_text.specs.Cut.{Lexeme}
-use Rattle.polcert_model.specs.Words.{IsWord, IsName, is_reserved, topic_of}
-use Rattle.polcert_model.specs.Numbers.{IsWhole, IsMillionths, AreNumbers, none, unsigned}
-use Rattle.polcert_model.specs.Elements.{StandsFor, by_name}
-use Rattle.polcert_model.specs.Start.{Shares, IsStart, IsStartBody, plain, include, exclude, uniform, name, number, only_state, probabilities, alike, excluded}
+use Rattle.polcert_cells.specs.Words.{IsWord, IsName, is_reserved, topic_of}
+use Rattle.polcert_cells.specs.Numbers.{IsWhole, IsMillionths, AreNumbers, none, unsigned}
+use Rattle.polcert_cells.specs.Elements.{StandsFor, by_name}
+use Rattle.polcert_cells.specs.declared.shares.Shares.{Shares}
+use Rattle.polcert_cells.specs.Start.{IsStart, IsStartBody, plain, include, exclude, uniform, name, number, only_state, probabilities, alike, excluded}
 use Rattle.polcert_model.specs.Examples as examples
 use Rattle.polcert_model.specs.Examples.{numeral}
 use Rattle.polcert_model.specs.StartExamples.{a_b, shares, uniform_start, halves_start, quarters_start, name_start, number_start, include_start, exclude_start, exclude_none, exclude_all, unsummed_start, third_start, pointed_start, alone, zero_start}
-use Rattle.polcert_model.proofs.Basics.{true≢false, cons≢nil, same_head, same_tail}
-use Rattle.polcert_model.proofs.NumberLaws.{one_list, one_whole as one_whole_number}
-use Rattle.polcert_model.proofs.EntryLaws.{pos_once}
-use Rattle.polcert_model.proofs.StartLaws.{one_choice, include_not_exclude, name_not_colon, numbers_once}
+use Rattle.polcert_cells.proofs.Basics.{true≢false, cons≢nil, same_head, same_tail}
+use Rattle.polcert_cells.proofs.NumberLaws.{one_list, one_whole as one_whole_number}
+use Rattle.polcert_cells.proofs.EntryLaws.{pos_once}
+use Rattle.polcert_cells.proofs.StartLaws.{one_choice, include_not_exclude, name_not_colon, numbers_once}
 
 a_name : IsName (examples.name (codes "a"))
 unfolding is_reserved topic_of

@@ -15,19 +15,22 @@ use Rattle.polcert_model.specs.declared.start_reader.Chosen.{Chosen}
 use Rattle.polcert_model.specs.declared.start_reader.Digits.{Digits}
 use Rattle.polcert_model.specs.declared.start_reader.StartReader.{StartReader}
 use Rattle.polcert_model.specs.declared.start_reader.StartReader.TheVariants as reader
-use Rattle.polcert_model.specs.Words.{IsWord, is_reserved}
-use Rattle.polcert_model.specs.Numbers.{IsWhole, IsMillionths, AreNumbers, one}
-use Rattle.polcert_model.specs.Elements.{Elements, Count, Names, count_of, number_of, StandsFor, by_number, by_name}
-use Rattle.polcert_model.specs.Start.{Shares, all_states, single, included, IsStartBody, IsStart, plain, include, exclude}
-use Rattle.polcert_model.specs.Start as forms
+use Rattle.polcert_cells.specs.Words.{IsWord, is_reserved}
+use Rattle.polcert_cells.specs.Numbers.{IsWhole, IsMillionths, AreNumbers, one}
+use Rattle.polcert_cells.specs.declared.elements.Elements.{Elements}
+use Rattle.polcert_cells.specs.declared.elements.Elements.TheVariants.{Count, Names}
+use Rattle.polcert_cells.specs.Elements.{count_of, number_of, StandsFor, by_number, by_name}
+use Rattle.polcert_cells.specs.declared.shares.Shares.{Shares}
+use Rattle.polcert_cells.specs.Start.{all_states, single, included, IsStartBody, IsStart, plain, include, exclude}
+use Rattle.polcert_cells.specs.Start as forms
 use Rattle.polcert_model.specs.LineSteps.{Takes, CannotTake, BehindColon}
 use Rattle.polcert_model.specs.StartSteps.{marked, chosen_with, listed, ListGoes, AreShares, NumbersGo, DigitsGo, state_number, first_of_more, StartGoes, Begins, AreDigits, IsState, IsValue}
 use Rattle.polcert_model.specs.StartSteps as steps
-use Rattle.polcert_model.proofs.Basics.{true≢false}
-use Rattle.polcert_model.proofs.EntryLaws.{one_element}
+use Rattle.polcert_cells.proofs.Basics.{true≢false}
+use Rattle.polcert_cells.proofs.EntryLaws.{one_element}
 use Rattle.polcert_model.proofs.GoOnLaws.{begins_no_number}
-use Rattle.polcert_model.proofs.NumberLaws.{one_whole, one_millionths}
-use Rattle.polcert_model.proofs.StartLaws.{name_not_colon, include_not_exclude, uniform_is_reserved}
+use Rattle.polcert_cells.proofs.NumberLaws.{one_whole, one_millionths}
+use Rattle.polcert_cells.proofs.StartLaws.{name_not_colon, include_not_exclude, uniform_is_reserved}
 use Rattle.polcert_model.proofs.StepLaws.{first_number}
 use Rattle.polcert_model.proofs.StartNumbers.{value_begins}
 use Rattle.polcert_text.proofs.TextLaws.{exact_not_refused}

@@ -7,7 +7,7 @@ use borrow.Author.Tests.{ltb-true, ltb-false}
 use Rattle.std.proofs.lemmas.List.Elements.{All-cons, All-head, All-tail}
 use Rattle.polcert_text.specs.Cut.{Lexeme}
 use Rattle.polcert_text.specs.declared.number.NumberFault.{NumberFault}
-use Rattle.polcert_model.specs.declared.entry.Body.TheVariants as bodies
+use Rattle.polcert_cells.specs.declared.entry.Body.TheVariants as bodies
 use Rattle.polcert_model.specs.declared.entry_reader.Numbers.{Numbers}
 use Rattle.polcert_model.specs.declared.fault.ItemFault.{ItemFault}
 use Rattle.polcert_model.specs.declared.number.Sign.{Sign}
@@ -15,15 +15,17 @@ use Rattle.polcert_model.specs.declared.start_reader.FirstNumber.{FirstNumber}
 use Rattle.polcert_model.specs.declared.start_reader.Digits.{Digits}
 use Rattle.polcert_model.specs.declared.start_reader.StartReader.{StartReader}
 use Rattle.polcert_model.specs.declared.start_reader.StartReader.TheVariants as reader
-use Rattle.polcert_model.specs.Numbers.{IsMillionths, AreNumbers, one}
-use Rattle.polcert_model.specs.Numbers as numbers
+use Rattle.polcert_cells.specs.Numbers.{IsMillionths, AreNumbers, one}
+use Rattle.polcert_cells.specs.Numbers as numbers
 use Rattle.polcert_model.specs.NumberSteps.{AreNumbersBehind, is_negative, IsSignAt}
-use Rattle.polcert_model.specs.Elements.{Elements, count_of}
-use Rattle.polcert_model.specs.Start.{Shares, all_states, shares_of}
+use Rattle.polcert_cells.specs.declared.elements.Elements.{Elements}
+use Rattle.polcert_cells.specs.Elements.{count_of}
+use Rattle.polcert_cells.specs.declared.shares.Shares.{Shares}
+use Rattle.polcert_cells.specs.Start.{all_states, shares_of}
 use Rattle.polcert_model.specs.LineSteps.{Takes, CannotTake}
 use Rattle.polcert_model.specs.EntrySteps.{ProbabilitiesGo, IsFull, no_numbers}
 use Rattle.polcert_model.specs.StartSteps.{AreShares, only_state, probabilities, NumbersGo, DigitsGo, state_number, first_of_more, SharesGo, StartGoes, Begins, IsOutside, IsNumberStop, behind_number, no_probability, IsDigitsStop, behind_digits, digits_no_probability}
-use Rattle.polcert_model.proofs.Basics.{true≢false, cons≢nil, same_head, same_tail}
+use Rattle.polcert_cells.proofs.Basics.{true≢false, cons≢nil, same_head, same_tail}
 use Rattle.polcert_model.proofs.ListLaws.{all_none}
 use Rattle.polcert_model.proofs.PatternLaws.{full_probabilities}
 use Rattle.polcert_model.proofs.StepLaws.{sign_back, sign_on, value_back, value_on}

@@ -1,8 +1,9 @@
 -- A start item as its reader goes on with it.
 use Rattle.std.proofs.Common.{List, [], refl}
 use Rattle.polcert_text.specs.Cut.{Lexeme}
-use Rattle.polcert_model.specs.Elements.{Elements}
-use Rattle.polcert_model.specs.Start.{Shares, IsStart}
+use Rattle.polcert_cells.specs.declared.elements.Elements.{Elements}
+use Rattle.polcert_cells.specs.declared.shares.Shares.{Shares}
+use Rattle.polcert_cells.specs.Start.{IsStart}
 use Rattle.polcert_model.specs.StartSteps.{StartGoes, new_start, IsStartWithin, IsStartSeen}
 
 pub new_start_on : (states : Elements) (ls : List Lexeme) (found : Shares) → IsStart states ls found → StartGoes states new_start ls found

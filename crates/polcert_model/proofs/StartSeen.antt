@@ -13,10 +13,11 @@ use Rattle.polcert_model.specs.declared.start_reader.Digits.{Digits}
 use Rattle.polcert_model.specs.declared.start_reader.StartReader.{StartReader}
 use Rattle.polcert_model.specs.declared.start_reader.StartReader.TheVariants as reader
 use Rattle.polcert_model.specs.declared.stop.ItemEnd.{ItemEnd}
-use Rattle.polcert_model.specs.Numbers.{IsMillionths}
-use Rattle.polcert_model.specs.Elements.{Elements}
+use Rattle.polcert_cells.specs.Numbers.{IsMillionths}
+use Rattle.polcert_cells.specs.declared.elements.Elements.{Elements}
 use Rattle.polcert_model.specs.LineSteps.{CannotEnd}
-use Rattle.polcert_model.specs.Words.{IsWord, IsName, Start}
+use Rattle.polcert_cells.specs.declared.words.Topic.TheVariants.{Start}
+use Rattle.polcert_cells.specs.Words.{IsWord, IsName}
 use Rattle.polcert_model.specs.ItemSteps.{IsEndReason}
 use Rattle.polcert_model.specs.Reasons.{StandsIn, NumberStandsIn, unsigned, plus, minus, IsRefusedNumber, IsNoFraction, IsDigits, is_sign, ends_in_sign}
 use Rattle.polcert_model.specs.NumberSteps.{is_negative, number_place, IsSignAt, SignIs, SignEnds}

@@ -8,9 +8,11 @@ use Rattle.std.proofs.lemmas.List.Sums.{sum_by-cons, AllPass-from_list_all, list
 use Rattle.std.proofs.lemmas.Grind.{get_or_default_zero}
 use Rattle.polcert_model.specs.declared.start_reader.Choice.{Choice}
 use Rattle.polcert_model.specs.declared.start_reader.Choice.TheVariants.{Include}
-use Rattle.polcert_model.specs.Numbers.{one}
-use Rattle.polcert_model.specs.Elements.{Elements, count_of}
-use Rattle.polcert_model.specs.Start.{Shares, alike, single, shares_of, is_level, is_positive}
+use Rattle.polcert_cells.specs.Numbers.{one}
+use Rattle.polcert_cells.specs.declared.elements.Elements.{Elements}
+use Rattle.polcert_cells.specs.Elements.{count_of}
+use Rattle.polcert_cells.specs.declared.shares.Shares.{Shares}
+use Rattle.polcert_cells.specs.Start.{alike, single, shares_of, is_level, is_positive}
 use Rattle.polcert_model.specs.StartSteps.{marked, AreUnmarked, picks, first_above_0, is_level_at, level_share}
 use Rattle.polcert_model.proofs.StartForms.{marked_more}
 

@@ -9,10 +9,10 @@ use Rattle.polcert_model.specs.declared.fault.ItemFault.TheVariants.{BadShape, R
 use Rattle.polcert_model.specs.declared.number.Sign.{Sign}
 use Rattle.polcert_model.specs.declared.number.Range.{Range}
 use Rattle.polcert_model.specs.declared.number.Range.TheVariants as ranges
-use Rattle.polcert_model.specs.Numbers.{IsMillionths, AreNumbers, unsigned, plus, minus}
+use Rattle.polcert_cells.specs.Numbers.{IsMillionths, AreNumbers, unsigned, plus, minus}
 use Rattle.polcert_model.specs.NumberSteps.{AreNumbersBehind, IsInRange, is_negative, number_place, IsSignAt, IsSignKind, IsNoNumber, IsNumberReason, IsMisplaced, RefusesNumber, IsRangeFault}
 use Rattle.polcert_model.specs.NumberSteps as steps
-use Rattle.polcert_model.proofs.NumberLaws.{one_millionths}
+use Rattle.polcert_cells.proofs.NumberLaws.{one_millionths}
 use Rattle.polcert_model.proofs.GoOnLaws.{begins_no_number}
 
 -- a lexeme that is no numeral doesn't go on behind a sign

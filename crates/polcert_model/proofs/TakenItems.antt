@@ -2,25 +2,28 @@
 use Rattle.std.proofs.Common.{◌≡◌, ◌∙◌, ◌≤◌, true, false, Option, Some, None, unwrap_or, List, [], ◌∷◌, ◌++◌, refl, sym, ap, subst, append_assoc}
 use Rattle.std.proofs.lemmas.List.Elements.{All-cons, All-nil}
 use Rattle.polcert_text.specs.Cut.{Lexeme}
-use Rattle.polcert_model.specs.declared.entry.Entry.{Entry}
-use Rattle.polcert_model.specs.declared.entry.Table.{Table}
-use Rattle.polcert_model.specs.declared.entry.Table.TheVariants.{Transition, Observation, Reward}
+use Rattle.polcert_cells.specs.declared.entry.Entry.{Entry}
+use Rattle.polcert_cells.specs.declared.entry.Table.{Table}
+use Rattle.polcert_cells.specs.declared.entry.Table.TheVariants.{Transition, Observation, Reward}
 use Rattle.polcert_model.specs.declared.item.ItemReader.{ItemReader}
 use Rattle.polcert_model.specs.declared.item.ItemReader.TheVariants as items
 use Rattle.polcert_model.specs.declared.lines.DiscountReader.TheVariants as discount
 use Rattle.polcert_model.specs.declared.lines.ValuesReader.TheVariants as values
 use Rattle.polcert_model.specs.declared.elements_reader.ElementsReader.TheVariants as elements
-use Rattle.polcert_model.specs.Words.{Topic, Discount, Values, States, Actions, Observations, Start, Cells}
-use Rattle.polcert_model.specs.Elements.{Elements, Count, count_of}
-use Rattle.polcert_model.specs.Preamble.{Preamble, dimensions}
-use Rattle.polcert_model.specs.Entry.{IsEntry, ArePlaces}
+use Rattle.polcert_cells.specs.declared.words.Topic.{Topic}
+use Rattle.polcert_cells.specs.declared.words.Topic.TheVariants.{Discount, Values, States, Actions, Observations, Start, Cells}
+use Rattle.polcert_cells.specs.declared.elements.Elements.{Elements}
+use Rattle.polcert_cells.specs.declared.elements.Elements.TheVariants.{Count}
+use Rattle.polcert_cells.specs.Elements.{count_of}
+use Rattle.polcert_cells.specs.Preamble.{Preamble, dimensions}
+use Rattle.polcert_cells.specs.Entry.{IsEntry, ArePlaces}
 use Rattle.polcert_model.specs.Items.{Item}
 use Rattle.polcert_model.specs.Text as texts
 use Rattle.polcert_model.specs.Text.{Known, nothing_known, HasLines, IsComplete, AreRight, IsRight}
 use Rattle.polcert_model.specs.Order.{word_fault}
 use Rattle.polcert_model.specs.LineSteps.{Takes}
 use Rattle.polcert_model.specs.EntrySteps.{preamble_in, indices_in, IsEntryBehind, EntryGoes, AreSome}
-use Rattle.polcert_model.specs.Start.{IsStart}
+use Rattle.polcert_cells.specs.Start.{IsStart}
 use Rattle.polcert_model.specs.StartSteps.{new_start}
 use Rattle.polcert_model.specs.ItemSteps.{ItemGoes, IsItemWithin, topic_in, IsSeen, new_item, new_entry, HasElements}
 use Rattle.polcert_model.specs.Wants.{wanted}

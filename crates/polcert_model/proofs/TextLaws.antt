@@ -2,20 +2,23 @@
 use Rattle.std.proofs.Common.{◌≡◌, ◌∙◌, ℕ, ◌<◌, Some, None, List, [], ◌∷◌, ◌++◌, pos, codes, refl, sym, ap, subst, arith}
 use Rattle.polcert_text.specs.Cut.{Lexeme, text_rest, text_limit}
 use Rattle.polcert_text.proofs.CutLaws.{one_cut}
-use Rattle.polcert_model.specs.Words.{Topic, IsWord, IsName}
-use Rattle.polcert_model.specs.Numbers.{IsWhole, IsNumber}
-use Rattle.polcert_model.specs.Elements.{Elements, count_of, AreElements, counted, named}
+use Rattle.polcert_cells.specs.declared.words.Topic.{Topic}
+use Rattle.polcert_cells.specs.Words.{IsWord, IsName}
+use Rattle.polcert_cells.specs.Numbers.{IsWhole, IsNumber}
+use Rattle.polcert_cells.specs.declared.elements.Elements.{Elements}
+use Rattle.polcert_cells.specs.Elements.{count_of, AreElements, counted, named}
 use Rattle.polcert_model.specs.Items.{Item}
-use Rattle.polcert_model.specs.Preamble.{Preamble}
-use Rattle.polcert_model.specs.declared.entry.Entry.{Entry}
-use Rattle.polcert_model.specs.Entry.{IsEntry}
-use Rattle.polcert_model.specs.Start.{Shares, IsStart}
-use Rattle.polcert_model.specs.Meaning.{Meaning, meaning_of, IsSame}
+use Rattle.polcert_cells.specs.Preamble.{Preamble}
+use Rattle.polcert_cells.specs.declared.entry.Entry.{Entry}
+use Rattle.polcert_cells.specs.Entry.{IsEntry}
+use Rattle.polcert_cells.specs.declared.shares.Shares.{Shares}
+use Rattle.polcert_cells.specs.Start.{IsStart}
+use Rattle.polcert_cells.specs.Meaning.{Meaning, meaning_of, IsSame}
 use Rattle.polcert_model.specs.Text.{Known, nothing_known, IsComplete, IsRight, discount, rewards, costs, states, actions, observations, start, entry, AreRight, none, more, IsRightText, Denotes, IsModelText}
-use Rattle.polcert_model.proofs.Basics.{one_some, same_head}
-use Rattle.polcert_model.proofs.NumberLaws.{one_whole, one_list}
-use Rattle.polcert_model.proofs.EntryLaws.{one_entry}
-use Rattle.polcert_model.proofs.StartLaws.{one_start}
+use Rattle.polcert_cells.proofs.Basics.{one_some, same_head}
+use Rattle.polcert_cells.proofs.NumberLaws.{one_whole, one_list}
+use Rattle.polcert_cells.proofs.EntryLaws.{one_entry}
+use Rattle.polcert_cells.proofs.StartLaws.{one_start}
 use Rattle.polcert_model.proofs.ItemLaws.{one_division}
 
 pub one_preamble : (k : Known) (p q : Preamble) → IsComplete k p → IsComplete k q → p ≡ q

@@ -9,7 +9,9 @@ use Rattle.polcert_model.specs.declared.fault.ModelFault.TheVariants as model_fa
 use Rattle.polcert_model.specs.declared.item.ItemReader.{ItemReader}
 use Rattle.polcert_model.specs.declared.item.Said.{Said}
 use Rattle.polcert_model.specs.declared.reader.TextReader.{TextReader}
-use Rattle.polcert_model.specs.Words.{Topic, Start, topic, begins_item}
+use Rattle.polcert_cells.specs.declared.words.Topic.{Topic}
+use Rattle.polcert_cells.specs.declared.words.Topic.TheVariants.{Start}
+use Rattle.polcert_cells.specs.Words.{topic, begins_item}
 use Rattle.polcert_model.specs.Items.{IsDivided}
 use Rattle.polcert_model.specs.Text.{Known, nothing_known, IsRight, AreRight}
 use Rattle.polcert_model.specs.Text as texts
@@ -21,7 +23,7 @@ use Rattle.polcert_model.specs.KnownView.{learned}
 use Rattle.polcert_model.specs.Misfits.{misfit, IsMisfit}
 use Rattle.polcert_model.specs.WantSteps.{Leads, item_wants, IfNotStart, IfStart, IsStartMisfit}
 use Rattle.polcert_model.specs.TextSteps.{Refuses, IsTextRead, IsItemRead, IsBodyRead, AreItemsRead, IsRefusedBehind, IsRefusedAt, IsRefusedWhole, at_word, at_end, nothing, item}
-use Rattle.polcert_model.proofs.Basics.{one_some}
+use Rattle.polcert_cells.proofs.Basics.{one_some}
 use Rattle.polcert_model.proofs.Dividing.{begins, empty_division}
 use Rattle.polcert_model.proofs.ReadLaws.{item_ends}
 use Rattle.polcert_model.proofs.TakenItems.{item_begun, item_goes_on, has_elements}

@@ -6,24 +6,26 @@ use Rattle.std.specs.List.{list_any}
 use Rattle.polcert_text.specs.Bytes.{class_of}
 use Rattle.polcert_text.specs.Numbers.{IsExact, number_of, exponent_size, power_of, size_of, millionth}
 use Rattle.polcert_text.specs.Cut.{Lexeme}
-use Rattle.polcert_model.specs.declared.entry.Table.{Table}
-use Rattle.polcert_model.specs.declared.entry.Table.TheVariants.{Transition, Observation, Reward}
-use Rattle.polcert_model.specs.declared.entry.Place.{Place}
-use Rattle.polcert_model.specs.declared.entry.Place.TheVariants.{Every, Only}
-use Rattle.polcert_model.specs.declared.entry.Body.{Body}
-use Rattle.polcert_model.specs.declared.entry.Body.TheVariants.{Probabilities, Uniform, Identity}
-use Rattle.polcert_model.specs.declared.entry.Entry.{Entry}
-use Rattle.polcert_model.specs.Words.{topic, topic_of, is_reserved, begins_item, IsWord, IsName, Discount, Values, States, Actions, Observations, Cells}
-use Rattle.polcert_model.specs.Numbers.{IsMillionths, AreNumbers}
-use Rattle.polcert_model.specs.Numbers as numbers
-use Rattle.polcert_model.specs.Elements.{Names, StandsFor, AreElements, named, by_name}
+use Rattle.polcert_cells.specs.declared.entry.Table.{Table}
+use Rattle.polcert_cells.specs.declared.entry.Table.TheVariants.{Transition, Observation, Reward}
+use Rattle.polcert_cells.specs.declared.entry.Place.{Place}
+use Rattle.polcert_cells.specs.declared.entry.Place.TheVariants.{Every, Only}
+use Rattle.polcert_cells.specs.declared.entry.Body.{Body}
+use Rattle.polcert_cells.specs.declared.entry.Body.TheVariants.{Probabilities, Uniform, Identity}
+use Rattle.polcert_cells.specs.declared.entry.Entry.{Entry}
+use Rattle.polcert_cells.specs.declared.words.Topic.TheVariants.{Discount, Values, States, Actions, Observations, Cells}
+use Rattle.polcert_cells.specs.Words.{topic, topic_of, is_reserved, begins_item, IsWord, IsName}
+use Rattle.polcert_cells.specs.Numbers.{IsMillionths, AreNumbers}
+use Rattle.polcert_cells.specs.Numbers as numbers
+use Rattle.polcert_cells.specs.declared.elements.Elements.TheVariants.{Names}
+use Rattle.polcert_cells.specs.Elements.{StandsFor, AreElements, named, by_name}
 use Rattle.polcert_model.specs.Items.{Item, IsItem, IsDivided}
-use Rattle.polcert_model.specs.Entry as entries
-use Rattle.polcert_model.specs.Entry.{ArePlaces, IsEntry, IsBody}
-use Rattle.polcert_model.specs.Preamble.{dimensions}
-use Rattle.polcert_model.proofs.Basics.{true≢false}
+use Rattle.polcert_cells.specs.Entry as entries
+use Rattle.polcert_cells.specs.Entry.{ArePlaces, IsEntry, IsBody}
+use Rattle.polcert_cells.specs.Preamble.{dimensions}
+use Rattle.polcert_cells.proofs.Basics.{true≢false}
 use Rattle.polcert_model.proofs.RightItems.{append_right}
-use Rattle.polcert_model.specs.Meaning.{HasProperRows, sum_below}
+use Rattle.polcert_cells.specs.Meaning.{HasProperRows, sum_below}
 use Rattle.polcert_model.specs.Text as texts
 use Rattle.polcert_model.specs.Text.{Known, nothing_known, IsInPreamble, IsComplete, IsRight, AreRight, Denotes}
 use Rattle.polcert_model.specs.Examples.{name, numeral, colon, observation, rewards, whole}

@@ -11,7 +11,7 @@ use Rattle.polcert_text.specs.declared.bytes.ByteClass.{ByteClass}
 use Rattle.polcert_text.specs.declared.bytes.ByteClass.TheVariants as classes
 use Rattle.polcert_text.specs.declared.lexeme.TokenKind.TheVariants.{Name, Numeral}
 use Rattle.polcert_model.specs.ElementSteps.{IsText}
-use Rattle.polcert_model.proofs.Basics.{and_true}
+use Rattle.polcert_cells.proofs.Basics.{and_true}
 
 -- among the tests of `class_of`, in their order, one for a byte of a name passed
 chain : (blank line hash mark letter digit low point colon star plus minus : Bool) → name_class (cond blank classes.Blank (cond line classes.LineEnd (cond hash classes.Hash (cond mark classes.ExponentMark (cond letter classes.Letter (cond digit classes.Digit (cond low classes.Underscore (cond point classes.Point (cond colon classes.Colon (cond star classes.Star (cond plus classes.Plus (cond minus classes.Minus classes.Other)))))))))))) ≡ true → (mark || letter || digit || low || minus) ≡ true

@@ -9,13 +9,13 @@ use Rattle.polcert_model.specs.declared.fault.ItemFault.TheVariants.{BadShape, W
 use Rattle.polcert_model.specs.declared.stop.ItemEnd.{ItemEnd}
 use Rattle.polcert_model.specs.declared.stop.ItemEnd.TheVariants as ends
 use Rattle.polcert_text.specs.Lexemes.{are_digits}
-use Rattle.polcert_model.specs.declared.entry.Table.{Table}
+use Rattle.polcert_cells.specs.declared.entry.Table.{Table}
 use Rattle.polcert_model.specs.declared.entry_reader.Numbers.{Numbers}
 use Rattle.polcert_model.specs.declared.entry_reader.EntryReader.{EntryReader}
 use Rattle.polcert_model.specs.declared.entry_reader.EntryState.TheVariants as states
 use Rattle.polcert_model.specs.declared.number.Sign.{Sign}
-use Rattle.polcert_model.specs.Elements.{Elements}
-use Rattle.polcert_model.specs.Entry.{cells_in}
+use Rattle.polcert_cells.specs.declared.elements.Elements.{Elements}
+use Rattle.polcert_cells.specs.Entry.{cells_in}
 use Rattle.polcert_model.specs.KnownView.{least_written}
 use Rattle.polcert_model.specs.Reasons.{is_sign}
 use Rattle.polcert_model.specs.NumberSteps.{IsSignAt}

@@ -2,10 +2,11 @@
 use Rattle.std.proofs.Common.{◌≡◌, ◌∙◌, false, Some, List, [], ◌∷◌, ◌++◌, refl, ap}
 use Rattle.std.proofs.lemmas.List.{append_assoc}
 use Rattle.polcert_text.specs.Cut.{Lexeme}
-use Rattle.polcert_model.specs.Words.{Topic, topic, begins_item}
+use Rattle.polcert_cells.specs.declared.words.Topic.{Topic}
+use Rattle.polcert_cells.specs.Words.{topic, begins_item}
 use Rattle.polcert_model.specs.Text.{Known}
 use Rattle.polcert_model.specs.Reading.{AreRightItems, IsWithinItem}
-use Rattle.polcert_model.proofs.Basics.{or_false_from}
+use Rattle.polcert_cells.proofs.Basics.{or_false_from}
 use Rattle.polcert_model.proofs.Dividing.{no_word_append}
 
 -- a lexeme that begins no item is one more of the item

@@ -8,10 +8,12 @@ use Rattle.polcert_model.specs.declared.fault.ItemFault.{ItemFault}
 use Rattle.polcert_model.specs.declared.fault.ItemFault.TheVariants.{BadCount, DuplicateName}
 use Rattle.polcert_model.specs.declared.elements_reader.ElementsReader.{ElementsReader}
 use Rattle.polcert_model.specs.declared.elements_reader.ElementsReader.TheVariants as readers
-use Rattle.polcert_model.specs.Words.{IsName}
-use Rattle.polcert_model.specs.Numbers.{IsWhole}
-use Rattle.polcert_model.specs.Elements.{Elements, Count, Names, AreElements, most_elements}
-use Rattle.polcert_model.specs.Meaning.{IsCount}
+use Rattle.polcert_cells.specs.Words.{IsName}
+use Rattle.polcert_cells.specs.Numbers.{IsWhole}
+use Rattle.polcert_cells.specs.declared.elements.Elements.{Elements}
+use Rattle.polcert_cells.specs.declared.elements.Elements.TheVariants.{Count, Names}
+use Rattle.polcert_cells.specs.Elements.{AreElements, most_elements}
+use Rattle.polcert_cells.specs.Meaning.{IsCount}
 use Rattle.polcert_model.specs.NumberSteps.{IsMisplaced}
 use Rattle.polcert_model.specs.LineSteps.{BehindColon}
 

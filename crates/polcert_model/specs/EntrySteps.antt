@@ -5,12 +5,12 @@ use Rattle.std.specs.List.{list_any}
 use Rattle.polcert_text.specs.Cut.{Lexeme}
 use Rattle.polcert_model.specs.declared.fault.ItemFault.{ItemFault}
 use Rattle.polcert_model.specs.declared.fault.ItemFault.TheVariants.{UnknownName, IndexOutOfRange}
-use Rattle.polcert_model.specs.declared.entry.Table.{Table}
-use Rattle.polcert_model.specs.declared.entry.Table.TheVariants.{Transition, Observation, Reward}
-use Rattle.polcert_model.specs.declared.entry.Place.{Place}
-use Rattle.polcert_model.specs.declared.entry.Body.{Body}
-use Rattle.polcert_model.specs.declared.entry.Body.TheVariants as bodies
-use Rattle.polcert_model.specs.declared.entry.Entry.{Entry}
+use Rattle.polcert_cells.specs.declared.entry.Table.{Table}
+use Rattle.polcert_cells.specs.declared.entry.Table.TheVariants.{Transition, Observation, Reward}
+use Rattle.polcert_cells.specs.declared.entry.Place.{Place}
+use Rattle.polcert_cells.specs.declared.entry.Body.{Body}
+use Rattle.polcert_cells.specs.declared.entry.Body.TheVariants as bodies
+use Rattle.polcert_cells.specs.declared.entry.Entry.{Entry}
 use Rattle.polcert_model.specs.declared.stop.Stop.{Stop}
 use Rattle.polcert_model.specs.declared.stop.Stop.TheVariants.{Refused, Memory}
 use Rattle.polcert_model.specs.declared.entry_reader.Word.{Word}
@@ -23,11 +23,13 @@ use Rattle.polcert_model.specs.declared.number.Refusal.{Refusal}
 use Rattle.polcert_model.specs.declared.number.Range.{Range}
 use Rattle.polcert_model.specs.declared.number.Range.TheVariants as ranges
 use Rattle.polcert_model.specs.declared.number.Sign.{Sign}
-use Rattle.polcert_model.specs.Words.{IsName, IsWord}
-use Rattle.polcert_model.specs.Numbers.{one}
-use Rattle.polcert_model.specs.Elements.{Elements, Count, count_of}
-use Rattle.polcert_model.specs.Preamble.{Preamble, dimensions}
-use Rattle.polcert_model.specs.Entry.{forms, cells_in, IsPlace, ArePlaces, IsBody}
+use Rattle.polcert_cells.specs.Words.{IsName, IsWord}
+use Rattle.polcert_cells.specs.Numbers.{one}
+use Rattle.polcert_cells.specs.declared.elements.Elements.{Elements}
+use Rattle.polcert_cells.specs.declared.elements.Elements.TheVariants.{Count}
+use Rattle.polcert_cells.specs.Elements.{count_of}
+use Rattle.polcert_cells.specs.Preamble.{Preamble, dimensions}
+use Rattle.polcert_cells.specs.Entry.{forms, cells_in, IsPlace, ArePlaces, IsBody}
 use Rattle.polcert_model.specs.Text.{Known}
 use Rattle.polcert_model.specs.Reasons.{IsDigits}
 use Rattle.polcert_model.specs.NumberSteps.{AreNumbersBehind, IsNumberReason, IsMisplaced, IsBehindNumbers}

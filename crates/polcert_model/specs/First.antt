@@ -1,13 +1,13 @@
 -- A small text by numbers alone: two states, one action and two observations.
 use Rattle.std.specs.Prelude.{false, List, [], ◌∷◌, Some, None, codes}
 use Rattle.polcert_text.specs.Cut.{Lexeme}
-use Rattle.polcert_model.specs.declared.entry.Place.TheVariants.{Only}
-use Rattle.polcert_model.specs.declared.entry.Body.TheVariants.{Probabilities}
-use Rattle.polcert_model.specs.declared.entry.Entry.{Entry}
-use Rattle.polcert_model.specs.Elements.{Count}
-use Rattle.polcert_model.specs.Preamble.{Preamble}
+use Rattle.polcert_cells.specs.declared.entry.Place.TheVariants.{Only}
+use Rattle.polcert_cells.specs.declared.entry.Body.TheVariants.{Probabilities}
+use Rattle.polcert_cells.specs.declared.entry.Entry.{Entry}
+use Rattle.polcert_cells.specs.declared.elements.Elements.TheVariants.{Count}
+use Rattle.polcert_cells.specs.Preamble.{Preamble}
 use Rattle.polcert_model.specs.Text.{Known}
-use Rattle.polcert_model.specs.Meaning.{Meaning, meaning_of}
+use Rattle.polcert_cells.specs.Meaning.{Meaning, meaning_of}
 use Rattle.polcert_model.specs.Examples.{name, numeral, colon, transition, observation, rewards}
 use Rattle.polcert_model.specs.Tiger.{minus, minus_whole}
 

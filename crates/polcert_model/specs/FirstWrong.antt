@@ -4,9 +4,10 @@ use Rattle.polcert_text.specs.Cut.{Lexeme, IsCut, text_rest, end_place, text_lim
 use Rattle.polcert_text.specs.declared.tokens.TokenFault.{TokenFault}
 use Rattle.polcert_model.specs.declared.fault.ItemFault.{ItemFault}
 use Rattle.polcert_model.specs.declared.fault.ItemFault.TheVariants.{BeforeFirstItem}
-use Rattle.polcert_model.specs.Words.{Topic, topic}
+use Rattle.polcert_cells.specs.declared.words.Topic.{Topic}
+use Rattle.polcert_cells.specs.Words.{topic}
 use Rattle.polcert_model.specs.Items.{Item, IsDivided}
-use Rattle.polcert_model.specs.Preamble.{Preamble}
+use Rattle.polcert_cells.specs.Preamble.{Preamble}
 use Rattle.polcert_model.specs.Text.{Known, nothing_known, IsComplete, AreRight}
 use Rattle.polcert_model.specs.Order.{preamble_fault, word_fault}
 use Rattle.polcert_model.specs.Reading.{IsWrong}

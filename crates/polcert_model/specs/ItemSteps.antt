@@ -4,8 +4,8 @@ use Rattle.std.specs.Prelude.{◌≡◌, ℕ, Bool, false, Option, Some, None, L
 use Rattle.polcert_text.specs.Cut.{Lexeme}
 use Rattle.polcert_model.specs.declared.fault.ItemFault.{ItemFault}
 use Rattle.polcert_model.specs.declared.fault.ItemFault.TheVariants.{BadShape, BadCount, DuplicateName, IndexOutOfRange, WrongNumberCount, ProbabilityRange, DiscountRange, StartSum, StartEmpty}
-use Rattle.polcert_model.specs.declared.entry.Entry.{Entry}
-use Rattle.polcert_model.specs.declared.entry.Table.{Table}
+use Rattle.polcert_cells.specs.declared.entry.Entry.{Entry}
+use Rattle.polcert_cells.specs.declared.entry.Table.{Table}
 use Rattle.polcert_model.specs.declared.item.Said.TheVariants as said
 use Rattle.polcert_model.specs.declared.item.ItemReader.{ItemReader}
 use Rattle.polcert_model.specs.declared.item.ItemReader.TheVariants as items
@@ -18,9 +18,10 @@ use Rattle.polcert_model.specs.declared.number.Refusal.{Refusal}
 use Rattle.polcert_model.specs.declared.number.Sign.{Sign}
 use Rattle.polcert_model.specs.declared.stop.ItemEnd.{ItemEnd}
 use Rattle.polcert_model.specs.declared.stop.ItemEnd.TheVariants as ends
-use Rattle.polcert_model.specs.Words.{Topic, Discount, Values, States, Actions, Observations, Start, Cells}
-use Rattle.polcert_model.specs.Elements.{Elements}
-use Rattle.polcert_model.specs.Start.{Shares}
+use Rattle.polcert_cells.specs.declared.words.Topic.{Topic}
+use Rattle.polcert_cells.specs.declared.words.Topic.TheVariants.{Discount, Values, States, Actions, Observations, Start, Cells}
+use Rattle.polcert_cells.specs.declared.elements.Elements.{Elements}
+use Rattle.polcert_cells.specs.declared.shares.Shares.{Shares}
 use Rattle.polcert_model.specs.Text.{Known}
 use Rattle.polcert_model.specs.Reasons.{ends_in_sign, IsNoFraction, IsOfElements, IsOfProbabilities, IsRepeated}
 use Rattle.polcert_model.specs.NumberSteps.{SignEnds, is_negative, number_place}

@@ -5,7 +5,7 @@
 use Rattle.std.specs.Prelude.{◌≡◌, true, false, List, ◌∷◌, ◌++◌, All, flat_map}
 use Rattle.std.specs.List.{list_any}
 use Rattle.polcert_text.specs.Cut.{Lexeme}
-use Rattle.polcert_model.specs.Words.{begins_item}
+use Rattle.polcert_cells.specs.Words.{begins_item}
 
 -- a word that begins an item, and what stands behind it
 pub record Item : Type 0 where

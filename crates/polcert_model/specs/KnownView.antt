@@ -2,14 +2,15 @@
 -- Nobody has to believe this: only contracts of private functions cite it.
 use Rattle.std.specs.Prelude.{ℕ, Bool, Option, Some, List, [], ◌∷◌, ◌++◌}
 use Rattle.std.specs.Option.{ForSome}
-use Rattle.polcert_model.specs.declared.entry.Entry.{Entry}
-use Rattle.polcert_model.specs.declared.entry.Table.{Table}
-use Rattle.polcert_model.specs.declared.entry.Table.TheVariants.{Reward}
+use Rattle.polcert_cells.specs.declared.entry.Entry.{Entry}
+use Rattle.polcert_cells.specs.declared.entry.Table.{Table}
+use Rattle.polcert_cells.specs.declared.entry.Table.TheVariants.{Reward}
 use Rattle.polcert_model.specs.declared.item.Said.{Said}
 use Rattle.polcert_model.specs.declared.item.Said.TheVariants as said
-use Rattle.polcert_model.specs.Elements.{Elements, count_of, most_elements}
-use Rattle.polcert_model.specs.Start.{Shares}
-use Rattle.polcert_model.specs.Meaning.{IsCount}
+use Rattle.polcert_cells.specs.declared.elements.Elements.{Elements}
+use Rattle.polcert_cells.specs.Elements.{count_of, most_elements}
+use Rattle.polcert_cells.specs.declared.shares.Shares.{Shares}
+use Rattle.polcert_cells.specs.Meaning.{IsCount}
 use Rattle.polcert_model.specs.Text.{Known}
 
 abbrev pub known_of : Option ℕ → Option Bool → Option Elements → Option Elements → Option Elements → Option Shares → List Entry → Known

@@ -10,8 +10,8 @@ use Rattle.polcert_model.specs.declared.lines.ValuesReader.{ValuesReader}
 use Rattle.polcert_model.specs.declared.lines.ValuesReader.TheVariants as values
 use Rattle.polcert_model.specs.declared.number.Range.TheVariants.{Discount}
 use Rattle.polcert_model.specs.declared.number.Sign.{Sign}
-use Rattle.polcert_model.specs.Words.{IsWord}
-use Rattle.polcert_model.specs.Numbers.{one}
+use Rattle.polcert_cells.specs.Words.{IsWord}
+use Rattle.polcert_cells.specs.Numbers.{one}
 use Rattle.polcert_model.specs.NumberSteps.{AreNumbersBehind, IsNumberReason, IsBehindNumbers, IsMisplaced}
 
 -- A reader's state goes on as lexemes that end its item, with what the item says: `Goes state lexemes said`.

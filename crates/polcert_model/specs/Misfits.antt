@@ -8,8 +8,8 @@ use Rattle.polcert_text.specs.declared.lexeme.TokenKind.TheVariants.{Name, Numer
 use Rattle.polcert_model.specs.declared.fault.ItemFault.{ItemFault}
 use Rattle.polcert_model.specs.declared.fault.ItemFault.TheVariants.{BadShape, BadCount, DuplicateName, UnknownName, IndexOutOfRange, WrongNumberCount, Reset, StartSum, StartEmpty, ProbabilityRange, DiscountRange}
 use Rattle.polcert_model.specs.declared.fault.ItemFault.TheVariants as faults
-use Rattle.polcert_model.specs.Words.{is_reserved}
-use Rattle.polcert_model.specs.Elements.{most_elements}
+use Rattle.polcert_cells.specs.Words.{is_reserved}
+use Rattle.polcert_cells.specs.Elements.{most_elements}
 use Rattle.polcert_model.specs.Reasons.{is_sign}
 
 -- what a place of a body is for

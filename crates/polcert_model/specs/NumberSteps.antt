@@ -12,8 +12,8 @@ use Rattle.polcert_model.specs.declared.number.Step.{Step}
 use Rattle.polcert_model.specs.declared.number.Step.TheVariants as steps
 use Rattle.polcert_model.specs.declared.number.Range.{Range}
 use Rattle.polcert_model.specs.declared.number.Range.TheVariants as ranges
-use Rattle.polcert_model.specs.Words.{IsWord}
-use Rattle.polcert_model.specs.Numbers.{IsMillionths, AreNumbers, one}
+use Rattle.polcert_cells.specs.Words.{IsWord}
+use Rattle.polcert_cells.specs.Numbers.{IsMillionths, AreNumbers, one}
 use Rattle.polcert_model.specs.Reasons.{IsRefusedNumber, IsNoFraction, is_sign, ends_in_sign}
 
 -- behind a sign, if there is one, the lexemes go on as these numbers

@@ -2,12 +2,13 @@
 -- Nobody has to believe this file: only private functions cite it.
 use Rattle.std.specs.Prelude.{ℕ, ◌/◌, ◌==◌, Bool, true, false, if◌then◌else◌, List, [], ◌∷◌, ◌++◌, length, slice_index_or, get_or, ℤ, pos, decimal, codes}
 use Rattle.polcert_text.specs.Millionths.{scaled_text}
-use Rattle.polcert_model.specs.declared.entry.Table.{Table}
-use Rattle.polcert_model.specs.Elements.{Elements, Count, Names}
-use Rattle.polcert_model.specs.Start.{Shares}
-use Rattle.polcert_model.specs.Preamble.{columns}
-use Rattle.polcert_model.specs.Meaning.{Meaning, states_of, actions_of, observations_of}
-use Rattle.polcert_model.specs.Drafts.{Draft, meaning}
+use Rattle.polcert_cells.specs.declared.entry.Table.{Table}
+use Rattle.polcert_cells.specs.declared.elements.Elements.{Elements}
+use Rattle.polcert_cells.specs.declared.elements.Elements.TheVariants.{Count, Names}
+use Rattle.polcert_cells.specs.declared.shares.Shares.{Shares}
+use Rattle.polcert_cells.specs.Preamble.{columns}
+use Rattle.polcert_cells.specs.Meaning.{Meaning, states_of, actions_of, observations_of}
+use Rattle.polcert_model.specs.Kept.{Kept, meaning}
 use Rattle.polcert_model.specs.RowSums.{row_of}
 use Rattle.polcert_text.specs.Lines.{line}
 use Rattle.polcert_model.specs.FullForm.{for_each, values, is_uniform, is_decimal, millionths_text, table_word, cell_text, row_text, written, rewards_row}
@@ -76,10 +77,10 @@ body_text table a s n w =
     else (if is_decimal n w then line (values n (λ c. millionths_text (w c / n)))
     else line (codes "uniform" ∷ []) ++ for_each n (cell_text table a s n w))
 
-abbrev pub rows_at : Draft → Table → ℕ → List ℕ
+abbrev pub rows_at : Kept → Table → ℕ → List ℕ
 rows_at d table a = for_each (states_of (meaning d)) (λ s. row_text table a s (columns d.preamble table) (row_of d table a s))
 
-abbrev pub rows_text : Draft → Table → List ℕ
+abbrev pub rows_text : Kept → Table → List ℕ
 rows_text d table = for_each (actions_of (meaning d)) (rows_at d table)
 
 -- ---- the rewards

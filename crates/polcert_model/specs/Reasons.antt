@@ -10,11 +10,13 @@ use Rattle.polcert_text.specs.declared.lexeme.TokenKind.TheVariants.{Numeral, Pl
 use Rattle.polcert_text.specs.declared.number.NumberFault.{NumberFault}
 use Rattle.polcert_text.specs.declared.tokens.TokenFault.{TokenFault}
 use Rattle.polcert_text.specs.declared.tokens.TokenFault.TheVariants as token_faults
-use Rattle.polcert_model.specs.declared.entry.Table.TheVariants.{Transition, Observation}
+use Rattle.polcert_cells.specs.declared.entry.Table.TheVariants.{Transition, Observation}
 use Rattle.polcert_model.specs.declared.fault.ItemFault.{ItemFault}
 use Rattle.polcert_model.specs.declared.fault.ItemFault.TheVariants.{Token, Number, BeforeFirstItem, BadShape, DuplicateLine, LateLine, MissingLine, BadCount, DuplicateName, UnknownName, IndexOutOfRange, WrongNumberCount, ProbabilityRange, DiscountRange, Reset, TooManyCells, StartSum, StartEmpty, TextTooLong}
-use Rattle.polcert_model.specs.Words.{Topic, Discount, States, Actions, Observations, Start, Cells, topic, IsWord, IsName}
-use Rattle.polcert_model.specs.Numbers.{IsMillionths, one}
+use Rattle.polcert_cells.specs.declared.words.Topic.{Topic}
+use Rattle.polcert_cells.specs.declared.words.Topic.TheVariants.{Discount, States, Actions, Observations, Start, Cells}
+use Rattle.polcert_cells.specs.Words.{topic, IsWord, IsName}
+use Rattle.polcert_cells.specs.Numbers.{IsMillionths, one}
 use Rattle.polcert_model.specs.Items.{Item, IsDivided}
 use Rattle.polcert_model.specs.FirstWrong.{TextTokens, IsDecided}
 

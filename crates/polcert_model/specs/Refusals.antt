@@ -7,11 +7,13 @@ use Rattle.polcert_model.specs.declared.fault.ItemFault.TheVariants.{Token, Text
 use Rattle.polcert_model.specs.declared.fault.ModelFault.{ModelFault}
 use Rattle.polcert_model.specs.declared.fault.ModelFault.TheVariants.{RowSum, Memory}
 use Rattle.polcert_model.specs.declared.fault.ModelFault.TheVariants as model_faults
-use Rattle.polcert_model.specs.Words.{Topic, Start, topic}
+use Rattle.polcert_cells.specs.declared.words.Topic.{Topic}
+use Rattle.polcert_cells.specs.declared.words.Topic.TheVariants.{Start}
+use Rattle.polcert_cells.specs.Words.{topic}
 use Rattle.polcert_model.specs.Items.{Item, IsDivided}
-use Rattle.polcert_model.specs.Preamble.{Preamble}
-use Rattle.polcert_model.specs.Meaning.{Meaning, meaning_of}
-use Rattle.polcert_model.specs.Rows.{IsFirstWrongRow}
+use Rattle.polcert_cells.specs.Preamble.{Preamble}
+use Rattle.polcert_cells.specs.Meaning.{Meaning, meaning_of}
+use Rattle.polcert_cells.specs.Rows.{IsFirstWrongRow}
 use Rattle.polcert_model.specs.Text.{Known, nothing_known, AreRight, IsRightText, IsModelText}
 use Rattle.polcert_model.specs.Reading.{IsWrong, CannotGoOn, IsPossible}
 use Rattle.polcert_model.specs.FirstWrong.{TextTokens, IsFirstWrong, LiesIn, IsDecided, word_place}

@@ -1,8 +1,9 @@
 -- Start items over two named states, `a` and `b`: the lexemes behind `start`.
 use Rattle.std.specs.Prelude.{ℕ, List, [], ◌∷◌, codes}
 use Rattle.polcert_text.specs.Cut.{Lexeme}
-use Rattle.polcert_model.specs.Elements.{Elements, Count, Names}
-use Rattle.polcert_model.specs.Start.{Shares}
+use Rattle.polcert_cells.specs.declared.elements.Elements.{Elements}
+use Rattle.polcert_cells.specs.declared.elements.Elements.TheVariants.{Count, Names}
+use Rattle.polcert_cells.specs.declared.shares.Shares.{Shares}
 use Rattle.polcert_model.specs.Examples.{name, numeral, colon}
 
 abbrev pub a_b : Elements

@@ -8,7 +8,7 @@ use Rattle.polcert_model.specs.declared.fault.ItemFault.{ItemFault}
 use Rattle.polcert_model.specs.declared.fault.ItemFault.TheVariants.{Number, BadShape, UnknownName, IndexOutOfRange, WrongNumberCount, ProbabilityRange, Reset, StartSum, StartEmpty}
 use Rattle.polcert_model.specs.declared.number.Refusal.{Refusal}
 use Rattle.polcert_model.specs.declared.number.Sign.{Sign}
-use Rattle.polcert_model.specs.declared.entry.Body.TheVariants as bodies
+use Rattle.polcert_cells.specs.declared.entry.Body.TheVariants as bodies
 use Rattle.polcert_model.specs.declared.entry_reader.Numbers.{Numbers}
 use Rattle.polcert_model.specs.declared.start_reader.Choice.{Choice}
 use Rattle.polcert_model.specs.declared.start_reader.Choice.TheVariants.{Include, Exclude}
@@ -18,10 +18,12 @@ use Rattle.polcert_model.specs.declared.start_reader.StartReader.{StartReader}
 use Rattle.polcert_model.specs.declared.start_reader.StartReader.TheVariants as reader
 use Rattle.polcert_model.specs.declared.stop.ItemEnd.{ItemEnd}
 use Rattle.polcert_model.specs.declared.stop.ItemEnd.TheVariants as ends
-use Rattle.polcert_model.specs.Words.{IsWord, IsName}
-use Rattle.polcert_model.specs.Numbers.{IsWhole, IsMillionths, one}
-use Rattle.polcert_model.specs.Elements.{Elements, count_of, StandsFor}
-use Rattle.polcert_model.specs.Start.{Shares, alike, all_states, single, shares_of, included, IsStartBody, IsStart}
+use Rattle.polcert_cells.specs.Words.{IsWord, IsName}
+use Rattle.polcert_cells.specs.Numbers.{IsWhole, IsMillionths, one}
+use Rattle.polcert_cells.specs.declared.elements.Elements.{Elements}
+use Rattle.polcert_cells.specs.Elements.{count_of, StandsFor}
+use Rattle.polcert_cells.specs.declared.shares.Shares.{Shares}
+use Rattle.polcert_cells.specs.Start.{alike, all_states, single, shares_of, included, IsStartBody, IsStart}
 use Rattle.polcert_model.specs.Reasons.{StandsIn, NumberStandsIn, IsRefusedNumber, IsNoFraction, IsDigits, is_sign}
 use Rattle.polcert_model.specs.NumberSteps.{AreNumbersBehind, is_negative, number_place, IsSignAt, SignIs, SignEnds}
 use Rattle.polcert_model.specs.LineSteps.{BehindColon}

@@ -5,16 +5,20 @@
 use Rattle.std.specs.Prelude.{◌≡◌, ℕ, ◌*◌, ◌≤◌, Bool, true, false, List, [], ◌∷◌, ◌++◌, pos, Option, Some, None, codes}
 use Rattle.polcert_text.specs.Cut.{Lexeme, text_rest, IsCut, text_limit}
 use Rattle.polcert_text.specs.declared.lexeme.TokenKind.TheVariants.{Colon}
-use Rattle.polcert_model.specs.declared.entry.Table.{Table}
-use Rattle.polcert_model.specs.declared.entry.Entry.{Entry}
-use Rattle.polcert_model.specs.Words.{Topic, Discount, Values, States, Actions, Observations, Start, Cells, topic, IsWord}
-use Rattle.polcert_model.specs.Numbers.{IsNumber, one}
-use Rattle.polcert_model.specs.Elements.{Elements, AreElements, count_of}
+use Rattle.polcert_cells.specs.declared.entry.Table.{Table}
+use Rattle.polcert_cells.specs.declared.entry.Entry.{Entry}
+use Rattle.polcert_cells.specs.declared.words.Topic.{Topic}
+use Rattle.polcert_cells.specs.declared.words.Topic.TheVariants.{Discount, Values, States, Actions, Observations, Start, Cells}
+use Rattle.polcert_cells.specs.Words.{topic, IsWord}
+use Rattle.polcert_cells.specs.Numbers.{IsNumber, one}
+use Rattle.polcert_cells.specs.declared.elements.Elements.{Elements}
+use Rattle.polcert_cells.specs.Elements.{AreElements, count_of}
 use Rattle.polcert_model.specs.Items.{Item, IsDivided}
-use Rattle.polcert_model.specs.Preamble.{Preamble, observed}
-use Rattle.polcert_model.specs.Entry.{IsEntry}
-use Rattle.polcert_model.specs.Start.{Shares, IsStart}
-use Rattle.polcert_model.specs.Meaning.{Meaning, meaning_of, HasProperRows, IsSame}
+use Rattle.polcert_cells.specs.Preamble.{Preamble, observed}
+use Rattle.polcert_cells.specs.Entry.{IsEntry}
+use Rattle.polcert_cells.specs.declared.shares.Shares.{Shares}
+use Rattle.polcert_cells.specs.Start.{IsStart}
+use Rattle.polcert_cells.specs.Meaning.{Meaning, meaning_of, HasProperRows, IsSame}
 
 -- what the items so far say
 pub record Known : Type 0 where

@@ -12,13 +12,15 @@ use Rattle.polcert_model.specs.declared.fault.ModelFault.TheVariants as model_fa
 use Rattle.polcert_model.specs.declared.item.ItemReader.{ItemReader}
 use Rattle.polcert_model.specs.declared.number.Refusal.{Refusal}
 use Rattle.polcert_model.specs.declared.reader.TextReader.{TextReader}
-use Rattle.polcert_model.specs.Words.{Topic, Start, begins_item}
+use Rattle.polcert_cells.specs.declared.words.Topic.{Topic}
+use Rattle.polcert_cells.specs.declared.words.Topic.TheVariants.{Start}
+use Rattle.polcert_cells.specs.Words.{begins_item}
 use Rattle.polcert_model.specs.Text.{Known, nothing_known, IsRight}
 use Rattle.polcert_model.specs.Order.{preamble_fault, word_fault}
 use Rattle.polcert_model.specs.Reading.{AreRightItems, IsWithinItem, IsPossible}
 use Rattle.polcert_model.specs.FirstWrong.{TextTokens, AreTokensOf}
 use Rattle.polcert_model.specs.Refusals.{IsRefusal, IsPlacedRight}
-use Rattle.polcert_model.specs.Drafts.{Draft}
+use Rattle.polcert_cells.specs.Drafts.{Draft}
 use Rattle.polcert_model.specs.EntrySteps.{preamble_in}
 use Rattle.polcert_model.specs.Wants.{wanted}
 use Rattle.polcert_model.specs.WantSteps.{item_wants}
@@ -104,6 +106,6 @@ pub record IsWholeRead (seen : List Lexeme) (k : Known) : Type 0 where
 abbrev pub IsRefusedWhole : List Lexeme → ℕ → ModelFault → Type 0
 IsRefusedWhole seen place fault = (text : List ℕ) (ts : TextTokens) → AreTokensOf text ts → ts.lexemes ≡ seen → ts.ending ≡ None → ts.end ≡ place → Refuses ts fault
 
--- what is kept of it
-abbrev pub kept : Known → Draft
-kept k = record { preamble = preamble_in k; start = k.start; entries = k.entries }
+-- what its items say
+abbrev pub said : Known → Draft
+said k = record { preamble = preamble_in k; start = k.start; entries = k.entries }

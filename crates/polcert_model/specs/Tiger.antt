@@ -3,13 +3,13 @@
 use Rattle.std.specs.Prelude.{ℕ, false, List, [], ◌∷◌, ℤ, neg_ℤ, Some, None, codes}
 use Rattle.polcert_text.specs.Cut.{Lexeme}
 use Rattle.polcert_text.specs.declared.lexeme.TokenKind.TheVariants as kinds
-use Rattle.polcert_model.specs.declared.entry.Place.TheVariants.{Every, Only}
-use Rattle.polcert_model.specs.declared.entry.Body.TheVariants.{Probabilities, Uniform, Identity}
-use Rattle.polcert_model.specs.declared.entry.Entry.{Entry}
-use Rattle.polcert_model.specs.Elements.{Names}
-use Rattle.polcert_model.specs.Preamble.{Preamble}
+use Rattle.polcert_cells.specs.declared.entry.Place.TheVariants.{Every, Only}
+use Rattle.polcert_cells.specs.declared.entry.Body.TheVariants.{Probabilities, Uniform, Identity}
+use Rattle.polcert_cells.specs.declared.entry.Entry.{Entry}
+use Rattle.polcert_cells.specs.declared.elements.Elements.TheVariants.{Names}
+use Rattle.polcert_cells.specs.Preamble.{Preamble}
 use Rattle.polcert_model.specs.Text.{Known}
-use Rattle.polcert_model.specs.Meaning.{Meaning, meaning_of}
+use Rattle.polcert_cells.specs.Meaning.{Meaning, meaning_of}
 use Rattle.polcert_model.specs.Examples.{name, numeral, colon, transition, observation, rewards, whole}
 
 abbrev pub star : Lexeme

@@ -4,8 +4,8 @@ use Rattle.std.specs.Prelude.{◌≡◌, ℕ, ◌-◌, true, false, Option, Some
 use Rattle.polcert_text.specs.Cut.{Lexeme}
 use Rattle.polcert_model.specs.declared.elements_reader.ElementsReader.{ElementsReader}
 use Rattle.polcert_model.specs.declared.elements_reader.ElementsReader.TheVariants as elements
-use Rattle.polcert_model.specs.declared.entry.Place.{Place}
-use Rattle.polcert_model.specs.declared.entry.Table.{Table}
+use Rattle.polcert_cells.specs.declared.entry.Place.{Place}
+use Rattle.polcert_cells.specs.declared.entry.Table.{Table}
 use Rattle.polcert_model.specs.declared.entry_reader.EntryReader.{EntryReader}
 use Rattle.polcert_model.specs.declared.entry_reader.EntryState.{EntryState}
 use Rattle.polcert_model.specs.declared.entry_reader.EntryState.TheVariants as states
@@ -22,8 +22,10 @@ use Rattle.polcert_model.specs.declared.start_reader.StartReader.TheVariants as 
 use Rattle.polcert_model.specs.declared.fault.ItemFault.{ItemFault}
 use Rattle.polcert_model.specs.declared.stop.ItemEnd.{ItemEnd}
 use Rattle.polcert_model.specs.declared.stop.ItemEnd.TheVariants as ends
-use Rattle.polcert_model.specs.Words.{Topic, Start}
-use Rattle.polcert_model.specs.Elements.{Elements, count_of}
+use Rattle.polcert_cells.specs.declared.words.Topic.{Topic}
+use Rattle.polcert_cells.specs.declared.words.Topic.TheVariants.{Start}
+use Rattle.polcert_cells.specs.declared.elements.Elements.{Elements}
+use Rattle.polcert_cells.specs.Elements.{count_of}
 use Rattle.polcert_model.specs.Text.{Known}
 use Rattle.polcert_model.specs.ElementSteps.{names_with}
 use Rattle.polcert_model.specs.EntrySteps.{preamble_in, indices_in}

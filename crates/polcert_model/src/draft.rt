@@ -1,26 +1,26 @@
 //! A model whose rows aren't tested yet.
-ghost use Rattle.std.specs.Prelude.{◌≡◌, ◌<◌, ◌≤◌, ◌*◌, true, [], ◌∷◌, All, option_map};
-ghost use Rattle.polcert_model.specs.Numbers.{one};
-ghost use Rattle.polcert_model.specs.Elements.{most_elements, count_of, name_of};
-ghost use Rattle.polcert_model.specs.Preamble.{dimensions, columns as columns_in};
-ghost use Rattle.polcert_model.specs.Cells.{covers, weight_of, weight, reward};
-ghost use Rattle.polcert_model.specs.Meaning.{IsCount, states_of, actions_of, observations_of, t_scale, o_scale, start_weight, start_total, elements_of};
-ghost use Rattle.polcert_model.specs.Drafts.{meaning};
-ghost use Rattle.polcert_model.specs.Sound.{IsSoundEntry};
-ghost use Rattle.polcert_model.specs.RowSums.{IsWeighted};
-ghost use Rattle.polcert_model.specs.Axes.{indices_of, IsInRange, AreAxes};
-ghost use Rattle.polcert_model.specs.declared.entry.Table.TheVariants.{Reward as RewardTable};
+ghost use Rattle.std.specs.Prelude.{◌≡◌, ◌<◌, ◌≤◌, option_map, false, pos, ℕ, IfOk, IsTrue};
+ghost use Rattle.std.specs.Option.{ForSome};
+ghost use Rattle.polcert_cells.specs.Cursors.{IsNext};
+ghost use Rattle.polcert_cells.specs.Elements.{most_elements, count_of, name_of};
+ghost use Rattle.polcert_cells.specs.Preamble.{columns as columns_in};
+ghost use Rattle.polcert_cells.specs.Meaning.{IsCount, states_of, actions_of, observations_of, t_scale, o_scale, start_weight, start_total, elements_of, sum_below};
+ghost use Rattle.polcert_model.specs.Kept.{meaning, rows_of, IsKeptOf};
+ghost use Rattle.polcert_model.specs.RowSums.{row_of};
 
-use crate::cells::{Axis, ONE, last_covering, left_open, reward_in, weight_in};
-use crate::elements::{Elements, Kind};
-use crate::shares::Shares;
-use crate::{Entries, Entry, Table};
+use polcert_cells::{Elements, Entries, Kind, Shares, Table};
+use polcert_rules::{Index, RewardShape, Rewards, Rows, Shape};
+use std::alloc::{AllocError, Global};
 use std::marker;
+
+/// One, in millionths.
+pub(crate) const ONE: u64 = 1_000_000;
 
 /// The share of each state in a start where all states are alike.
 const ALIKE: u64 = 1;
 
-/// What the items of a text say: a model whose rows aren't tested yet. Its readers answer as those of `Model` do.
+/// What the items of a text say: a model whose rows aren't tested yet. Its readers answer as those of `Model` do. Rows of T
+/// and O are sparse, and rewards are rules.
 #[derive(Drop)]
 pub(crate) struct Draft {
     discount: u32,
@@ -29,25 +29,28 @@ pub(crate) struct Draft {
     actions: Elements,
     observations: Elements,
     start: Option<Shares>,
-    entries: Entries,
+    transitions: Rows,
+    observed: Rows,
+    rewards: Rewards,
 }
 
 impl marker::Model for Draft {
-    ghost use Rattle.polcert_model.specs.Drafts as drafts;
-    ghost use Rattle.polcert_model.specs.Sound.{draft_of, IsSound};
+    ghost use Rattle.polcert_model.specs.Kept.{Kept};
+    ghost use Rattle.polcert_model.specs.DraftView.{kept_of, IsDraft};
 
-    ghost Value = { drafts.Draft };
+    ghost Value = { Kept };
 
-    ghost view = { λ d. draft_of d.discount d.costs d.states d.actions d.observations d.start d.entries };
+    ghost view = { λ d. kept_of d.discount d.costs d.states d.actions d.observations d.start d.transitions d.observed d.rewards };
 
-    ghost invariant = { λ d. IsSound (draft_of d.discount d.costs d.states d.actions d.observations d.start d.entries) };
+    ghost invariant = { λ d. IsDraft (kept_of d.discount d.costs d.states d.actions d.observations d.start d.transitions d.observed d.rewards) };
 }
 
 impl Draft {
-    ghost use Rattle.polcert_model.specs.Sound.{draft_of, IsSound};
+    ghost use Rattle.polcert_cells.specs.Sound.{draft_of, IsSound};
 
     /// The draft of a text that has these lines in its preamble, this start item or none, and these entries.
     pub(crate) fn of(
+        alloc: Global,
         discount: u32,
         costs: bool,
         states: Elements,
@@ -55,19 +58,41 @@ impl Draft {
         observations: Elements,
         start: Option<Shares>,
         entries: Entries,
-    ) -> Draft
+    ) -> Result<Draft, AllocError>
         requires { IsSound (draft_of discount costs states actions observations start entries) }
-        ensures { result ≡ draft_of discount costs states actions observations start entries }
+        ensures { IfOk result (IsKeptOf (draft_of discount costs states actions observations start entries)) }
     {
-        Draft {
+        let entries = entries.as_slice();
+        let index = Index::of(alloc, entries)?;
+        let shape = Shape {
+            actions: actions.count(),
+            states: states.count(),
+            columns: states.count(),
+        };
+        let transitions = Rows::of(alloc, shape, Table::Transition, entries, &index)?;
+        let shape = Shape {
+            actions: actions.count(),
+            states: states.count(),
+            columns: observations.count(),
+        };
+        let observed = Rows::of(alloc, shape, Table::Observation, entries, &index)?;
+        let shape = RewardShape {
+            actions: actions.count(),
+            states: states.count(),
+            observations: observations.count(),
+        };
+        let rewards = Rewards::of(alloc, shape, costs, entries, &index)?;
+        Ok(Draft {
             discount,
             costs,
             states,
             actions,
             observations,
             start,
-            entries,
-        }
+            transitions,
+            observed,
+            rewards,
+        })
     }
 
     /// How many states there are: 1 to 1,000.
@@ -166,26 +191,18 @@ impl Draft {
     pub(crate) fn t(&self, a: usize, s: usize, e: usize) -> u64
         requires action { a < actions_of (meaning self.now) }
         requires start { s < states_of (meaning self.now) }
-        requires end { e < states_of (meaning self.now) }
         ensures { result ≡ (meaning self.now).t a s e }
     {
-        self.weight(
-            Table::Transition,
-            &[self.action(a), self.state(s), self.state(e)],
-        )
+        self.transitions.at(a, s, e)
     }
 
     /// O: the weight of observation `z` where action `a` ends in state `e`, out of `o_scale`.
     pub(crate) fn o(&self, a: usize, e: usize, z: usize) -> u64
         requires action { a < actions_of (meaning self.now) }
         requires end { e < states_of (meaning self.now) }
-        requires observation { z < observations_of (meaning self.now) }
         ensures { result ≡ (meaning self.now).o a e z }
     {
-        self.weight(
-            Table::Observation,
-            &[self.action(a), self.state(e), self.observation(z)],
-        )
+        self.observed.at(a, e, z)
     }
 
     /// R: the reward, in millionths, where action `a` is taken in state `s`, ends in state `e` and observation `z` is made.
@@ -196,20 +213,73 @@ impl Draft {
         requires observation { z < observations_of (meaning self.now) }
         ensures { result ≡ (meaning self.now).r a s e z }
     {
-        self.reward(&[
-            self.action(a),
-            self.state(s),
-            self.state(e),
-            self.observation(z),
-        ])
+        self.rewards.at(a, s, e, z)
     }
 
-    /// The entries, in the order of the text.
-    pub(crate) fn entries(&self) -> &[Entry]
-        ensures entries { result.now ≡ self.now.entries }
-        ensures sound { All (IsSoundEntry self.now.preamble) result.now }
+    /// The reward where action `a` is taken in state `s` and ends in state `e`, where it is known at once that it is the
+    /// same for every observation.
+    pub(crate) fn r_alike(&self, a: usize, s: usize, e: usize) -> Option<i64>
+        requires action { a < actions_of (meaning self.now) }
+        requires start { s < states_of (meaning self.now) }
+        requires end { e < states_of (meaning self.now) }
+        ensures { ForSome result (λ h. (z : ℕ) → z < observations_of (meaning self.now) → (meaning self.now).r a s e z ≡ h) }
     {
-        self.entries.as_slice()
+        self.rewards.alike(a, s, e)
+    }
+
+    /// Whether an entry gives rewards where action `a` is taken in state `s`: where none does, all are 0.
+    pub(crate) fn is_paid(&self, a: usize, s: usize) -> bool
+        requires action { a < actions_of (meaning self.now) }
+        requires start { s < states_of (meaning self.now) }
+        ensures { result ≡ false → (e z : ℕ) → e < states_of (meaning self.now) → z < observations_of (meaning self.now) →
+            (meaning self.now).r a s e z ≡ pos 0 }
+    {
+        self.rewards.is_paid(a, s)
+    }
+
+    /// The first end state, not before `from`, of a weight above 0 where action `a` is taken in state `s`, and that weight.
+    pub(crate) fn next_t(&self, a: usize, s: usize, from: usize) -> Option<(usize, u64)>
+        requires action { a < actions_of (meaning self.now) }
+        requires start { s < states_of (meaning self.now) }
+        ensures { IsNext ((meaning self.now).t a s) (states_of (meaning self.now)) from result }
+    {
+        self.transitions.next(a, s, from)
+    }
+
+    /// The first observation, not before `from`, of a weight above 0 where action `a` ends in state `e`, and that weight.
+    pub(crate) fn next_o(&self, a: usize, e: usize, from: usize) -> Option<(usize, u64)>
+        requires action { a < actions_of (meaning self.now) }
+        requires end { e < states_of (meaning self.now) }
+        ensures { IsNext ((meaning self.now).o a e) (observations_of (meaning self.now)) from result }
+    {
+        self.observed.next(a, e, from)
+    }
+
+    /// The weight of a cell of T or O.
+    pub(crate) fn weight(&self, table: Table, action: usize, state: usize, column: usize) -> u64
+        requires action { action < actions_of (meaning self.now) }
+        requires state { state < states_of (meaning self.now) }
+        ensures { result ≡ row_of self.now table action state column }
+    {
+        self.rows(table).at(action, state, column)
+    }
+
+    /// What the weights of all end states sum to where action `a` is taken in state `s`.
+    pub(crate) fn t_sum(&self, a: usize, s: usize) -> u64
+        requires action { a < actions_of (meaning self.now) }
+        requires start { s < states_of (meaning self.now) }
+        ensures { result ≡ sum_below ((meaning self.now).t a s) (states_of (meaning self.now)) }
+    {
+        self.transitions.sum(a, s)
+    }
+
+    /// What the weights of all observations sum to where action `a` ends in state `e`.
+    pub(crate) fn o_sum(&self, a: usize, e: usize) -> u64
+        requires action { a < actions_of (meaning self.now) }
+        requires end { e < states_of (meaning self.now) }
+        ensures { result ≡ sum_below ((meaning self.now).o a e) (observations_of (meaning self.now)) }
+    {
+        self.observed.sum(a, e)
     }
 
     /// How many columns a row of the table has: those of R have one.
@@ -224,91 +294,15 @@ impl Draft {
         }
     }
 
-    /// The indices of a cell of T or O.
-    pub(crate) fn cell(&self, table: Table, action: usize, state: usize, column: usize) -> [Axis; 3]
-        requires weighted { IsWeighted table }
-        requires action { action < actions_of (meaning self.now) }
-        requires state { state < states_of (meaning self.now) }
-        requires column { column < columns_in self.now.preamble table }
-        ensures axes { AreAxes (dimensions self.now.preamble table) result }
-        ensures indices { indices_of result ≡ action ∷ state ∷ column ∷ [] }
+    /// The rows of T or of O.
+    fn rows(&self, table: Table) -> &Rows
+        ensures rows { result.now ≡ rows_of self.now table }
+        ensures actions { result.now.actions ≡ actions_of (meaning self.now) }
+        ensures states { result.now.states ≡ states_of (meaning self.now) }
     {
-        [
-            self.action(action),
-            self.state(state),
-            Axis {
-                index: column,
-                count: self.columns(table),
-            },
-        ]
-    }
-
-    fn action(&self, index: usize) -> Axis
-        requires { index < actions_of (meaning self.now) }
-        ensures index { result.index ≡ index }
-        ensures count { result.count ≡ actions_of (meaning self.now) }
-        ensures in_range { IsInRange result }
-    {
-        Axis {
-            index,
-            count: self.actions(),
-        }
-    }
-
-    fn state(&self, index: usize) -> Axis
-        requires { index < states_of (meaning self.now) }
-        ensures index { result.index ≡ index }
-        ensures count { result.count ≡ states_of (meaning self.now) }
-        ensures in_range { IsInRange result }
-    {
-        Axis {
-            index,
-            count: self.states(),
-        }
-    }
-
-    fn observation(&self, index: usize) -> Axis
-        requires { index < observations_of (meaning self.now) }
-        ensures index { result.index ≡ index }
-        ensures count { result.count ≡ observations_of (meaning self.now) }
-        ensures in_range { IsInRange result }
-    {
-        Axis {
-            index,
-            count: self.observations(),
-        }
-    }
-
-    /// The weight of a cell of T or O.
-    fn weight(&self, table: Table, axes: &[Axis]) -> u64
-        requires { AreAxes (dimensions self.now.preamble table) axes.now }
-        ensures { result ≡ weight self.now.preamble self.now.entries table (indices_of axes.now) }
-    {
-        match last_covering(self.entries.as_slice(), table, axes) {
-            Some(entry) => self.weight_of(entry, table, axes),
-            None => 0,
-        }
-    }
-
-    /// What an entry of T or O gives a cell that it covers.
-    pub(crate) fn weight_of(&self, entry: &Entry, table: Table, axes: &[Axis]) -> u64
-        requires sound { IsSoundEntry self.now.preamble entry.now }
-        requires covered { covers table (indices_of axes.now) entry.now ≡ true }
-        requires axes { AreAxes (dimensions self.now.preamble table) axes.now }
-        ensures weight { result ≡ weight_of self.now.preamble (indices_of axes.now) entry.now }
-        ensures small { result ≤ one * columns_in self.now.preamble table }
-    {
-        weight_in(&entry.body, left_open(entry, axes), self.columns(table))
-    }
-
-    /// The reward of a cell of R.
-    fn reward(&self, axes: &[Axis]) -> i64
-        requires { AreAxes (dimensions self.now.preamble RewardTable) axes.now }
-        ensures { result ≡ reward self.now.preamble self.now.entries (indices_of axes.now) }
-    {
-        match last_covering(self.entries.as_slice(), Table::Reward, axes) {
-            Some(entry) => reward_in(self.costs, &entry.body, left_open(entry, axes)),
-            None => 0,
+        match table {
+            Table::Observation => &self.observed,
+            Table::Transition | Table::Reward => &self.transitions,
         }
     }
 }

@@ -1,66 +1,15 @@
-//! The states, actions or observations of a model.
-ghost use Rattle.std.specs.Prelude.{◌≡◌, ◌≤◌, ℕ, option_map, Some, IsAscii, IfOk, IfErr, OnErr};
+//! The states, actions or observations that tokens stand for.
+ghost use Rattle.std.specs.Prelude.{◌≡◌, ◌≤◌, ℕ, Some, IfOk, IfErr, OnErr};
 ghost use Rattle.polcert_text.specs.Reading.{lexeme_of};
-ghost use Rattle.polcert_model.specs.Elements.{count_of, number_of, name_of, StandsFor, most_elements};
+ghost use Rattle.polcert_cells.specs.Elements.{count_of, StandsFor, most_elements};
 ghost use Rattle.polcert_model.specs.ElementSteps.{IsText};
 ghost use Rattle.polcert_model.specs.EntrySteps.{IsPlaceReason};
 ghost use Rattle.polcert_model.specs.Misfits.{misfit, Index};
 
 use crate::ItemFault;
-use crate::names::Names;
 use crate::number::{Refusal, misplaced};
-use crate::words::is_reserved;
+use polcert_cells::{Elements, is_reserved};
 use polcert_text::{Token, TokenKind, whole_number};
-
-/// What the elements of a model are: what an index of its cells numbers.
-#[derive(Clone, Copy, Debug, PartialEq, Eq)]
-pub enum Kind {
-    State,
-    Action,
-    Observation,
-}
-
-/// The elements of one kind: so many, or names in order. An element's number counts from 0.
-///
-/// Source: the POMDP file format page at pomdp.org, "states:", "actions:" and "observations:".
-#[derive(Drop)]
-pub enum Elements {
-    Count(usize),
-    Names(Names),
-}
-
-impl Elements {
-    /// How many there are.
-    pub fn count(&self) -> usize
-        ensures { result ≡ count_of self.now }
-    {
-        match self {
-            Elements::Count(count) => *count,
-            Elements::Names(names) => names.len(),
-        }
-    }
-
-    /// The number of the element of this name: none where the elements have no names.
-    pub fn number_of(&self, name: &[u8]) -> Option<usize>
-        requires { IsAscii name.now }
-        ensures { result ≡ number_of self.now name.now }
-    {
-        match self {
-            Elements::Count(_) => None,
-            Elements::Names(names) => names.number_of(name),
-        }
-    }
-
-    /// The name of the element of this number, where the elements have names.
-    pub fn name_of(&self, number: usize) -> Option<&str>
-        ensures { option_map (λ name. name.now) result ≡ name_of self.now number }
-    {
-        match self {
-            Elements::Count(_) => None,
-            Elements::Names(names) => names.at(number),
-        }
-    }
-}
 
 /// The number of the element that the token stands for: by its number, or by its name.
 pub fn element_of(token: Token<'_>, elements: &Elements) -> Result<usize, Refusal>

@@ -2,28 +2,24 @@
 ghost use Rattle.std.specs.Prelude.{◌≡◌, ◌↔◌, List, [], ◌∷◌, ◌++◌, false, Some, None, OnOk, OnErr, IfOk, IfErr, IsTrue};
 ghost use Rattle.polcert_text.specs.Cut.{Lexeme};
 ghost use Rattle.polcert_text.specs.Reading.{lexeme_of};
-ghost use Rattle.polcert_model.specs.Elements.{count_of, most_elements};
+ghost use Rattle.polcert_cells.specs.Elements.{count_of, most_elements};
 ghost use Rattle.polcert_model.specs.ElementSteps.{IsText, NamesGo, ElementsGo, AreNamesRead, IsElementsRead, ElementsReason, AreElementsSeen, IsCountOf};
 ghost use Rattle.polcert_model.specs.EntrySteps.{IfRefused};
 ghost use Rattle.polcert_model.specs.ItemSteps.{IsEndReason};
 ghost use Rattle.polcert_model.specs.LineSteps.{Takes, CannotTake, CannotEnd};
-ghost use Rattle.polcert_model.specs.Meaning.{IsCount};
+ghost use Rattle.polcert_cells.specs.Meaning.{IsCount};
 ghost use Rattle.polcert_model.specs.Reasons.{is_sign};
 ghost use Rattle.polcert_model.specs.Misfits.{misfit, IsMisfit, CountOrName, FurtherName};
 ghost use Rattle.polcert_model.specs.WantSteps.{Leads, elements_want};
-ghost use Rattle.polcert_model.specs.Words.{IsName};
+ghost use Rattle.polcert_cells.specs.Words.{IsName};
 
 use crate::ItemFault;
-use crate::elements::Elements;
 use crate::lines::colon;
-use crate::names::Names;
 use crate::number::{Refusal, misplaced};
 use crate::stop::Stop;
-use crate::words::{Topic, is_reserved};
+use polcert_cells::{Elements, MOST_ELEMENTS, Names, Topic, is_reserved};
 use polcert_text::{Token, TokenKind, whole_number};
 use std::alloc::Global;
-
-const MOST_ELEMENTS: usize = 1000;
 
 /// `states:`, `actions:` or `observations:` and a count or names.
 #[derive(Drop)]

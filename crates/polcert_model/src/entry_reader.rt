@@ -2,9 +2,11 @@
 ghost use Rattle.std.specs.Prelude.{◌≡◌, ◌<◌, ◌≤◌, ◌↔◌, [], List, length, IsTrue, IfOk, OnOk, IfErr, OnErr, IfSome, IfNone, MatchOption, Some, None, false, unwrap_or};
 ghost use Rattle.polcert_text.specs.Reading.{lexeme_of};
 ghost use Rattle.std.specs.Option.{option_copied};
-ghost use Rattle.polcert_model.specs.Elements.{Elements, Count, count_of, most_elements};
+ghost use Rattle.polcert_cells.specs.declared.elements.Elements.{Elements};
+ghost use Rattle.polcert_cells.specs.declared.elements.Elements.TheVariants.{Count};
+ghost use Rattle.polcert_cells.specs.Elements.{count_of, most_elements};
 ghost use Rattle.polcert_model.specs.ElementSteps.{IsText};
-ghost use Rattle.polcert_model.specs.Entry.{IsPlace};
+ghost use Rattle.polcert_cells.specs.Entry.{IsPlace};
 ghost use Rattle.polcert_model.specs.KnownView.{least_written};
 ghost use Rattle.polcert_model.specs.LineSteps.{Takes, CannotTake, CannotEnd};
 ghost use Rattle.polcert_model.specs.EntrySteps.{indices_in, ProbabilitiesGo, RewardsGo, EntryGoes, IsWithinIndices, IsEntryReason, IsPlaceReason, IfRefused, IsFull, IsListReason, MayStand, IsWordBehind, AreBegun, CannotBegin, range_of, HasRoom, HasRoomIn, no_numbers, body_of, entry_sign, AreSome};
@@ -14,17 +16,17 @@ ghost use Rattle.polcert_model.specs.ItemSteps.{IsEndReason};
 ghost use Rattle.polcert_model.specs.Text.{Known};
 ghost use Rattle.polcert_model.specs.Wants.{numbers_want};
 ghost use Rattle.polcert_model.specs.WantSteps.{Leads, list_wants, state_wants, entry_wants};
-ghost use Rattle.polcert_model.specs.Words.{Topic};
-ghost use Rattle.polcert_model.specs.declared.entry.Place.{Place};
+ghost use Rattle.polcert_cells.specs.declared.words.Topic.{Topic};
+ghost use Rattle.polcert_cells.specs.declared.entry.Place.{Place};
 ghost use Rattle.polcert_model.specs.declared.entry_reader.Word.{Word};
 
-use crate::elements::{Elements, element_of};
+use crate::elements::element_of;
 use crate::known::Known;
 use crate::lines::colon;
 use crate::number::{Range, Refusal, Sign, Step, behind_numbers, misplaced, number_step};
 use crate::stop::Stop;
-use crate::words::{Topic, is_word};
 use crate::{Body, Entry, ItemFault, Place, Sequence, Table};
+use polcert_cells::{Elements, Topic, is_word};
 use polcert_text::{Token, TokenKind};
 use std::alloc::Global;
 

@@ -1,8 +1,9 @@
 //! Rows and tables computed from small models.
 ghost use Rattle.std.specs.Prelude.{codes, true, Some, None, ◌≡◌, ◌∷◌, [], sum, pos, neg_ℤ};
-ghost use Rattle.polcert_model.specs.Meaning.{t_scale, HasProperRows, sum_below, states_of, actions_of, observations_of, start_total};
+ghost use Rattle.polcert_cells.specs.Meaning.{t_scale, HasProperRows, sum_below, states_of, actions_of, observations_of, start_total};
 ghost use Rattle.polcert_model.specs.Examples.{first_row, thirds, decimal_thirds, sixths, patterns, reward_table, whole, reward_cells, general_first, general_last, name, numeral};
-ghost use Rattle.polcert_model.specs.Start.{Shares, IsStart};
+ghost use Rattle.polcert_cells.specs.declared.shares.Shares.{Shares};
+ghost use Rattle.polcert_cells.specs.Start.{IsStart};
 ghost use Rattle.polcert_model.specs.StartExamples.{a_b, shares, uniform_start, halves_start, quarters_start, name_start, number_start, include_start, exclude_start, exclude_none, exclude_all, unsummed_start, third_start, pointed_start, alone, zero_start};
 ghost use Rattle.polcert_model.specs.Text.{Denotes, IsRightText};
 ghost use Rattle.polcert_model.specs.Tiger.{tiger, tiger_model, star};

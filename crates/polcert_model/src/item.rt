@@ -11,17 +11,15 @@ ghost use Rattle.polcert_model.specs.Misfits.{misfit, IsMisfit};
 ghost use Rattle.polcert_model.specs.StartSteps.{IfNotMemory};
 ghost use Rattle.polcert_model.specs.WantSteps.{Leads, item_wants, IfNotStart, IfStart, IsStartMisfit, IfAtEnd};
 
-use crate::elements::Elements;
 use crate::elements_reader::ElementsReader;
 use crate::entry_reader::EntryReader;
 use crate::known::Known;
 use crate::lines::{DiscountReader, ValuesReader};
 use crate::number::Refusal;
-use crate::shares::Shares;
 use crate::start_reader::StartReader;
 use crate::stop::{ItemEnd, Stop};
-use crate::words::Topic;
 use crate::{Entry, ItemFault};
+use polcert_cells::{Elements, Shares, Topic};
 use polcert_text::Token;
 use std::alloc::Global;
 

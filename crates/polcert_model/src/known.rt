@@ -1,23 +1,24 @@
 //! What the items of a text have said so far.
-ghost use Rattle.std.specs.Prelude.{◌≡◌, ◌<◌, ◌≤◌, length, drop, get_or, List, Some, unwrap_or, OnOk, OnErr, if◌then◌else◌};
+ghost use Rattle.std.specs.Prelude.{◌≡◌, ◌<◌, ◌≤◌, length, drop, get_or, List, Some, unwrap_or, OnOk, OnErr, IfOk, if◌then◌else◌};
 ghost use Rattle.std.specs.Option.{option_copied};
-ghost use Rattle.polcert_model.specs.Elements.{Elements, Count, count_of, most_elements};
-ghost use Rattle.polcert_model.specs.Entry.{cells_in};
+ghost use Rattle.polcert_cells.specs.declared.elements.Elements.{Elements};
+ghost use Rattle.polcert_cells.specs.declared.elements.Elements.TheVariants.{Count};
+ghost use Rattle.polcert_cells.specs.Elements.{count_of, most_elements};
+ghost use Rattle.polcert_cells.specs.Entry.{cells_in};
 ghost use Rattle.polcert_model.specs.EntrySteps.{indices_in};
 ghost use Rattle.polcert_model.specs.KnownView.{least_written, learned, IsSaidWithin};
-ghost use Rattle.polcert_model.specs.Meaning.{IsCount};
+ghost use Rattle.polcert_cells.specs.Meaning.{IsCount};
+ghost use Rattle.polcert_model.specs.Kept.{IsKeptOf};
 ghost use Rattle.polcert_model.specs.Order.{word_fault};
 ghost use Rattle.polcert_model.specs.Order.{count_in, preamble_fault, is_late, came_before, cells_are_too_many};
 ghost use Rattle.polcert_model.specs.Text.{nothing_known};
-ghost use Rattle.polcert_model.specs.TextSteps.{IsWholeRead, kept};
+ghost use Rattle.polcert_model.specs.TextSteps.{IsWholeRead, said};
 ghost use Rattle.polcert_text.specs.Cut.{Lexeme};
 
 use crate::draft::Draft;
-use crate::elements::Elements;
 use crate::item::Said;
-use crate::shares::Shares;
-use crate::words::Topic;
 use crate::{Entries, ItemFault, Table};
+use polcert_cells::{Elements, Shares, Topic};
 use std::alloc::{AllocError, Global};
 use std::marker::Model;
 
@@ -82,9 +83,9 @@ impl Known {
     }
 
     /// The draft of a complete preamble, start item and entries.
-    pub(crate) fn into_draft(self) -> Draft
+    pub(crate) fn into_draft(self, alloc: Global) -> Result<Draft, AllocError>
         requires { (seen : List Lexeme) × IsWholeRead seen self }
-        ensures { result ≡ kept self }
+        ensures { IfOk result (IsKeptOf (said self)) }
     {
         let Known {
             discount,
@@ -96,6 +97,7 @@ impl Known {
             entries,
         } = self;
         Draft::of(
+            alloc,
             discount.unwrap_or(0),
             costs.unwrap_or(false),
             states.unwrap_or(Elements::Count(0)),
@@ -210,9 +212,9 @@ fn count_in(elements: &Option<Elements>) -> usize
 }
 
 fn cells_fault(states: usize, actions: usize, observations: usize) -> Option<ItemFault>
-    requires states { states ≤ 1000 }
-    requires actions { actions ≤ 1000 }
-    requires observations { observations ≤ 1000 }
+    requires states { states ≤ most_elements }
+    requires actions { actions ≤ most_elements }
+    requires observations { observations ≤ most_elements }
     ensures { result ≡ (if cells_are_too_many states actions observations then Some ItemFault.TooManyCells else None) }
 {
     let pairs = actions * states;

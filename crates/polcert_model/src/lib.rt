@@ -1,11 +1,10 @@
 //! Models: what the texts of POMDP files are, and what they denote.
 #![tactic(auto)]
 
-mod cells;
+mod dense;
 mod draft;
 mod elements;
 mod elements_reader;
-mod entry;
 mod entry_reader;
 mod examples;
 mod fault;
@@ -14,7 +13,6 @@ mod known;
 mod laws;
 mod lines;
 mod model;
-mod names;
 mod number;
 mod print;
 mod print_rewards;
@@ -22,18 +20,14 @@ mod print_rows;
 mod print_words;
 mod reader;
 mod row_cells;
-mod row_part;
 mod rows;
-mod shares;
 mod start_reader;
 mod stop;
 mod table;
 #[cfg(test)]
 mod tests;
-mod words;
 
-pub use elements::Kind;
-pub use entry::{Body, Entries, Entry, Place, Sequence, Table};
+pub use dense::{DenseModel, dense_of};
 pub use examples::{
     decimals_of_thirds, first_text, full_forms, kinds_of_misfits, printed_lines, refused_texts,
     reward_order, reward_patterns, single_cells_behind_uniform, starts, tiger_problem,
@@ -48,7 +42,6 @@ pub use laws::{
     uncovered_is_zero, uniform_sums_to_scale, within_limits,
 };
 pub use model::Model;
+pub use polcert_cells::{Body, Cells, Entries, Entry, Kind, Place, Sequence, Table, Topic};
 pub use print::write_model;
 pub use reader::read_model;
-pub use table::Cells;
-pub use words::Topic;

@@ -11,7 +11,7 @@ ghost use Rattle.polcert_model.specs.WantSteps.{Leads, discount_wants, values_wa
 
 use crate::ItemFault;
 use crate::number::{Range, Refusal, Sign, Step, behind_numbers, misplaced, number_step};
-use crate::words::{Topic, is_word};
+use polcert_cells::{Topic, is_word};
 use polcert_text::{Token, TokenKind};
 
 /// `discount:` and a number, in millionths.

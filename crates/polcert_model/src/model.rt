@@ -1,13 +1,13 @@
 //! A model, as it was read.
 ghost use Rattle.std.specs.Prelude.{◌≡◌, ◌<◌, option_map};
-ghost use Rattle.polcert_model.specs.Elements.{most_elements, count_of, name_of};
-ghost use Rattle.polcert_model.specs.Meaning.{HasProperRows, IsWithinLimits, IsCount, states_of, actions_of, observations_of, t_scale, o_scale, start_weight, start_total, elements_of};
-ghost use Rattle.polcert_model.specs.Drafts as drafts;
+ghost use Rattle.polcert_cells.specs.Elements.{most_elements, count_of, name_of};
+ghost use Rattle.polcert_cells.specs.Meaning.{HasProperRows, IsWithinLimits, IsCount, states_of, actions_of, observations_of, t_scale, o_scale, start_weight, start_total, elements_of};
+ghost use Rattle.polcert_model.specs.Kept as kept;
 ghost use Rattle.polcert_model.specs.Contents.{meaning};
 ghost use Rattle.polcert_model.specs.Writable.{IsWritable};
 
 use crate::draft::Draft;
-use crate::elements::Kind;
+use polcert_cells::Kind;
 use std::marker;
 
 /// A model of a partially observable Markov decision process: what its text says.
@@ -20,9 +20,9 @@ use std::marker;
 #[derive(Drop)]
 pub struct Model {
     draft: Draft,
-    ghost rows: { HasProperRows (drafts.meaning draft) },
-    ghost limits: { IsWithinLimits (drafts.meaning draft) },
-    ghost writable: { IsWritable (drafts.meaning draft) },
+    ghost rows: { HasProperRows (kept.meaning draft) },
+    ghost limits: { IsWithinLimits (kept.meaning draft) },
+    ghost writable: { IsWritable (kept.meaning draft) },
 }
 
 impl marker::Model for Model {
@@ -36,9 +36,9 @@ impl marker::Model for Model {
 impl Model {
     /// The model of a draft whose rows sum to their scales.
     pub(crate) fn of(draft: Draft) -> Model
-        requires rows { HasProperRows (drafts.meaning draft) }
-        requires limits { IsWithinLimits (drafts.meaning draft) }
-        requires writable { IsWritable (drafts.meaning draft) }
+        requires rows { HasProperRows (kept.meaning draft) }
+        requires limits { IsWithinLimits (kept.meaning draft) }
+        requires writable { IsWritable (kept.meaning draft) }
         ensures { result.draft ≡ draft }
     {
         Model { draft }

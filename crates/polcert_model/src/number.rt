@@ -6,7 +6,7 @@ ghost use Rattle.polcert_model.specs.Misfits.{misfit, IsMisfit, EndOfNumbers, En
 ghost use Rattle.polcert_model.specs.WantSteps.{number_wants};
 
 use crate::ItemFault;
-use crate::words::is_word;
+use polcert_cells::is_word;
 use polcert_text::{Token, TokenKind, scaled_of};
 
 /// Why an item is refused, and the offset where.

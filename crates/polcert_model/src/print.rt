@@ -2,17 +2,16 @@
 ghost use Rattle.std.specs.Prelude.{◌≡◌, ◌==◌, ◌||◌, ◌++◌, ◌<◌, length, codes, decimal};
 ghost use Rattle.polcert_text.specs.Sink.{WritesText};
 ghost use Rattle.polcert_model.specs.Contents.{meaning};
-ghost use Rattle.polcert_model.specs.Meaning.{states_of};
+ghost use Rattle.polcert_cells.specs.Meaning.{states_of};
 ghost use Rattle.polcert_model.specs.Text.{IsModelText};
 ghost use Rattle.polcert_model.specs.FullForm.{for_each, all_below, full_form, preamble_text, start_text};
 ghost use Rattle.polcert_model.specs.PrintSteps.{values_line, settings_text, elements_text, elements_line, name_text, share_of, chosen_text, share_text, behind_blank};
 
-use crate::elements::Elements;
-use crate::names::Names;
 use crate::print_rewards::write_rewards;
 use crate::print_rows::write_rows;
 use crate::print_words::write_number;
 use crate::{Kind, Model, Table};
+use polcert_cells::{Elements, Names};
 use polcert_text::{Sink, SinkFailed, write_all, write_scaled};
 
 /// Writes the full form of a model: the preamble, the start, each row of T and O, and the rewards that are not all 0,

@@ -4,12 +4,12 @@ ghost use Rattle.std.specs.List.{list_all};
 ghost use Rattle.polcert_text.specs.Numbers.{largest};
 ghost use Rattle.polcert_text.specs.Sink.{WritesText};
 ghost use Rattle.polcert_model.specs.Contents.{meaning};
-ghost use Rattle.polcert_model.specs.Meaning.{states_of, actions_of, observations_of};
+ghost use Rattle.polcert_cells.specs.Meaning.{states_of, actions_of, observations_of};
 ghost use Rattle.polcert_model.specs.FullForm.{for_each, written, is_zero, rewards_row, rewards_text};
 ghost use Rattle.polcert_model.specs.PrintSteps.{pattern_text, reward_text, rewards_from, rewards_at};
 
 use crate::print_words::{write_head, write_number_at};
-use crate::row_cells::{is_paid, reward_row};
+use crate::row_cells::reward_row;
 use crate::{Model, Table};
 use polcert_text::{Sink, SinkFailed, write_all};
 
@@ -44,7 +44,7 @@ fn write_rewards_from<W: Sink>(
     requires start { start < states_of (meaning model.now) }
     ensures { WritesText W.writes W.failures out.old (rewards_from (meaning model.now) action start) result out.new }
 {
-    if !is_paid(model.draft(), action, start) {
+    if !model.draft().is_paid(action, start) {
         return Ok(());
     }
     write_reward_rows(model, action, start, out)

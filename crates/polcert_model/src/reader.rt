@@ -2,7 +2,7 @@
 ghost use Rattle.std.specs.Prelude.{None, IfOk, IfErr, ◌≡◌, ◌+◌, ◌<◌, ◌≤◌, ◌^◌, ◌++◌, ◌∷◌, [], Some, false, List, MatchResult};
 ghost use Rattle.polcert_text.specs.Cut.{Lexeme, IsCut, text_rest, text_limit};
 ghost use Rattle.polcert_text.specs.Reading.{lexeme_of};
-ghost use Rattle.polcert_model.specs.Words.{topic, begins_item};
+ghost use Rattle.polcert_cells.specs.Words.{topic, begins_item};
 ghost use Rattle.polcert_model.specs.ElementSteps.{IsText};
 ghost use Rattle.polcert_model.specs.Text.{IsModelText};
 ghost use Rattle.polcert_model.specs.FirstWrong.{TextTokens, AreTokensOf};
@@ -15,8 +15,8 @@ use crate::known::Known;
 use crate::model::Model;
 use crate::rows::{WrongRow, first_wrong_row};
 use crate::stop::{ItemEnd, Stop};
-use crate::words::{Topic, begun_topic};
 use crate::{ItemFault, ModelFault};
+use polcert_cells::{Topic, begun_topic};
 use polcert_text::{TEXT_LIMIT, Token, TokenFault, Tokens};
 use std::alloc::{AllocError, Global};
 
@@ -190,7 +190,7 @@ pub fn read_model(alloc: Global, text: &[u8]) -> Result<Model, ModelFault>
     ensures refused { IfErr result (λ fault. (ts : TextTokens) → AreTokensOf text.now ts → IsRefusal ts fault) }
     ensures placed { IfErr result (λ fault. (ts : TextTokens) → AreTokensOf text.now ts → IsPlacedRight ts fault) }
 {
-    let draft = read_text(alloc, text)?.into_draft();
+    let draft = read_text(alloc, text)?.into_draft(alloc)?;
     match first_wrong_row(&draft) {
         None => Ok(Model::of(draft)),
         Some(WrongRow { table, action, row }) => Err(ModelFault::RowSum { table, action, row }),

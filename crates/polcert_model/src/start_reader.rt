@@ -5,28 +5,28 @@ ghost use Rattle.polcert_text.specs.Cut.{Lexeme};
 ghost use Rattle.polcert_text.specs.Reading.{lexeme_of};
 ghost use Rattle.polcert_text.specs.Lexemes.{are_digits};
 ghost use Rattle.polcert_model.specs.ElementSteps.{IsText};
-ghost use Rattle.polcert_model.specs.Elements.{Elements as AnyElements, count_of, most_elements};
+ghost use Rattle.polcert_cells.specs.declared.elements.Elements.{Elements as AnyElements};
+ghost use Rattle.polcert_cells.specs.Elements.{count_of, most_elements};
 ghost use Rattle.polcert_model.specs.EntrySteps.{IfRefused, HasRoom};
 ghost use Rattle.polcert_model.specs.LineSteps.{Takes, CannotTake, CannotEnd};
-ghost use Rattle.polcert_model.specs.Meaning.{IsCount};
+ghost use Rattle.polcert_cells.specs.Meaning.{IsCount};
 ghost use Rattle.polcert_model.specs.Misfits.{misfit, IsMisfit, IsOfValue, Mark, Listed, StartBody};
 ghost use Rattle.polcert_model.specs.NumberSteps.{IsMisplaced, SignIs};
 ghost use Rattle.polcert_model.specs.Reasons.{is_sign};
-ghost use Rattle.polcert_model.specs.Start.{alike, all_states, single, shares_of, is_level, is_positive};
+ghost use Rattle.polcert_cells.specs.Start.{alike, all_states, single, shares_of, is_level, is_positive};
 ghost use Rattle.polcert_model.specs.StartSteps.{StartGoes, IsStartWithin, IsStartSeen, IsStartReason, IsStartEndReason, IfNotMemory, new_start, pending, marked, AreUnmarked, picks, NumbersGo, Begins, IsKept, IsReasonAt, IsNumberStop, IsDigitsStop, AreDigits, first_above_0, is_level_at, level_share};
 ghost use Rattle.polcert_model.specs.Wants.{number_end, numbers_want, start_body_wants};
 ghost use Rattle.polcert_model.specs.WantSteps.{Leads, number_wants, list_wants, start_wants, IfAtEnd, IsValueOr, IsAtToken};
 
-use crate::elements::{Elements, element_of};
+use crate::elements::element_of;
 use crate::entry_reader::Numbers;
 use crate::lines::colon;
 use crate::number::{
     Range, Refusal, Sign, Step, behind_numbers, misplaced, number_place, number_step,
 };
-use crate::shares::Shares;
 use crate::stop::{ItemEnd, Stop};
-use crate::words::is_word;
 use crate::{ItemFault, Sequence};
+use polcert_cells::{Elements, Shares, is_word};
 use polcert_text::{NumberFault, Token, TokenKind, scaled_of, whole_number};
 use std::alloc::{AllocError, Global};
 

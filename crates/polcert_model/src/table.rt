@@ -1,70 +1,10 @@
 //! What a check asks of a model.
-ghost use Rattle.std.specs.Prelude.{◌≡◌, ◌<◌, refl};
+ghost use Rattle.std.specs.Prelude.{refl};
 ghost use Rattle.polcert_model.specs.Contents.{meaning};
-ghost use Rattle.polcert_model.specs.Tables.{Table, table_of, IsProper, IsWithinLimits};
+ghost use Rattle.polcert_cells.specs.Tables.{table_of};
 
 use crate::Model;
-
-/// The cells of a model, its counts and its scales, as a check reads them.
-///
-/// Elements go by their numbers, from 0. Rows of T sum to `t_scale` and rows of O to `o_scale`, exactly; the discount and
-/// rewards are in millionths.
-pub trait Cells {
-    // What the readers answer.
-    ghost table: { Self → Table };
-
-    /// How many states there are: 1 to 1,000.
-    fn states(&self) -> usize
-        ensures { result ≡ (table self.now).states };
-
-    /// How many actions there are: 1 to 1,000.
-    fn actions(&self) -> usize
-        ensures { result ≡ (table self.now).actions };
-
-    /// How many observations there are: 1 to 1,000.
-    fn observations(&self) -> usize
-        ensures { result ≡ (table self.now).observations };
-
-    /// The discount, in millionths: 0 to 1,000,000.
-    fn discount(&self) -> u32
-        ensures { result ≡ (table self.now).discount };
-
-    /// What each row of T sums to: 1,000,000 for each state.
-    fn t_scale(&self) -> u64
-        ensures { result ≡ (table self.now).t_scale };
-
-    /// What each row of O sums to: 1,000,000 for each observation.
-    fn o_scale(&self) -> u64
-        ensures { result ≡ (table self.now).o_scale };
-
-    /// The weight of end state `e` where action `a` is taken in state `s`, out of `t_scale`.
-    fn t(&self, a: usize, s: usize, e: usize) -> u64
-        requires action { a < (table self.now).actions }
-        requires start { s < (table self.now).states }
-        requires end { e < (table self.now).states }
-        ensures { result ≡ (table self.now).t a s e };
-
-    /// The weight of observation `z` where action `a` ends in state `e`, out of `o_scale`.
-    fn o(&self, a: usize, e: usize, z: usize) -> u64
-        requires action { a < (table self.now).actions }
-        requires end { e < (table self.now).states }
-        requires observation { z < (table self.now).observations }
-        ensures { result ≡ (table self.now).o a e z };
-
-    /// The reward where action `a` is taken in state `s`, ends in state `e` and observation `z` is made, in millionths.
-    fn r(&self, a: usize, s: usize, e: usize, z: usize) -> i64
-        requires action { a < (table self.now).actions }
-        requires start { s < (table self.now).states }
-        requires end { e < (table self.now).states }
-        requires observation { z < (table self.now).observations }
-        ensures { result ≡ (table self.now).r a s e z };
-
-    // Rows sum to their scale.
-    ghost is_proper: { (x : Self) → IsProper (table x) };
-
-    // Counts, scales, discount and rewards lie within their limits.
-    ghost is_within_limits: { (x : Self) → IsWithinLimits (table x) };
-}
+use polcert_cells::Cells;
 
 impl Cells for Model {
     ghost table = { λ m. table_of (meaning m) };
@@ -115,5 +55,17 @@ impl Cells for Model {
 
     fn r(&self, a: usize, s: usize, e: usize, z: usize) -> i64 {
         Model::r(self, a, s, e, z)
+    }
+
+    fn next_t(&self, a: usize, s: usize, from: usize) -> Option<(usize, u64)> {
+        self.draft().next_t(a, s, from)
+    }
+
+    fn next_o(&self, a: usize, e: usize, from: usize) -> Option<(usize, u64)> {
+        self.draft().next_o(a, e, from)
+    }
+
+    fn r_alike(&self, a: usize, s: usize, e: usize) -> Option<i64> {
+        self.draft().r_alike(a, s, e)
     }
 }

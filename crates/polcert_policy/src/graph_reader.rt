@@ -1,10 +1,12 @@
 //! Reads a policy graph.
-ghost use Rattle.std.specs.Prelude.{◌≡◌, ◌+◌, ◌<◌, ◌≤◌, ◌⊎◌, ◌++◌, ◌∷◌, [], ℕ, true, length, List, MatchResult, MatchOption, IfErr, IsErrAnd};
+ghost use Rattle.std.specs.Prelude.{◌≡◌, ◌+◌, ◌<◌, ◌≤◌, ◌⊎◌, ◌++◌, ◌∷◌, [], ℕ, true, length, List, MatchResult, MatchOption, IfErr, IfOk, IsErrAnd, IsErrOf, ◌≢◌};
+ghost use Rattle.polcert_text.specs.Device.{HasFailed};
+ghost use Rattle.polcert_text.specs.Source.{IsText, EachTextThatFits};
 ghost use Rattle.polcert_text.specs.Cut.{Lexeme};
 ghost use Rattle.polcert_text.specs.Reading.{lexeme_of};
 ghost use Rattle.polcert_policy.specs.Words.{minus_kind, is_joined};
 ghost use Rattle.polcert_policy.specs.Graphs.{IsGraph, most_elements, most_nodes};
-ghost use Rattle.polcert_policy.specs.GraphText.{IsGraphText, IsGraphRefusal, IsNoGraphText, HasFirstBeyond, NamesSuccessor};
+ghost use Rattle.polcert_policy.specs.GraphText.{IsGraphText, IsGraphRefusal, IsNoGraphText, IsRefusedGraphText, HasFirstBeyond, NamesSuccessor};
 ghost use Rattle.polcert_policy.specs.GraphRead.{IsRead, IsTokenRefusal, IsEndRefusal, MinusOf, HasCounts, CheckedNumber, ReadAction, Advanced, TakesNext, IsApartFrom, AllBelow, IsFirstBeyondAt};
 
 use crate::fault::GraphFault;
@@ -13,7 +15,9 @@ use crate::graph_reading::{GraphReading, MinusSign};
 use crate::growth::push;
 use crate::successor::Successor;
 use crate::words::{successor_of, whole_of};
-use polcert_text::{TEXT_LIMIT, Token, TokenKind, Tokens};
+use polcert_text::{
+    Source, SourceFault, StreamFault, StreamTokens, TEXT_LIMIT, Token, TokenKind, Tokens,
+};
 use std::alloc::Global;
 
 const MOST_NODES: usize = 10_000;
@@ -263,4 +267,51 @@ pub fn read_graph(
         }
     }
     reading.finish(text.len() as u64)
+}
+
+/// Reads the policy graph whose text the source gives, to its true end. `actions` and `observations` are the model's
+/// counts. Nothing of the text is kept but the graph.
+///
+/// # Errors
+///
+/// `Device` where a read failed, and else what `read_graph` refuses. A text that is refused before its source fails is
+/// refused.
+pub fn read_graph_from<S: Source>(
+    alloc: Global,
+    source: &mut S,
+    actions: usize,
+    observations: usize,
+) -> Result<Graph, SourceFault<GraphFault>>
+    requires some_actions { 1 ≤ actions }
+    requires few_actions { actions ≤ most_elements }
+    requires some_observations { 1 ≤ observations }
+    requires few_observations { observations ≤ most_elements }
+    ensures accepted { IfOk result (λ g. (text : List ℕ) × IsText S.reads source.old text source.new
+        × IsGraphText actions observations text g) }
+    ensures refused { (fault : GraphFault) → IsErrOf result (SourceFault.Refused fault)
+        → EachTextThatFits S.reads source.old source.new (IsRefusedGraphText actions observations fault) }
+    ensures device { IsErrOf result SourceFault.Device → HasFailed (S.failures source.old) (S.failures source.new) }
+    ensures same_count { (result ≢ Err SourceFault.Device) → S.failures source.new ≡ S.failures source.old }
+{
+    let mut tokens = StreamTokens::new(TEXT_LIMIT);
+    let mut reading = GraphReading::new(alloc, actions, observations);
+    loop {
+        match tokens.next_token(source) {
+            Ok(Some(token)) => {
+                if let Err(fault) = reading.take(token) {
+                    return Err(SourceFault::Refused(fault));
+                }
+            }
+            Ok(None) => {
+                return match reading.finish(tokens.place()) {
+                    Ok(graph) => Ok(graph),
+                    Err(fault) => Err(SourceFault::Refused(fault)),
+                };
+            }
+            Err(StreamFault::Token(fault)) => {
+                return Err(SourceFault::Refused(GraphFault::Token(fault)));
+            }
+            Err(StreamFault::Device) => return Err(SourceFault::Device),
+        }
+    }
 }

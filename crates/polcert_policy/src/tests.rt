@@ -2,6 +2,8 @@ ghost use Rattle.std.specs.Prelude.{◌≤◌, IsTrue, negsuc};
 ghost use Rattle.polcert_policy.specs.Graphs.{most_elements};
 ghost use Rattle.polcert_policy.specs.Vectors.{CanShift};
 
+mod sources;
+
 use crate::{Graph, GraphFault, VectorFault, Vectors, read_graph, read_vectors, write_vectors};
 use polcert_text::{NumberFault, SliceSink, TokenFault};
 use std::alloc::Global;

@@ -1,11 +1,13 @@
 //! Reads the vectors of a policy graph.
-ghost use Rattle.std.specs.Prelude.{◌≡◌, ◌+◌, ◌<◌, ◌≤◌, [], true, false, List, MatchResult, IfErr};
+ghost use Rattle.std.specs.Prelude.{◌≡◌, ◌+◌, ◌<◌, ◌≤◌, [], true, false, ℕ, List, MatchResult, IfErr, IfOk, IsErrOf, ◌≢◌};
+ghost use Rattle.polcert_text.specs.Device.{HasFailed};
+ghost use Rattle.polcert_text.specs.Source.{IsText, EachTextThatFits};
 ghost use Rattle.polcert_text.specs.Cut.{Lexeme};
 ghost use Rattle.polcert_text.specs.Reading.{lexeme_of};
 ghost use Rattle.polcert_policy.specs.Words.{numeral_kind, minus_kind};
 ghost use Rattle.polcert_policy.specs.Graphs.{PolicyGraph, IsProperGraph, most_elements};
 ghost use Rattle.polcert_policy.specs.Vectors.{sign_kind, IsVectors};
-ghost use Rattle.polcert_policy.specs.VectorText.{IsVectorsText, IsNoVectorsText, IsVectorsRefusal};
+ghost use Rattle.polcert_policy.specs.VectorText.{IsVectorsText, IsNoVectorsText, IsVectorsRefusal, IsRefusedVectorsText};
 ghost use Rattle.polcert_policy.specs.VectorsRead.{place_behind, is_minus, HasVectors, TakesPart, CheckedAction, AdvancedValue, AreEndRefusal};
 
 use crate::fault::VectorFault;
@@ -14,7 +16,9 @@ use crate::growth::push;
 use crate::vectors::Vectors;
 use crate::vectors_reading::{OpenSign, VectorsReading};
 use crate::words::whole_of;
-use polcert_text::{TEXT_LIMIT, Token, TokenKind, Tokens, floor_of};
+use polcert_text::{
+    Source, SourceFault, StreamFault, StreamTokens, TEXT_LIMIT, Token, TokenKind, Tokens, floor_of,
+};
 use std::alloc::Global;
 
 impl VectorsReading {
@@ -208,4 +212,50 @@ pub fn read_vectors(
         }
     }
     reading.finish(graph, text.len() as u64)
+}
+
+/// Reads the vectors of a graph whose text the source gives, to its true end. `states` is the model's count. Nothing of
+/// the text is kept but the vectors.
+///
+/// # Errors
+///
+/// `Device` where a read failed, and else what `read_vectors` refuses. A text that is refused before its source fails is
+/// refused.
+pub fn read_vectors_from<S: Source>(
+    alloc: Global,
+    source: &mut S,
+    graph: &Graph,
+    states: usize,
+) -> Result<Vectors, SourceFault<VectorFault>>
+    requires some_states { 1 ≤ states }
+    requires few_states { states ≤ most_elements }
+    ensures accepted { IfOk result (λ v. (text : List ℕ) × IsText S.reads source.old text source.new
+        × IsVectorsText graph.now states text v) }
+    ensures refused { (fault : VectorFault) → IsErrOf result (SourceFault.Refused fault)
+        → EachTextThatFits S.reads source.old source.new (IsRefusedVectorsText graph.now states fault) }
+    ensures device { IsErrOf result SourceFault.Device → HasFailed (S.failures source.old) (S.failures source.new) }
+    ensures same_count { (result ≢ Err SourceFault.Device) → S.failures source.new ≡ S.failures source.old }
+{
+    let mut tokens = StreamTokens::new(TEXT_LIMIT);
+    let _nodes = graph.nodes();
+    let mut reading = VectorsReading::new(alloc, states);
+    loop {
+        match tokens.next_token(source) {
+            Ok(Some(token)) => {
+                if let Err(fault) = reading.take(graph, token) {
+                    return Err(SourceFault::Refused(fault));
+                }
+            }
+            Ok(None) => {
+                return match reading.finish(graph, tokens.place()) {
+                    Ok(vectors) => Ok(vectors),
+                    Err(fault) => Err(SourceFault::Refused(fault)),
+                };
+            }
+            Err(StreamFault::Token(fault)) => {
+                return Err(SourceFault::Refused(VectorFault::Token(fault)));
+            }
+            Err(StreamFault::Device) => return Err(SourceFault::Device),
+        }
+    }
 }

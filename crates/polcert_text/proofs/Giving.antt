@@ -1,6 +1,6 @@
 -- Lemmas on what a source gave.
-use Rattle.std.proofs.Common.{◌≡◌, ◌<◌, ◌++◌, ℕ, List, Option, Some, length}
-use Rattle.polcert_text.specs.Source.{Gives, more}
+use Rattle.std.proofs.Common.{◌≡◌, ◌<◌, ◌++◌, ℕ, List, Option, Some, length, append-nil, append_assoc}
+use Rattle.polcert_text.specs.Source.{Gives, nothing, more}
 
 module _ {S : Type 0} {reads : S → ℕ → Option (List ℕ) → S → Type 0} {from : S} where
   -- one more read of a loop that keeps the bytes
@@ -8,3 +8,9 @@ module _ {S : Type 0} {reads : S → ℕ → Option (List ℕ) → S → Type 0}
       → reads s room (Some front) t → 0 < length front → all ≡ bytes ++ front → Gives reads from all t
   gave_more all bytes front room s t gave call some same =
       let both : Gives reads from (bytes ++ front) t = more gave call some in rw same both
+
+  -- what was given by further reads comes behind
+  pub gave_then : {s t : S} {first second : List ℕ} → Gives reads from first s → Gives reads s second t → Gives reads from (first ++ second) t
+  gave_then {s} {t} {first} gave nothing = rw (append-nil first) gave
+  gave_then {s} {t} {first} gave (more {bytes} {front} gave_more call some) =
+      let all = more (gave_then gave gave_more) call some in rw (← append_assoc) all

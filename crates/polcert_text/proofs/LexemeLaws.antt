@@ -1,9 +1,8 @@
 -- Reading a lexeme byte by byte tells what kind of lexeme each front is.
-use Rattle.std.proofs.Common.{◌≡◌, ◌∙◌, ℕ, ◌+◌, Bool, true, false, not, ◌&&◌, ◌||◌, cond, Option, Some, None, List, [], ◌∷◌, ◌++◌, take, drop, refl, sym, ap, subst, append-nil, arith}
+use Rattle.std.proofs.Common.{◌≡◌, ◌∙◌, ℕ, ◌+◌, Bool, true, false, not, ◌&&◌, ◌||◌, cond, Option, Some, None, List, [], ◌∷◌, ◌++◌, take, drop, refl, sym, ap, append-nil, arith}
 use Rattle.std.proofs.Common.{◌<◌, ◌≤◌, length, get_or, ◌⊎◌, ⊎_elim, take_all}
 use Rattle.std.proofs.lemmas.List.{take_more, take-take, take-append-drop, take-append-le, take_at, length-append}
-use Rattle.polcert_text.specs.ScanOf.{is_stuck, IsFrontOf, IsScanOf}
-use Rattle.polcert_text.specs.declared.lexeme.LexemeScan.{LexemeScan}
+use Rattle.polcert_text.specs.ScanOf.{is_stuck, IsFrontOf}
 use Rattle.std.specs.List.{list_all, list_any}
 use Rattle.polcert_text.specs.declared.lexeme.Front.{Front}
 use Rattle.polcert_text.specs.Bytes.{class_of, is_digit, is_exponent_mark, is_point, is_name_byte, point_class, digit_class, letter_class}
@@ -237,12 +236,6 @@ front_whatever_follows read tail front was stuck = go front was
       longest = λ k more _. none (front.len + 1) k (λ k from h. was.longest k (omega arith) h) (omega arith);
     }
 
-stuck_state : (state : State) → is_stuck state ≡ true → state ≡ Stuck
+pub stuck_state : (state : State) → is_stuck state ≡ true → state ≡ Stuck
 stuck_state Stuck h = refl
 stuck_state _ h = cc
-
--- a stuck scan of a front has found the longest lexeme of the whole
-pub front_when_stuck : (bs : List ℕ) (i : ℕ) (scan : LexemeScan) → i < length bs → IsScanOf (take i bs ++ get_or bs i 0 ∷ []) scan → is_stuck scan.state ≡ true → IsFrontOf bs scan.longest
-front_when_stuck bs i scan inside was stuck =
-    let joined : (take i bs ++ get_or bs i 0 ∷ []) ++ drop (i + 1) bs ≡ bs = ap (λ xs. xs ++ drop (i + 1) bs) (sym (take_more bs i 0 inside)) ∙ take-append-drop (i + 1) bs in
-    subst (λ xs. IsFrontOf xs scan.longest) joined (front_whatever_follows (take i bs ++ get_or bs i 0 ∷ []) (drop (i + 1) bs) scan.longest was.longest (was.state ∙ stuck_state scan.state stuck))

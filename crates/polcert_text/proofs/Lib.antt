@@ -13,6 +13,15 @@ pub mod Buffering
 pub mod Written
 pub mod Giving
 pub mod Known
+pub mod LexemeEnds
+pub mod SeenLaws
+pub mod StreamLaws
+pub mod StreamGaps
+pub mod StreamLexemes
+pub mod StreamTakes
+pub mod StreamStops
+pub mod StreamTaken
+pub mod WindowLaws
 pub mod TextLaws
 pub mod TakenTokens
 pub mod Numerals

@@ -6,6 +6,8 @@ pub mod Fronts
 pub mod Cut
 pub mod TakenTokens
 pub mod Reading
+pub mod Stream
+pub mod StreamTaken
 pub mod Numbers
 pub mod Millionths
 pub mod Lines
@@ -18,4 +20,5 @@ pub mod Known
 -- what only private functions say of one another
 pub mod Scan
 pub mod ScanOf
+pub mod Streaming
 pub mod Scaling

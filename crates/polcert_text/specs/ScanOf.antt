@@ -1,10 +1,10 @@
 -- What a scan says of the bytes that it was fed.
 -- Nobody has to believe this: only contracts of private functions cite it.
-use Rattle.std.specs.Prelude.{◌≡◌, ℕ, Bool, true, false, Option, List, length, MatchOption}
+use Rattle.std.specs.Prelude.{◌≡◌, ℕ, ◌+◌, Bool, true, false, Option, Some, None, List, length, MatchOption}
 use Rattle.polcert_text.specs.Fronts.{IsLongestLexeme, NoLexeme}
 use Rattle.polcert_text.specs.Scan.{state_through}
 use Rattle.polcert_text.specs.declared.lexeme.State.{State}
-use Rattle.polcert_text.specs.declared.lexeme.State.TheVariants.{Start, Stuck}
+use Rattle.polcert_text.specs.declared.lexeme.State.TheVariants.{Start, Point, Mark, Sign, Stuck}
 use Rattle.polcert_text.specs.declared.lexeme.Front.{Front}
 use Rattle.polcert_text.specs.declared.lexeme.LexemeScan.{LexemeScan}
 
@@ -16,8 +16,20 @@ is_stuck _ = false
 abbrev pub IsFrontOf : List ℕ → Option Front → Type 0
 IsFrontOf bytes front = MatchOption front (NoLexeme bytes) (λ f. IsLongestLexeme bytes f.kind f.len)
 
+-- how many bytes were read since the last lexeme, where one may go on
+abbrev pub pending : State → ℕ
+pending Point = 1
+pending Mark = 1
+pending Sign = 2
+pending _ = 0
+
+abbrev pub front_len : Option Front → ℕ
+front_len None = 0
+front_len (Some front) = front.len
+
 -- the scan was fed these bytes
 pub record IsScanOf (read : List ℕ) (scan : LexemeScan) : Type 0 where
   pub len : scan.len ≡ length read
   pub state : state_through Start read ≡ scan.state
   pub longest : IsFrontOf read scan.longest
+  pub behind : is_stuck scan.state ≡ false → scan.len ≡ front_len scan.longest + pending scan.state

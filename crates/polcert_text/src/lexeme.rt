@@ -1,5 +1,5 @@
 //! A gap and a lexeme, read byte by byte.
-ghost use Rattle.std.specs.Prelude.{◌≡◌, ◌+◌, ◌<◌, ◌++◌, ◌∷◌, [], ℕ, List};
+ghost use Rattle.std.specs.Prelude.{◌≡◌, ◌+◌, ◌<◌, ◌++◌, ◌∷◌, [], ℕ, List, length, take, true, false, ◌≤◌, ◌⊎◌};
 ghost use Rattle.polcert_text.specs.Fronts.{IsLongestGap};
 ghost use Rattle.polcert_text.specs.Scan.{gap_after, state_after, kind_at, is_numeral_kind};
 
@@ -152,6 +152,9 @@ pub struct Front {
     pub len: usize,
 }
 
+/// The number of bytes that a token may have.
+pub const LONGEST_TOKEN: usize = 400;
+
 /// A lexeme read byte by byte: how far it has come, and the longest so far.
 #[derive(Clone, Copy)]
 pub struct LexemeScan {
@@ -161,7 +164,7 @@ pub struct LexemeScan {
 }
 
 impl LexemeScan {
-    ghost use Rattle.polcert_text.specs.ScanOf.{IsScanOf, is_stuck};
+    ghost use Rattle.polcert_text.specs.ScanOf.{IsScanOf, is_stuck, front_len};
 
     pub fn new() -> LexemeScan
         ensures { IsScanOf [] result }
@@ -198,6 +201,43 @@ impl LexemeScan {
     {
         matches!(self.state, State::Stuck)
     }
+
+    /// Goes on over bytes of which it was fed a front, up to the last or one that no lexeme goes on with.
+    pub fn through(self, bytes: &[u8]) -> LexemeScan
+        requires fed { IsScanOf (take self.len bytes.now) self }
+        ensures fed { IsScanOf (take result.len bytes.now) result }
+        ensures all { is_stuck result.state ≡ false → result.len ≡ length bytes.now }
+    {
+        let mut scan = self;
+        for at in self.len..bytes.len() {
+            if scan.is_stuck() {
+                return scan;
+            }
+            scan = scan.fed(bytes[at]);
+        }
+        scan
+    }
+
+    /// The longest lexeme at the front of what it was fed.
+    pub fn longest(self) -> Option<Front>
+        ensures { result ≡ self.longest }
+    {
+        self.longest
+    }
+
+    /// Whether what follows changes nothing: no lexeme goes on, or one was found that is too long.
+    pub fn is_known(self) -> bool
+        ensures known { result ≡ true → (is_stuck self.state ≡ true) ⊎ (400 < front_len self.longest) }
+        ensures not_known { result ≡ false → (is_stuck self.state ≡ false) × (front_len self.longest ≤ 400) }
+    {
+        if self.is_stuck() {
+            return true;
+        }
+        match self.longest {
+            Some(front) => front.len > LONGEST_TOKEN,
+            None => false,
+        }
+    }
 }
 
 ghost use Rattle.polcert_text.specs.ScanOf.{IsFrontOf};
@@ -206,12 +246,5 @@ ghost use Rattle.polcert_text.specs.ScanOf.{IsFrontOf};
 pub fn longest_lexeme(bytes: &[u8]) -> Option<Front>
     ensures { IsFrontOf bytes.now result }
 {
-    let mut scan = LexemeScan::new();
-    for byte in bytes {
-        scan = scan.fed(*byte);
-        if scan.is_stuck() {
-            return scan.longest;
-        }
-    }
-    scan.longest
+    LexemeScan::new().through(bytes).longest()
 }

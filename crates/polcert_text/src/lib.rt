@@ -12,10 +12,13 @@ mod number;
 mod sink;
 mod source;
 mod std_io;
+mod stream_bytes;
+mod stream_tokens;
 #[cfg(test)]
 mod tests;
 mod tokens;
 mod whole;
+mod window;
 
 pub use buffer::{BUFFER_SIZE, Buffer};
 pub use buffered::BufferedSink;
@@ -28,7 +31,8 @@ pub use memory::{SliceSink, SliceSource};
 pub use millionths::write_scaled;
 pub use number::{NumberFault, floor_of, scaled_of};
 pub use sink::{Sink, SinkFailed, write_all};
-pub use source::{ReadFault, Source, SourceFailed, read_all};
+pub use source::{ReadFault, Source, SourceFailed, SourceFault, read_all};
 pub use std_io::{ReaderSource, WriterSink};
+pub use stream_tokens::{StreamFault, StreamTokens};
 pub use tokens::{TEXT_LIMIT, Token, TokenFault, Tokens};
 pub use whole::whole_number;

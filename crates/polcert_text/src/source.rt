@@ -20,6 +20,15 @@ pub enum ReadFault {
     Memory,
 }
 
+/// Why nothing was made of a source.
+#[derive(Clone, Copy, Debug, PartialEq, Eq)]
+pub enum SourceFault<F> {
+    /// A read failed.
+    Device,
+    /// The text is refused, or there is no memory for what it says.
+    Refused(F),
+}
+
 /// What bytes are read from. A read of 0 bytes into a piece that isn't empty is the true end.
 pub trait Source {
     /// How many reads have failed. It stays at its last value, `u64::MAX`.

@@ -2,5 +2,6 @@
 mod numbers;
 mod printing;
 mod reading;
+mod streaming;
 mod token_rows;
 mod writing;

@@ -1,8 +1,8 @@
 //! The tokens of a text, one after another.
-ghost use Rattle.std.specs.Prelude.{◌≡◌, ◌+◌, ◌<◌, ◌^◌, length, Option, MatchResult};
+ghost use Rattle.std.specs.Prelude.{◌≡◌, ◌+◌, ◌<◌, ◌≤◌, ◌^◌, ◌++◌, ℕ, List, length, Option, MatchResult};
 
 use crate::bytes::{ByteClass, class_of};
-use crate::lexeme::{TokenKind, gap_len, longest_lexeme};
+use crate::lexeme::{Front, LONGEST_TOKEN, TokenKind, gap_len, longest_lexeme};
 use std::marker::Model;
 use thiserror::Error;
 
@@ -50,8 +50,6 @@ impl TokenFault {
 
 /// The number of bytes that a model, a policy graph or vectors may have.
 pub const TEXT_LIMIT: u64 = 4_294_967_296;
-
-const LONGEST_TOKEN: usize = 400;
 
 /// Reads the tokens of a text.
 #[derive(Drop)]
@@ -133,13 +131,25 @@ impl Tokens<'_> {
 
 ghost use Rattle.polcert_text.specs.Cut.{is_glued, IsFaultAt};
 ghost use Rattle.polcert_text.specs.Reading.{IsReadAt};
+ghost use Rattle.polcert_text.specs.ScanOf.{front_len};
+ghost use Rattle.polcert_text.specs.Streaming.{IsSeen};
 
 /// The token at the front of the bytes, which stand at `place`.
 fn token_at(bytes: &[u8], place: u64) -> Result<Token<'_>, TokenFault>
     requires { place + length bytes.now < 2 ^ 64 }
     ensures { MatchResult result (IsReadAt place bytes.now) (IsFaultAt place bytes.now) }
 {
-    let Some(front) = longest_lexeme(bytes) else {
+    token_of(longest_lexeme(bytes), bytes, place)
+}
+
+/// The token whose lexeme was seen at the front of the bytes, which stand at `place`, whatever follows the bytes.
+pub fn token_of(front: Option<Front>, bytes: &[u8], place: u64) -> Result<Token<'_>, TokenFault>
+    requires place { place + length bytes.now < 2 ^ 64 }
+    requires within { front_len front ≤ length bytes.now }
+    ensures { (tail : List ℕ) → IsSeen bytes.now tail front
+        → MatchResult result (IsReadAt place (bytes.now ++ tail)) (IsFaultAt place (bytes.now ++ tail)) }
+{
+    let Some(front) = front else {
         return Err(TokenFault::BadByte(place));
     };
     if front.len > LONGEST_TOKEN {

@@ -9,10 +9,10 @@ use crate::fault::{Fault, RunFault};
 use crate::status::status_of;
 use clap::error::ErrorKind;
 use polcert_check::{LowerFault, Verdict, check, fits, lowered};
-use polcert_model::{Kind, Model, ModelFault, read_model};
+use polcert_model::{Cells, Kind, Model, ModelFault, dense_of, read_model};
 use polcert_policy::{Graph, GraphFault, VectorFault, Vectors, read_graph, read_vectors};
 use polcert_text::{ReadFault, SliceSource, read_all};
-use std::alloc::Global;
+use std::alloc::{AllocError, Global};
 
 /// A text longer than what is first made room for.
 #[test]
@@ -36,6 +36,19 @@ fn reading_a_model(rt: HostRuntime) {
             assert_eq!(rt; model.name_of(Kind::State, 1), Some("b"));
         }
         Err(fault) => assert_eq!(rt; fault, ModelFault::Memory),
+    }
+}
+
+/// The cells of a model in filled tables.
+#[test]
+fn filling_tables(rt: HostRuntime) {
+    let alloc = rt.alloc();
+    match read_model(alloc, COST) {
+        Err(fault) => assert_eq!(rt; fault, ModelFault::Memory),
+        Ok(model) => match dense_of(alloc, &model) {
+            Ok(dense) => assert_eq!(rt; Cells::r(&dense, 0, 0, 0, 0), -1_000_000),
+            Err(AllocError) => {}
+        },
     }
 }
 

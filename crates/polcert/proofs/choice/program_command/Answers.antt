@@ -9,7 +9,7 @@ with_version a = record { top = record a.top { has_version = true }; subs = a.su
 
 pub returns : goal.returns
 returns c =
-    let bare_is : app_of c.about.result ≡ bare_app = rw (c.about.ensures, c.version.ensures) (ap with_version c.new.ensures.app) in
+    let bare_is : app_of c.after_help.result ≡ bare_app = rw (c.after_help.ensures, c.about.ensures, c.version.ensures) (ap with_version c.new.ensures.app) in
     let model_is = ap (λ (a : App). a.top) c.in_ok-model.ensures.app in
     let print_is = ap (λ (a : App). a.top) c.in_ok-print.ensures.app in
     let check_is = ap (λ (a : App). a.top) c.in_ok-check.ensures.app in

@@ -1,7 +1,7 @@
 use Rattle.std.proofs.Common.{◌++◌, List, ℕ, codes}
 use Rattle.polcert_text.proofs.Taking.{wrote_front}
 use Rattle.polcert_model.specs.Contents.{Contents, meaning}
-use Rattle.polcert_model.specs.Meaning.{states_of, actions_of, observations_of}
+use Rattle.polcert_cells.specs.Meaning.{states_of, actions_of, observations_of}
 use Rattle.polcert.specs.Lines.{counted}
 use Rattle.polcert_text.proofs.Written.{wrote, one_more, fails_at, fails_before, ends_with}
 use Rattle.polcert.proofs.lines.write_counts.Goals as goal

@@ -1,6 +1,6 @@
 use Rattle.std.proofs.Common.{◌≡◌, ℕ, List, subst}
 use Rattle.polcert_model.specs.Contents.{meaning}
-use Rattle.polcert_model.specs.Meaning.{actions_of, observations_of}
+use Rattle.polcert_cells.specs.Meaning.{actions_of, observations_of}
 use Rattle.polcert_policy.specs.GraphText.{IsGraphText}
 use Rattle.polcert.specs.Answer.{IsGraphRefused}
 use Rattle.polcert.proofs.Fitting.{each_fits, clean_is_within, graph_refused_alike}

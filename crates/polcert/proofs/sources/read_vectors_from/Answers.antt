@@ -1,6 +1,6 @@
 use Rattle.std.proofs.Common.{◌≡◌, ℕ, List, subst}
 use Rattle.polcert_model.specs.Contents.{meaning}
-use Rattle.polcert_model.specs.Meaning.{states_of}
+use Rattle.polcert_cells.specs.Meaning.{states_of}
 use Rattle.polcert_policy.specs.VectorText.{IsVectorsText}
 use Rattle.polcert.specs.Answer.{AreVectorsRefused}
 use Rattle.polcert.proofs.Fitting.{each_fits, clean_is_within, vectors_refused_alike}

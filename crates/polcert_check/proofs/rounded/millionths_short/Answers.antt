@@ -1,4 +1,4 @@
-use Rattle.std.proofs.Common.{◌≡◌, ◌∙◌, ℕ, ◌*◌, ◌≤◌, ℤ, pos, negsuc, ◌<ℤ◌, unsigned_abs, arith, refl, sym, ap, subst, rules, to_z, of_z, w64, to_z-of_z, FitsSigned}
+use Rattle.std.proofs.Common.{◌≡◌, ◌∙◌, ℕ, ◌*◌, ◌≤◌, ℤ, pos, negsuc, ◌<ℤ◌, unsigned_abs, arith, refl, ap, subst, rules, to_z, of_z, w64, to_z-of_z, FitsSigned}
 use Rattle.std.specs.Int.{w128}
 use Rattle.std.proofs.lemmas.Int.{ints}
 use Rattle.polcert_text.specs.Numbers.{largest}

@@ -1,9 +1,11 @@
-use Rattle.std.proofs.Common.{rules, arith, ◌≡◌, FitsSigned, to_z, w64}
+use Rattle.std.proofs.Common.{rules, arith, refl, ◌≡◌, FitsSigned, to_z, w64}
 use mir.Syntax.{w128}
 use Rattle.polcert_check.specs.Horizon.{Controller, controller_of}
 use Rattle.polcert_check.specs.Rows.{IsController, ValuesAreWithin}
 use Rattle.polcert_check.proofs.Certificates.{controller_is, values_are_within}
-use Rattle.polcert_check.proofs.Rows.{pair_step, t_scale_le, o_scale_le, short_final}
+use Rattle.polcert_check.proofs.Scales.{scales_le}
+use Rattle.polcert_check.proofs.Rows.{pair_step, short_final}
+use Rattle.polcert_check.proofs.Passing.{pair_passed, weight_small}
 use Rattle.polcert_check.proofs.shortfall.amount_short.Goals as goal
 
 pub overflow_mul-backing : goal.overflow_mul-backing
@@ -12,7 +14,9 @@ overflow_mul-backing g c =
     let proper : IsController k = controller_is _ _ _ c.requires.fits (g.met.C.Cells.is_proper c.args.cells.now) c.nodes-nodes.ensures.proper in
     let values : ValuesAreWithin k = values_are_within _ _ _ c.requires.fits c.nodes-vector_count.ensures.proper in
     let f : FitsSigned w128 c.row_backing-row.result = search rules in
-    (pair_step k proper (g.met.C.Cells.is_within_limits c.args.cells.now) values c.args.n c.args.s c.loop-e.e c.action-a.result c.t-weight.result (to_z w128 c.loop-e.backing-bits) c.row_backing-row.result c.requires.node c.requires.start (omega arith) c.action-a.ensures.value c.t-weight.ensures c.t-weight.type_inv c.loop-e.invariant f c.row_backing-row.ensures).0
+    let same : c.action-a.result ≡ k.action c.args.n = c.action-a.ensures.value in
+    let next = rw same at c.in-Some.ensures in
+    (pair_step k proper (g.met.C.Cells.is_within_limits c.args.cells.now) values c.args.n c.args.s c.in-Some.e c.action-a.result c.in-Some.weight (to_z w128 c.loop-e.backing-bits) c.row_backing-row.result c.requires.node c.requires.start next.1 c.action-a.ensures.value c.in-Some.ensures.2 (weight_small k proper (g.met.C.Cells.is_within_limits c.args.cells.now) c.args.n c.args.s c.in-Some.e c.in-Some.weight c.requires.node c.requires.start next.1 next.2) (pair_passed k c.args.n c.args.s c.loop-e.from c.in-Some.e (to_z w128 c.loop-e.backing-bits) next.0 next.4 c.loop-e.invariant.sum) f c.row_backing-row.ensures).0
 
 pub overflow_add-backing : goal.overflow_add-backing
 overflow_add-backing g c =
@@ -20,7 +24,9 @@ overflow_add-backing g c =
     let proper : IsController k = controller_is _ _ _ c.requires.fits (g.met.C.Cells.is_proper c.args.cells.now) c.nodes-nodes.ensures.proper in
     let values : ValuesAreWithin k = values_are_within _ _ _ c.requires.fits c.nodes-vector_count.ensures.proper in
     let f : FitsSigned w128 c.row_backing-row.result = search rules in
-    (pair_step k proper (g.met.C.Cells.is_within_limits c.args.cells.now) values c.args.n c.args.s c.loop-e.e c.action-a.result c.t-weight.result (to_z w128 c.loop-e.backing-bits) c.row_backing-row.result c.requires.node c.requires.start (omega arith) c.action-a.ensures.value c.t-weight.ensures c.t-weight.type_inv c.loop-e.invariant f c.row_backing-row.ensures).1
+    let same : c.action-a.result ≡ k.action c.args.n = c.action-a.ensures.value in
+    let next = rw same at c.in-Some.ensures in
+    (pair_step k proper (g.met.C.Cells.is_within_limits c.args.cells.now) values c.args.n c.args.s c.in-Some.e c.action-a.result c.in-Some.weight (to_z w128 c.loop-e.backing-bits) c.row_backing-row.result c.requires.node c.requires.start next.1 c.action-a.ensures.value c.in-Some.ensures.2 (weight_small k proper (g.met.C.Cells.is_within_limits c.args.cells.now) c.args.n c.args.s c.in-Some.e c.in-Some.weight c.requires.node c.requires.start next.1 next.2) (pair_passed k c.args.n c.args.s c.loop-e.from c.in-Some.e (to_z w128 c.loop-e.backing-bits) next.0 next.4 c.loop-e.invariant.sum) f c.row_backing-row.ensures).1
 
 pub loop-e-preserved : goal.loop-e-preserved
 loop-e-preserved g c =
@@ -28,13 +34,12 @@ loop-e-preserved g c =
     let proper : IsController k = controller_is _ _ _ c.requires.fits (g.met.C.Cells.is_proper c.args.cells.now) c.nodes-nodes.ensures.proper in
     let values : ValuesAreWithin k = values_are_within _ _ _ c.requires.fits c.nodes-vector_count.ensures.proper in
     let f : FitsSigned w128 c.row_backing-row.result = search rules in
-    (pair_step k proper (g.met.C.Cells.is_within_limits c.args.cells.now) values c.args.n c.args.s c.loop-e.e c.action-a.result c.t-weight.result (to_z w128 c.loop-e.backing-bits) c.row_backing-row.result c.requires.node c.requires.start (omega arith) c.action-a.ensures.value c.t-weight.ensures c.t-weight.type_inv c.loop-e.invariant f c.row_backing-row.ensures).2
+    let same : c.action-a.result ≡ k.action c.args.n = c.action-a.ensures.value in
+    let next = rw same at c.in-Some.ensures in
+    record { sum = (pair_step k proper (g.met.C.Cells.is_within_limits c.args.cells.now) values c.args.n c.args.s c.in-Some.e c.action-a.result c.in-Some.weight (to_z w128 c.loop-e.backing-bits) c.row_backing-row.result c.requires.node c.requires.start next.1 c.action-a.ensures.value c.in-Some.ensures.2 (weight_small k proper (g.met.C.Cells.is_within_limits c.args.cells.now) c.args.n c.args.s c.in-Some.e c.in-Some.weight c.requires.node c.requires.start next.1 next.2) (pair_passed k c.args.n c.args.s c.loop-e.from c.in-Some.e (to_z w128 c.loop-e.backing-bits) next.0 next.4 c.loop-e.invariant.sum) f c.row_backing-row.ensures).2; within = omega (arith, c.in-Some.ensures.1) }
 
-pub scaled_value-requires-clause-t_scale : goal.scaled_value-requires-clause-t_scale
-scaled_value-requires-clause-t_scale g c = rw c.t_scale.ensures (t_scale_le (g.C.Cells.table c.args.cells.now) (g.met.C.Cells.is_within_limits c.args.cells.now))
-
-pub scaled_value-requires-clause-o_scale : goal.scaled_value-requires-clause-o_scale
-scaled_value-requires-clause-o_scale g c = rw c.o_scale.ensures (o_scale_le (g.C.Cells.table c.args.cells.now) (g.met.C.Cells.is_within_limits c.args.cells.now))
+pub scaled_value-requires-clause-scales : goal.scaled_value-requires-clause-scales
+scaled_value-requires-clause-scales g c = rw (c.t_scale.ensures, c.o_scale.ensures) (scales_le (g.C.Cells.table c.args.cells.now) (g.met.C.Cells.is_within_limits c.args.cells.now))
 
 pub overflow_sub-result : goal.overflow_sub-result
 overflow_sub-result g c =
@@ -43,8 +48,10 @@ overflow_sub-result g c =
     let values : ValuesAreWithin k = values_are_within _ _ _ c.requires.fits c.nodes-vector_count.ensures.proper in
     let f : FitsSigned w128 c.scaled_value.result = search rules in
     let fv : FitsSigned w64 c.at.result = search rules in
-    let all : c.loop-e.e ≡ k.cells.states = omega (arith, c.states-e-end.ensures) in
-    (short_final k proper (g.met.C.Cells.is_within_limits c.args.cells.now) values c.args.n c.args.s c.t_scale.result c.o_scale.result c.loop-e.e c.scaled_value.result c.at.result (to_z w128 c.loop-e.backing-bits) c.requires.node c.requires.start f fv c.scaled_value.ensures c.t_scale.ensures c.o_scale.ensures c.at.ensures.value c.loop-e.invariant all).0
+    let same : c.action-a.result ≡ k.action c.args.n = c.action-a.ensures.value in
+    let none = rw same at c.in_default.ensures in
+    let all = pair_passed k c.args.n c.args.s c.loop-e.from k.cells.states (to_z w128 c.loop-e.backing-bits) c.loop-e.invariant.within none c.loop-e.invariant.sum in
+    (short_final k proper (g.met.C.Cells.is_within_limits c.args.cells.now) values c.args.n c.args.s c.t_scale.result c.o_scale.result k.cells.states c.scaled_value.result c.at.result (to_z w128 c.loop-e.backing-bits) c.requires.node c.requires.start f fv c.scaled_value.ensures c.t_scale.ensures c.o_scale.ensures c.at.ensures.value all refl).0
 
 pub returns-clause-is : goal.returns-clause-is
 returns-clause-is g c =
@@ -53,8 +60,10 @@ returns-clause-is g c =
     let values : ValuesAreWithin k = values_are_within _ _ _ c.requires.fits c.nodes-vector_count.ensures.proper in
     let f : FitsSigned w128 c.scaled_value.result = search rules in
     let fv : FitsSigned w64 c.at.result = search rules in
-    let all : c.loop-e.e ≡ k.cells.states = omega (arith, c.states-e-end.ensures) in
-    (short_final k proper (g.met.C.Cells.is_within_limits c.args.cells.now) values c.args.n c.args.s c.t_scale.result c.o_scale.result c.loop-e.e c.scaled_value.result c.at.result (to_z w128 c.loop-e.backing-bits) c.requires.node c.requires.start f fv c.scaled_value.ensures c.t_scale.ensures c.o_scale.ensures c.at.ensures.value c.loop-e.invariant all).1
+    let same : c.action-a.result ≡ k.action c.args.n = c.action-a.ensures.value in
+    let none = rw same at c.in_default.ensures in
+    let all = pair_passed k c.args.n c.args.s c.loop-e.from k.cells.states (to_z w128 c.loop-e.backing-bits) c.loop-e.invariant.within none c.loop-e.invariant.sum in
+    (short_final k proper (g.met.C.Cells.is_within_limits c.args.cells.now) values c.args.n c.args.s c.t_scale.result c.o_scale.result k.cells.states c.scaled_value.result c.at.result (to_z w128 c.loop-e.backing-bits) c.requires.node c.requires.start f fv c.scaled_value.ensures c.t_scale.ensures c.o_scale.ensures c.at.ensures.value all refl).1
 
 pub returns-clause-small : goal.returns-clause-small
 returns-clause-small g c =
@@ -63,8 +72,10 @@ returns-clause-small g c =
     let values : ValuesAreWithin k = values_are_within _ _ _ c.requires.fits c.nodes-vector_count.ensures.proper in
     let f : FitsSigned w128 c.scaled_value.result = search rules in
     let fv : FitsSigned w64 c.at.result = search rules in
-    let all : c.loop-e.e ≡ k.cells.states = omega (arith, c.states-e-end.ensures) in
-    (short_final k proper (g.met.C.Cells.is_within_limits c.args.cells.now) values c.args.n c.args.s c.t_scale.result c.o_scale.result c.loop-e.e c.scaled_value.result c.at.result (to_z w128 c.loop-e.backing-bits) c.requires.node c.requires.start f fv c.scaled_value.ensures c.t_scale.ensures c.o_scale.ensures c.at.ensures.value c.loop-e.invariant all).2
+    let same : c.action-a.result ≡ k.action c.args.n = c.action-a.ensures.value in
+    let none = rw same at c.in_default.ensures in
+    let all = pair_passed k c.args.n c.args.s c.loop-e.from k.cells.states (to_z w128 c.loop-e.backing-bits) c.loop-e.invariant.within none c.loop-e.invariant.sum in
+    (short_final k proper (g.met.C.Cells.is_within_limits c.args.cells.now) values c.args.n c.args.s c.t_scale.result c.o_scale.result k.cells.states c.scaled_value.result c.at.result (to_z w128 c.loop-e.backing-bits) c.requires.node c.requires.start f fv c.scaled_value.ensures c.t_scale.ensures c.o_scale.ensures c.at.ensures.value all refl).2
 
 pub row_backing-row-requires-clause-proper : goal.row_backing-row-requires-clause-proper
 row_backing-row-requires-clause-proper g c = controller_is _ _ _ c.requires.fits (g.met.C.Cells.is_proper c.args.cells.now) c.nodes-nodes.ensures.proper

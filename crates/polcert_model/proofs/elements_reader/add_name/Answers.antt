@@ -1,8 +1,8 @@
 use Rattle.std.proofs.Common.{◌≢◌, ◌∙◌, length, rules, subst, sym}
 use Rattle.polcert_text.specs.Reading.{lexeme_of}
-use Rattle.polcert_model.specs.Elements.{most_elements}
+use Rattle.polcert_cells.specs.Elements.{most_elements}
 use Rattle.polcert_model.specs.ElementSteps.{AreNamesRead}
-use Rattle.polcert_model.proofs.Basics.{true≢false}
+use Rattle.polcert_cells.proofs.Basics.{true≢false}
 use Rattle.polcert_model.proofs.ElementLaws.{no_name_stuck, known_stuck, more_read}
 use Rattle.polcert_model.proofs.MisfitLaws.{name_too_many, name_again}
 use Rattle.polcert_model.proofs.elements_reader.add_name.Goals as goal

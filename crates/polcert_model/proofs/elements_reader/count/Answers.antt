@@ -1,6 +1,6 @@
 use Rattle.std.proofs.Common.{arith}
 use Rattle.polcert_text.specs.Reading.{lexeme_of}
-use Rattle.polcert_model.proofs.Basics.{true≢false}
+use Rattle.polcert_cells.proofs.Basics.{true≢false}
 use Rattle.polcert_model.proofs.ElementLaws.{count_stuck}
 use Rattle.polcert_model.proofs.elements_reader.count.Goals.{in_default-via-in-Some+then-count-ge1+else-count-le-MOST_ELEMENTS, in_default-via-in-Some+else-count-ge1, in_default-via-in_default}
 use Rattle.polcert_model.proofs.elements_reader.count.Goals as goal

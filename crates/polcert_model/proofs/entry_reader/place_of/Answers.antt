@@ -2,9 +2,9 @@ use Rattle.std.proofs.Common.{◌≡◌, unwrap_or, ap, sym, subst}
 use Rattle.std.specs.Option.{option_copied}
 use Rattle.std.proofs.lemmas.Result.{err_from_is_err_and}
 use Rattle.polcert_text.specs.Reading.{lexeme_of}
-use Rattle.polcert_model.specs.Elements.{Count}
-use Rattle.polcert_model.specs.Entry.{IsPlace}
-use Rattle.polcert_model.specs.declared.entry.Place.{Place}
+use Rattle.polcert_cells.specs.declared.elements.Elements.TheVariants.{Count}
+use Rattle.polcert_cells.specs.Entry.{IsPlace}
+use Rattle.polcert_cells.specs.declared.entry.Place.{Place}
 use Rattle.polcert_model.proofs.PatternLaws.{no_place}
 use Rattle.polcert_model.proofs.entry_reader.place_of.Goals as goal
 

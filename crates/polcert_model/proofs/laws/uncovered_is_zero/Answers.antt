@@ -1,4 +1,4 @@
-use Rattle.polcert_model.proofs.CellLaws as laws
+use Rattle.polcert_cells.proofs.CellLaws as laws
 use Rattle.polcert_model.proofs.laws.uncovered_is_zero.Goals as goal
 
 pub returns : goal.returns

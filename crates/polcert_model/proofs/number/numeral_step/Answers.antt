@@ -1,6 +1,6 @@
 use Rattle.std.proofs.Common.{rules, FitsSigned, w64, to_z-of_z}
 use Rattle.polcert_text.specs.Reading.{lexeme_of}
-use Rattle.polcert_model.specs.Numbers.{IsMillionths}
+use Rattle.polcert_cells.specs.Numbers.{IsMillionths}
 use Rattle.polcert_model.specs.NumberSteps.{is_negative}
 use Rattle.polcert_model.proofs.StepLaws.{refuses_range}
 use Rattle.polcert_model.proofs.number.numeral_step.Goals as goal

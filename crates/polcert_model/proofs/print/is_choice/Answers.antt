@@ -1,12 +1,12 @@
 use Rattle.std.proofs.Common.{◌≡◌, ◌∙◌, ◌≤◌, ℕ, sym, ap, rules, arith, true, ◌==◌, ◌||◌}
 use Rattle.polcert_model.specs.Contents.{meaning}
-use Rattle.polcert_model.specs.Meaning.{states_of}
+use Rattle.polcert_cells.specs.Meaning.{states_of}
 use Rattle.polcert_model.specs.PrintSteps.{share_of}
 use Rattle.polcert_model.proofs.PrintedParts as texts
 use Rattle.polcert_model.proofs.print.is_choice.Goals as goal
 use Rattle.std.proofs.lemmas.Bool.Decides.{nat_tests}
 use Rattle.polcert_model.proofs.RowEntries.{test_apart}
-use Rattle.polcert_model.proofs.Basics.{or_false_from}
+use Rattle.polcert_cells.proofs.Basics.{or_false_from}
 
 bit_test : (w : ℕ) → w ≤ 1 → (w == 0 || w == 1) ≡ true
 bit_test w h = grind (arith, nat_tests)

@@ -1,6 +1,6 @@
 use Rattle.std.proofs.Common.{◌∙◌, sym, ap, rules, ◌==◌}
 use Rattle.polcert_model.specs.Contents.{meaning}
-use Rattle.polcert_model.specs.Meaning.{states_of}
+use Rattle.polcert_cells.specs.Meaning.{states_of}
 use Rattle.polcert_model.specs.PrintSteps.{share_of}
 use Rattle.polcert_model.proofs.PrintedParts as texts
 use Rattle.polcert_model.proofs.print.is_whole.Goals as goal

@@ -1,7 +1,7 @@
 use Rattle.std.proofs.Common.{◌++◌, ℕ, List, rules}
 use Rattle.polcert_text.proofs.Taking.{wrote_front}
 use Rattle.polcert_text.proofs.Written.{wrote, one_more, fails_at, fails_before, ends_with}
-use Rattle.polcert_model.specs.declared.entry.Table.TheVariants.{Transition, Observation}
+use Rattle.polcert_cells.specs.declared.entry.Table.TheVariants.{Transition, Observation}
 use Rattle.polcert_model.specs.Contents.{meaning}
 use Rattle.polcert_model.specs.FullForm.{preamble_text, start_text, rewards_text}
 use Rattle.polcert_model.specs.PrintSteps.{rows_text}

@@ -4,7 +4,7 @@ use Rattle.polcert_text.proofs.Written.{wrote, fails_before, ends_with, as_text}
 use Rattle.polcert_model.specs.PrintSteps.{behind_blank}
 use Rattle.polcert_model.proofs.print.write_name.Goals as goal
 use Rattle.std.proofs.lemmas.Option.{slice_get-get_or}
-use Rattle.polcert_model.proofs.Basics.{some≢none}
+use Rattle.polcert_cells.proofs.Basics.{some≢none}
 
 found : (xs : List (List ℕ)) (k : ℕ) (x : List ℕ) → k < length xs → Some x ≡ slice_get xs k → x ≡ slice_index_or xs k []
 found xs k x l e = let here : slice_get xs k ≡ Some (get_or xs k []) = slice_get-get_or xs k [] l in cc

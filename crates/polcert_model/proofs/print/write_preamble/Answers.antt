@@ -5,7 +5,7 @@ use Rattle.polcert_model.specs.Contents.{meaning}
 use Rattle.polcert_model.specs.PrintSteps.{settings_text, elements_line}
 use Rattle.polcert_model.proofs.PrintedParts as texts
 use Rattle.polcert_model.proofs.print.write_preamble.Goals as goal
-use Rattle.polcert_model.specs.Drafts as drafts
+use Rattle.polcert_model.specs.Kept as kept
 
 pub returns-in_err-write_settings : goal.returns-in_err-write_settings
 returns-in_err-write_settings g c =
@@ -21,7 +21,7 @@ returns-in_err-write_elements g c =
     let p2 : List ℕ = elements_line (codes "states:") (meaning c.args.model.now).preamble.states in
     let p3 : List ℕ = elements_line (codes "actions:") (meaning c.args.model.now).preamble.actions in
     let p4 : List ℕ = elements_line (codes "observations:") (meaning c.args.model.now).preamble.observations in
-    as_text (texts.preamble_is (meaning c.args.model.now)) (fails_before (p1 ++ p2 ++ p3) p4 _ (search rules) (fails_before (p1 ++ p2) p3 _ (search rules) (fails_at (p1) p2 _ (search rules) (wrote c.in_ok-write_settings.ensures.ok c.in_ok-write_settings.ensures.same_count) (as_text (ap (elements_line (codes "states:")) (c.elements.ensures ∙ ap (λ (d : drafts.Draft). (drafts.meaning d).preamble.states) c.draft-draft.ensures)) c.in_err-write_elements.ensures).err (as_text (ap (elements_line (codes "states:")) (c.elements.ensures ∙ ap (λ (d : drafts.Draft). (drafts.meaning d).preamble.states) c.draft-draft.ensures)) c.in_err-write_elements.ensures).count)))
+    as_text (texts.preamble_is (meaning c.args.model.now)) (fails_before (p1 ++ p2 ++ p3) p4 _ (search rules) (fails_before (p1 ++ p2) p3 _ (search rules) (fails_at (p1) p2 _ (search rules) (wrote c.in_ok-write_settings.ensures.ok c.in_ok-write_settings.ensures.same_count) (as_text (ap (elements_line (codes "states:")) (c.elements.ensures ∙ ap (λ (d : kept.Kept). (kept.meaning d).preamble.states) c.draft-draft.ensures)) c.in_err-write_elements.ensures).err (as_text (ap (elements_line (codes "states:")) (c.elements.ensures ∙ ap (λ (d : kept.Kept). (kept.meaning d).preamble.states) c.draft-draft.ensures)) c.in_err-write_elements.ensures).count)))
 
 pub returns-in_err-write_elements-2 : goal.returns-in_err-write_elements-2
 returns-in_err-write_elements-2 g c =
@@ -29,7 +29,7 @@ returns-in_err-write_elements-2 g c =
     let p2 : List ℕ = elements_line (codes "states:") (meaning c.args.model.now).preamble.states in
     let p3 : List ℕ = elements_line (codes "actions:") (meaning c.args.model.now).preamble.actions in
     let p4 : List ℕ = elements_line (codes "observations:") (meaning c.args.model.now).preamble.observations in
-    as_text (texts.preamble_is (meaning c.args.model.now)) (fails_before (p1 ++ p2 ++ p3) p4 _ (search rules) (fails_at (p1 ++ p2) p3 _ (search rules) (one_more (p1) p2 (wrote c.in_ok-write_settings.ensures.ok c.in_ok-write_settings.ensures.same_count) (wrote (as_text (ap (elements_line (codes "states:")) (c.elements.ensures ∙ ap (λ (d : drafts.Draft). (drafts.meaning d).preamble.states) c.draft-draft.ensures)) c.in_ok-write_elements.ensures).ok (as_text (ap (elements_line (codes "states:")) (c.elements.ensures ∙ ap (λ (d : drafts.Draft). (drafts.meaning d).preamble.states) c.draft-draft.ensures)) c.in_ok-write_elements.ensures).same_count)) (as_text (ap (elements_line (codes "actions:")) (c.elements-2.ensures ∙ ap (λ (d : drafts.Draft). (drafts.meaning d).preamble.actions) c.draft-draft.ensures)) c.in_err-write_elements-2.ensures).err (as_text (ap (elements_line (codes "actions:")) (c.elements-2.ensures ∙ ap (λ (d : drafts.Draft). (drafts.meaning d).preamble.actions) c.draft-draft.ensures)) c.in_err-write_elements-2.ensures).count))
+    as_text (texts.preamble_is (meaning c.args.model.now)) (fails_before (p1 ++ p2 ++ p3) p4 _ (search rules) (fails_at (p1 ++ p2) p3 _ (search rules) (one_more (p1) p2 (wrote c.in_ok-write_settings.ensures.ok c.in_ok-write_settings.ensures.same_count) (wrote (as_text (ap (elements_line (codes "states:")) (c.elements.ensures ∙ ap (λ (d : kept.Kept). (kept.meaning d).preamble.states) c.draft-draft.ensures)) c.in_ok-write_elements.ensures).ok (as_text (ap (elements_line (codes "states:")) (c.elements.ensures ∙ ap (λ (d : kept.Kept). (kept.meaning d).preamble.states) c.draft-draft.ensures)) c.in_ok-write_elements.ensures).same_count)) (as_text (ap (elements_line (codes "actions:")) (c.elements-2.ensures ∙ ap (λ (d : kept.Kept). (kept.meaning d).preamble.actions) c.draft-draft.ensures)) c.in_err-write_elements-2.ensures).err (as_text (ap (elements_line (codes "actions:")) (c.elements-2.ensures ∙ ap (λ (d : kept.Kept). (kept.meaning d).preamble.actions) c.draft-draft.ensures)) c.in_err-write_elements-2.ensures).count))
 
 pub returns : goal.returns
 returns g c =
@@ -37,4 +37,4 @@ returns g c =
     let p2 : List ℕ = elements_line (codes "states:") (meaning c.args.model.now).preamble.states in
     let p3 : List ℕ = elements_line (codes "actions:") (meaning c.args.model.now).preamble.actions in
     let p4 : List ℕ = elements_line (codes "observations:") (meaning c.args.model.now).preamble.observations in
-    as_text (texts.preamble_is (meaning c.args.model.now)) (ends_with (p1 ++ p2 ++ p3) p4 _ (one_more (p1 ++ p2) p3 (one_more (p1) p2 (wrote c.in_ok-write_settings.ensures.ok c.in_ok-write_settings.ensures.same_count) (wrote (as_text (ap (elements_line (codes "states:")) (c.elements.ensures ∙ ap (λ (d : drafts.Draft). (drafts.meaning d).preamble.states) c.draft-draft.ensures)) c.in_ok-write_elements.ensures).ok (as_text (ap (elements_line (codes "states:")) (c.elements.ensures ∙ ap (λ (d : drafts.Draft). (drafts.meaning d).preamble.states) c.draft-draft.ensures)) c.in_ok-write_elements.ensures).same_count)) (wrote (as_text (ap (elements_line (codes "actions:")) (c.elements-2.ensures ∙ ap (λ (d : drafts.Draft). (drafts.meaning d).preamble.actions) c.draft-draft.ensures)) c.in_ok-write_elements-2.ensures).ok (as_text (ap (elements_line (codes "actions:")) (c.elements-2.ensures ∙ ap (λ (d : drafts.Draft). (drafts.meaning d).preamble.actions) c.draft-draft.ensures)) c.in_ok-write_elements-2.ensures).same_count)) (as_text (ap (elements_line (codes "observations:")) (c.elements-3.ensures ∙ ap (λ (d : drafts.Draft). (drafts.meaning d).preamble.observations) c.draft-draft.ensures)) c.write_elements-3.ensures))
+    as_text (texts.preamble_is (meaning c.args.model.now)) (ends_with (p1 ++ p2 ++ p3) p4 _ (one_more (p1 ++ p2) p3 (one_more (p1) p2 (wrote c.in_ok-write_settings.ensures.ok c.in_ok-write_settings.ensures.same_count) (wrote (as_text (ap (elements_line (codes "states:")) (c.elements.ensures ∙ ap (λ (d : kept.Kept). (kept.meaning d).preamble.states) c.draft-draft.ensures)) c.in_ok-write_elements.ensures).ok (as_text (ap (elements_line (codes "states:")) (c.elements.ensures ∙ ap (λ (d : kept.Kept). (kept.meaning d).preamble.states) c.draft-draft.ensures)) c.in_ok-write_elements.ensures).same_count)) (wrote (as_text (ap (elements_line (codes "actions:")) (c.elements-2.ensures ∙ ap (λ (d : kept.Kept). (kept.meaning d).preamble.actions) c.draft-draft.ensures)) c.in_ok-write_elements-2.ensures).ok (as_text (ap (elements_line (codes "actions:")) (c.elements-2.ensures ∙ ap (λ (d : kept.Kept). (kept.meaning d).preamble.actions) c.draft-draft.ensures)) c.in_ok-write_elements-2.ensures).same_count)) (as_text (ap (elements_line (codes "observations:")) (c.elements-3.ensures ∙ ap (λ (d : kept.Kept). (kept.meaning d).preamble.observations) c.draft-draft.ensures)) c.write_elements-3.ensures))

@@ -3,7 +3,7 @@ use Rattle.polcert_text.specs.Millionths.{scaled_text}
 use Rattle.polcert_text.proofs.Taking.{wrote_front}
 use Rattle.polcert_text.proofs.Written.{wrote, fails_before, ends_with, as_text}
 use Rattle.polcert_model.specs.Contents.{meaning}
-use Rattle.polcert_model.specs.Meaning.{states_of}
+use Rattle.polcert_cells.specs.Meaning.{states_of}
 use Rattle.polcert_model.specs.FullForm.{millionths_text}
 use Rattle.polcert_model.specs.PrintSteps.{share_of}
 use Rattle.std.proofs.lemmas.Int.{to_z_pos}

@@ -2,7 +2,7 @@ use Rattle.std.proofs.Common.{◌++◌, ℕ, List, rules, codes}
 use Rattle.polcert_text.proofs.Taking.{wrote_front}
 use Rattle.polcert_text.proofs.Written.{wrote, one_more, fails_at, fails_before, ends_with}
 use Rattle.polcert_model.specs.Contents.{meaning}
-use Rattle.polcert_model.specs.Meaning.{states_of}
+use Rattle.polcert_cells.specs.Meaning.{states_of}
 use Rattle.polcert_model.specs.FullForm.{for_each}
 use Rattle.polcert_model.specs.PrintSteps.{share_text}
 use Rattle.polcert_model.proofs.print.write_shares_line.Goals as goal

@@ -1,7 +1,7 @@
 use Rattle.std.proofs.Common.{◌∙◌, sym}
 use Rattle.polcert_text.proofs.Written.{as_text}
 use Rattle.polcert_model.specs.Contents.{meaning}
-use Rattle.polcert_model.specs.Meaning.{states_of}
+use Rattle.polcert_cells.specs.Meaning.{states_of}
 use Rattle.polcert_model.proofs.PrintedParts as texts
 use Rattle.polcert_model.proofs.print.write_start.Goals as goal
 

@@ -1,7 +1,7 @@
 use Rattle.std.proofs.Common.{◌++◌, ◌∷◌, [], ℕ, List, rules, length, codes}
 use Rattle.polcert_text.proofs.Taking.{wrote_front}
 use Rattle.polcert_text.proofs.Written.{wrote, one_more, fails_at, fails_before, ends_with}
-use Rattle.polcert_model.specs.declared.entry.Table.TheVariants.{Reward}
+use Rattle.polcert_cells.specs.declared.entry.Table.TheVariants.{Reward}
 use Rattle.polcert_model.specs.FullForm.{for_each}
 use Rattle.polcert_model.specs.PrintSteps.{pattern_text, reward_text}
 use Rattle.polcert_model.proofs.print_rewards.write_paid_row.Goals as goal

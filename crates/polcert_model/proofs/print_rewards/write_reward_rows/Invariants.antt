@@ -1,7 +1,7 @@
 use Rattle.std.proofs.Common.{◌≡◌}
 use Rattle.polcert_text.specs.Sink.{Takes}
 use Rattle.polcert_model.specs.Contents.{meaning}
-use Rattle.polcert_model.specs.Meaning.{observations_of}
+use Rattle.polcert_cells.specs.Meaning.{observations_of}
 use Rattle.polcert_model.specs.FullForm.{for_each, rewards_row}
 use Rattle.polcert_model.proofs.print_rewards.write_reward_rows.Given as goal
 

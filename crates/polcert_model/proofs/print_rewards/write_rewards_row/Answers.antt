@@ -1,8 +1,8 @@
 use Rattle.std.proofs.Common.{◌≡◌, ◌∙◌, ◌<◌, ◌≤◌, ◌++◌, ◌∷◌, [], ℕ, ℤ, List, pos, sym, ap, rules, arith, true, false, get_or, length, codes}
 use Rattle.polcert_text.proofs.Written.{as_text}
-use Rattle.polcert_model.specs.declared.entry.Table.TheVariants.{Reward}
+use Rattle.polcert_cells.specs.declared.entry.Table.TheVariants.{Reward}
 use Rattle.polcert_model.specs.Contents.{meaning}
-use Rattle.polcert_model.specs.Meaning.{observations_of}
+use Rattle.polcert_cells.specs.Meaning.{observations_of}
 use Rattle.polcert_model.specs.FullForm.{for_each, rewards_row}
 use Rattle.polcert_model.specs.PrintSteps.{pattern_text, reward_text}
 use Rattle.polcert_model.proofs.Parts.{wrote_nothing}

@@ -3,7 +3,7 @@ use Rattle.polcert_text.specs.Sink.{nothing}
 use Rattle.polcert_text.proofs.Written.{as_text}
 use Rattle.polcert_model.specs.FullForm.{written}
 use Rattle.polcert_model.specs.PrintSteps.{number_text, reward_text}
-use Rattle.polcert_model.proofs.SoundLaws.{reward_fits}
+use Rattle.polcert_cells.proofs.SoundLaws.{reward_fits}
 use Rattle.polcert_model.proofs.Parts.{parts_fail, one_more_part}
 use Rattle.std.proofs.lemmas.Int.{to_z-of_z}
 use mir.Syntax.{w64}

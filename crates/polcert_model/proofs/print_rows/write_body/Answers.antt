@@ -1,6 +1,6 @@
 use Rattle.std.proofs.Common.{◌≡◌, ◌∙◌, ◌%◌, sym, true, false, ◌==◌, get_or, length}
 use Rattle.polcert_text.proofs.Written.{as_text}
-use Rattle.polcert_model.specs.Numbers.{one}
+use Rattle.polcert_cells.specs.Numbers.{one}
 use Rattle.polcert_model.proofs.PrintedParts as texts
 use Rattle.polcert_model.proofs.print_rows.write_body.Goals as goal
 use Rattle.polcert_model.specs.FullForm.{is_uniform, is_decimal}

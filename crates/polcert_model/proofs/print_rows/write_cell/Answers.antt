@@ -3,7 +3,7 @@ use Rattle.polcert_text.specs.Millionths.{scaled_text}
 use Rattle.polcert_text.proofs.Written.{as_text}
 use Rattle.polcert_model.specs.PrintSteps.{pattern_text}
 use Rattle.polcert_model.proofs.Parts.{wrote_nothing}
-use Rattle.polcert_model.specs.Numbers.{one}
+use Rattle.polcert_cells.specs.Numbers.{one}
 use Rattle.std.proofs.lemmas.Int.{to_z-of_z}
 use mir.Syntax.{w64}
 use mir.Val.{to_z, of_z}

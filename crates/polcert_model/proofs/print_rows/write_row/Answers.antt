@@ -1,9 +1,9 @@
 use Rattle.std.proofs.Common.{◌≡◌, ◌∙◌, ◌*◌, ◌<◌, ◌≤◌, ℕ, sym, ap, subst, rules, arith, get_or}
 use Rattle.polcert_text.proofs.Written.{as_text}
-use Rattle.polcert_model.specs.Preamble.{columns}
+use Rattle.polcert_cells.specs.Preamble.{columns}
 use Rattle.polcert_model.specs.RowSums.{row_of}
 use Rattle.polcert_model.specs.FullForm.{row_text}
-use Rattle.polcert_model.specs.Numbers.{one}
+use Rattle.polcert_cells.specs.Numbers.{one}
 use Rattle.polcert_model.proofs.print_rows.write_row.Goals as goal
 use Rattle.polcert_model.proofs.RowCells as cells
 

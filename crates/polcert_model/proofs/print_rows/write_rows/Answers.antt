@@ -1,7 +1,7 @@
 use Rattle.std.proofs.Common.{◌∙◌, ℕ, List, refl, rules}
 use Rattle.polcert_text.specs.Sink.{nothing}
 use Rattle.polcert_model.specs.Contents.{meaning}
-use Rattle.polcert_model.specs.Meaning.{actions_of}
+use Rattle.polcert_cells.specs.Meaning.{actions_of}
 use Rattle.polcert_model.specs.PrintSteps.{rows_at}
 use Rattle.polcert_model.proofs.Parts.{parts_fail, one_more_part}
 use Rattle.polcert_model.proofs.print_rows.write_rows.Goals as goal

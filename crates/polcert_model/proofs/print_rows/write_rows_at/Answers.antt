@@ -1,8 +1,8 @@
 use Rattle.std.proofs.Common.{◌∙◌, ℕ, List, refl, rules}
 use Rattle.polcert_text.specs.Sink.{nothing}
 use Rattle.polcert_model.specs.Contents.{meaning}
-use Rattle.polcert_model.specs.Meaning.{states_of}
-use Rattle.polcert_model.specs.Preamble.{columns}
+use Rattle.polcert_cells.specs.Meaning.{states_of}
+use Rattle.polcert_cells.specs.Preamble.{columns}
 use Rattle.polcert_model.specs.RowSums.{row_of}
 use Rattle.polcert_model.specs.FullForm.{row_text}
 use Rattle.polcert_model.proofs.Parts.{parts_fail, one_more_part}

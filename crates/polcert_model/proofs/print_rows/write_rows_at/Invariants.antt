@@ -1,6 +1,6 @@
 use Rattle.std.proofs.Common.{◌≡◌}
 use Rattle.polcert_text.specs.Sink.{Takes}
-use Rattle.polcert_model.specs.Preamble.{columns}
+use Rattle.polcert_cells.specs.Preamble.{columns}
 use Rattle.polcert_model.specs.RowSums.{row_of}
 use Rattle.polcert_model.specs.FullForm.{for_each, row_text}
 use Rattle.polcert_model.proofs.print_rows.write_rows_at.Given as goal

@@ -1,9 +1,9 @@
 use Rattle.std.proofs.Common.{◌∙◌, sym, subst}
 use Rattle.std.proofs.lemmas.Result.{err_from_is_err_and}
-use Rattle.polcert_model.specs.Meaning.{HasProperRows, IsWithinLimits}
-use Rattle.polcert_model.specs.Rows.{IsFirstWrongRow}
+use Rattle.polcert_cells.specs.Meaning.{HasProperRows, IsWithinLimits}
+use Rattle.polcert_cells.specs.Rows.{IsFirstWrongRow}
 use Rattle.polcert_model.specs.Text.{IsModelText}
-use Rattle.polcert_model.specs.Drafts.{meaning}
+use Rattle.polcert_model.specs.Kept.{meaning}
 use Rattle.polcert_model.specs.Writable.{IsWritable}
 use Rattle.polcert_model.proofs.WritableTexts.{text_writable}
 use Rattle.polcert_model.specs.declared.fault.ModelFault.TheVariants.{RowSum}
@@ -14,44 +14,37 @@ use Rattle.polcert_model.proofs.reader.read_model.Goals as goal
 pub of-requires-clause-limits : goal.of-requires-clause-limits
 of-requires-clause-limits c =
     let read = c.in_ok-read_text.ensures.read in
-    let kept = c.into_draft-draft.ensures in
-    subst (λ d. IsWithinLimits (meaning d)) (sym kept) (whole_within read.0 c.in_ok-read_text.field-0 read.2 (subst (λ d. HasProperRows (meaning d)) kept c.in-None.ensures))
+    whole_within read.0 c.in_ok-read_text.field-0 read.2 c.in_ok-draft.draft c.in_ok-draft.ensures c.in-None.ensures
 
 pub of-requires-clause-writable : goal.of-requires-clause-writable
 of-requires-clause-writable c =
     let read = c.in_ok-read_text.ensures.read in
-    let kept = c.into_draft-draft.ensures in
-    subst (λ d. IsWritable (meaning d)) (sym kept)
-    (text_writable c.args.text.now _ (whole_accepted c.args.text.now read.0 c.in_ok-read_text.field-0 read.1 read.2 (subst (λ d. HasProperRows (meaning d)) kept c.in-None.ensures)))
+    text_writable c.args.text.now _ (whole_accepted read.0 c.in_ok-read_text.field-0 read.2 c.in_ok-draft.draft c.in_ok-draft.ensures c.args.text.now read.1 c.in-None.ensures)
 
 pub returns-in-None-clause-accepted : goal.returns-in-None-clause-accepted
 returns-in-None-clause-accepted c =
     let read = c.in_ok-read_text.ensures.read in
-    let kept = c.into_draft-draft.ensures in
-    subst (λ d. IsModelText c.args.text.now (meaning d)) (sym (c.of.ensures ∙ kept))
-    (whole_accepted c.args.text.now read.0 c.in_ok-read_text.field-0 read.1 read.2 (subst (λ d. HasProperRows (meaning d)) kept c.in-None.ensures))
+    subst (λ d. IsModelText c.args.text.now (meaning d)) (sym c.of.ensures)
+    (whole_accepted read.0 c.in_ok-read_text.field-0 read.2 c.in_ok-draft.draft c.in_ok-draft.ensures c.args.text.now read.1 c.in-None.ensures)
 
 pub returns-in-None-clause-exactly : goal.returns-in-None-clause-exactly
 returns-in-None-clause-exactly c =
     let read = c.in_ok-read_text.ensures.read in
-    let kept = c.into_draft-draft.ensures in
-    subst (λ d. IsModelText c.args.text.now (meaning d)) (sym (c.of.ensures ∙ kept))
-    (whole_accepted c.args.text.now read.0 c.in_ok-read_text.field-0 read.1 read.2 (subst (λ d. HasProperRows (meaning d)) kept c.in-None.ensures))
+    subst (λ d. IsModelText c.args.text.now (meaning d)) (sym c.of.ensures)
+    (whole_accepted read.0 c.in_ok-read_text.field-0 read.2 c.in_ok-draft.draft c.in_ok-draft.ensures c.args.text.now read.1 c.in-None.ensures)
 
 pub returns-in-Some-clause-exactly : goal.returns-in-Some-clause-exactly
 returns-in-Some-clause-exactly c =
     let read = c.in_ok-read_text.ensures.read in
     let row = c.in-Some.field-0 in
     no_model c.args.text.now (RowSum row.table row.action row.row) (λ ts tokens.
-    row_refused c.args.text.now read.0 c.in_ok-read_text.field-0 row.table row.action row.row read.1 read.2
-    (subst (λ d. IsFirstWrongRow (meaning d) row.table row.action row.row) c.into_draft-draft.ensures c.in-Some.ensures) ts tokens)
+    row_refused read.0 c.in_ok-read_text.field-0 read.2 c.in_ok-draft.draft c.in_ok-draft.ensures c.args.text.now row.table row.action row.row read.1 c.in-Some.ensures ts tokens)
 
 pub returns-in-Some-clause-refused : goal.returns-in-Some-clause-refused
 returns-in-Some-clause-refused c = λ ts tokens.
     let read = c.in_ok-read_text.ensures.read in
     let row = c.in-Some.field-0 in
-    row_refused c.args.text.now read.0 c.in_ok-read_text.field-0 row.table row.action row.row read.1 read.2
-    (subst (λ d. IsFirstWrongRow (meaning d) row.table row.action row.row) c.into_draft-draft.ensures c.in-Some.ensures) ts tokens
+    row_refused read.0 c.in_ok-read_text.field-0 read.2 c.in_ok-draft.draft c.in_ok-draft.ensures c.args.text.now row.table row.action row.row read.1 c.in-Some.ensures ts tokens
 
 pub returns-in_err-read_text-clause-refused : goal.returns-in_err-read_text-clause-refused
 returns-in_err-read_text-clause-refused c =

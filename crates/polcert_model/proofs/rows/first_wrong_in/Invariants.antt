@@ -1,5 +1,5 @@
-use Rattle.polcert_model.specs.Drafts.{meaning}
-use Rattle.polcert_model.specs.Rows.{AreProperBefore}
+use Rattle.polcert_model.specs.Kept.{meaning}
+use Rattle.polcert_cells.specs.Rows.{AreProperBefore}
 use Rattle.polcert_model.proofs.rows.first_wrong_in.Given as goal
 
 abbrev pub invariant-loop-action : goal.invariant-loop-action

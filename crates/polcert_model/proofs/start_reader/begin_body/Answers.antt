@@ -2,7 +2,7 @@ use Rattle.std.proofs.Common.{inr}
 use Rattle.polcert_text.specs.Reading.{lexeme_of}
 use Rattle.polcert_model.proofs.StartNumbers.{if_ok_map, on_err_map}
 use Rattle.polcert_model.proofs.StartForms.{body_begins, body_stuck, sign_not_whole, plus_or_minus}
-use Rattle.polcert_model.specs.Elements.{count_of}
+use Rattle.polcert_cells.specs.Elements.{count_of}
 use Rattle.polcert_model.proofs.WantLaws.{sign_no_state, body_lead, number_begins}
 use Rattle.polcert_model.proofs.start_reader.begin_body.Goals as goal
 

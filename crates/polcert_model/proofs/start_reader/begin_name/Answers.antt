@@ -1,6 +1,6 @@
 use Rattle.polcert_text.specs.Reading.{lexeme_of}
 use Rattle.polcert_text.proofs.Taking.{on_err}
-use Rattle.polcert_model.proofs.Basics.{true≢false}
+use Rattle.polcert_cells.proofs.Basics.{true≢false}
 use Rattle.polcert_model.proofs.StartForms.{uniform_begins, name_begins, name_stuck}
 use Rattle.polcert_model.proofs.start_reader.begin_name.Goals as goal
 

@@ -4,7 +4,7 @@ use Rattle.polcert_text.specs.Reading.{lexeme_of}
 use Rattle.polcert_model.specs.StartSteps.{AreDigits}
 use Rattle.polcert_model.proofs.StartNumbers.{if_ok_map, on_err_map}
 use Rattle.polcert_model.proofs.StartForms.{body_begins, body_stuck, digits_begin, not_whole, whole_or_one, numeral_not_name}
-use Rattle.polcert_model.specs.Elements.{count_of}
+use Rattle.polcert_cells.specs.Elements.{count_of}
 use Rattle.polcert_model.proofs.WantLaws.{no_state, body_lead}
 use Rattle.polcert_model.proofs.WantLaws.{number_begins}
 use Rattle.polcert_model.proofs.start_reader.begin_numeral.Goals as goal

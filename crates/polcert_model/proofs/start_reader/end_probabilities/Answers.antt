@@ -1,5 +1,5 @@
 use Rattle.std.proofs.Common.{◌∙◌, sym, ap, sum}
-use Rattle.polcert_model.specs.Words.{Start}
+use Rattle.polcert_cells.specs.declared.words.Topic.TheVariants.{Start}
 use Rattle.polcert_model.proofs.StartNumbers.{shares_end}
 use Rattle.polcert_model.proofs.StartSeen.{end_kind}
 use Rattle.polcert_model.proofs.start_reader.end_probabilities.Goals as goal

@@ -1,8 +1,17 @@
-use Rattle.polcert_model.proofs.SoundLaws.{four_in_range}
+use Rattle.std.proofs.Common.{◌≡◌, ◌∙◌, List, [], ◌∷◌, FitsSigned, w64, rules, subst}
+use Rattle.std.proofs.lemmas.Int.{to_z-of_z}
+use Rattle.polcert_cells.specs.Cells.{reward}
+use Rattle.polcert_cells.specs.Preamble.{Preamble}
+use Rattle.polcert_cells.specs.declared.entry.Entry.{Entry}
+use Rattle.polcert_rules.specs.Rewards.{AreRewardsOf}
+use Rattle.polcert_model.specs.DraftView.{IsDraft}
+use Rattle.polcert_model.specs.Kept.{Kept}
+use Rattle.polcert_model.proofs.KeptLaws.{draft_reward}
 use Rattle.polcert_model.proofs.draft.Draft.r.Goals as goal
 
-pub reward-requires : goal.reward-requires
-reward-requires c = record {
-  counts = cc;
-  in_range = four_in_range _ _ _ _ c.action.ensures.in_range c.state.ensures.in_range c.state-2.ensures.in_range c.observation.ensures.in_range;
-}
+pub returns : goal.returns
+returns c =
+    let fits : FitsSigned w64 c.at.result = search rules in
+    to_z-of_z w64 c.at.result fits
+    ∙ draft_reward c.args.self.now (subst IsDraft c.self.view_is c.self.invariant) c.args.a c.args.s c.args.e c.args.z c.at.result c.requires.action c.requires.start c.requires.end c.requires.observation
+    (subst (λ (k : Kept). (p : Preamble) (entries : List Entry) → AreRewardsOf p entries k.rewards → c.at.result ≡ reward p entries (c.args.a ∷ c.args.s ∷ c.args.e ∷ c.args.z ∷ [])) c.self.view_is c.at.ensures)

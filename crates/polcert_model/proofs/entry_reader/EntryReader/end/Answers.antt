@@ -2,7 +2,7 @@ use Rattle.std.proofs.Common.{◌≤◌, [], ap, drop, length, refl, rules, subs
 use Rattle.polcert_model.specs.KnownView.{least_written}
 use Rattle.polcert_model.proofs.WantLaws.{body_ends_in}
 use Rattle.polcert_model.specs.declared.entry_reader.EntryState.TheVariants as states
-use Rattle.polcert_model.specs.Words.{Cells}
+use Rattle.polcert_cells.specs.declared.words.Topic.TheVariants.{Cells}
 use Rattle.polcert_model.specs.EntrySteps.{EntryGoes, entry_with}
 use Rattle.polcert_model.proofs.PatternLaws.{cells_some, some_dropped, full_probabilities, full_rewards, probabilities_full, no_end, cannot_end_in, ends_in}
 use Rattle.polcert_model.proofs.entry_reader.EntryReader.end.Goals.{in-Probabilities+in-None, in-Rewards+in-None-end_fault, in-Word}

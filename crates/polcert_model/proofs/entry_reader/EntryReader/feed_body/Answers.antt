@@ -2,11 +2,11 @@ use Rattle.polcert_model.specs.Wants.{numbers_want}
 use Rattle.polcert_model.specs.WantSteps.{Leads, state_wants}
 use Rattle.std.proofs.Common.{false, ◌∙◌, ◌≤◌, drop, length, sym, ap, subst, rules, arith}
 use Rattle.polcert_text.specs.Reading.{lexeme_of}
-use Rattle.polcert_model.specs.Entry.{cells_in}
+use Rattle.polcert_cells.specs.Entry.{cells_in}
 use Rattle.polcert_model.specs.KnownView.{least_written}
 use Rattle.polcert_model.specs.EntrySteps.{indices_in, IfRefused, CannotBegin, IsWordBehind}
 use Rattle.polcert_model.specs.declared.entry_reader.EntryState.TheVariants as states
-use Rattle.polcert_model.proofs.Basics.{true≢false}
+use Rattle.polcert_cells.proofs.Basics.{true≢false}
 use Rattle.polcert_model.proofs.GoOnLaws.{begins_no_number}
 use Rattle.polcert_model.proofs.PatternLaws.{colon_takes, colon_stuck, numbers_begin, numbers_stuck, few_stuck, word_takes, nothing_takes, in_state, stuck_in_state, number_not_colon, number_not_name, if_err_map, refused_map}
 use Rattle.polcert_model.proofs.WantLaws.{numbers_lead, body_leads, number_begins}

@@ -1,7 +1,7 @@
 use Rattle.std.proofs.Common.{◌≡◌, ◌∙◌, false, unwrap_or, sym, subst}
-use Rattle.polcert_model.specs.Elements.{Count}
-use Rattle.polcert_model.specs.Sound.{IsSound, draft_of}
-use Rattle.polcert_model.proofs.WholeTexts.{whole_sound, kept_is}
+use Rattle.polcert_cells.specs.declared.elements.Elements.TheVariants.{Count}
+use Rattle.polcert_cells.specs.Sound.{IsSound, draft_of}
+use Rattle.polcert_model.proofs.WholeTexts.{whole_sound, said_is}
 use Rattle.polcert_model.proofs.known.Known.into_draft.Goals as goal
 
 pub of-requires : goal.of-requires
@@ -10,4 +10,4 @@ of-requires c =
     let same : draft_of c.unwrap_or.result c.unwrap_or-2.result c.unwrap_or-3.result c.unwrap_or-4.result c.unwrap_or-5.result i.start i.entries
     ≡ draft_of (unwrap_or i.discount 0) (unwrap_or i.costs false) (unwrap_or i.states (Count 0)) (unwrap_or i.actions (Count 0)) (unwrap_or i.observations (Count 0)) i.start i.entries =
     λ j. draft_of (c.unwrap_or.ensures j) (c.unwrap_or-2.ensures j) (c.unwrap_or-3.ensures j) (c.unwrap_or-4.ensures j) (c.unwrap_or-5.ensures j) i.start i.entries in
-    subst IsSound (kept_is c.args.self i.discount i.costs i.states i.actions i.observations i.start i.entries c.self.view_is ∙ sym same) (whole_sound c.requires.0 c.args.self c.requires.1)
+    subst IsSound (said_is c.args.self i.discount i.costs i.states i.actions i.observations i.start i.entries c.self.view_is ∙ sym same) (whole_sound c.requires.0 c.args.self c.requires.1)

@@ -1,6 +1,6 @@
 use Rattle.std.proofs.Common.{◌∙◌, ℕ, ap, rules, FitsSigned, w64, to_z-of_z}
 use Rattle.polcert_text.specs.Reading.{lexeme_of}
-use Rattle.polcert_model.specs.Elements.{count_of}
+use Rattle.polcert_cells.specs.Elements.{count_of}
 use Rattle.polcert_model.specs.declared.entry_reader.Numbers.{Numbers}
 use Rattle.polcert_model.proofs.PatternLaws.{if_err_map, refused_map}
 use Rattle.polcert_model.proofs.StartNumbers.{fraction, below_outside, above_outside, outside_stuck, one_read, more_states, number_takes, number_stuck}

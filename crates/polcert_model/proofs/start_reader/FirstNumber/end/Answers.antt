@@ -1,5 +1,5 @@
 use Rattle.std.proofs.Common.{◌≡◌, ◌∙◌, ◌⊎◌, inl, inr, pos, sym, ap, rules, FitsSigned, w64, to_z, to_z-of_z}
-use Rattle.polcert_model.specs.Numbers.{one}
+use Rattle.polcert_cells.specs.Numbers.{one}
 use Rattle.polcert_model.proofs.StartNumbers.{number_ends}
 use Rattle.polcert_model.proofs.start_reader.FirstNumber.end.Goals.{else-self-ne0-via-then-self-ne0+else-self, else-self-ne0-via-else-self-ne0}
 use Rattle.polcert_model.proofs.start_reader.FirstNumber.end.Goals as goal

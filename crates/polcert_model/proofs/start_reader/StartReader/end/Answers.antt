@@ -4,7 +4,7 @@ use Rattle.polcert_model.specs.declared.start_reader.StartReader.TheVariants as 
 use Rattle.polcert_model.proofs.PatternLaws.{if_err_map}
 use Rattle.polcert_model.proofs.StartSeen.{end_refused}
 use Rattle.std.proofs.Common.{◌≡◌, None, IfErr}
-use Rattle.polcert_model.specs.Elements.{count_of}
+use Rattle.polcert_cells.specs.Elements.{count_of}
 use Rattle.polcert_model.specs.Misfits.{misfit}
 use Rattle.polcert_model.specs.WantSteps.{start_wants, IfAtEnd}
 use Rattle.polcert_model.specs.StartSteps.{IsStartWithin}

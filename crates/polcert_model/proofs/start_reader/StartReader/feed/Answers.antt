@@ -1,6 +1,6 @@
 use Rattle.std.proofs.Common.{sym, ap, subst, rules, None, Some}
 use Rattle.polcert_text.specs.Reading.{lexeme_of}
-use Rattle.polcert_model.specs.Elements.{count_of}
+use Rattle.polcert_cells.specs.Elements.{count_of}
 use Rattle.polcert_model.specs.LineSteps.{Takes, CannotTake}
 use Rattle.polcert_model.specs.EntrySteps.{IfRefused}
 use Rattle.polcert_model.specs.Reasons.{is_sign}

@@ -1,5 +1,7 @@
 use Rattle.std.proofs.Common.{◌∙◌, ◌+◌, ◌++◌, ◌∷◌, [], length-append, sym, ap, arith}
 use Rattle.polcert_text.specs.Scan.{kind_at}
+use Rattle.polcert_text.specs.ScanOf.{front_len}
+use Rattle.polcert_text.proofs.LexemeEnds.{behind_some, behind_none}
 use Rattle.polcert_text.proofs.LexemeLaws.{state_fed, front_takes, front_keeps, kind_of-through}
 use Rattle.polcert_text.proofs.lexeme.LexemeScan.fed.Goals as goal
 
@@ -11,6 +13,7 @@ returns-in-Some-clause-scan c = λ read was.
       len = omega (arith, was.len, length-append read (c.args.byte ∷ []));
       state = state;
       longest = front_takes read c.args.byte (record { kind = c.in-Some.kind; len = c.args.self.len + 1 }) (omega (arith, was.len)) kind;
+      behind = λ _. behind_some _ _ (c.args.self.len + 1) (sym c.kind.ensures ∙ c.in-Some.is);
     }
 
 pub returns-in-None-clause-scan : goal.returns-in-None-clause-scan
@@ -21,4 +24,5 @@ returns-in-None-clause-scan c = λ read was.
       len = omega (arith, was.len, length-append read (c.args.byte ∷ []));
       state = state;
       longest = front_keeps read c.args.byte _ was.longest kind;
+      behind = behind_none c.args.self.state _ _ (front_len c.args.self.longest) c.args.self.len c.after-state.ensures (sym c.kind.ensures ∙ c.in-None.is) was.behind;
     }

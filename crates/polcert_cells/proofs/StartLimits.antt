@@ -1,0 +1,139 @@
+-- A start has a share for each state, and the shares add up to their total, which is above 0 and at most one.
+use Rattle.std.proofs.Common.{◌≡◌, ◌∙◌, ℕ, zero, suc, ◌+◌, ◌<◌, ◌≤◌, ◌==◌, Bool, true, false, cond, ◌⊎◌, ⊎_elim, Some, List, [], ◌∷◌, length, map, sum, not, bytes_eq, refl, sym, ap, subst, arith}
+use Rattle.std.proofs.lemmas.List.{length-map}
+use Rattle.std.proofs.lemmas.List.FromFn.{length-map-range_with_len}
+use Rattle.std.proofs.lemmas.List.Quantifiers.{position-Some}
+use Rattle.std.proofs.lemmas.List.Sums.{sum_by-cons, sum-map}
+use Rattle.std.proofs.lemmas.Bool.Decides.{nat_tests}
+use Rattle.std.specs.List.{range_with_len, count_by}
+use Rattle.polcert_text.specs.Cut.{Lexeme}
+use Rattle.polcert_cells.specs.Elements.{Elements, Count, Names, count_of, number_of}
+use Rattle.polcert_cells.specs.Start.{Shares, alike, shares_of, is_level, is_positive, included, excluded, IsStartBody, uniform, name, number, only_state, probabilities, IsStart, plain, include, exclude}
+
+-- shares of n states
+pub record IsFair (n : ℕ) (shares : Shares) : Type 0 where
+  pub count : length shares.weights ≡ n
+  pub adds_up : sum shares.weights ≡ shares.total
+  pub some : 0 < shares.total
+  pub most : shares.total ≤ 1_000_000
+
+sum-cons : (x : ℕ) (xs : List ℕ) → sum (x ∷ xs) ≡ x + sum xs
+sum-cons x xs = sum_by-cons (λ y. y) x xs
+
+abbrev bit : Bool → ℕ
+bit b = cond b 1 0
+
+bit_le : (b : Bool) → bit b ≤ 1
+bit_le true = omega arith
+bit_le false = omega arith
+
+bit_true : (b : Bool) → b ≡ true → bit b ≡ 1
+bit_true b e = ap bit e
+
+bits_le : (f : ℕ → Bool) (a n : ℕ) → sum (map (λ s. bit (f s)) (range_with_len a n)) ≤ n
+bits_le f a zero = omega arith
+bits_le f a (suc n) =
+    let rest = bits_le f (a + 1) n in
+    let here = bit_le (f a) in
+    let e = sum-cons (bit (f a)) (map (λ s. bit (f s)) (range_with_len (a + 1) n)) in
+    omega (arith, rest, here, e)
+
+here_or_later : (a s n : ℕ) → a ≤ s → s < a + suc n → (s ≡ a) ⊎ ((a + 1 ≤ s) × (s < a + 1 + n))
+here_or_later a s n l m = grind arith
+
+bits_some : (f : ℕ → Bool) (a n s : ℕ) → f s ≡ true → a ≤ s → s < a + n → 0 < sum (map (λ s. bit (f s)) (range_with_len a n))
+bits_some f a zero s e l m = absurd (omega (arith, l, m))
+bits_some f a (suc n) s e l m =
+    let sums = sum-cons (bit (f a)) (map (λ s. bit (f s)) (range_with_len (a + 1) n)) in
+    ⊎_elim (λ (same : s ≡ a). let here : bit (f a) ≡ 1 = bit_true (f a) (sym (ap f same) ∙ e) in omega (arith, here, sums))
+    (λ (later : (a + 1 ≤ s) × (s < a + 1 + n)). let rest = bits_some f (a + 1) n s e later.0 later.1 in omega (arith, rest, sums))
+    (here_or_later a s n l m)
+
+alike_sum : (n : ℕ) (picks : ℕ → Bool) → sum (alike n picks).weights ≡ (alike n picks).total
+alike_sum n picks = sum-map (λ s. bit (picks s)) (range_with_len 0 n)
+
+alike_fair : (n : ℕ) (picks : ℕ → Bool) → n ≤ 1000 → 0 < (alike n picks).total → IsFair n (alike n picks)
+alike_fair n picks l some =
+    let le = bits_le picks 0 n in
+    let e = alike_sum n picks in
+    record { count = length-map-range_with_len (λ s. bit (picks s)) 0 n; adds_up = e; some = some; most = omega (arith, le, e) }
+
+alike_some : (n : ℕ) (picks : ℕ → Bool) (s : ℕ) → n ≤ 1000 → picks s ≡ true → s < n → IsFair n (alike n picks)
+alike_some n picks s l e below =
+    let some = bits_some picks 0 n s e (omega arith) (omega (arith, below)) in
+    let adds = alike_sum n picks in
+    alike_fair n picks l (omega (arith, some, adds))
+
+same_index : (s : ℕ) → (s == s) ≡ true
+same_index s = grind (arith, nat_tests)
+
+-- 1 for each that is above 0
+abbrev sign : ℕ → ℕ
+sign p = cond (is_positive p) 1 0
+
+choice_le : (b : Bool) → cond (not b) 1 0 ≤ 1
+choice_le true = omega arith
+choice_le false = omega arith
+
+sign_le : (p : ℕ) → sign p ≤ 1
+sign_le p = choice_le (p == 0)
+
+not_zero : (p : ℕ) → 0 < p → (p == 0) ≡ false
+not_zero p l = grind (arith, nat_tests)
+
+sign_some : (p : ℕ) → 0 < p → sign p ≡ 1
+sign_some p l = ap (λ b. cond (not b) 1 0) (not_zero p l)
+
+signs_le : (ps : List ℕ) → sum (map sign ps) ≤ length ps
+signs_le [] = omega arith
+signs_le (p ∷ ps) =
+    let rest = signs_le ps in
+    let here = sign_le p in
+    let e = sum-cons (sign p) (map sign ps) in
+    omega (arith, rest, here, e)
+
+zero_or_more : (p : ℕ) → (p ≡ 0) ⊎ (0 < p)
+zero_or_more p = grind arith
+
+signs_some : (ps : List ℕ) → 0 < sum ps → 0 < sum (map sign ps)
+signs_some [] l = absurd (omega (arith, l))
+signs_some (p ∷ ps) l =
+    let sums = sum-cons p ps in
+    let signs = sum-cons (sign p) (map sign ps) in
+    ⊎_elim (λ (none : p ≡ 0). let rest = signs_some ps (omega (arith, l, sums, none)) in omega (arith, rest, signs))
+    (λ (some : 0 < p). let here = sign_some p some in omega (arith, here, signs))
+    (zero_or_more p)
+
+abbrev level_shares : List ℕ → Shares
+level_shares ps = record { weights = map sign ps; total = count_by is_positive ps }
+
+abbrev millionth_shares : List ℕ → Shares
+millionth_shares ps = record { weights = ps; total = 1_000_000 }
+
+shares_fair : (ps : List ℕ) → length ps ≤ 1000 → sum ps ≡ 1_000_000 → (level : Bool) → IsFair (length ps) (cond level (level_shares ps) (millionth_shares ps))
+shares_fair ps l e true =
+    let le = signs_le ps in
+    let adds : sum (map sign ps) ≡ count_by is_positive ps = sum-map sign ps in
+    let some = signs_some ps (omega (arith, e)) in
+    record { count = length-map ps sign; adds_up = adds; some = omega (arith, some, adds); most = omega (arith, le, adds) }
+shares_fair ps l e false = record { count = refl; adds_up = e; some = omega arith; most = omega arith }
+
+named_below : (states : Elements) (bytes : List ℕ) (s : ℕ) → number_of states bytes ≡ Some s → s < count_of states
+named_below (Count n) bytes s e = absurd cc
+named_below (Names names) bytes s e = (position-Some (bytes_eq bytes) names s [] e).0
+
+body_fair : (states : Elements) (ls : List Lexeme) (x : Shares) → 1 ≤ count_of states → count_of states ≤ 1000 → IsStartBody states ls x → IsFair (count_of states) x
+body_fair states ls x a m (uniform w) = alike_some (count_of states) (λ s. true) 0 m refl (omega (arith, a))
+body_fair states ls x a m (name {s = s} n e) = alike_some (count_of states) (λ n. n == s) s m (same_index s) (named_below states _ s e)
+body_fair states ls x a m (number {s = s} more n below) = alike_some (count_of states) (λ n. n == s) s m (same_index s) below
+body_fair states ls x a m (only_state e n v) = alike_some (count_of states) (λ s. true) 0 m refl (omega (arith, a))
+body_fair states ls x a m (probabilities ps more n count e) =
+    subst (λ n. IsFair n (shares_of ps)) count (shares_fair ps (subst (λ n. n ≤ 1000) (sym count) m) e (is_level ps))
+
+pub start_fair : (states : Elements) (ls : List Lexeme) (x : Shares) → 1 ≤ count_of states → count_of states ≤ 1000 → IsStart states ls x → IsFair (count_of states) x
+start_fair states ls x a m (plain c b) = body_fair states _ x a m b
+start_fair states ls x a m (include chosen w c z some) = alike_fair (count_of states) (included chosen) m some
+start_fair states ls x a m (exclude chosen w c z some) = alike_fair (count_of states) (excluded chosen) m some
+
+pub no_start_fair : (n : ℕ) → 1 ≤ n → n ≤ 1000 → IsFair n (alike n (λ s. true))
+no_start_fair n a m = alike_some n (λ s. true) 0 m refl (omega (arith, a))

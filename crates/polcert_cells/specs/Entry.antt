@@ -1,0 +1,64 @@
+-- Entries: the lines of T, O and R. An entry is a table, a pattern of places, and a body that fills the cells which
+-- the places leave open, row after row.
+-- Source: the POMDP file format page at pomdp.org, "the transition probabilities", "the observation probabilities"
+-- and "the rewards": these forms are its list of forms, written as one table (but for a matrix behind `R: a`, which is not
+-- taken). Our own: `identity` stands for T alone.
+use Rattle.std.specs.Prelude.{◌≡◌, ℕ, ◌*◌, ◌≤◌, ◌==◌, true, List, [], ◌∷◌, ◌++◌, length, drop, map, All, ℤ, pos, codes}
+use Rattle.std.specs.List.{list_any}
+use Rattle.polcert_text.specs.Cut.{Lexeme}
+use Rattle.polcert_cells.specs.declared.entry.Place.{Place}
+use Rattle.polcert_cells.specs.declared.entry.Place.TheVariants.{Every, Only}
+use Rattle.polcert_cells.specs.declared.entry.Body.{Body}
+use Rattle.polcert_cells.specs.declared.entry.Body.TheVariants.{Probabilities, Rewards, Uniform, Identity}
+use Rattle.polcert_cells.specs.declared.entry.Entry.{Entry}
+use Rattle.polcert_text.specs.declared.lexeme.TokenKind.TheVariants.{Colon, Star}
+use Rattle.polcert_cells.specs.declared.entry.Table.{Table}
+use Rattle.polcert_cells.specs.declared.entry.Table.TheVariants.{Transition, Observation, Reward}
+use Rattle.polcert_cells.specs.Words.{IsWord}
+use Rattle.polcert_cells.specs.Numbers.{AreNumbers, one}
+use Rattle.polcert_cells.specs.Elements.{Elements, count_of, StandsFor}
+use Rattle.polcert_cells.specs.Preamble.{Preamble, dimensions}
+
+-- The table of forms: how many places may be written before such a body. One place less than the table has indices
+-- leaves a row open, two places less a matrix; with all of them written the body is a single cell.
+-- (In an MDP a reward has three indices and the forms 1, 2 and 3; a fourth place `*` may stand behind the third.)
+abbrev pub forms : Table → Body → List ℕ
+forms Transition (Probabilities ps) = 1 ∷ 2 ∷ 3 ∷ []
+forms Transition Uniform = 1 ∷ 2 ∷ []
+forms Transition Identity = 1 ∷ []
+forms Observation (Probabilities ps) = 1 ∷ 2 ∷ 3 ∷ []
+forms Observation Uniform = 1 ∷ 2 ∷ []
+forms Reward (Rewards hs) = 2 ∷ 3 ∷ 4 ∷ []
+forms _ _ = []
+
+-- how many cells there are where each index runs over its elements
+abbrev pub cells_in : List Elements → ℕ
+cells_in [] = 1
+cells_in (d ∷ ds) = count_of d * cells_in ds
+
+abbrev pub IsPlace : Elements → Lexeme → Place → Type 0
+IsPlace elements l Every = l.kind ≡ Star
+IsPlace elements l (Only index) = StandsFor elements l index
+
+-- places, each behind a colon of its own
+pub data ArePlaces : List Elements → List Lexeme → List Place → Type 0 where
+  none : {ds : List Elements} → ArePlaces ds [] []
+  more : {d : Elements} {ds : List Elements} {colon l : Lexeme} {ls : List Lexeme} {p : Place} {ps : List Place}
+      → colon.kind ≡ Colon → IsPlace d l p → ArePlaces ds ls ps → ArePlaces (d ∷ ds) (colon ∷ l ∷ ls) (p ∷ ps)
+
+-- the lexemes are this body, for so many cells
+pub data IsBody (cells : ℕ) : List Lexeme → Body → Type 0 where
+  probabilities : {ls : List Lexeme} {ps : List ℕ} → AreNumbers ls (map pos ps) → length ps ≡ cells → All (λ p. p ≤ one) ps → IsBody cells ls (Probabilities ps)
+  rewards : {ls : List Lexeme} {hs : List ℤ} → AreNumbers ls hs → length hs ≡ cells → IsBody cells ls (Rewards hs)
+  uniform : {l : Lexeme} → IsWord (codes "uniform") l → IsBody cells (l ∷ []) Uniform
+  identity : {l : Lexeme} → IsWord (codes "identity") l → IsBody cells (l ∷ []) Identity
+
+-- The lexemes behind the word of the table are this entry.
+pub record IsEntry (p : Preamble) (table : Table) (lexemes : List Lexeme) (entry : Entry) : Type 0 where
+  pub pattern : List Lexeme
+  pub rest : List Lexeme
+  pub whole : lexemes ≡ pattern ++ rest
+  pub table_is : entry.table ≡ table
+  pub form : list_any (λ n. n == length entry.places) (forms table entry.body) ≡ true
+  pub places : ArePlaces (dimensions p table) pattern entry.places
+  pub body : IsBody (cells_in (drop (length entry.places) (dimensions p table))) rest entry.body

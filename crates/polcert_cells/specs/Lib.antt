@@ -1,0 +1,15 @@
+pub mod Words
+pub mod Numbers
+pub mod Elements
+pub mod Preamble
+pub mod Entry
+pub mod Cells
+pub mod Start
+pub mod Meaning
+pub mod Rows
+pub mod Cursors
+pub mod Sound
+pub mod Tables
+pub mod Drafts
+pub mod Laws
+pub mod SameCells

@@ -1,0 +1,102 @@
+//! The words of a model's text.
+ghost use Rattle.std.specs.Prelude.{◌≡◌, ◌↔◌, IsTrue, bytes_eq};
+ghost use Rattle.std.specs.List.{list_any};
+ghost use Rattle.polcert_text.specs.Reading.{lexeme_of};
+ghost use Rattle.polcert_cells.specs.Words.{topic_of, is_reserved, inner_words, topic, IsWord};
+
+use crate::Table;
+use polcert_text::{Token, TokenKind};
+
+/// What an item is about.
+#[derive(Clone, Copy, Debug, PartialEq, Eq)]
+pub enum Topic {
+    Discount,
+    Values,
+    States,
+    Actions,
+    Observations,
+    Start,
+    Cells(Table),
+}
+
+/// The topic of an item that begins with this word.
+#[tactic(auto, unfolding(crate::specs::Words::topic_of))]
+fn topic_of(word: &[u8]) -> Option<Topic>
+    ensures { result ≡ topic_of word.now }
+{
+    if is_same(word, b"discount") {
+        return Some(Topic::Discount);
+    }
+    if is_same(word, b"values") {
+        return Some(Topic::Values);
+    }
+    if is_same(word, b"states") {
+        return Some(Topic::States);
+    }
+    if is_same(word, b"actions") {
+        return Some(Topic::Actions);
+    }
+    if is_same(word, b"observations") {
+        return Some(Topic::Observations);
+    }
+    if is_same(word, b"start") {
+        return Some(Topic::Start);
+    }
+    if is_same(word, b"T") {
+        return Some(Topic::Cells(Table::Transition));
+    }
+    if is_same(word, b"O") {
+        return Some(Topic::Cells(Table::Observation));
+    }
+    if is_same(word, b"R") {
+        return Some(Topic::Cells(Table::Reward));
+    }
+    None
+}
+
+fn is_same(word: &[u8], other: &[u8]) -> bool
+    ensures { result ≡ bytes_eq word.now other.now }
+{
+    word == other
+}
+
+/// The topic of the item that the token begins, if it begins one.
+pub fn begun_topic(token: &Token<'_>) -> Option<Topic>
+    ensures { result ≡ topic (lexeme_of token.now) }
+{
+    match token.kind {
+        TokenKind::Name => topic_of(token.bytes),
+        _ => None,
+    }
+}
+
+/// Whether the word is reserved, so that no element has it as its name.
+#[tactic(auto, unfolding(crate::specs::Words::is_reserved))]
+pub fn is_reserved(word: &[u8]) -> bool
+    ensures { result ≡ is_reserved word.now }
+{
+    topic_of(word).is_some() || is_inner_word(word)
+}
+
+/// Whether the word is reserved and begins no item.
+fn is_inner_word(word: &[u8]) -> bool
+    ensures { result ≡ list_any (bytes_eq word.now) inner_words }
+{
+    is_same(word, b"reward")
+        || is_same(word, b"cost")
+        || is_same(word, b"include")
+        || is_same(word, b"exclude")
+        || is_same(word, b"uniform")
+        || is_same(word, b"identity")
+        || is_same(word, b"reset")
+}
+
+/// Whether the token is this word.
+pub fn is_word(token: &Token<'_>, word: &[u8]) -> bool
+    ensures { IsTrue result ↔ IsWord word.now (lexeme_of token.now) }
+{
+    match token.kind {
+        TokenKind::Name => token.bytes == word,
+        _ => false,
+    }
+}

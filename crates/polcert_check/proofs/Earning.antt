@@ -1,0 +1,63 @@
+-- What an action earns at a state: the steps of its sums, and that they fit.
+use Rattle.std.proofs.Common.{◌≡◌, ℕ, suc, ◌+◌, ◌*◌, ◌<◌, ◌≤◌, ℤ, pos, ◌+ℤ◌, ◌*ℤ◌, unsigned_abs, FitsSigned, to_z, of_z, w64, sym, ap, ◌∙◌, arith, lit<}
+use mir.Syntax.{w128}
+use Rattle.std.proofs.lemmas.Int.{to_z-of_z}
+use Rattle.std.proofs.Math.IntN.{*ℤ_comm}
+use Rattle.std.proofs.Math.Nat.{mul-le-mul}
+use Rattle.polcert_text.specs.Numbers.{largest}
+use Rattle.polcert_cells.specs.Tables.{Table, IsProper, IsWithinLimits}
+use Rattle.polcert_check.specs.Horizon.{sum_below}
+use Rattle.polcert_check.specs.Rows.{most_sum}
+use Rattle.polcert_check.specs.Factored.{reward_behind, reward_ahead}
+use Rattle.polcert_check.proofs.SumLaws.{sum_below_same, sum_below_scale}
+use Rattle.polcert_check.proofs.RowTotals.{t_rows, o_rows}
+use Rattle.polcert_check.proofs.Bounds.{abs-*ℤ_le, abs_part_le, term_le}
+use Rattle.polcert_check.proofs.Scales.{ahead_room, behind_room}
+use Rattle.polcert_check.proofs.Gaps.{gap, no_weight, cursor_step, weighed_is}
+
+module _ (m : Table) (p : IsProper m) (limits : IsWithinLimits m) where
+  pub reward_part_le : (a s e i : ℕ) → a < m.actions → s < m.states → e < m.states → i ≤ m.observations → unsigned_abs (sum_below (λ z. pos (m.o a e z) *ℤ m.r a s e z) i) ≤ m.o_scale * largest
+  reward_part_le a s e i al sl el il =
+      abs_part_le (λ z. pos (m.o a e z) *ℤ m.r a s e z) (λ z. m.o a e z) largest i m.observations m.o_scale (o_rows m p a e al el) il
+      (λ z zl. abs-*ℤ_le (pos (m.o a e z)) (m.r a s e z) (m.o a e z) largest (omega arith) (limits.r a s e z al sl el zl))
+
+  pub reward_ahead_part_le : (a s i : ℕ) → a < m.actions → s < m.states → i ≤ m.states → unsigned_abs (sum_below (λ e. pos (m.t a s e) *ℤ reward_behind m a s e) i) ≤ m.t_scale * (m.o_scale * largest)
+  reward_ahead_part_le a s i al sl il =
+      abs_part_le (λ e. pos (m.t a s e) *ℤ reward_behind m a s e) (λ e. m.t a s e) (m.o_scale * largest) i m.states m.t_scale (t_rows m p a s al sl) il
+      (λ e el. abs-*ℤ_le (pos (m.t a s e)) (reward_behind m a s e) (m.t a s e) (m.o_scale * largest) (omega arith) (reward_part_le a s e m.observations al sl el (omega arith)))
+
+  -- one observation more
+  pub reward_step : (a s e from z w : ℕ) (sum x h : ℤ) → a < m.actions → s < m.states → e < m.states → from ≤ z → z < m.observations → w ≡ m.o a e z → ((k : ℕ) → from ≤ k → k < z → m.o a e k ≡ 0) → sum ≡ sum_below (λ z. pos (m.o a e z) *ℤ m.r a s e z) from → FitsSigned w128 x → FitsSigned w64 h → FitsSigned w128 (to_z w64 (of_z w64 h)) → x ≡ pos w *ℤ to_z w128 (of_z w128 (to_z w64 (of_z w64 h))) → h ≡ m.r a s e z → FitsSigned w128 (sum +ℤ to_z w128 (of_z w128 x)) × (to_z w128 (of_z w128 (sum +ℤ to_z w128 (of_z w128 x))) ≡ sum_below (λ z. pos (m.o a e z) *ℤ m.r a s e z) (z + 1))
+  reward_step a s e from z w sum x h al sl el fl zl we none before fx fh fh' xe he =
+      cursor_step (λ z. pos (m.o a e z) *ℤ m.r a s e z) (most_sum) from z sum x fl (λ k kl kh. no_weight (m.o a e k) (m.r a s e k) (none k kl kh)) before fx
+      (weighed_is w (m.o a e z) x (to_z w64 (of_z w64 h)) (m.r a s e z) fh' xe we (to_z-of_z w64 h fh ∙ he))
+      (let le : unsigned_abs (sum_below (λ z. pos (m.o a e z) *ℤ m.r a s e z) (suc z)) ≤ m.o_scale * largest = reward_part_le a s e (suc z) al sl el (omega arith) in omega (arith, le, behind_room m limits)) (lit< tt)
+
+  pub reward_done : (a s e from : ℕ) (sum : ℤ) → from ≤ m.observations → ((k : ℕ) → from ≤ k → k < m.observations → m.o a e k ≡ 0) → sum ≡ sum_below (λ z. pos (m.o a e z) *ℤ m.r a s e z) from → sum ≡ reward_behind m a s e
+  reward_done a s e from sum fl none before =
+      before ∙ sym (gap (λ z. pos (m.o a e z) *ℤ m.r a s e z) from m.observations fl (λ k kl kh. no_weight (m.o a e k) (m.r a s e k) (none k kl kh)))
+
+  -- every observation earns the same
+  pub alike : (a s e : ℕ) (h : ℤ) → a < m.actions → e < m.states → ((z : ℕ) → z < m.observations → m.r a s e z ≡ h) → pos m.o_scale *ℤ h ≡ reward_behind m a s e
+  alike a s e h al el same =
+      *ℤ_comm (pos m.o_scale) h
+      ∙ ap (λ (x : ℤ). h *ℤ x) (sym (o_rows m p a e al el))
+      ∙ sym (sum_below_scale h (λ z. pos (m.o a e z)) m.observations)
+      ∙ sum_below_same _ _ m.observations (λ z zl. *ℤ_comm h (pos (m.o a e z)) ∙ ap (λ (x : ℤ). pos (m.o a e z) *ℤ x) (sym (same z zl)))
+
+  -- one end state more
+  pub weight_room : (a s e w : ℕ) (y : ℤ) → a < m.actions → s < m.states → e < m.states → w ≡ m.t a s e → unsigned_abs y ≤ m.o_scale * largest → w * unsigned_abs y ≤ most_sum
+  weight_room a s e w y al sl el we small =
+      let le : m.t a s e ≤ m.t_scale = term_le (λ j. m.t a s j) e m.states m.t_scale (t_rows m p a s al sl) el in
+      let q : w * unsigned_abs y ≤ m.t_scale * (m.o_scale * largest) = mul-le-mul (omega (arith, le, we)) small in
+      omega (arith, q, ahead_room m limits)
+
+  pub reward_ahead_step : (a s from e w : ℕ) (sum x y : ℤ) → a < m.actions → s < m.states → from ≤ e → e < m.states → w ≡ m.t a s e → ((k : ℕ) → from ≤ k → k < e → m.t a s k ≡ 0) → sum ≡ sum_below (λ e. pos (m.t a s e) *ℤ reward_behind m a s e) from → FitsSigned w128 x → FitsSigned w128 y → x ≡ pos w *ℤ to_z w128 (of_z w128 y) → y ≡ reward_behind m a s e → FitsSigned w128 (sum +ℤ to_z w128 (of_z w128 x)) × (to_z w128 (of_z w128 (sum +ℤ to_z w128 (of_z w128 x))) ≡ sum_below (λ e. pos (m.t a s e) *ℤ reward_behind m a s e) (e + 1))
+  reward_ahead_step a s from e w sum x y al sl fl el we none before fx fy xe ye =
+      cursor_step (λ e. pos (m.t a s e) *ℤ reward_behind m a s e) (most_sum) from e sum x fl (λ k kl kh. no_weight (m.t a s k) (reward_behind m a s k) (none k kl kh)) before fx
+      (weighed_is w (m.t a s e) x y (reward_behind m a s e) fy xe we ye)
+      (let le : unsigned_abs (sum_below (λ e. pos (m.t a s e) *ℤ reward_behind m a s e) (suc e)) ≤ m.t_scale * (m.o_scale * largest) = reward_ahead_part_le a s (suc e) al sl (omega arith) in omega (arith, le, ahead_room m limits)) (lit< tt)
+
+  pub reward_ahead_done : (a s from : ℕ) (sum : ℤ) → from ≤ m.states → ((k : ℕ) → from ≤ k → k < m.states → m.t a s k ≡ 0) → sum ≡ sum_below (λ e. pos (m.t a s e) *ℤ reward_behind m a s e) from → sum ≡ reward_ahead m a s
+  reward_ahead_done a s from sum fl none before =
+      before ∙ sym (gap (λ e. pos (m.t a s e) *ℤ reward_behind m a s e) from m.states fl (λ k kl kh. no_weight (m.t a s k) (reward_behind m a s k) (none k kl kh)))

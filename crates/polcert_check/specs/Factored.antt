@@ -1,0 +1,134 @@
+-- Helper definitions of private functions: what pairs of a node and a state have in common, added up once. Nobody has to
+-- believe them.
+use Rattle.std.specs.Prelude.{◌≡◌, ℕ, ◌*◌, ◌<◌, ◌≤◌, ◌⊎◌, ℤ, pos, ◌*ℤ◌, ◌<ℤ◌, ⊤, unsigned_abs, Option, Some, None, List, length, slice_index_or}
+use Rattle.polcert_text.specs.Numbers.{largest}
+use Rattle.polcert_cells.specs.Tables.{Table}
+use Rattle.polcert_check.specs.Horizon.{Controller, sum_below}
+use Rattle.polcert_check.specs.Shortfall.{at_node, short, PairPasses}
+use Rattle.polcert_check.specs.Verdict.{IsLeastLacking}
+use Rattle.polcert_check.specs.declared.verdict.Verdict.{Verdict}
+use Rattle.polcert_check.specs.declared.verdict.Verdict.TheVariants.{Yes, Short, NoSuccessor}
+
+-- ---- rewards, for each action and start state
+
+-- what every observation earns behind end state e, weighed
+abbrev pub reward_behind : Table → ℕ → ℕ → ℕ → ℤ
+reward_behind m a s e = sum_below (λ z. pos (m.o a e z) *ℤ m.r a s e z) m.observations
+
+abbrev pub reward_ahead : Table → ℕ → ℕ → ℤ
+reward_ahead m a s = sum_below (λ e. pos (m.t a s e) *ℤ reward_behind m a s e) m.states
+
+-- the first of the list are the rewards of action a at the first states
+abbrev pub AreRewards : Table → ℕ → List ℤ → ℕ → Type 0
+AreRewards m a sums count = (s : ℕ) → s < count → slice_index_or sums s (pos 0) ≡ reward_ahead m a s
+
+-- ---- values, for each node and end state
+
+-- the value behind observation z, weighed
+abbrev pub value_term : Controller → ℕ → ℕ → ℕ → Option ℕ → ℤ
+value_term c n e z at = at_node (λ m. pos (c.cells.o (c.action n) e z) *ℤ c.value m e) at
+
+abbrev pub value_behind : Controller → ℕ → ℕ → ℤ
+value_behind c n e = sum_below (λ z. value_term c n e z (c.next n z)) c.cells.observations
+
+abbrev pub value_ahead : Controller → ℕ → ℕ → ℤ
+value_ahead c n s = sum_below (λ e. pos (c.cells.t (c.action n) s e) *ℤ value_behind c n e) c.cells.states
+
+-- ---- observations that have no successor
+
+-- the least number of which P is so, or that it is so of none
+abbrev pub IsLeastOf : (ℕ → Type 0) → Option ℕ → Type 0
+IsLeastOf P None = (z : ℕ) → P z → ⊥
+IsLeastOf P (Some z) = P z × ((y : ℕ) → y < z → P y → ⊥)
+
+-- observation z, below `count`, can be received behind end state e, and n has no successor for it
+abbrev pub Misses : Controller → ℕ → ℕ → ℕ → ℕ → Type 0
+Misses c n e count z = (z < count) × (c.next n z ≡ None) × (0 < c.cells.o (c.action n) e z)
+
+-- z, where n has no successor for it
+abbrev pub IsMissedAt : Controller → ℕ → ℕ → Option ℕ → Type 0
+IsMissedAt c n z missing = ((missing ≡ None) × (c.next n z ≡ None → ⊥)) ⊎ ((missing ≡ Some z) × (c.next n z ≡ None))
+
+-- one of the end states below `count` that weigh more than 0 has this number in the list
+abbrev pub IsAhead : Table → ℕ → ℕ → List (Option ℕ) → ℕ → ℕ → Type 0
+IsAhead m a s missing count z = (e : ℕ) × (e < count) × (0 < m.t a s e) × (slice_index_or missing e None ≡ Some z)
+
+-- the lesser of two numbers, of which either may be none
+abbrev pub IsLesser : Option ℕ → Option ℕ → Option ℕ → Type 0
+IsLesser None y r = r ≡ y
+IsLesser (Some x) None r = r ≡ Some x
+IsLesser (Some x) (Some y) r = ((x ≤ y) × (r ≡ Some x)) ⊎ ((y < x) × (r ≡ Some y))
+
+-- the first of the lists are the values behind the first end states, and the least observation that misses there
+abbrev pub AreValues : Controller → ℕ → List ℤ → ℕ → Type 0
+AreValues c n worths count = (e : ℕ) → e < count → slice_index_or worths e (pos 0) ≡ value_behind c n e
+
+abbrev pub AreMissing : Controller → ℕ → List (Option ℕ) → ℕ → Type 0
+AreMissing c n missing count = (e : ℕ) → e < count → IsLeastOf (Misses c n e c.cells.observations) (slice_index_or missing e None)
+
+-- both lists at every end state
+pub record AreEnds (c : Controller) (n : ℕ) (worths : List ℤ) (missing : List (Option ℕ)) : Type 0 where
+  pub room : c.cells.states ≤ length worths
+  pub room_too : c.cells.states ≤ length missing
+  pub values : AreValues c n worths c.cells.states
+  pub lacks : AreMissing c n missing c.cells.states
+
+-- each number at a state is at most what a row of observations can be worth
+abbrev pub AreWithin : Table → List ℤ → Type 0
+AreWithin m worths = (e : ℕ) → e < m.states → unsigned_abs (slice_index_or worths e (pos 0)) ≤ m.o_scale * largest
+
+-- ---- the first pair that fails
+
+abbrev pub NodePasses : Controller → ℕ → Type 0
+NodePasses c n = (s : ℕ) → s < c.cells.states → PairPasses c n s
+
+-- no state before s fails at n
+abbrev pub StatesPass : Controller → ℕ → ℕ → Type 0
+StatesPass c n s = (t : ℕ) → t < s → PairPasses c n t
+
+-- the pair that the verdict names fails as it says, and no state before it fails at its node
+abbrev pub IsFailure : Controller → Verdict → Type 0
+IsFailure c Yes = ⊤
+IsFailure c (Short n s amount) = (n < c.nodes) × (s < c.cells.states) × StatesPass c n s × IsLeastLacking c n s None × (amount ≡ short c n s) × (pos 0 <ℤ amount)
+IsFailure c (NoSuccessor n s z) = (n < c.nodes) × (s < c.cells.states) × StatesPass c n s × IsLeastLacking c n s (Some z)
+
+-- what is found at one pair
+abbrev pub IsPairVerdict : Controller → ℕ → ℕ → Verdict → Type 0
+IsPairVerdict c n s Yes = PairPasses c n s
+IsPairVerdict c n s (Short m t amount) = (m ≡ n) × (t ≡ s) × IsLeastLacking c n s None × (amount ≡ short c n s) × (pos 0 <ℤ amount)
+IsPairVerdict c n s (NoSuccessor m t z) = (m ≡ n) × (t ≡ s) × IsLeastLacking c n s (Some z)
+
+-- what is found at one node
+abbrev pub IsNodeVerdict : Controller → ℕ → Verdict → Type 0
+IsNodeVerdict c n Yes = NodePasses c n
+IsNodeVerdict c n (Short m s amount) = (m ≡ n) × IsFailure c (Short m s amount)
+IsNodeVerdict c n (NoSuccessor m s z) = (m ≡ n) × IsFailure c (NoSuccessor m s z)
+
+-- what is found at one node if it takes action a
+abbrev pub IsVisit : Controller → ℕ → ℕ → Verdict → Type 0
+IsVisit c a n Yes = c.action n ≡ a → NodePasses c n
+IsVisit c a n (Short m s amount) = (m ≡ n) × IsFailure c (Short m s amount)
+IsVisit c a n (NoSuccessor m s z) = (m ≡ n) × IsFailure c (NoSuccessor m s z)
+
+-- the node that the verdict names, or this one where it is yes
+abbrev pub node_or : ℕ → Verdict → ℕ
+node_or n Yes = n
+node_or _ (Short n s amount) = n
+node_or _ (NoSuccessor n s z) = n
+
+-- the one verdict, or where it is yes the other
+abbrev pub or_verdict : Verdict → Verdict → Verdict
+or_verdict Yes other = other
+or_verdict (Short n s amount) other = Short n s amount
+or_verdict (NoSuccessor n s z) other = NoSuccessor n s z
+
+-- what is found at the nodes below `limit` that take action a
+pub record IsActionVerdict (c : Controller) (a limit : ℕ) (v : Verdict) : Type 0 where
+  pub within : node_or limit v ≤ limit
+  pub fails : IsFailure c v
+  pub before : (m : ℕ) → m < node_or limit v → c.action m ≡ a → NodePasses c m
+
+-- what was found at the nodes that take an action below a
+pub record IsAnswer (c : Controller) (a : ℕ) (v : Verdict) : Type 0 where
+  pub fails : IsFailure c v
+  pub before : (m : ℕ) → m < node_or c.nodes v → c.action m < a → NodePasses c m

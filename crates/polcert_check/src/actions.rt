@@ -1,0 +1,73 @@
+//! The first pair that fails, action by action: nodes that take the same action have its rewards in common.
+ghost use Rattle.std.specs.Prelude.{◌≡◌, ◌≤◌};
+ghost use Rattle.polcert_policy.specs.Graphs.{nodes};
+ghost use Rattle.polcert_check.specs.Horizon.{Fits, controller_of};
+ghost use Rattle.polcert_check.specs.Rows.{IsController, ValuesAreWithin};
+ghost use Rattle.polcert_check.specs.Verdict.{IsVerdict};
+ghost use Rattle.polcert_check.specs.Factored.{node_or, or_verdict, IsActionVerdict};
+
+use crate::pairs::{is_yes, visit};
+use crate::verdict::Verdict;
+use polcert_cells::{Cells, MOST_ELEMENTS};
+use polcert_policy::{Graph, Vectors};
+
+/// The node that the verdict names, or this one where it is yes.
+fn node_or(n: usize, verdict: Verdict) -> usize
+    ensures { result ≡ node_or n verdict }
+{
+    match verdict {
+        Verdict::Yes => n,
+        Verdict::Short { node, .. } | Verdict::NoSuccessor { node, .. } => node,
+    }
+}
+
+/// The one verdict, or where it is yes the other.
+fn or_verdict(verdict: Verdict, other: Verdict) -> Verdict
+    ensures { result ≡ or_verdict verdict other }
+{
+    match verdict {
+        Verdict::Yes => other,
+        Verdict::Short { .. } | Verdict::NoSuccessor { .. } => verdict,
+    }
+}
+
+/// The first pair that fails, of the nodes below `limit` that take action `a`.
+fn first_of_action<C: Cells>(
+    cells: &C,
+    graph: &Graph,
+    vectors: &Vectors,
+    a: usize,
+    limit: usize,
+) -> Verdict
+    requires fits { Fits (C.table cells.now) graph.now vectors.now }
+    requires proper { IsController (controller_of (C.table cells.now) graph.now vectors.now) }
+    requires values { ValuesAreWithin (controller_of (C.table cells.now) graph.now vectors.now) }
+    requires limit { limit ≤ nodes graph.now }
+    ensures { IsActionVerdict (controller_of (C.table cells.now) graph.now vectors.now) a limit result }
+{
+    let mut sums = [0; MOST_ELEMENTS];
+    let mut filled = 0;
+    for n in 0..limit {
+        let found = visit(cells, graph, vectors, a, n, &mut sums, &mut filled);
+        if !is_yes(found) {
+            return found;
+        }
+    }
+    Verdict::Yes
+}
+
+/// Yes, or the first pair of a node and a state that doesn't pass.
+pub(crate) fn first_failing<C: Cells>(cells: &C, graph: &Graph, vectors: &Vectors) -> Verdict
+    requires { Fits (C.table cells.now) graph.now vectors.now }
+    ensures { IsVerdict (controller_of (C.table cells.now) graph.now vectors.now) result }
+{
+    let nodes = graph.nodes();
+    let vector_count = vectors.nodes();
+    prove!(nodes == vector_count);
+    let mut answer = Verdict::Yes;
+    for a in 0..cells.actions() {
+        let found = first_of_action(cells, graph, vectors, a, node_or(nodes, answer));
+        answer = or_verdict(found, answer);
+    }
+    answer
+}

@@ -1,0 +1,148 @@
+//! What a node expects behind each end state, added up once for all states that it may start in.
+ghost use Rattle.std.specs.Prelude.{◌≡◌, ◌<◌, ◌≤◌, ◌+◌, pos, ◌*ℤ◌, length, slice_index_or, Option};
+ghost use Rattle.polcert_policy.specs.Graphs.{nodes};
+ghost use Rattle.polcert_check.specs.Horizon.{Fits, controller_of, sum_below};
+ghost use Rattle.polcert_check.specs.Rows.{IsController, ValuesAreWithin};
+ghost use Rattle.polcert_check.specs.Factored.{value_term, value_behind, IsLeastOf, Misses, IsMissedAt, IsAhead, IsLesser, AreEnds, AreWithin};
+
+use crate::earned::weighed;
+use polcert_model::Cells;
+use polcert_policy::{Graph, Vectors};
+
+/// A sum over some steps, and the least observation for which one of them has no successor.
+#[derive(Clone, Copy)]
+pub(crate) struct Steps {
+    pub worth: i128,
+    pub missing: Option<usize>,
+}
+
+/// What a node expects behind each end state, and the least observation there for which it has no successor.
+#[derive(Clone, Copy)]
+pub(crate) struct Ends<'a> {
+    pub worths: &'a [i128],
+    pub missing: &'a [Option<usize>],
+}
+
+/// An observation made in an end state, and its weight there.
+#[derive(Clone, Copy)]
+pub(crate) struct Sight {
+    pub end: usize,
+    pub observation: usize,
+    pub weight: u64,
+}
+
+/// The lesser of two numbers, of which either may be none.
+pub(crate) fn lesser(x: Option<usize>, y: Option<usize>) -> Option<usize>
+    ensures { IsLesser x y result }
+{
+    match (x, y) {
+        (None, _) => y,
+        (Some(_), None) => x,
+        (Some(a), Some(b)) => if a <= b { x } else { y },
+    }
+}
+
+/// What one observation adds behind its end state.
+fn one_end<C: Cells>(cells: &C, graph: &Graph, vectors: &Vectors, n: usize, sight: Sight) -> Steps
+    requires fits { Fits (C.table cells.now) graph.now vectors.now }
+    requires node { n < nodes graph.now }
+    requires end { sight.end < (C.table cells.now).states }
+    requires observation { sight.observation < (C.table cells.now).observations }
+    requires weight { sight.weight ≡ (C.table cells.now).o ((controller_of (C.table cells.now) graph.now vectors.now).action n) sight.end sight.observation }
+    requires some { 0 < sight.weight }
+    requires proper { IsController (controller_of (C.table cells.now) graph.now vectors.now) }
+    requires values { ValuesAreWithin (controller_of (C.table cells.now) graph.now vectors.now) }
+    ensures worth { result.worth ≡ value_term (controller_of (C.table cells.now) graph.now vectors.now) n sight.end sight.observation
+        ((controller_of (C.table cells.now) graph.now vectors.now).next n sight.observation) }
+    ensures missing { IsMissedAt (controller_of (C.table cells.now) graph.now vectors.now) n sight.observation result.missing }
+{
+    let observations = cells.observations();
+    let observation = sight.observation;
+    prove!(observation < observations);
+    match graph.next(n, observation) {
+        Some(m) => Steps {
+            worth: weighed(sight.weight, vectors.at(m, sight.end) as i128),
+            missing: None,
+        },
+        None => Steps {
+            worth: 0,
+            missing: Some(observation),
+        },
+    }
+}
+
+/// What node `n` expects behind end state `e`, without the weight of reaching it.
+fn end_of<C: Cells>(cells: &C, graph: &Graph, vectors: &Vectors, n: usize, e: usize) -> Steps
+    requires fits { Fits (C.table cells.now) graph.now vectors.now }
+    requires node { n < nodes graph.now }
+    requires end { e < (C.table cells.now).states }
+    requires proper { IsController (controller_of (C.table cells.now) graph.now vectors.now) }
+    requires values { ValuesAreWithin (controller_of (C.table cells.now) graph.now vectors.now) }
+    ensures worth { result.worth ≡ value_behind (controller_of (C.table cells.now) graph.now vectors.now) n e }
+    ensures missing { IsLeastOf (Misses (controller_of (C.table cells.now) graph.now vectors.now) n e (C.table cells.now).observations) result.missing }
+{
+    let a = graph.action(n);
+    let mut worth: i128 = 0;
+    let mut missing = None;
+    let mut from = 0;
+    while let Some((z, weight)) = cells.next_o(a, e, from) {
+        let sight = Sight {
+            end: e,
+            observation: z,
+            weight,
+        };
+        let step = one_end(cells, graph, vectors, n, sight);
+        worth += step.worth;
+        missing = lesser(missing, step.missing);
+        from = z + 1;
+    }
+    Steps { worth, missing }
+}
+
+/// Fills in what node `n` expects behind each end state.
+pub(crate) fn fill_ends<C: Cells>(
+    cells: &C,
+    graph: &Graph,
+    vectors: &Vectors,
+    n: usize,
+    worths: &mut [i128],
+    missing: &mut [Option<usize>],
+)
+    requires fits { Fits (C.table cells.now) graph.now vectors.now }
+    requires node { n < nodes graph.now }
+    requires room { (C.table cells.now).states ≤ length worths.old }
+    requires room_too { (C.table cells.now).states ≤ length missing.old }
+    requires proper { IsController (controller_of (C.table cells.now) graph.now vectors.now) }
+    requires values { ValuesAreWithin (controller_of (C.table cells.now) graph.now vectors.now) }
+    ensures { AreEnds (controller_of (C.table cells.now) graph.now vectors.now) n worths.new missing.new }
+{
+    for e in 0..cells.states() {
+        let end = end_of(cells, graph, vectors, n, e);
+        worths[e] = end.worth;
+        missing[e] = end.missing;
+    }
+}
+
+/// The steps of action `a` in state `s`, over what was filled in behind each end state.
+pub(crate) fn steps_ahead<C: Cells>(cells: &C, a: usize, s: usize, ends: Ends<'_>) -> Steps
+    requires action { a < (C.table cells.now).actions }
+    requires start { s < (C.table cells.now).states }
+    requires room { (C.table cells.now).states ≤ length ends.worths.now }
+    requires room_too { (C.table cells.now).states ≤ length ends.missing.now }
+    requires small { AreWithin (C.table cells.now) ends.worths.now }
+    ensures worth { result.worth ≡ sum_below (λ e. pos ((C.table cells.now).t a s e) *ℤ slice_index_or ends.entry.worths.now e (pos 0)) (C.table cells.now).states }
+    ensures missing { IsLeastOf (IsAhead (C.table cells.now) a s ends.entry.missing.now (C.table cells.now).states) result.missing }
+{
+    let mut worth: i128 = 0;
+    let mut least = None;
+    let mut from = 0;
+    while let Some((e, weight)) = cells.next_t(a, s, from) {
+        worth += weighed(weight, ends.worths[e]);
+        least = lesser(least, ends.missing[e]);
+        from = e + 1;
+    }
+    Steps {
+        worth,
+        missing: least,
+    }
+}

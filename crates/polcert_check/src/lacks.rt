@@ -1,0 +1,98 @@
+//! The first pair that lacks an observation: without the values, and without memory.
+ghost use Rattle.std.specs.Prelude.{◌≡◌, ◌<◌, ◌≤◌, length};
+ghost use Rattle.polcert_policy.specs.Graphs.{nodes};
+ghost use Rattle.polcert_policy.specs.Vectors.{PolicyVectors};
+ghost use Rattle.polcert_check.specs.Horizon.{Fits, controller_of};
+ghost use Rattle.polcert_check.specs.Verdict.{IsLeastLacking};
+ghost use Rattle.polcert_check.specs.Worst.{IsFirstLacking};
+ghost use Rattle.polcert_check.specs.Factored.{IsLeastOf, Misses, AreMissing};
+
+use crate::ends::lesser;
+use polcert_cells::{Cells, MOST_ELEMENTS};
+use polcert_policy::{Graph, Vectors};
+
+/// The least observation that can be received behind end state `e` and for which node `n` has no successor.
+fn missing_behind<C: Cells>(cells: &C, graph: &Graph, n: usize, e: usize) -> Option<usize>
+    requires actions { graph.now.actions ≡ (C.table cells.now).actions }
+    requires observations { graph.now.observations ≡ (C.table cells.now).observations }
+    requires node { n < nodes graph.now }
+    requires end { e < (C.table cells.now).states }
+    ensures { (v : PolicyVectors) → IsLeastOf (Misses (controller_of (C.table cells.now) graph.now v) n e (C.table cells.now).observations) result }
+{
+    let a = graph.action(n);
+    let mut from = 0;
+    while let Some((z, _)) = cells.next_o(a, e, from) {
+        if graph.next(n, z).is_none() {
+            return Some(z);
+        }
+        from = z + 1;
+    }
+    None
+}
+
+/// Fills in which observation node `n` lacks first behind each end state.
+fn fill_missing<C: Cells>(cells: &C, graph: &Graph, n: usize, missing: &mut [Option<usize>])
+    requires actions { graph.now.actions ≡ (C.table cells.now).actions }
+    requires observations { graph.now.observations ≡ (C.table cells.now).observations }
+    requires node { n < nodes graph.now }
+    requires room { (C.table cells.now).states ≤ length missing.old }
+    ensures { (v : PolicyVectors) → AreMissing (controller_of (C.table cells.now) graph.now v) n missing.new (C.table cells.now).states }
+{
+    for e in 0..cells.states() {
+        missing[e] = missing_behind(cells, graph, n, e);
+    }
+}
+
+/// The least observation that can be received at node `n` and state `s` and for which the node has no successor.
+fn lacking<C: Cells>(
+    cells: &C,
+    graph: &Graph,
+    n: usize,
+    s: usize,
+    missing: &[Option<usize>],
+) -> Option<usize>
+    requires actions { graph.now.actions ≡ (C.table cells.now).actions }
+    requires node { n < nodes graph.now }
+    requires start { s < (C.table cells.now).states }
+    requires room { (C.table cells.now).states ≤ length missing.now }
+    requires missing { (v : PolicyVectors) → AreMissing (controller_of (C.table cells.now) graph.now v) n missing.now (C.table cells.now).states }
+    ensures { (v : PolicyVectors) → IsLeastLacking (controller_of (C.table cells.now) graph.now v) n s result }
+{
+    let a = graph.action(n);
+    let mut least = None;
+    let mut from = 0;
+    while let Some((e, _)) = cells.next_t(a, s, from) {
+        least = lesser(least, missing[e]);
+        from = e + 1;
+    }
+    least
+}
+
+/// An observation that a node lacks at a state.
+#[derive(Clone, Copy)]
+pub(crate) struct Lack {
+    pub node: usize,
+    pub state: usize,
+    pub observation: usize,
+}
+
+/// The first pair of a node and a state that lacks an observation, and the least that it lacks.
+pub(crate) fn first_lacking<C: Cells>(cells: &C, graph: &Graph, vectors: &Vectors) -> Option<Lack>
+    requires fits { Fits (C.table cells.now) graph.now vectors.now }
+    ensures { IsFirstLacking (controller_of (C.table cells.now) graph.now vectors.now) result }
+{
+    let mut missing = [None; MOST_ELEMENTS];
+    for n in 0..graph.nodes() {
+        fill_missing(cells, graph, n, &mut missing);
+        for s in 0..cells.states() {
+            if let Some(observation) = lacking(cells, graph, n, s, &missing) {
+                return Some(Lack {
+                    node: n,
+                    state: s,
+                    observation,
+                });
+            }
+        }
+    }
+    None
+}

@@ -1,0 +1,165 @@
+//! Whether a pair of a node and a state passes, from what was added up for its action and its node.
+ghost use Rattle.std.specs.Prelude.{◌≡◌, ◌*◌, ◌<◌, ◌≤◌, pos, ◌+ℤ◌, ◌-ℤ◌, ◌*ℤ◌, unsigned_abs, length, IsTrue, ◌↔◌};
+ghost use Rattle.polcert_text.specs.Numbers.{largest};
+ghost use Rattle.polcert_policy.specs.Graphs.{nodes};
+ghost use Rattle.polcert_check.specs.Horizon.{Fits, controller_of, one};
+ghost use Rattle.polcert_check.specs.Rows.{IsController, ValuesAreWithin};
+ghost use Rattle.polcert_check.specs.declared.verdict.Verdict.TheVariants.{Yes};
+ghost use Rattle.polcert_check.specs.Factored.{reward_ahead, AreRewards, AreEnds, IsPairVerdict, IsNodeVerdict, IsVisit};
+
+use crate::earned::{keep_reward, weighed};
+use crate::ends::{Ends, fill_ends, steps_ahead};
+use crate::shortfall::scaled_value;
+use crate::verdict::Verdict;
+use polcert_cells::{Cells, MOST_ELEMENTS};
+use polcert_policy::{Graph, Vectors};
+
+/// How far a value is above what it is backed by: what its action earns, and what its node expects.
+pub(crate) fn amount_above<C: Cells>(cells: &C, value: i64, earned: i128, expected: i128) -> i128
+    requires value { unsigned_abs value ≤ largest }
+    requires earned { unsigned_abs earned ≤ (C.table cells.now).t_scale * ((C.table cells.now).o_scale * largest) }
+    requires expected { unsigned_abs expected ≤ (C.table cells.now).t_scale * ((C.table cells.now).o_scale * largest) }
+    ensures { result ≡ pos ((C.table cells.now).t_scale * (C.table cells.now).o_scale * one) *ℤ value
+        -ℤ (pos one *ℤ earned +ℤ pos (C.table cells.now).discount *ℤ expected) }
+{
+    let backing = weighed(1_000_000, earned) + weighed(u64::from(cells.discount()), expected);
+    scaled_value(cells.t_scale(), cells.o_scale(), value) - backing
+}
+
+/// Whether node `n` passes at state `s`; else why it doesn't.
+fn at_pair<C: Cells>(
+    cells: &C,
+    graph: &Graph,
+    vectors: &Vectors,
+    n: usize,
+    s: usize,
+    earned: i128,
+    ends: Ends<'_>,
+) -> Verdict
+    requires fits { Fits (C.table cells.now) graph.now vectors.now }
+    requires node { n < nodes graph.now }
+    requires start { s < (C.table cells.now).states }
+    requires proper { IsController (controller_of (C.table cells.now) graph.now vectors.now) }
+    requires values { ValuesAreWithin (controller_of (C.table cells.now) graph.now vectors.now) }
+    requires earned { earned ≡ reward_ahead (C.table cells.now) ((controller_of (C.table cells.now) graph.now vectors.now).action n) s }
+    requires ends { AreEnds (controller_of (C.table cells.now) graph.now vectors.now) n ends.worths.now ends.missing.now }
+    ensures { IsPairVerdict (controller_of (C.table cells.now) graph.now vectors.now) n s result }
+{
+    let steps = steps_ahead(cells, graph.action(n), s, ends);
+    if let Some(observation) = steps.missing {
+        return Verdict::NoSuccessor {
+            node: n,
+            state: s,
+            observation,
+        };
+    }
+    let amount = amount_above(cells, vectors.at(n, s), earned, steps.worth);
+    if amount > 0 {
+        return Verdict::Short {
+            node: n,
+            state: s,
+            amount,
+        };
+    }
+    Verdict::Yes
+}
+
+/// Whether the verdict is yes.
+pub(crate) fn is_yes(verdict: Verdict) -> bool
+    ensures { IsTrue result ↔ (verdict ≡ Yes) }
+{
+    match verdict {
+        Verdict::Yes => true,
+        Verdict::Short { .. } | Verdict::NoSuccessor { .. } => false,
+    }
+}
+
+/// The first state at which node `n` doesn't pass.
+fn first_state<C: Cells>(
+    cells: &C,
+    graph: &Graph,
+    vectors: &Vectors,
+    n: usize,
+    ends: Ends<'_>,
+    sums: &mut [i128],
+    filled: &mut usize,
+) -> Verdict
+    requires fits { Fits (C.table cells.now) graph.now vectors.now }
+    requires node { n < nodes graph.now }
+    requires proper { IsController (controller_of (C.table cells.now) graph.now vectors.now) }
+    requires values { ValuesAreWithin (controller_of (C.table cells.now) graph.now vectors.now) }
+    requires ends { AreEnds (controller_of (C.table cells.now) graph.now vectors.now) n ends.worths.now ends.missing.now }
+    requires room { (C.table cells.now).states ≤ length sums.old }
+    requires within { filled.old ≤ (C.table cells.now).states }
+    requires kept { AreRewards (C.table cells.now) ((controller_of (C.table cells.now) graph.now vectors.now).action n) sums.old filled.old }
+    ensures verdict { IsNodeVerdict (controller_of (C.table cells.now) graph.now vectors.now) n result }
+    ensures within { filled.new ≤ (C.table cells.now).states }
+    ensures kept { AreRewards (C.table cells.now) ((controller_of (C.table cells.now) graph.now vectors.now).action n) sums.new filled.new }
+{
+    let a = graph.action(n);
+    for s in 0..cells.states() {
+        *filled = keep_reward(cells, a, s, sums, *filled);
+        let found = at_pair(cells, graph, vectors, n, s, sums[s], ends);
+        if !is_yes(found) {
+            return found;
+        }
+    }
+    Verdict::Yes
+}
+
+/// The first state at which node `n` doesn't pass, from the graph.
+fn at_node<C: Cells>(
+    cells: &C,
+    graph: &Graph,
+    vectors: &Vectors,
+    n: usize,
+    sums: &mut [i128],
+    filled: &mut usize,
+) -> Verdict
+    requires fits { Fits (C.table cells.now) graph.now vectors.now }
+    requires node { n < nodes graph.now }
+    requires proper { IsController (controller_of (C.table cells.now) graph.now vectors.now) }
+    requires values { ValuesAreWithin (controller_of (C.table cells.now) graph.now vectors.now) }
+    requires room { (C.table cells.now).states ≤ length sums.old }
+    requires within { filled.old ≤ (C.table cells.now).states }
+    requires kept { AreRewards (C.table cells.now) ((controller_of (C.table cells.now) graph.now vectors.now).action n) sums.old filled.old }
+    ensures verdict { IsNodeVerdict (controller_of (C.table cells.now) graph.now vectors.now) n result }
+    ensures within { filled.new ≤ (C.table cells.now).states }
+    ensures kept { AreRewards (C.table cells.now) ((controller_of (C.table cells.now) graph.now vectors.now).action n) sums.new filled.new }
+{
+    let mut worths = [0; MOST_ELEMENTS];
+    let mut missing = [None; MOST_ELEMENTS];
+    fill_ends(cells, graph, vectors, n, &mut worths, &mut missing);
+    let ends = Ends {
+        worths: &worths,
+        missing: &missing,
+    };
+    first_state(cells, graph, vectors, n, ends, sums, filled)
+}
+
+/// The first state at which node `n` doesn't pass, if the node takes action `a`.
+pub(crate) fn visit<C: Cells>(
+    cells: &C,
+    graph: &Graph,
+    vectors: &Vectors,
+    a: usize,
+    n: usize,
+    sums: &mut [i128],
+    filled: &mut usize,
+) -> Verdict
+    requires fits { Fits (C.table cells.now) graph.now vectors.now }
+    requires node { n < nodes graph.now }
+    requires proper { IsController (controller_of (C.table cells.now) graph.now vectors.now) }
+    requires values { ValuesAreWithin (controller_of (C.table cells.now) graph.now vectors.now) }
+    requires room { (C.table cells.now).states ≤ length sums.old }
+    requires within { filled.old ≤ (C.table cells.now).states }
+    requires kept { AreRewards (C.table cells.now) a sums.old filled.old }
+    ensures verdict { IsVisit (controller_of (C.table cells.now) graph.now vectors.now) a n result }
+    ensures within { filled.new ≤ (C.table cells.now).states }
+    ensures kept { AreRewards (C.table cells.now) a sums.new filled.new }
+{
+    if graph.action(n) != a {
+        return Verdict::Yes;
+    }
+    at_node(cells, graph, vectors, n, sums, filled)
+}

@@ -1,0 +1,67 @@
+-- Sound entries have keys: their places are elements, of which there are few.
+use Rattle.std.proofs.Common.{ℕ, suc, ◌<◌, ◌≤◌, List, [], ◌∷◌, All, arith}
+use Rattle.std.proofs.lemmas.List.Elements.{All-weaker}
+use Rattle.polcert_cells.specs.declared.entry.Table.{Table}
+use Rattle.polcert_cells.specs.declared.entry.Table.TheVariants.{Transition, Observation, Reward}
+use Rattle.polcert_cells.specs.declared.entry.Place.{Place}
+use Rattle.polcert_cells.specs.declared.entry.Place.TheVariants.{Every, Only}
+use Rattle.polcert_cells.specs.declared.entry.Entry.{Entry}
+use Rattle.polcert_cells.specs.Elements.{count_of, most_elements}
+use Rattle.polcert_cells.specs.Preamble.{Preamble, dimensions, observed}
+use Rattle.polcert_cells.specs.Sound.{IsPlaceIn, ArePlacesIn, IsSoundEntry}
+use Rattle.polcert_rules.specs.Keys.{digit, AreDigits, most_places}
+use Rattle.polcert_rules.specs.Newest.{AreKeyed}
+
+-- no more elements of a kind than a model may have
+pub record HasFew (p : Preamble) : Type 0 where
+  pub actions : count_of p.actions ≤ most_elements
+  pub states : count_of p.states ≤ most_elements
+  pub observations : count_of (observed p) ≤ most_elements
+
+an_action : (p : Preamble) (q : Place) → HasFew p → IsPlaceIn p.actions q → digit q < 1024
+an_action p Every few i = omega arith
+an_action p (Only n) few i = omega arith
+
+a_state : (p : Preamble) (q : Place) → HasFew p → IsPlaceIn p.states q → digit q < 1024
+a_state p Every few i = omega arith
+a_state p (Only n) few i = omega arith
+
+an_observation : (p : Preamble) (q : Place) → HasFew p → IsPlaceIn (observed p) q → digit q < 1024
+an_observation p Every few i = omega arith
+an_observation p (Only n) few i = omega arith
+
+-- ---- the places behind others
+no_more : (m : ℕ) (p : Preamble) (ps : List Place) → ArePlacesIn [] ps → AreDigits m ps
+no_more m p [] a = tt
+no_more m p (q ∷ qs) a = absurd a
+
+states : (m : ℕ) (p : Preamble) (ps : List Place) → HasFew p → ArePlacesIn (p.states ∷ []) ps → AreDigits (suc m) ps
+states m p [] few a = tt
+states m p (q ∷ qs) few a = (a_state p q few a.0, no_more m p qs a.1)
+
+observations : (m : ℕ) (p : Preamble) (ps : List Place) → HasFew p → ArePlacesIn (observed p ∷ []) ps → AreDigits (suc m) ps
+observations m p [] few a = tt
+observations m p (q ∷ qs) few a = (an_observation p q few a.0, no_more m p qs a.1)
+
+two_states : (m : ℕ) (p : Preamble) (ps : List Place) → HasFew p → ArePlacesIn (p.states ∷ p.states ∷ []) ps → AreDigits (suc (suc m)) ps
+two_states m p [] few a = tt
+two_states m p (q ∷ qs) few a = (a_state p q few a.0, states m p qs few a.1)
+
+states_observations : (m : ℕ) (p : Preamble) (ps : List Place) → HasFew p → ArePlacesIn (p.states ∷ observed p ∷ []) ps → AreDigits (suc (suc m)) ps
+states_observations m p [] few a = tt
+states_observations m p (q ∷ qs) few a = (a_state p q few a.0, observations m p qs few a.1)
+
+two_states_observations : (m : ℕ) (p : Preamble) (ps : List Place) → HasFew p → ArePlacesIn (p.states ∷ p.states ∷ observed p ∷ []) ps → AreDigits (suc (suc (suc m))) ps
+two_states_observations m p [] few a = tt
+two_states_observations m p (q ∷ qs) few a = (a_state p q few a.0, states_observations m p qs few a.1)
+
+-- ---- all places
+places_digits : (p : Preamble) (table : Table) (ps : List Place) → HasFew p → ArePlacesIn (dimensions p table) ps → AreDigits most_places ps
+places_digits p table [] few a = tt
+places_digits p Transition (q ∷ qs) few a = (an_action p q few a.0, two_states 1 p qs few a.1)
+places_digits p Observation (q ∷ qs) few a = (an_action p q few a.0, states_observations 1 p qs few a.1)
+places_digits p Reward (q ∷ qs) few a = (an_action p q few a.0, two_states_observations 0 p qs few a.1)
+
+pub sound_keyed : (p : Preamble) (entries : List Entry) → HasFew p → All (IsSoundEntry p) entries → AreKeyed entries
+sound_keyed p entries few sound =
+    All-weaker (IsSoundEntry p) (λ (e : Entry). AreDigits most_places e.places) (λ e s. places_digits p e.table e.places few s.places) entries sound

@@ -1,0 +1,183 @@
+-- Sound entries: their keys, and the numbers and weights of their rows.
+use Rattle.std.proofs.Common.{◌≡◌, ◌∙◌, ℕ, ◌*◌, ◌<◌, ◌≤◌, Option, Some, None, List, [], ◌∷◌, ◌++◌, length, All, refl, sym, ap, subst, arith}
+use Rattle.std.specs.List.{slice_get}
+use Rattle.polcert_cells.specs.declared.entry.Table.{Table}
+use Rattle.polcert_cells.specs.declared.entry.Table.TheVariants.{Transition, Observation, Reward}
+use Rattle.polcert_cells.specs.declared.entry.Place.{Place}
+use Rattle.polcert_cells.specs.declared.entry.Place.TheVariants.{Every, Only}
+use Rattle.polcert_cells.specs.declared.entry.Entry.{Entry}
+use Rattle.polcert_cells.specs.Elements.{count_of, most_elements}
+use Rattle.polcert_cells.specs.Cells.{is_table, fit_places, last_covering, IsLastCovering, last, weight, weight_of, value_or}
+use Rattle.polcert_cells.specs.Meaning.{IsCount}
+use Rattle.polcert_cells.specs.Numbers.{one}
+use Rattle.polcert_cells.specs.Preamble.{Preamble, dimensions, observed}
+use Rattle.polcert_cells.specs.Rows.{IsWeighted}
+use Rattle.polcert_cells.specs.Sound.{IsPlaceIn, ArePlacesIn, IsSoundEntry}
+use Rattle.polcert_cells.proofs.CellLaws as cells
+use Rattle.polcert_rules.specs.declared.rule.Rule.{Rule}
+use Rattle.polcert_rules.specs.declared.shape.Shape.{Shape}
+use Rattle.polcert_rules.specs.Keys.{digit, AreDigits, most_places}
+use Rattle.polcert_rules.specs.Newest.{IsRising, IsIndexOf, AreKeyed, IsLastNumber, entry_at}
+use Rattle.polcert_rules.specs.Rows.{HasNoSuchColumn, HaveColumns, IsSingleEntry, no_column, number_in}
+use Rattle.polcert_rules.specs.Given.{IsWithin, FitsShape, HasColumn, given}
+use Rattle.polcert_rules.specs.Shapes.{IsShapeOf, AreSound}
+use Rattle.polcert_rules.specs.Merging.{weight_in}
+use Rattle.polcert_rules.specs.Sources.{IsNumber, IsWhole, AreNumbersOf}
+use Rattle.polcert_rules.proofs.Fitting.{and_true}
+use Rattle.polcert_rules.proofs.Covering.{same_table, last_is}
+use Rattle.polcert_rules.proofs.KeptLaws.{at_number, given_small}
+use Rattle.polcert_rules.proofs.FormLaws.{given_is, sound_fits, single_number}
+
+-- ---- places within their counts have keys, and no column is too large
+module _ (p : Preamble) (sound : (count_of p.states ≤ 1000) × (count_of p.actions ≤ 1000) × (count_of (observed p) ≤ 1000)) where
+  place_digit : (q : Preamble) (x : Place) → count_of q.states ≤ 1000 → IsPlaceIn q.states x → digit x < 1024
+  place_digit q Every l h = omega arith
+  place_digit q (Only k) l h = omega arith
+
+  states_digit : (x : Place) → IsPlaceIn p.states x → digit x < 1024
+  states_digit x h = place_digit p x sound.0 h
+
+  actions_digit : (x : Place) → IsPlaceIn p.actions x → digit x < 1024
+  actions_digit x h = place_digit (record p { states = p.actions }) x sound.1 h
+
+  observed_digit : (x : Place) → IsPlaceIn (observed p) x → digit x < 1024
+  observed_digit x h = place_digit (record p { states = observed p }) x sound.2 h
+
+  keyed : (t : Table) (ps : List Place) → ArePlacesIn (dimensions p t) ps → AreDigits most_places ps
+  keyed t [] h = tt
+  keyed Transition (x ∷ []) h = (actions_digit x h.0, tt)
+  keyed Transition (x ∷ y ∷ []) h = (actions_digit x h.0, (states_digit y h.1.0, tt))
+  keyed Transition (x ∷ y ∷ z ∷ []) h = (actions_digit x h.0, (states_digit y h.1.0, (states_digit z h.1.1.0, tt)))
+  keyed Transition (x ∷ y ∷ z ∷ w ∷ ps) h = absurd h.1.1.1
+  keyed Observation (x ∷ []) h = (actions_digit x h.0, tt)
+  keyed Observation (x ∷ y ∷ []) h = (actions_digit x h.0, (states_digit y h.1.0, tt))
+  keyed Observation (x ∷ y ∷ z ∷ []) h = (actions_digit x h.0, (states_digit y h.1.0, (observed_digit z h.1.1.0, tt)))
+  keyed Observation (x ∷ y ∷ z ∷ w ∷ ps) h = absurd h.1.1.1
+  keyed Reward (x ∷ []) h = (actions_digit x h.0, tt)
+  keyed Reward (x ∷ y ∷ []) h = (actions_digit x h.0, (states_digit y h.1.0, tt))
+  keyed Reward (x ∷ y ∷ z ∷ []) h = (actions_digit x h.0, (states_digit y h.1.0, (states_digit z h.1.1.0, tt)))
+  keyed Reward (x ∷ y ∷ z ∷ w ∷ []) h = (actions_digit x h.0, (states_digit y h.1.0, (states_digit z h.1.1.0, (observed_digit w h.1.1.1.0, tt))))
+  keyed Reward (x ∷ y ∷ z ∷ w ∷ v ∷ ps) h = absurd h.1.1.1.1
+
+  no_such : (t : Table) (ps : List Place) → ArePlacesIn (dimensions p t) ps → HasNoSuchColumn ps
+  no_such t [] h = tt
+  no_such t (x ∷ []) h = tt
+  no_such t (x ∷ y ∷ []) h = tt
+  no_such t (x ∷ y ∷ Every ∷ ps) h = tt
+  no_such Transition (x ∷ y ∷ Only k ∷ ps) h = let l = h.1.1.0 in let m = sound.0 in λ e. omega arith
+  no_such Observation (x ∷ y ∷ Only k ∷ ps) h = let l = h.1.1.0 in let m = sound.2 in λ e. omega arith
+  no_such Reward (x ∷ y ∷ Only k ∷ ps) h = let l = h.1.1.0 in let m = sound.0 in λ e. omega arith
+
+-- sound entries have keys
+pub sound_keyed : (p : Preamble) (entries : List Entry) → AreSound p entries → AreKeyed entries
+sound_keyed p entries sound k d l =
+    let e = sound.each k d l in
+    keyed p (sound.states.1, sound.actions.1, sound.observations.1) _ _ e.places
+
+-- and no column too large
+pub sound_columns : (p : Preamble) (entries : List Entry) → AreSound p entries → HaveColumns entries
+sound_columns p entries sound k d l =
+    let e = sound.each k d l in
+    no_such p (sound.states.1, sound.actions.1, sound.observations.1) _ _ e.places
+
+-- ---- what covers a cell is an entry of the table
+get_here : (xs ys : List Entry) (e : Entry) → slice_get (xs ++ e ∷ ys) (length xs) ≡ Some e
+get_here [] ys e = refl
+get_here (x ∷ xs) ys e = get_here xs ys e
+
+record IsCovering (entries : List Entry) (table : Table) (e : Entry) : Type 0 where
+  number : ℕ
+  is : slice_get entries number ≡ Some e
+  of_table : e.table ≡ table
+
+covering : (entries : List Entry) (table : Table) (indices : List ℕ) (e : Entry) → last_covering entries table indices ≡ Some e → IsCovering entries table e
+covering entries table indices e f = at (Some e) refl (subst (IsLastCovering entries table indices) f (cells.last_is entries table indices))
+  where
+    at : (o : Option Entry) → o ≡ Some e → IsLastCovering entries table indices o → IsCovering entries table e
+    at None g h = cc
+    at (Some x) g (last front y behind whole here rest) =
+        let same : x ≡ e = cc in
+        let both = and_true (is_table x.table table) (fit_places x.places indices) here in
+        record {
+          number = length front;
+          is = ap (λ (xs : List Entry). slice_get xs (length front)) whole ∙ get_here front behind x ∙ ap Some same;
+          of_table = ap (λ (z : Entry). z.table) (sym same) ∙ same_table x.table table both.0;
+        }
+
+module _ (p : Preamble) (table : Table) (shape : Shape) (entries : List Entry) (w : IsWeighted table) (is : IsShapeOf p table shape) (each : All (IsSoundEntry p) entries) where
+  fits : (n : ℕ) (e : Entry) → slice_get entries n ≡ Some e → e.table ≡ table → FitsShape shape e
+  fits n e at t = sound_fits p table shape e w is t (at_number (IsSoundEntry p) entries n e each at)
+
+  -- the weight of a cell, under any preamble of the shape
+  pub weight_is : (q : Preamble) (a s c : ℕ) → IsShapeOf q table shape → weight_in shape.columns entries table a s c ≡ weight q entries table (a ∷ s ∷ c ∷ [])
+  weight_is q a s c like = at (last_covering entries table (a ∷ s ∷ c ∷ [])) refl
+    where
+      at : (o : Option Entry) → last_covering entries table (a ∷ s ∷ c ∷ []) ≡ o → value_or 0 (λ e. given shape.columns e s c) o ≡ value_or 0 (weight_of q (a ∷ s ∷ c ∷ [])) o
+      at None f = refl
+      at (Some e) f =
+          let i = covering entries table (a ∷ s ∷ c ∷ []) e f in
+          sym (given_is q table shape e a s c w like i.of_table (fits i.number e i.is i.of_table).form)
+
+  module _ (within : IsWithin shape) (a s : ℕ) (whole : Option ℕ) (found : List Rule) (single : All (IsSingleEntry entries table) found)
+      (of_whole : IsLastNumber entries table (a ∷ s ∷ no_column ∷ []) whole) (of_cells : (c : ℕ) → c < no_column → IsLastNumber entries table (a ∷ s ∷ c ∷ []) (number_in whole found c)) where
+    newer_is : (r : Rule) → IsSingleEntry entries table r → (r.key < shape.columns) × IsNumber entries r.number
+    newer_is r e =
+        let f = fits r.number e.entry e.is e.of_table in
+        let one_number = single_number shape table e.entry e.first e.second (Only r.key) w e.of_table e.places f in
+        let column : HasColumn shape.columns (e.first ∷ e.second ∷ Only r.key ∷ []) = subst (HasColumn shape.columns) e.places f.column in (
+          column,
+          record { entry = e.entry; is = e.is; written = one_number.written; body = one_number.is; small = one_number.small; places = ap length e.places },
+        )
+
+    whole_is : (o : Option ℕ) → IsLastNumber entries table (a ∷ s ∷ no_column ∷ []) o → IsWhole shape entries o
+    whole_is None l = tt
+    whole_is (Some n) l =
+        let both = and_true (is_table l.0.0.table table) (fit_places l.0.0.places (a ∷ s ∷ no_column ∷ [])) l.0.2 in
+        (l.0.0, l.0.1, fits n l.0.0 l.0.1 (same_table l.0.0.table table both.0))
+
+    small_is : (c : ℕ) → weight_in shape.columns entries table a s c ≤ one * shape.columns
+    small_is c = at (last_covering entries table (a ∷ s ∷ c ∷ [])) refl
+      where
+        at : (o : Option Entry) → last_covering entries table (a ∷ s ∷ c ∷ []) ≡ o → value_or 0 (λ e. given shape.columns e s c) o ≤ one * shape.columns
+        at None f = omega arith
+        at (Some e) f =
+            let i = covering entries table (a ∷ s ∷ c ∷ []) e f in
+            given_small shape e s c within (fits i.number e i.is i.of_table)
+
+    pub numbers_are : IsRising found → AreNumbersOf shape entries table a s whole found
+    numbers_are up =
+        let few = within.columns.1 in
+        record {
+          rising = up;
+          newer = λ k d l e. newer_is _ (single k d l);
+          covering = whole_is whole of_whole;
+          last = λ c l. sym (cells.last_is_one entries table (a ∷ s ∷ c ∷ []) (entry_at entries (number_in whole found c)) (last_is entries table (a ∷ s ∷ c ∷ []) (number_in whole found c) (of_cells c (omega arith))));
+          small = λ c l. small_is c;
+        }
+
+abbrev Count : ℕ → Type 0
+Count = IsCount most_elements
+
+-- the counts of a shape are within their limits
+pub sound_within : (p : Preamble) (table : Table) (shape : Shape) (entries : List Entry) → IsWeighted table → IsShapeOf p table shape → AreSound p entries → IsWithin shape
+sound_within p Transition shape entries w is sound =
+    let a = sound.actions in
+    let s = sound.states in
+    record { actions = subst Count (sym is.actions) a; states = subst Count (sym is.states) s; columns = subst Count (sym is.columns) s }
+sound_within p Observation shape entries w is sound =
+    let a = sound.actions in
+    let s = sound.states in
+    record { actions = subst Count (sym is.actions) a; states = subst Count (sym is.states) s; columns = subst Count (sym is.columns) sound.observations }
+sound_within p Reward shape entries w is sound = absurd w
+
+-- the numbers of a row, by what the index says of it
+pub row_numbers : (p : Preamble) (table : Table) (shape : Shape) (entries : List Entry) (rules : List Rule) (a s : ℕ) (whole : Option ℕ) (found : List Rule)
+    → IsWeighted table → IsShapeOf p table shape → AreSound p entries → IsIndexOf entries rules → IsRising found
+    → ((es : List Entry) → AreKeyed es → IsIndexOf es rules → All (IsSingleEntry es table) found)
+    → ((es : List Entry) → AreKeyed es → IsIndexOf es rules → IsLastNumber es table (a ∷ s ∷ no_column ∷ []) whole)
+    → ((es : List Entry) → AreKeyed es → HaveColumns es → IsIndexOf es rules → (c : ℕ) → c < no_column → IsLastNumber es table (a ∷ s ∷ c ∷ []) (number_in whole found c))
+    → AreNumbersOf shape entries table a s whole found
+row_numbers p table shape entries rules a s whole found w is sound index up single of_whole of_cells =
+    let keyed = sound_keyed p entries sound in
+    numbers_are p table shape entries w is sound.each (sound_within p table shape entries w is sound) a s whole found (single entries keyed index) (of_whole entries keyed index)
+    (of_cells entries keyed (sound_columns p entries sound) index) up

@@ -1,0 +1,12 @@
+use Rattle.std.proofs.Common.{◌≤◌, ◌↔◌, Contains, ltb, subst, sym, rules}
+use Rattle.std.proofs.lemmas.List.Sorted.{IsPartitionPoint-from_clause}
+use Rattle.polcert_rules.specs.declared.rule.Rule.{Rule}
+use Rattle.polcert_rules.proofs.Parts.{parted, kept_drop, drop_whole}
+use Rattle.polcert_rules.proofs.part.from.Goals as goal
+
+pub returns-clause-kept : goal.returns-clause-kept
+returns-clause-kept c =
+    let xs = c.args.rules.now in
+    let n = c.partition_point-start.result in
+    let cut = IsPartitionPoint-from_clause (λ (r : Rule). ltb r.key c.args.low) xs n c.partition_point-start.ensures.partitioned (parted xs c.args.low c.requires) (λ a r q k. search rules) in
+    λ r. subst (λ ys. Contains ys r ↔ (Contains xs r × (c.args.low ≤ r.key))) (sym (drop_whole n xs)) (kept_drop xs n c.args.low c.partition_point-start.ensures.bound cut r)

@@ -1,0 +1,7 @@
+use Rattle.std.proofs.Common.{◌≡◌, ◌++◌, map, drop}
+use Rattle.polcert_rules.specs.Rewards.{worth}
+use Rattle.polcert_rules.proofs.reward_bodies.add_numbers.Given as goal
+
+abbrev pub invariant-loop-h : goal.invariant-loop-h
+invariant-loop-h l =
+    l.numbers.items ++ map (worth l.costs) (drop l.h-index l.h-items) ≡ l.initial.numbers.items ++ map (worth l.costs) l.h-items

@@ -1,0 +1,7 @@
+use Rattle.std.proofs.Common.{◌≡◌, ℕ, ◌++◌, drop}
+use Rattle.polcert_rules.specs.Merging.{newer_cells}
+use Rattle.polcert_rules.proofs.single.newer_cells.Given as goal
+
+abbrev pub invariant-loop-rule : goal.invariant-loop-rule
+invariant-loop-rule l = (s : ℕ) →
+    l.newer.items ++ newer_cells l.columns l.entries l.whole s (drop l.rule-index l.cells) ≡ newer_cells l.columns l.entries l.whole s l.cells

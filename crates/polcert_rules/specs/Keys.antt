@@ -1,0 +1,54 @@
+-- Keys: a number for each pattern, in the order of its places, so that the patterns that begin alike stand together.
+-- Nobody has to believe this file: only private functions cite it.
+use Rattle.std.specs.Prelude.{◌≡◌, ℕ, zero, suc, ◌+◌, ◌*◌, ◌^◌, ◌<◌, true, List, [], ◌∷◌}
+use Rattle.polcert_cells.specs.declared.entry.Table.{Table}
+use Rattle.polcert_cells.specs.declared.entry.Table.TheVariants.{Transition, Observation, Reward}
+use Rattle.polcert_cells.specs.declared.entry.Place.{Place}
+use Rattle.polcert_cells.specs.declared.entry.Place.TheVariants.{Every, Only}
+use Rattle.polcert_cells.specs.declared.entry.Entry.{Entry}
+use Rattle.polcert_cells.specs.Cells.{fit_places}
+
+-- a place as a digit: 0 stands for no place
+abbrev pub digit : Place → ℕ
+digit Every = 1
+digit (Only n) = n + 2
+
+-- the key of these places behind those of the key `low`, where there is room for so many digits to base 1024
+abbrev pub key_in : ℕ → ℕ → List Place → ℕ
+key_in levels low [] = low
+key_in zero low (p ∷ ps) = low
+key_in (suc levels) low (p ∷ ps) = key_in levels (low + digit p * 1024 ^ levels) ps
+
+-- at most so many places, each a digit to base 1024
+abbrev pub AreDigits : ℕ → List Place → Type 0
+AreDigits levels [] = Unit {0}
+AreDigits zero (p ∷ ps) = ⊥
+AreDigits (suc levels) (p ∷ ps) = (digit p < 1024) × AreDigits levels ps
+
+-- at most so many indices, whose places are digits
+abbrev pub AreIndices : ℕ → List ℕ → Type 0
+AreIndices levels [] = Unit {0}
+AreIndices zero (i ∷ indices) = ⊥
+AreIndices (suc levels) (i ∷ indices) = (i + 2 < 1024) × AreIndices levels indices
+
+abbrev pub table_digit : Table → ℕ
+table_digit Transition = 0
+table_digit Observation = 1
+table_digit Reward = 2
+
+-- the most places that an entry has
+abbrev pub most_places : ℕ
+most_places = 4
+
+abbrev pub table_key : Table → ℕ
+table_key table = table_digit table * 1024 ^ most_places
+
+-- the key of the pattern of an entry, its table in front
+abbrev pub key_of : Entry → ℕ
+key_of entry = key_in most_places (table_key entry.table) entry.places
+
+-- The key is that of some places, behind those of the key `low`, that fit the first of these indices.
+pub record Fits (levels low : ℕ) (indices : List ℕ) (key : ℕ) : Type 0 where
+  pub places : List Place
+  pub fits : fit_places places indices ≡ true
+  pub is : key ≡ key_in levels low places

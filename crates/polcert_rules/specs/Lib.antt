@@ -1,0 +1,14 @@
+pub mod Meeting
+pub mod Given
+pub mod Keys
+pub mod Merging
+pub mod Newest
+pub mod Rows
+pub mod Shapes
+pub mod Sparse
+pub mod RowTables
+pub mod Sources
+pub mod Matching
+pub mod Rewards
+pub mod RewardSearch
+pub mod RewardAt

@@ -1,0 +1,37 @@
+-- Rules that begin with places that fit, and what the newest rule of R gives.
+-- Nobody has to believe this file: only private functions cite it.
+use Rattle.std.specs.Prelude.{◌≡◌, ℕ, ◌+◌, ◌-◌, ◌^◌, ◌<◌, ◌≤◌, Bool, true, false, List, [], ◌∷◌, length, Option, Some, None, Contains, slice_get, ℤ}
+use Rattle.polcert_cells.specs.declared.entry.Table.TheVariants.{Reward}
+use Rattle.polcert_cells.specs.declared.entry.Place.{Place}
+use Rattle.polcert_cells.specs.declared.entry.Entry.{Entry}
+use Rattle.polcert_cells.specs.Cells.{fit_places}
+use Rattle.polcert_rules.specs.declared.rule.Rule.{Rule}
+use Rattle.polcert_rules.specs.declared.reward_parts.RewardBody.{RewardBody}
+use Rattle.polcert_rules.specs.Keys.{key_in}
+use Rattle.polcert_rules.specs.Newest.{IsLastNumber}
+use Rattle.polcert_rules.specs.Rewards.{IsBodyOf}
+
+-- The key begins with places, one for each of these indices, that fit them, and goes on with at least so much.
+pub record Begins (levels low : ℕ) (indices : List ℕ) (least key : ℕ) : Type 0 where
+  pub places : List Place
+  pub fits : fit_places places indices ≡ true
+  pub all : length places ≡ length indices
+  pub from : key_in levels low places + least ≤ key
+  pub to : key < key_in levels low places + 1024 ^ (levels - length indices)
+
+-- whether a rule's key passes
+abbrev pub IsAnswer : List Rule → (ℕ → Type 0) → Bool → Type 0
+IsAnswer rules P true = (r : Rule) × Contains rules r × P r.key
+IsAnswer rules P false = (r : Rule) → Contains rules r → P r.key → ⊥
+
+-- as many indices as counts, each below its count
+abbrev pub AreWithin : List ℕ → List ℕ → Type 0
+AreWithin [] [] = Unit {0}
+AreWithin (count ∷ counts) (i ∷ indices) = (i < count) × AreWithin counts indices
+AreWithin _ _ = ⊥
+
+-- the body of the last entry of R that covers the cell
+abbrev pub IsLastBody : Bool → List Entry → List ℤ → List ℕ → Option RewardBody → Type 0
+IsLastBody costs entries numbers indices None = IsLastNumber entries Reward indices None
+IsLastBody costs entries numbers indices (Some b) =
+    IsLastNumber entries Reward indices (Some b.number) × ((e : Entry) → slice_get entries b.number ≡ Some e → IsBodyOf costs e numbers b)

@@ -1,0 +1,86 @@
+-- The rewards of a model as rules: what is seen of them, and what ties them to the entries that they come from.
+-- Nobody has to believe this file: what rewards are made from and what they answer are stated by the entries alone.
+use Rattle.std.specs.Prelude.{◌≡◌, ℕ, ◌+◌, ◌*◌, ◌^◌, ◌<◌, ◌≤◌, ◌↔◌, Bool, List, [], ◌∷◌, length, All, Contains, slice_get, Some, ℤ, if◌then◌else◌}
+use Rattle.std.specs.Int.{w64, int_wrapping_neg}
+use Rattle.std.specs.List.Sorted.{IsNonDecreasingBy}
+use Rattle.polcert_cells.specs.declared.entry.Table.TheVariants.{Reward}
+use Rattle.polcert_cells.specs.declared.entry.Body.{Body}
+use Rattle.polcert_cells.specs.declared.entry.Body.TheVariants.{Rewards}
+use Rattle.polcert_cells.specs.declared.entry.Entry.{Entry}
+use Rattle.polcert_cells.specs.Elements.{count_of, most_elements}
+use Rattle.polcert_cells.specs.Preamble.{Preamble, observed}
+use Rattle.polcert_cells.specs.Sound.{IsSoundEntry}
+use Rattle.polcert_rules.specs.declared.rule.Rule.{Rule}
+use Rattle.polcert_rules.specs.declared.reward_parts.RewardShape.{RewardShape}
+use Rattle.polcert_rules.specs.declared.reward_parts.RewardBody.{RewardBody}
+use Rattle.polcert_rules.specs.Keys.{table_key, most_places}
+use Rattle.polcert_rules.specs.Newest.{IsRising, IsIndexOf, AreKeyed}
+
+-- the shape has as many elements of each kind as the preamble
+pub record IsShapeOf (p : Preamble) (shape : RewardShape) : Type 0 where
+  pub actions : count_of p.actions ≡ shape.actions
+  pub states : count_of p.states ≡ shape.states
+  pub observations : count_of (observed p) ≡ shape.observations
+
+-- no more elements of a kind than a model may have
+pub record IsSmall (shape : RewardShape) : Type 0 where
+  pub actions : shape.actions ≤ most_elements
+  pub states : shape.states ≤ most_elements
+  pub observations : shape.observations ≤ most_elements
+
+-- the rules of R by their keys, the bodies of their entries by their numbers, and the numbers of all bodies
+pub record RewardRules : Type 0 where
+  pub shape : RewardShape
+  pub rules : List Rule
+  pub bodies : List RewardBody
+  pub numbers : List ℤ
+
+-- the rule is one of R
+pub record IsOfRewards (r : Rule) : Type 0 where
+  pub low : table_key Reward ≤ r.key
+  pub high : r.key < table_key Reward + 1024 ^ most_places
+
+-- what holds of all rewards
+pub record AreRewardRules (rewards : RewardRules) : Type 0 where
+  pub shape : IsSmall rewards.shape
+  pub rising : IsRising rewards.rules
+  pub table : (r : Rule) → Contains rewards.rules r → IsOfRewards r
+
+-- What a number is worth that is written as a reward, or as a cost: minus it, in 64 bits. (None that an entry may have is
+-- so large that this would wrap.)
+abbrev pub worth : Bool → ℤ → ℤ
+worth costs h = if costs then int_wrapping_neg w64 h else h
+
+abbrev pub rewards_in : Body → List ℤ
+rewards_in (Rewards hs) = hs
+rewards_in _ = []
+
+-- The entry's numbers stand one after another from the start of the body on, each as it is worth.
+pub record IsBodyOf (costs : Bool) (entry : Entry) (numbers : List ℤ) (body : RewardBody) : Type 0 where
+  pub places : body.places ≡ length entry.places
+  pub numbers_are : (k : ℕ) (h : ℤ) → slice_get (rewards_in entry.body) k ≡ Some h → slice_get numbers (body.start + k) ≡ Some (worth costs h)
+
+-- each body is that of the entry of its number
+abbrev pub AreBodiesOf : Bool → List Entry → List ℤ → List RewardBody → Type 0
+AreBodiesOf costs entries numbers bodies = (b : RewardBody) → Contains bodies b → (e : Entry) → slice_get entries b.number ≡ Some e → IsBodyOf costs e numbers b
+
+-- The rules are those of R in an index of the entries, and each has the body of its entry.
+pub record AreRewardsOf (p : Preamble) (entries : List Entry) (rewards : RewardRules) : Type 0 where
+  pub shape : IsShapeOf p rewards.shape
+  pub sound : All (IsSoundEntry p) entries
+  pub keyed : AreKeyed entries
+  pub index : List Rule
+  pub index_is : IsIndexOf entries index
+  pub rules : (r : Rule) → Contains rewards.rules r ↔ (Contains index r × (table_key Reward ≤ r.key) × (r.key < table_key Reward + 1024 ^ most_places))
+  pub some_body : (r : Rule) → Contains rewards.rules r → (b : RewardBody) × Contains rewards.bodies b × (b.number ≡ r.number)
+  pub in_order : IsNonDecreasingBy (λ b. b.number) rewards.bodies
+  pub bodies : AreBodiesOf p.costs entries rewards.numbers rewards.bodies
+
+-- the number of a cell in a body, by the indices that are left for it, in a table with so many columns
+abbrev pub cell_in : ℕ → List ℕ → ℕ
+cell_in columns (row ∷ column ∷ []) = row * columns + column
+cell_in columns (column ∷ []) = column
+cell_in columns _ = 0
+
+abbrev pub reward_rules : RewardShape → List Rule → List RewardBody → List ℤ → RewardRules
+reward_rules shape rules bodies numbers = record { shape = shape; rules = rules; bodies = bodies; numbers = numbers }

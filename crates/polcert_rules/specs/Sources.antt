@@ -1,0 +1,115 @@
+-- Rows that are kept once for many actions and states. Nobody has to believe this file: only private functions cite it.
+use Rattle.std.specs.Prelude.{◌≡◌, ℕ, ◌+◌, ◌*◌, ◌<◌, ◌≤◌, All, true, List, [], ◌∷◌, ◌++◌, Option, Some, None, length, slice_get, slice_index}
+use Rattle.polcert_cells.specs.declared.entry.Table.{Table}
+use Rattle.polcert_cells.specs.declared.entry.Place.{Place}
+use Rattle.polcert_cells.specs.declared.entry.Body.{Body}
+use Rattle.polcert_cells.specs.declared.entry.Body.TheVariants.{Probabilities, Rewards, Uniform, Identity}
+use Rattle.polcert_cells.specs.declared.entry.Entry.{Entry}
+use Rattle.polcert_cells.specs.Cells.{value_or, last_covering}
+use Rattle.polcert_cells.specs.Numbers.{one}
+use Rattle.polcert_cells.specs.Meaning.{sum_below}
+use Rattle.polcert_rules.specs.declared.cell.Cell.{Cell}
+use Rattle.polcert_rules.specs.declared.rule.Rule.{Rule}
+use Rattle.polcert_rules.specs.declared.shape.Shape.{Shape}
+use Rattle.polcert_rules.specs.declared.kept.Source.{Source}
+use Rattle.polcert_rules.specs.declared.kept.Source.TheVariants.{Nothing, Line}
+use Rattle.polcert_rules.specs.declared.kept.Kept.{Kept}
+use Rattle.polcert_rules.specs.Newest.{IsRising, entry_at}
+use Rattle.polcert_rules.specs.Rows.{number_in}
+use Rattle.polcert_rules.specs.Given.{FitsShape}
+use Rattle.polcert_rules.specs.Sparse.{weight_at, IsSparse}
+use Rattle.polcert_rules.specs.Merging.{given_at, is_newer, weight_in}
+
+-- ---- what a row is made of
+-- the line of a body that is the row of this state: all lines of `uniform` are alike, and so is what stands for each state
+abbrev pub line_in : List Place → Body → ℕ → ℕ
+line_in (p ∷ []) (Probabilities ps) s = s
+line_in _ (Probabilities ps) s = 0
+line_in _ Identity s = s
+line_in _ Uniform s = 0
+line_in _ (Rewards hs) s = 0
+
+abbrev pub line_of : Entry → ℕ → ℕ
+line_of e s = line_in e.places e.body s
+
+-- what a row without single cells is made of, by the number of the entry that covers the whole row
+abbrev pub source_of : List Entry → Option ℕ → ℕ → Source
+source_of entries None s = Nothing
+source_of entries (Some n) s = Line n (value_or 0 (λ e. line_of e s) (slice_get entries n))
+
+-- the cells are each row that is made of this
+abbrev pub IsFrom : ℕ → List Entry → Source → List Cell → Type 0
+IsFrom columns entries source cells = (whole : Option ℕ) (s : ℕ) → source_of entries whole s ≡ source → (c : ℕ) → c < columns → weight_at cells c ≡ given_at columns entries whole s c
+
+-- ---- what the index says of a row
+-- the entry of this number gives one number, within its limit
+pub record IsNumber (entries : List Entry) (number : ℕ) : Type 0 where
+  pub entry : Entry
+  pub is : slice_get entries number ≡ Some entry
+  pub written : ℕ
+  pub body : entry.body ≡ Probabilities (written ∷ [])
+  pub small : written ≤ one
+  pub places : length entry.places ≡ 3
+
+-- a newer cell is a column, and a number
+abbrev pub IsColumnOf : ℕ → List Entry → Option ℕ → Rule → Type 0
+IsColumnOf columns entries whole r = is_newer whole r.number ≡ true → (r.key < columns) × IsNumber entries r.number
+
+-- what covers the whole row is an entry that fits the shape
+abbrev pub IsWhole : Shape → List Entry → Option ℕ → Type 0
+IsWhole shape entries None = Unit {0}
+IsWhole shape entries (Some n) = (e : Entry) × (slice_get entries n ≡ Some e) × FitsShape shape e
+
+-- the numbers of a row: that of what covers the whole row, and those of its single cells
+pub record AreNumbersOf (shape : Shape) (entries : List Entry) (table : Table) (a s : ℕ) (whole : Option ℕ) (cells : List Rule) : Type 0 where
+  pub rising : IsRising cells
+  pub newer : All (IsColumnOf shape.columns entries whole) cells
+  pub covering : IsWhole shape entries whole
+  pub last : (c : ℕ) → c < shape.columns → last_covering entries table (a ∷ s ∷ c ∷ []) ≡ entry_at entries (number_in whole cells c)
+  pub small : (c : ℕ) → c < shape.columns → weight_in shape.columns entries table a s c ≤ one * shape.columns
+
+-- ---- rows as they are kept
+-- the sum of the weights
+abbrev pub total : List Cell → ℕ
+total [] = 0
+total (x ∷ xs) = x.weight + total xs
+
+-- the cells are sparse, and the sum is theirs
+pub record IsKept (columns : ℕ) (k : Kept) : Type 0 where
+  pub sparse : IsSparse columns k.cells.items
+  pub sum_is : k.sum ≡ sum_below (weight_at k.cells.items) columns
+
+-- each row is kept rightly, and is what its source says
+abbrev pub AreKept : ℕ → List Entry → List Kept → Type 0
+AreKept columns entries kept = All (IsKept columns) kept × All (λ (k : Kept). IsFrom columns entries k.source k.cells.items) kept
+
+-- the row of this number has these weights
+pub record IsKeptRow (columns : ℕ) (weights : ℕ → ℕ) (kept : List Kept) (number : ℕ) : Type 0 where
+  pub row : Kept
+  pub is : slice_get kept number ≡ Some row
+  pub each : (c : ℕ) → c < columns → weight_at row.cells.items c ≡ weights c
+
+-- the row of this number is made of this
+pub record IsMadeOf (kept : List Kept) (number : ℕ) (source : Source) : Type 0 where
+  pub row : Kept
+  pub is : slice_get kept number ≡ Some row
+  pub made : row.source ≡ source
+
+-- one row more is kept, behind the others
+pub record IsBehind (columns : ℕ) (source : Source) (cells : List Cell) (old new : List Kept) : Type 0 where
+  pub row : Kept
+  pub is : new ≡ old ++ row ∷ []
+  pub made : row.source ≡ source
+  pub same : row.cells.items ≡ cells
+  pub right : IsKept columns row
+
+-- each row stays where it is
+abbrev pub Stays : List Kept → List Kept → Type 0
+Stays old new = (n : ℕ) (k : Kept) → slice_get old n ≡ Some k → slice_get new n ≡ Some k
+
+-- the rows so far, action by action and state by state
+pub record AreBuilt (columns states : ℕ) (entries : List Entry) (table : Table) (count : ℕ) (numbers : List ℕ) (kept : List Kept) : Type 0 where
+  pub size : length numbers ≡ count
+  pub within : All (λ n. n < length kept) numbers
+  pub rows : AreKept columns entries kept
+  pub each : (a s : ℕ) → s < states → a * states + s < count → IsKeptRow columns (weight_in columns entries table a s) kept (slice_index numbers (a * states + s))

@@ -1,0 +1,23 @@
+-- Sparse rows: of a row of T or O the columns with a weight above 0.
+use Rattle.std.specs.Prelude.{◌≡◌, ℕ, ◌<◌, ◌==◌, All, AllPairs, List, [], ◌∷◌, if◌then◌else◌}
+use Rattle.polcert_rules.specs.declared.cell.Cell.{Cell}
+
+-- the weight of a column, or 0 where it is not among the cells
+abbrev pub weight_at : List Cell → ℕ → ℕ
+weight_at [] column = 0
+weight_at (x ∷ xs) column = if x.column == column then x.weight else weight_at xs column
+
+-- the columns rise
+abbrev pub AreRising : List Cell → Type 0
+AreRising cells = AllPairs (λ x y. x.column < y.column) cells
+
+-- Each column once, in order, and below so many; and each weight is above 0.
+pub record IsSparse (columns : ℕ) (cells : List Cell) : Type 0 where
+  pub rising : AreRising cells
+  pub within : All (λ x. x.column < columns) cells
+  pub some : All (λ x. 0 < x.weight) cells
+
+-- The cells are the row with these weights, of so many columns.
+pub record IsRow (columns : ℕ) (weights : ℕ → ℕ) (cells : List Cell) : Type 0 where
+  pub sparse : IsSparse columns cells
+  pub each : (c : ℕ) → c < columns → weight_at cells c ≡ weights c

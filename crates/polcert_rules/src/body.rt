@@ -1,0 +1,102 @@
+//! Rows of the bodies of entries that cover whole rows.
+ghost use Rattle.std.specs.Prelude.{◌≡◌, ℕ, ◌+◌, ◌*◌, ◌<◌, ◌≤◌, ◌==◌, All, IfOk, length, slice_index, if◌then◌else◌};
+ghost use Rattle.polcert_cells.specs.Numbers.{one};
+ghost use Rattle.polcert_cells.specs.Elements.{most_elements};
+ghost use Rattle.polcert_rules.specs.Given.{IsWithin, FitsShape, given};
+ghost use Rattle.polcert_rules.specs.Sparse.{IsRow};
+
+use crate::{Cell, Shape};
+use polcert_cells::{Body, Entry};
+use std::alloc::{AllocError, Global};
+
+/// One, in millionths.
+const ONE: u64 = 1_000_000;
+
+/// What an entry of T or O that covers whole rows gives the row of this state.
+pub(crate) fn body_row(
+    alloc: Global,
+    entry: &Entry,
+    state: usize,
+    shape: Shape,
+) -> Result<Vec<Cell>, AllocError>
+    requires within { IsWithin shape }
+    requires state { state < shape.states }
+    requires fits { FitsShape shape entry.now }
+    ensures { IfOk result (λ cells. IsRow shape.columns (given shape.columns entry.now state) cells.items) }
+{
+    let columns = shape.columns;
+    match &entry.body {
+        Body::Probabilities(numbers) => match entry.places.len() {
+            1 => {
+                let line = line_of(numbers.as_slice(), columns, state);
+                Ok(row_of_numbers(alloc, line)?)
+            }
+            2 => Ok(row_of_numbers(alloc, numbers.as_slice())?),
+            _ => Ok(even_row(alloc, columns, numbers.at(0) as u64 * columns as u64)?),
+        },
+        Body::Uniform => Ok(even_row(alloc, columns, ONE)?),
+        Body::Identity => Ok(diagonal_row(alloc, columns, state)?),
+        Body::Rewards(_) => Ok(even_row(alloc, columns, 0)?),
+    }
+}
+
+/// The line of this state in a matrix.
+fn line_of(numbers: &[u32], columns: usize, state: usize) -> &[u32]
+    requires room { state * columns + columns ≤ length numbers.now }
+    requires small { All (λ n. n ≤ one) numbers.now }
+    ensures length { length result.now ≡ columns }
+    ensures small { All (λ n. n ≤ one) result.now }
+    ensures numbers { (c : ℕ) → c < columns → slice_index result.now c ≡ slice_index numbers.now (state * columns + c) }
+{
+    let start = state * columns;
+    &numbers[start..start + columns]
+}
+
+/// A number for each column, in millionths.
+fn row_of_numbers(alloc: Global, numbers: &[u32]) -> Result<Vec<Cell>, AllocError>
+    requires few { length numbers.now ≤ most_elements }
+    requires small { All (λ n. n ≤ one) numbers.now }
+    ensures { IfOk result (λ cells. IsRow (length numbers.now) (λ c. slice_index numbers.now c * length numbers.now) cells.items) }
+{
+    let columns = numbers.len();
+    let some = numbers.iter().filter(|number| **number > 0).count();
+    let mut cells = Vec::with_capacity(alloc, some)?;
+    for column in 0..columns {
+        let weight = numbers[column] as u64 * columns as u64;
+        if weight > 0 {
+            cells.push(Cell { column, weight })?;
+        }
+    }
+    Ok(cells)
+}
+
+/// The same weight in each column.
+fn even_row(alloc: Global, columns: usize, weight: u64) -> Result<Vec<Cell>, AllocError>
+    ensures { IfOk result (λ cells. IsRow columns (λ c. weight) cells.items) }
+{
+    if weight == 0 {
+        return Ok(Vec::new(alloc));
+    }
+    let mut cells = Vec::with_capacity(alloc, columns)?;
+    for column in 0..columns {
+        cells.push(Cell { column, weight })?;
+    }
+    Ok(cells)
+}
+
+/// The row of this state of the identity: all of its weight in one column.
+fn diagonal_row(alloc: Global, columns: usize, state: usize) -> Result<Vec<Cell>, AllocError>
+    requires within { columns ≤ most_elements }
+    requires some { 0 < columns }
+    ensures { IfOk result (λ cells. IsRow columns (λ c. if state == c then one * columns else 0) cells.items) }
+{
+    let mut cells = Vec::new(alloc);
+    if state < columns {
+        let weight = ONE * columns as u64;
+        cells.push(Cell {
+            column: state,
+            weight,
+        })?;
+    }
+    Ok(cells)
+}

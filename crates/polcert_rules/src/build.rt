@@ -1,0 +1,81 @@
+//! Building an index: a rule for each entry, in the order of their keys, and of each key the newest.
+ghost use Rattle.std.specs.Prelude.{◌≡◌, ◌≤◌, IfOk};
+ghost use Rattle.polcert_rules.specs.Keys.{digit, table_digit, key_of, AreDigits, most_places};
+ghost use Rattle.polcert_rules.specs.Newest.{AreKeyed, rules_from, newest_of_each};
+
+use crate::Rule;
+use crate::newest::span;
+use polcert_cells::{Entry, Place, Table};
+use std::alloc::{AllocError, Global};
+
+/// How many places an entry has at most.
+const MOST_PLACES: usize = 4;
+
+/// A rule for each entry.
+pub(crate) fn numbered(alloc: Global, entries: &[Entry]) -> Result<Vec<Rule>, AllocError>
+    requires { AreKeyed entries.now }
+    ensures { IfOk result (λ rules. rules.items ≡ rules_from 0 entries.now) }
+{
+    let mut rules = Vec::new(alloc);
+    for number in 0..entries.len() {
+        let key = key_of(&entries[number]);
+        rules.push(Rule { key, number })?;
+    }
+    Ok(rules)
+}
+
+/// Of neighbours with the same key the one with the greatest number.
+pub(crate) fn newest_of_each(alloc: Global, rules: &[Rule]) -> Result<Vec<Rule>, AllocError>
+    ensures { IfOk result (λ kept. kept.items ≡ newest_of_each rules.now) }
+{
+    let mut kept = Vec::new(alloc);
+    if rules.is_empty() {
+        return Ok(kept);
+    }
+    let mut last = rules[0];
+    for rule in &rules[1..] {
+        if rule.key == last.key {
+            last.number = last.number.max(rule.number);
+        } else {
+            kept.push(last)?;
+            last = *rule;
+        }
+    }
+    kept.push(last)?;
+    Ok(kept)
+}
+
+/// The key of an entry's pattern, its table in front.
+fn key_of(entry: &Entry) -> u64
+    requires { AreDigits most_places entry.now.places }
+    ensures { result ≡ key_of entry.now }
+{
+    let mut key = table_digit(entry.table) * span(MOST_PLACES);
+    let mut levels = MOST_PLACES;
+    for place in entry.places.as_slice() {
+        levels -= 1;
+        key += digit(*place) * span(levels);
+    }
+    key
+}
+
+/// A place as a digit: 0 stands for no place.
+fn digit(place: Place) -> u64
+    requires { digit place ≤ 1023 }
+    ensures { result ≡ digit place }
+{
+    match place {
+        Place::Every => 1,
+        Place::Only(index) => index as u64 + 2,
+    }
+}
+
+pub(crate) fn table_digit(table: Table) -> u64
+    ensures { result ≡ table_digit table }
+{
+    match table {
+        Table::Transition => 0,
+        Table::Observation => 1,
+        Table::Reward => 2,
+    }
+}

@@ -1,0 +1,255 @@
+//! Rows that are kept once for many actions and states.
+ghost use Rattle.std.specs.Prelude.{◌≡◌, ℕ, ◌*◌, ◌<◌, ◌≤◌, ◌^◌, ◌↔◌, All, IfOk, OnOk, IfSome, IsTrue, length};
+ghost use Rattle.polcert_cells.specs.Numbers.{one};
+ghost use Rattle.polcert_cells.specs.Elements.{most_elements};
+ghost use Rattle.polcert_cells.specs.declared.entry.Table.{Table as T};
+ghost use Rattle.polcert_rules.specs.declared.shape.Shape.{Shape as S};
+ghost use Rattle.polcert_rules.specs.Given.{IsWithin};
+ghost use Rattle.polcert_rules.specs.Sparse.{weight_at, IsRow, IsSparse};
+ghost use Rattle.polcert_rules.specs.Merging.{given_at, weight_in, weight_over, Rises};
+ghost use Rattle.polcert_rules.specs.Sources.{source_of, line_of, IsWhole, IsFrom, AreKept, AreNumbersOf, IsKeptRow, IsMadeOf, IsBehind, Stays, total};
+
+use crate::body::body_row;
+use crate::merging::merged;
+use crate::single::newer_cells;
+use crate::{Cell, Row, Shape};
+use polcert_cells::{Body, Entry};
+use std::alloc::{AllocError, Global};
+
+/// What a row is made of.
+#[derive(Clone, Copy)]
+pub(crate) enum Source {
+    /// No entry.
+    Nothing,
+    /// A line of the body of one entry, by its number.
+    Line { entry: usize, line: usize },
+    /// Single cells, over one of these.
+    Cells,
+}
+
+/// A row that is kept, what it is made of, and the sum of its weights.
+#[derive(Drop)]
+pub(crate) struct Kept {
+    pub source: Source,
+    pub sum: u64,
+    pub cells: Vec<Cell>,
+}
+
+/// The number under which the row of these entries is kept, of this action and state. A row without single cells is
+/// kept once where it is that of a neighbour, by the numbers of the rows before it.
+pub(crate) fn row_number(
+    alloc: Global,
+    kept: &mut Vec<Kept>,
+    numbers: &[usize],
+    entries: &[Entry],
+    row: &Row,
+    state: usize,
+    shape: Shape,
+) -> Result<usize, AllocError>
+    requires within { IsWithin shape }
+    requires state { state < shape.states }
+    requires numbers { All (λ n. n < length kept.old.items) numbers.now }
+    requires kept { AreKept shape.columns entries.now kept.old.items }
+    requires row { (table : T) × (a : ℕ) × AreNumbersOf shape entries.now table a state row.now.whole row.now.cells.items }
+    ensures stays { OnOk result (Stays kept.old.items kept.new.items) }
+    ensures kept { OnOk result (AreKept shape.columns entries.now kept.new.items) }
+    ensures row { IfOk result (λ n. (table : T) (a : ℕ) →
+        AreNumbersOf shape entries.now table a state row.now.whole row.now.cells.items →
+        IsKeptRow shape.columns (weight_in shape.columns entries.now table a state) kept.new.items n) }
+{
+    let newer = newer_cells(
+        alloc,
+        entries,
+        row.whole,
+        row.cells.as_slice(),
+        shape.columns,
+    )?;
+    if newer.is_empty() {
+        Ok(shared_row(alloc, kept, numbers, entries, row.whole, state, shape)?)
+    } else {
+        Ok(own_row(
+            alloc,
+            kept,
+            newer.as_slice(),
+            entries,
+            row.whole,
+            state,
+            shape,
+        )?)
+    }
+}
+
+/// The number of a row without single cells.
+fn shared_row(
+    alloc: Global,
+    kept: &mut Vec<Kept>,
+    numbers: &[usize],
+    entries: &[Entry],
+    whole: Option<usize>,
+    state: usize,
+    shape: Shape,
+) -> Result<usize, AllocError>
+    requires within { IsWithin shape }
+    requires state { state < shape.states }
+    requires numbers { All (λ n. n < length kept.old.items) numbers.now }
+    requires kept { AreKept shape.columns entries.now kept.old.items }
+    requires whole { IsWhole shape entries.now whole }
+    ensures stays { OnOk result (Stays kept.old.items kept.new.items) }
+    ensures kept { OnOk result (AreKept shape.columns entries.now kept.new.items) }
+    ensures row { IfOk result (IsKeptRow shape.columns (given_at shape.columns entries.now whole state) kept.new.items) }
+{
+    let source = source_of(entries, whole, state);
+    if let Some(number) = known(kept.as_slice(), numbers, shape.states, source) {
+        return Ok(number);
+    }
+    let cells = whole_row(alloc, entries, whole, state, shape)?;
+    Ok(keep(kept, source, cells, shape.columns)?)
+}
+
+/// The number of a row with newer cells.
+fn own_row(
+    alloc: Global,
+    kept: &mut Vec<Kept>,
+    newer: &[Cell],
+    entries: &[Entry],
+    whole: Option<usize>,
+    state: usize,
+    shape: Shape,
+) -> Result<usize, AllocError>
+    requires within { IsWithin shape }
+    requires state { state < shape.states }
+    requires kept { AreKept shape.columns entries.now kept.old.items }
+    requires whole { IsWhole shape entries.now whole }
+    requires newer { Rises 0 shape.columns newer.now }
+    requires small { (c : ℕ) → c < shape.columns → weight_over newer.now (given_at shape.columns entries.now whole state) c ≤ one * shape.columns }
+    ensures stays { OnOk result (Stays kept.old.items kept.new.items) }
+    ensures kept { OnOk result (AreKept shape.columns entries.now kept.new.items) }
+    ensures row { IfOk result (IsKeptRow shape.columns (weight_over newer.now (given_at shape.columns entries.now whole state)) kept.new.items) }
+{
+    let base = whole_row(alloc, entries, whole, state, shape)?;
+    let cells = merged(alloc, base.as_slice(), newer)?;
+    Ok(keep(kept, Source::Cells, cells, shape.columns)?)
+}
+
+/// What the entry that covers the whole row gives it, if there is one.
+fn whole_row(
+    alloc: Global,
+    entries: &[Entry],
+    whole: Option<usize>,
+    state: usize,
+    shape: Shape,
+) -> Result<Vec<Cell>, AllocError>
+    requires within { IsWithin shape }
+    requires state { state < shape.states }
+    requires whole { IsWhole shape entries.now whole }
+    ensures { IfOk result (λ cells. IsRow shape.columns (given_at shape.columns entries.now whole state) cells.items) }
+{
+    match whole {
+        None => Ok(Vec::new(alloc)),
+        Some(number) => Ok(body_row(alloc, &entries[number], state, shape)?),
+    }
+}
+
+/// What the row of a state is made of, by the number of the entry that covers the whole row.
+fn source_of(entries: &[Entry], whole: Option<usize>, state: usize) -> Source
+    requires { (shape : S) × IsWhole shape entries.now whole }
+    ensures { result ≡ source_of entries.now whole state }
+{
+    match whole {
+        None => Source::Nothing,
+        Some(number) => Source::Line {
+            entry: number,
+            line: line_of(&entries[number], state),
+        },
+    }
+}
+
+/// The line of the entry's body that is the row of this state.
+fn line_of(entry: &Entry, state: usize) -> usize
+    ensures { result ≡ line_of entry.now state }
+{
+    match &entry.body {
+        Body::Probabilities(_) => if entry.places.len() == 1 { state } else { 0 },
+        Body::Identity => state,
+        Body::Uniform | Body::Rewards(_) => 0,
+    }
+}
+
+/// The number of a row before this one that is made of the same: of the state before, or of the action before.
+fn known(kept: &[Kept], numbers: &[usize], states: usize, source: Source) -> Option<usize>
+    requires some { 0 < states }
+    requires numbers { All (λ n. n < length kept.now) numbers.now }
+    ensures { IfSome result (λ n. IsMadeOf kept.now n source) }
+{
+    let count = numbers.len();
+    if count >= 1 {
+        let number = numbers[count - 1];
+        if is_made_of(kept, number, source) {
+            return Some(number);
+        }
+    }
+    if count >= states {
+        let number = numbers[count - states];
+        if is_made_of(kept, number, source) {
+            return Some(number);
+        }
+    }
+    None
+}
+
+/// Whether the row of this number is made of this.
+fn is_made_of(kept: &[Kept], number: usize, source: Source) -> bool
+    requires { number < length kept.now }
+    ensures { IsTrue result → IsMadeOf kept.now number source }
+{
+    is_same(kept[number].source, source)
+}
+
+/// Whether two rows are made of the same.
+fn is_same(one: Source, other: Source) -> bool
+    ensures { IsTrue result ↔ (one ≡ other) }
+{
+    match (one, other) {
+        (Source::Nothing, Source::Nothing) => true,
+        (Source::Cells, Source::Cells) => true,
+        (
+            Source::Line { entry, line },
+            Source::Line {
+                entry: number,
+                line: place,
+            },
+        ) => { entry == number && line == place }
+        _ => false,
+    }
+}
+
+/// Keeps a row behind the others, and gives its number.
+fn keep(
+    kept: &mut Vec<Kept>,
+    source: Source,
+    cells: Vec<Cell>,
+    columns: usize,
+) -> Result<usize, AllocError>
+    requires few { columns ≤ most_elements }
+    requires sparse { IsSparse columns cells.items }
+    requires small { (c : ℕ) → c < columns → weight_at cells.items c ≤ one * columns }
+    ensures number { IfOk result (λ n. n ≡ length kept.old.items) }
+    ensures kept { OnOk result (IsBehind columns source cells.items kept.old.items kept.new.items) }
+{
+    let number = kept.len();
+    let sum = row_sum(cells.as_slice());
+    kept.push(Kept { source, sum, cells })?;
+    Ok(number)
+}
+
+/// The sum of the weights of a row.
+fn row_sum(cells: &[Cell]) -> u64
+    requires { total cells.now < 2 ^ 64 }
+    ensures { result ≡ total cells.now }
+{
+    let mut sum = 0;
+    for cell in cells {
+        sum += cell.weight;
+    }
+    sum
+}

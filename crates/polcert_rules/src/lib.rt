@@ -1,0 +1,33 @@
+//! An index of entries by their patterns.
+#![tactic(auto)]
+
+mod body;
+mod build;
+mod cell;
+mod index;
+mod kept;
+mod merging;
+mod newest;
+mod part;
+mod reward_bodies;
+mod reward_parts;
+mod reward_search;
+#[cfg(test)]
+mod reward_tests;
+mod rewards;
+mod row;
+mod rows;
+mod rule;
+mod shape;
+mod single;
+#[cfg(test)]
+mod tests;
+
+pub use cell::Cell;
+pub use index::Index;
+pub use reward_parts::{RewardBody, RewardShape};
+pub use rewards::Rewards;
+pub use row::Row;
+pub use rows::Rows;
+pub use rule::Rule;
+pub use shape::Shape;

@@ -1,0 +1,45 @@
+//! A row's single cells over what covers the whole row.
+ghost use Rattle.std.specs.Prelude.{◌≡◌, ◌++◌, IfOk, OnOk};
+ghost use Rattle.polcert_rules.specs.Merging.{merged, before, behind};
+
+use crate::Cell;
+use std::alloc::{AllocError, Global};
+
+/// Newer cells over a row, both rising by column: each hides the row's cell in its column, and one of weight 0 leaves
+/// nothing there.
+pub(crate) fn merged(alloc: Global, base: &[Cell], newer: &[Cell]) -> Result<Vec<Cell>, AllocError>
+    ensures { IfOk result (λ cells. cells.items ≡ merged base.now newer.now) }
+{
+    let mut cells = Vec::with_capacity(alloc, base.len() + newer.len())?;
+    let mut rest = base;
+    for cell in newer {
+        rest = add_before(&mut cells, rest, cell.column)?;
+        if cell.weight > 0 {
+            cells.push(*cell)?;
+        }
+    }
+    cells.extend_from_slice(rest)?;
+    Ok(cells)
+}
+
+/// Puts the cells before a column behind the others, and gives those behind it.
+fn add_before<'a>(
+    cells: &mut Vec<Cell>,
+    base: &'a [Cell],
+    column: usize,
+) -> Result<&'a [Cell], AllocError>
+    ensures cells { OnOk result (cells.new.items ≡ cells.old.items ++ before column base.now) }
+    ensures rest { IfOk result (λ rest. rest.now ≡ behind column base.now) }
+{
+    for number in 0..base.len() {
+        let cell = base[number];
+        if cell.column == column {
+            return Ok(&base[number + 1..]);
+        }
+        if cell.column > column {
+            return Ok(&base[number..]);
+        }
+        cells.push(cell)?;
+    }
+    Ok(&[])
+}

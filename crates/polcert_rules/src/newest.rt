@@ -1,0 +1,77 @@
+//! The newest rule that fits the indices of a cell.
+ghost use Rattle.std.specs.Prelude.{◌≡◌, ◌+◌, ◌<◌, ◌≤◌, ◌^◌, ℕ, Contains};
+ghost use Rattle.polcert_rules.specs.declared.rule.Rule.{Rule as R};
+ghost use Rattle.polcert_rules.specs.Newest.{IsRising, IsNewest, later};
+ghost use Rattle.polcert_rules.specs.Keys.{AreIndices, Fits, most_places};
+
+use crate::Rule;
+use crate::part::between;
+
+/// Of the rules whose places follow those of the key `low`, at most so many, the number of the newest that fits the
+/// first of these indices.
+pub(crate) fn newest(rules: &[Rule], low: u64, levels: usize, indices: &[usize]) -> Option<usize>
+    requires rising { IsRising rules.now }
+    requires from { (r : R) → Contains rules.now r → low ≤ r.key }
+    requires few { levels ≤ most_places }
+    requires room { low + 1024 ^ levels < 2 ^ 64 }
+    requires indices { AreIndices levels indices.now }
+    ensures { IsNewest rules.now (Fits levels low indices.now) result }
+{
+    if rules.is_empty() {
+        return None;
+    }
+    let here = first_at(rules, low);
+    match indices.split_first() {
+        None => here,
+        Some((index, rest)) => {
+            let below = levels - 1;
+            let step = span(below);
+            let every = low + step;
+            let only = low + (*index as u64 + 2) * step;
+            let of_every = newest(between(rules, every, every + step), every, below, rest);
+            let of_only = newest(between(rules, only, only + step), only, below, rest);
+            later(here, later(of_every, of_only))
+        }
+    }
+}
+
+/// The number of the rule with this key, where no rule has a lower one.
+pub(crate) fn first_at(rules: &[Rule], key: u64) -> Option<usize>
+    requires rising { IsRising rules.now }
+    requires from { (r : R) → Contains rules.now r → key ≤ r.key }
+    ensures { IsNewest rules.now (λ k. k ≡ key) result }
+{
+    match rules.first() {
+        Some(rule) => if rule.key == key {
+            Some(rule.number)
+        } else {
+            None
+        },
+        None => None,
+    }
+}
+
+/// How many keys there are with so many places.
+pub(crate) fn span(levels: usize) -> u64
+    requires { levels ≤ most_places }
+    ensures { result ≡ 1024 ^ levels }
+{
+    match levels {
+        0 => 1,
+        1 => 1024,
+        2 => 1_048_576,
+        3 => 1_073_741_824,
+        _ => 1_099_511_627_776,
+    }
+}
+
+/// The greater of two numbers, where there are any.
+pub(crate) fn later(one: Option<usize>, other: Option<usize>) -> Option<usize>
+    ensures { result ≡ later one other }
+{
+    match (one, other) {
+        (None, _) => other,
+        (_, None) => one,
+        (Some(m), Some(n)) => if m <= n { Some(n) } else { Some(m) },
+    }
+}

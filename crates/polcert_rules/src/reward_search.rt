@@ -1,0 +1,43 @@
+//! Whether a rule begins with places that fit the first indices of a cell.
+ghost use Rattle.std.specs.Prelude.{◌≡◌, ◌+◌, ◌<◌, ◌≤◌, ◌^◌, Contains};
+ghost use Rattle.polcert_rules.specs.declared.rule.Rule.{Rule as R};
+ghost use Rattle.polcert_rules.specs.Newest.{IsRising};
+ghost use Rattle.polcert_rules.specs.Keys.{AreIndices, most_places};
+ghost use Rattle.polcert_rules.specs.RewardSearch.{Begins, IsAnswer};
+
+use crate::Rule;
+use crate::newest::span;
+use crate::part::between;
+
+/// Whether one of the rules, whose places follow those of the key `low`, begins with a place for each of these indices
+/// that fits it, and goes on with a key of at least `least`: 0 for no matter what, 2 for a last place that isn't `*`.
+pub(crate) fn some_begins(
+    rules: &[Rule],
+    low: u64,
+    levels: usize,
+    indices: &[usize],
+    least: u64,
+) -> bool
+    requires rising { IsRising rules.now }
+    requires few { levels ≤ most_places }
+    requires room { low + 1024 ^ levels + least < 2 ^ 64 }
+    requires indices { AreIndices levels indices.now }
+    ensures { IsAnswer rules.now (Begins levels low indices.now least) result }
+{
+    if rules.is_empty() {
+        return false;
+    }
+    match indices.split_first() {
+        None => !between(rules, low + least, low + span(levels)).is_empty(),
+        Some((index, rest)) => {
+            let below = levels - 1;
+            let step = span(below);
+            let every = low + step;
+            let only = low + (*index as u64 + 2) * step;
+            let of_every = between(rules, every, every + step);
+            let of_only = between(rules, only, only + step);
+            some_begins(of_every, every, below, rest, least)
+                || some_begins(of_only, only, below, rest, least)
+        }
+    }
+}

@@ -1,0 +1,318 @@
+//! Rewards of entries that are given as values.
+ghost use Rattle.std.specs.Prelude.{◌≡◌, ◌<◌, IfOk};
+ghost use Rattle.polcert_rules.specs.Keys.{AreDigits, digit, most_places};
+
+use crate::{Index, RewardShape, Rewards};
+use polcert_cells::{Body, Entry, Place, Sequence, Table};
+use std::alloc::{AllocError, Global};
+
+const SHAPE: RewardShape = RewardShape {
+    actions: 2,
+    states: 2,
+    observations: 2,
+};
+
+/// Any element, and elements 0 and 1.
+const ANY: usize = 9;
+
+const CELLS: usize = 16;
+
+fn place(element: usize) -> Place
+    ensures { digit result < 1024 }
+{
+    if element < ANY {
+        Place::Only(element)
+    } else {
+        Place::Every
+    }
+}
+
+/// The first four places of a pattern.
+fn places(alloc: Global, pattern: &[usize]) -> Result<Sequence<Place>, AllocError>
+    ensures { IfOk result (AreDigits most_places) }
+{
+    let mut places = Sequence::new(alloc);
+    for element in pattern {
+        if places.len() < 4 {
+            places.push(place(*element))?;
+        }
+    }
+    Ok(places)
+}
+
+fn entry(alloc: Global, pattern: &[usize], written: &[i64]) -> Result<Entry, AllocError>
+    ensures { IfOk result (λ entry. AreDigits most_places entry.places) }
+{
+    let places = places(alloc, pattern)?;
+    let mut numbers = Sequence::new(alloc);
+    for number in written {
+        numbers.push(*number)?;
+    }
+    Ok(Entry {
+        table: Table::Reward,
+        places,
+        body: Body::Rewards(numbers),
+    })
+}
+
+fn rewards(alloc: Global, costs: bool, lines: &[(&[usize], &[i64])]) -> Result<Rewards, AllocError>
+    ensures { IfOk result (λ rewards. rewards.shape ≡ SHAPE) }
+{
+    let mut entries = Vec::new(alloc);
+    for (pattern, written) in lines {
+        entries.push(entry(alloc, pattern, written)?)?;
+    }
+    let index = Index::of(alloc, entries.as_slice())?;
+    Rewards::of(alloc, SHAPE, costs, entries.as_slice(), &index)
+}
+
+fn cells(alloc: Global, costs: bool, lines: &[(&[usize], &[i64])]) -> Option<[i64; CELLS]> {
+    let rewards = match rewards(alloc, costs, lines) {
+        Ok(rewards) => rewards,
+        Err(_) => return None,
+    };
+    let mut all = [0; CELLS];
+    for number in 0..CELLS {
+        all[number] = rewards.at(number / 8, number / 4 % 2, number / 2 % 2, number % 2);
+    }
+    Some(all)
+}
+
+/// Each of the 28 patterns alone, with the rewards of all cells: by action, start state, end state and observation.
+const PATTERNS: [(&[usize], &[i64], [i64; CELLS]); 28] = [
+    (
+        &[ANY, ANY],
+        &[1, 2, 3, 4],
+        [1, 2, 3, 4, 1, 2, 3, 4, 1, 2, 3, 4, 1, 2, 3, 4],
+    ),
+    (
+        &[ANY, 0],
+        &[1, 2, 3, 4],
+        [1, 2, 3, 4, 0, 0, 0, 0, 1, 2, 3, 4, 0, 0, 0, 0],
+    ),
+    (
+        &[1, ANY],
+        &[1, 2, 3, 4],
+        [0, 0, 0, 0, 0, 0, 0, 0, 1, 2, 3, 4, 1, 2, 3, 4],
+    ),
+    (
+        &[1, 0],
+        &[1, 2, 3, 4],
+        [0, 0, 0, 0, 0, 0, 0, 0, 1, 2, 3, 4, 0, 0, 0, 0],
+    ),
+    (
+        &[ANY, ANY, ANY],
+        &[5, 6],
+        [5, 6, 5, 6, 5, 6, 5, 6, 5, 6, 5, 6, 5, 6, 5, 6],
+    ),
+    (
+        &[ANY, ANY, 1],
+        &[5, 6],
+        [0, 0, 5, 6, 0, 0, 5, 6, 0, 0, 5, 6, 0, 0, 5, 6],
+    ),
+    (
+        &[ANY, 0, ANY],
+        &[5, 6],
+        [5, 6, 5, 6, 0, 0, 0, 0, 5, 6, 5, 6, 0, 0, 0, 0],
+    ),
+    (
+        &[ANY, 0, 1],
+        &[5, 6],
+        [0, 0, 5, 6, 0, 0, 0, 0, 0, 0, 5, 6, 0, 0, 0, 0],
+    ),
+    (
+        &[1, ANY, ANY],
+        &[5, 6],
+        [0, 0, 0, 0, 0, 0, 0, 0, 5, 6, 5, 6, 5, 6, 5, 6],
+    ),
+    (
+        &[1, ANY, 1],
+        &[5, 6],
+        [0, 0, 0, 0, 0, 0, 0, 0, 0, 0, 5, 6, 0, 0, 5, 6],
+    ),
+    (
+        &[1, 0, ANY],
+        &[5, 6],
+        [0, 0, 0, 0, 0, 0, 0, 0, 5, 6, 5, 6, 0, 0, 0, 0],
+    ),
+    (
+        &[1, 0, 1],
+        &[5, 6],
+        [0, 0, 0, 0, 0, 0, 0, 0, 0, 0, 5, 6, 0, 0, 0, 0],
+    ),
+    (
+        &[ANY, ANY, ANY, ANY],
+        &[7],
+        [7, 7, 7, 7, 7, 7, 7, 7, 7, 7, 7, 7, 7, 7, 7, 7],
+    ),
+    (
+        &[ANY, ANY, ANY, 0],
+        &[7],
+        [7, 0, 7, 0, 7, 0, 7, 0, 7, 0, 7, 0, 7, 0, 7, 0],
+    ),
+    (
+        &[ANY, ANY, 1, ANY],
+        &[7],
+        [0, 0, 7, 7, 0, 0, 7, 7, 0, 0, 7, 7, 0, 0, 7, 7],
+    ),
+    (
+        &[ANY, ANY, 1, 0],
+        &[7],
+        [0, 0, 7, 0, 0, 0, 7, 0, 0, 0, 7, 0, 0, 0, 7, 0],
+    ),
+    (
+        &[ANY, 0, ANY, ANY],
+        &[7],
+        [7, 7, 7, 7, 0, 0, 0, 0, 7, 7, 7, 7, 0, 0, 0, 0],
+    ),
+    (
+        &[ANY, 0, ANY, 0],
+        &[7],
+        [7, 0, 7, 0, 0, 0, 0, 0, 7, 0, 7, 0, 0, 0, 0, 0],
+    ),
+    (
+        &[ANY, 0, 1, ANY],
+        &[7],
+        [0, 0, 7, 7, 0, 0, 0, 0, 0, 0, 7, 7, 0, 0, 0, 0],
+    ),
+    (
+        &[ANY, 0, 1, 0],
+        &[7],
+        [0, 0, 7, 0, 0, 0, 0, 0, 0, 0, 7, 0, 0, 0, 0, 0],
+    ),
+    (
+        &[1, ANY, ANY, ANY],
+        &[7],
+        [0, 0, 0, 0, 0, 0, 0, 0, 7, 7, 7, 7, 7, 7, 7, 7],
+    ),
+    (
+        &[1, ANY, ANY, 0],
+        &[7],
+        [0, 0, 0, 0, 0, 0, 0, 0, 7, 0, 7, 0, 7, 0, 7, 0],
+    ),
+    (
+        &[1, ANY, 1, ANY],
+        &[7],
+        [0, 0, 0, 0, 0, 0, 0, 0, 0, 0, 7, 7, 0, 0, 7, 7],
+    ),
+    (
+        &[1, ANY, 1, 0],
+        &[7],
+        [0, 0, 0, 0, 0, 0, 0, 0, 0, 0, 7, 0, 0, 0, 7, 0],
+    ),
+    (
+        &[1, 0, ANY, ANY],
+        &[7],
+        [0, 0, 0, 0, 0, 0, 0, 0, 7, 7, 7, 7, 0, 0, 0, 0],
+    ),
+    (
+        &[1, 0, ANY, 0],
+        &[7],
+        [0, 0, 0, 0, 0, 0, 0, 0, 7, 0, 7, 0, 0, 0, 0, 0],
+    ),
+    (
+        &[1, 0, 1, ANY],
+        &[7],
+        [0, 0, 0, 0, 0, 0, 0, 0, 0, 0, 7, 7, 0, 0, 0, 0],
+    ),
+    (
+        &[1, 0, 1, 0],
+        &[7],
+        [0, 0, 0, 0, 0, 0, 0, 0, 0, 0, 7, 0, 0, 0, 0, 0],
+    ),
+];
+
+#[test]
+fn each_pattern_alone(rt: HostRuntime) {
+    for (pattern, written, wanted) in PATTERNS {
+        assert_eq!(rt;
+            cells(rt.alloc(), false, &[(pattern, written)]),
+            Some(wanted),
+            "{pattern:?}"
+        );
+    }
+}
+
+#[test]
+fn costs_are_turned(rt: HostRuntime) {
+    assert_eq!(rt;
+        cells(rt.alloc(), true, &[(&[ANY, ANY], &[1, -2, 3, 4])]),
+        Some([-1, 2, -3, -4, -1, 2, -3, -4, -1, 2, -3, -4, -1, 2, -3, -4])
+    );
+}
+
+const WIDE: (&[usize], &[i64]) = (&[ANY, 0, ANY, ANY], &[5]);
+
+const NARROW: (&[usize], &[i64]) = (&[1, ANY, 1], &[8, 9]);
+
+#[test]
+fn the_last_entry_hides(rt: HostRuntime) {
+    assert_eq!(rt;
+        cells(
+            rt.alloc(),
+            false,
+            &[WIDE, NARROW, (&[ANY, ANY, ANY, ANY], &[2]), NARROW]
+        ),
+        Some([2, 2, 2, 2, 2, 2, 2, 2, 2, 2, 8, 9, 2, 2, 8, 9])
+    );
+    assert_eq!(rt;
+        cells(rt.alloc(), false, &[WIDE, NARROW]),
+        Some([5, 5, 5, 5, 0, 0, 0, 0, 5, 5, 8, 9, 0, 0, 8, 9])
+    );
+    assert_eq!(rt;
+        cells(rt.alloc(), false, &[NARROW, WIDE]),
+        Some([5, 5, 5, 5, 0, 0, 0, 0, 5, 5, 5, 5, 0, 0, 8, 9])
+    );
+}
+
+fn alike_at(
+    alloc: Global,
+    lines: &[(&[usize], &[i64])],
+    action: usize,
+    start: usize,
+    end: usize,
+) -> Option<Option<i64>>
+    requires action { action < 2 }
+    requires start { start < 2 }
+    requires end { end < 2 }
+{
+    match rewards(alloc, false, lines) {
+        Ok(rewards) => Some(rewards.alike(action, start, end)),
+        Err(_) => None,
+    }
+}
+
+fn paid_at(alloc: Global, lines: &[(&[usize], &[i64])], action: usize, start: usize) -> Option<bool>
+    requires action { action < 2 }
+    requires start { start < 2 }
+{
+    match rewards(alloc, false, lines) {
+        Ok(rewards) => Some(rewards.is_paid(action, start)),
+        Err(_) => None,
+    }
+}
+
+#[test]
+fn rewards_alike(rt: HostRuntime) {
+    let lines: [(&[usize], &[i64]); 4] = [
+        NARROW,
+        WIDE,
+        (&[1, 1], &[3, 4, 5, 6]),
+        (&[0, 1, 0, 1], &[7]),
+    ];
+    let alloc = rt.alloc();
+    assert_eq!(rt; alike_at(alloc, &lines, 1, 0, 1), Some(Some(5)));
+    assert_eq!(rt; alike_at(alloc, &lines, 1, 1, 0), Some(None));
+    assert_eq!(rt; alike_at(alloc, &lines, 0, 1, 0), Some(None));
+    assert_eq!(rt; alike_at(alloc, &lines, 0, 1, 1), Some(Some(0)));
+}
+
+#[test]
+fn what_is_paid(rt: HostRuntime) {
+    let lines: [(&[usize], &[i64]); 2] = [(&[1, ANY, 1, 0], &[1]), (&[0, 1, ANY], &[1, 2])];
+    let alloc = rt.alloc();
+    assert_eq!(rt; paid_at(alloc, &lines, 0, 0), Some(false));
+    assert_eq!(rt; paid_at(alloc, &lines, 0, 1), Some(true));
+    assert_eq!(rt; paid_at(alloc, &lines, 1, 0), Some(true));
+    assert_eq!(rt; paid_at(alloc, &[], 1, 1), Some(false));
+}

@@ -1,0 +1,167 @@
+//! The rewards of a model, as rules.
+ghost use Rattle.std.specs.Prelude.{◌≡◌, ◌<◌, ℕ, List, [], ◌∷◌, map, All, pos, true, false, IfOk, Some, slice_get};
+ghost use Rattle.std.specs.Option.{ForSome};
+ghost use Rattle.polcert_cells.specs.declared.entry.Entry.{Entry as E};
+ghost use Rattle.polcert_cells.specs.declared.entry.Table.TheVariants.{Reward as RewardTable};
+ghost use Rattle.polcert_cells.specs.Elements.{count_of};
+ghost use Rattle.polcert_cells.specs.Preamble.{Preamble, dimensions};
+ghost use Rattle.polcert_cells.specs.Sound.{IsSoundEntry};
+ghost use Rattle.polcert_cells.specs.Cells.{reward};
+ghost use Rattle.polcert_rules.specs.Meeting.{meets_row};
+ghost use Rattle.polcert_rules.specs.Keys.{AreIndices, Fits, most_places, table_key};
+ghost use Rattle.polcert_rules.specs.Newest.{AreKeyed, IsIndexOf, IsNewest};
+ghost use Rattle.polcert_rules.specs.Rewards.{IsShapeOf, IsSmall, AreRewardsOf};
+ghost use Rattle.polcert_rules.specs.RewardSearch.{AreWithin, IsLastBody};
+
+use crate::newest::newest;
+use crate::reward_bodies::{RewardBodies, behind, cell_in};
+use crate::reward_parts::{RewardBody, RewardShape};
+use crate::reward_search::some_begins;
+use crate::{Index, Rule};
+use polcert_cells::{Entry, Table};
+use std::alloc::{AllocError, Global};
+use std::marker::Model;
+
+/// The key that those of R follow, and how many places a key has.
+const LOW: u64 = 2 * 1024 * 1024 * 1024 * 1024;
+
+const MOST_PLACES: usize = 4;
+
+/// What a key goes on with, at least, where its last place is an index.
+const AN_INDEX: u64 = 2;
+
+/// The rewards that a list of entries gives: of each pattern of R the last entry, and its numbers, each as it is worth.
+#[derive(Drop)]
+pub struct Rewards {
+    shape: RewardShape,
+    rules: Vec<Rule>,
+    bodies: RewardBodies,
+}
+
+impl Model for Rewards {
+    ghost use Rattle.polcert_rules.specs.Rewards.{RewardRules, AreRewardRules, reward_rules};
+
+    ghost Value = { RewardRules };
+
+    ghost view = { λ r. reward_rules r.shape r.rules.items r.bodies.bodies.items r.bodies.numbers.items };
+
+    ghost invariant = { λ r. AreRewardRules (reward_rules r.shape r.rules.items r.bodies.bodies.items r.bodies.numbers.items) };
+}
+
+impl Rewards {
+    /// The rewards of these entries, of which `index` is the index, in a model of this shape.
+    pub fn of(
+        alloc: Global,
+        shape: RewardShape,
+        costs: bool,
+        entries: &[Entry],
+        index: &Index,
+    ) -> Result<Rewards, AllocError>
+        requires shape { IsSmall shape }
+        requires index { IsIndexOf entries.now index.now }
+        ensures shape { IfOk result (λ rewards. rewards.shape ≡ shape) }
+        ensures rewards { IfOk result (λ rewards. (p : Preamble) → IsShapeOf p shape → p.costs ≡ costs → AreKeyed entries.now →
+            All (IsSoundEntry p) entries.now → AreRewardsOf p entries.now rewards) }
+    {
+        let rules = index.of_table(Table::Reward).to_vec(alloc)?;
+        let mut in_order = rules.as_slice().to_vec(alloc)?;
+        in_order.sort_unstable_by_key(|rule| rule.number);
+        let bodies = RewardBodies::of(alloc, costs, entries, in_order.as_slice())?;
+        Ok(Rewards {
+            shape,
+            rules,
+            bodies,
+        })
+    }
+
+    /// How many elements of each kind there are.
+    pub fn shape(&self) -> RewardShape
+        ensures { result ≡ self.now.shape }
+    {
+        self.shape
+    }
+
+    /// The reward, in millionths, where this action is taken in the start state, ends in the end state and the
+    /// observation is made.
+    pub fn at(&self, action: usize, start: usize, end: usize, observation: usize) -> i64
+        requires action { action < self.now.shape.actions }
+        requires start { start < self.now.shape.states }
+        requires end { end < self.now.shape.states }
+        requires observation { observation < self.now.shape.observations }
+        ensures { (p : Preamble) (entries : List E) → AreRewardsOf p entries self.now →
+            result ≡ reward p entries (action ∷ start ∷ end ∷ observation ∷ []) }
+    {
+        prove!(observation < self.shape.observations);
+        self.at_cell(&[action, start, end, observation])
+    }
+
+    /// The reward where it is known at once that it is the same for every observation: no entry names an observation
+    /// where this action is taken in the start state and ends in the end state, and the last that covers these has a
+    /// single number.
+    pub fn alike(&self, action: usize, start: usize, end: usize) -> Option<i64>
+        requires action { action < self.now.shape.actions }
+        requires start { start < self.now.shape.states }
+        requires end { end < self.now.shape.states }
+        ensures { (p : Preamble) (entries : List E) → AreRewardsOf p entries self.now →
+            ForSome result (λ h. (z : ℕ) → z < self.now.shape.observations → reward p entries (action ∷ start ∷ end ∷ z ∷ []) ≡ h) }
+    {
+        let cell = [action, start, end, 0];
+        if some_begins(
+            self.rules.as_slice(),
+            LOW,
+            MOST_PLACES,
+            &cell[..3],
+            AN_INDEX,
+        ) {
+            return None;
+        }
+        match self.newest_body(&cell) {
+            None => Some(0),
+            Some(body) => if body.places < MOST_PLACES {
+                None
+            } else {
+                Some(self.bodies.number_at(body, 0))
+            },
+        }
+    }
+
+    /// Whether any entry of R is about this action and start state. Where none is, all rewards are 0.
+    pub fn is_paid(&self, action: usize, start: usize) -> bool
+        requires action { action < self.now.shape.actions }
+        requires start { start < self.now.shape.states }
+        ensures unpaid { result ≡ false → (p : Preamble) (entries : List E) → AreRewardsOf p entries self.now →
+            (end observation : ℕ) → reward p entries (action ∷ start ∷ end ∷ observation ∷ []) ≡ pos 0 }
+        ensures paid { result ≡ true → (p : Preamble) (entries : List E) → AreRewardsOf p entries self.now →
+            (n : ℕ) × (e : E) × (slice_get entries n ≡ Some e) × (meets_row RewardTable action start e ≡ true) }
+    {
+        some_begins(self.rules.as_slice(), LOW, MOST_PLACES, &[action, start], 0)
+    }
+
+    /// The reward of the cell at these indices.
+    fn at_cell(&self, indices: &[usize]) -> i64
+        requires { AreIndices most_places indices.now }
+        ensures { (p : Preamble) (entries : List E) → AreRewardsOf p entries self.now →
+            AreWithin (map count_of (dimensions p RewardTable)) indices.now → result ≡ reward p entries indices.now }
+    {
+        match self.newest_body(indices) {
+            Some(body) => {
+                let left = behind(body.places, indices);
+                self.bodies
+                    .number_at(body, cell_in(self.shape.observations, left))
+            }
+            None => 0,
+        }
+    }
+
+    /// The body of the last entry that covers the cell at these indices, if one does.
+    fn newest_body(&self, indices: &[usize]) -> Option<RewardBody>
+        requires { AreIndices most_places indices.now }
+        ensures { (p : Preamble) (entries : List E) → AreRewardsOf p entries self.now →
+            IsLastBody p.costs entries self.now.numbers indices.now result }
+    {
+        match newest(self.rules.as_slice(), LOW, MOST_PLACES, indices) {
+            Some(number) => self.bodies.find(number),
+            None => None,
+        }
+    }
+}

@@ -1,0 +1,145 @@
+//! The rows of T or O.
+ghost use Rattle.std.specs.Prelude.{◌≡◌, ℕ, ◌<◌, IfOk};
+ghost use Rattle.polcert_cells.specs.Preamble.{Preamble};
+ghost use Rattle.polcert_cells.specs.Rows.{IsWeighted};
+ghost use Rattle.polcert_cells.specs.Cursors.{IsNext};
+ghost use Rattle.polcert_cells.specs.Meaning.{sum_below};
+ghost use Rattle.polcert_rules.specs.Newest.{IsIndexOf};
+ghost use Rattle.polcert_rules.specs.Shapes.{IsShapeOf, AreSound};
+ghost use Rattle.polcert_rules.specs.Sparse.{weight_at, IsSparse};
+ghost use Rattle.polcert_rules.specs.Merging.{from as cells_from};
+ghost use Rattle.polcert_rules.specs.RowTables.{AreRowsOf, row_at};
+ghost use Rattle.polcert_rules.specs.Sources.{IsKept};
+
+use crate::kept::{Kept, row_number};
+use crate::{Cell, Index, Shape};
+use polcert_cells::{Entry, Table};
+use std::alloc::{AllocError, Global};
+use std::marker::Model;
+
+/// The rows of T or O: of each action and state the columns with a weight above 0, in order, with their weights. In a
+/// table of n columns the scale is 1,000,000 * n. Rows that one entry gives alone are kept once where they are those of
+/// neighbours.
+#[derive(Drop)]
+pub struct Rows {
+    shape: Shape,
+    numbers: Vec<usize>,
+    kept: Vec<Kept>,
+}
+
+impl Model for Rows {
+    ghost use Rattle.std.specs.Prelude.{◌≡◌, ◌*◌, ◌<◌, All, length, map};
+    ghost use Rattle.polcert_rules.specs.Sources.{IsKept};
+    ghost use Rattle.polcert_rules.specs.RowTables.{RowTable};
+
+    ghost Value = { RowTable };
+
+    ghost view = { λ r. record {
+      actions = r.shape.actions;
+      states = r.shape.states;
+      columns = r.shape.columns;
+      numbers = r.numbers.items;
+      rows = map (λ k. k.cells.items) r.kept.items;
+    } };
+
+    ghost invariant = { λ r. (length r.numbers.items ≡ r.shape.actions * r.shape.states)
+        × All (λ n. n < length r.kept.items) r.numbers.items × All (IsKept r.shape.columns) r.kept.items };
+}
+
+impl Rows {
+    /// The rows of a table of weights, from the index of its entries.
+    pub fn of(
+        alloc: Global,
+        shape: Shape,
+        table: Table,
+        entries: &[Entry],
+        index: &Index,
+    ) -> Result<Rows, AllocError>
+        requires weighted { IsWeighted table }
+        requires sound { (p : Preamble) × IsShapeOf p table shape × AreSound p entries.now }
+        requires index { IsIndexOf entries.now index.now }
+        ensures { IfOk result (λ rows. (p : Preamble) → IsShapeOf p table shape → AreRowsOf p entries.now table rows) }
+    {
+        let mut numbers = Vec::with_capacity(alloc, shape.actions * shape.states)?;
+        let mut kept = Vec::new(alloc);
+        for action in 0..shape.actions {
+            for state in 0..shape.states {
+                let row = index.row(alloc, table, action, state)?;
+                let before = numbers.as_slice();
+                let number = row_number(alloc, &mut kept, before, entries, &row, state, shape)?;
+                numbers.push(number)?;
+            }
+        }
+        Ok(Rows {
+            shape,
+            numbers,
+            kept,
+        })
+    }
+
+    /// The columns with a weight above 0, in order, with their weights.
+    pub fn row(&self, action: usize, state: usize) -> &[Cell]
+        requires action { action < self.now.actions }
+        requires state { state < self.now.states }
+        ensures row { result.now ≡ row_at self.now action state }
+        ensures sparse { IsSparse self.now.columns result.now }
+    {
+        self.kept_row(action, state).cells.as_slice()
+    }
+
+    /// The weight of a column, 0 too.
+    pub fn at(&self, action: usize, state: usize, column: usize) -> u64
+        requires action { action < self.now.actions }
+        requires state { state < self.now.states }
+        ensures { result ≡ weight_at (row_at self.now action state) column }
+    {
+        match cells_from(self.row(action, state), column).first() {
+            Some(cell) => if cell.column == column {
+                cell.weight
+            } else {
+                0
+            },
+            None => 0,
+        }
+    }
+
+    /// The first column that is not before this one and has a weight above 0, and its weight.
+    pub fn next(&self, action: usize, state: usize, from: usize) -> Option<(usize, u64)>
+        requires action { action < self.now.actions }
+        requires state { state < self.now.states }
+        ensures { IsNext (weight_at (row_at self.now action state)) self.now.columns from result }
+    {
+        match cells_from(self.row(action, state), from).first() {
+            Some(cell) => Some((cell.column, cell.weight)),
+            None => None,
+        }
+    }
+
+    /// The sum of the weights of a row.
+    pub fn sum(&self, action: usize, state: usize) -> u64
+        requires action { action < self.now.actions }
+        requires state { state < self.now.states }
+        ensures { result ≡ sum_below (weight_at (row_at self.now action state)) self.now.columns }
+    {
+        self.kept_row(action, state).sum
+    }
+
+    /// The row as it is kept.
+    fn kept_row(&self, action: usize, state: usize) -> &Kept
+        requires action { action < self.now.actions }
+        requires state { state < self.now.states }
+        ensures cells { result.now.cells.items ≡ row_at self.now action state }
+        ensures kept { IsKept self.now.columns result.now }
+    {
+        &self.kept[self.numbers[action * self.shape.states + state]]
+    }
+}
+
+/// The cells of a row from a column on.
+fn cells_from(cells: &[Cell], column: usize) -> &[Cell]
+    requires { (columns : ℕ) × IsSparse columns cells.now }
+    ensures { result.now ≡ cells_from column cells.now }
+{
+    let start = cells.partition_point(|cell| cell.column < column);
+    &cells[start..]
+}

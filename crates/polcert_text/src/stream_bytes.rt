@@ -1,0 +1,198 @@
+//! The bytes of a text that comes from a source, and the gap and the lexeme at their front.
+ghost use Rattle.std.specs.Prelude.{◌≡◌, ◌+◌, ◌<◌, ◌≤◌, ◌-◌, ◌^◌, ◌∷◌, [], ℕ, List, Bool, Option, true, false, length, take, slice_index, IfOk, OnErr};
+ghost use Rattle.polcert_text.specs.Bytes.{class_of};
+ghost use Rattle.polcert_text.specs.Scan.{gap_after, gap_through};
+ghost use Rattle.polcert_text.specs.ScanOf.{is_stuck, front_len};
+ghost use Rattle.polcert_text.specs.Stream.{Ahead};
+ghost use Rattle.polcert_text.specs.Streaming.{visible, skip, end_of, Fills, FailsAt, SkipsGapOrFails, ScansLexemeOrFails, IsComplete};
+
+use crate::bytes::class_of;
+use crate::lexeme::{Front, Gap, LexemeScan};
+use crate::window::Window;
+use crate::{Source, SourceFailed, TokenFault};
+use std::marker::Model;
+
+/// The bytes that were read and not yet taken, and where they stand in the text.
+#[derive(Drop)]
+pub struct StreamBytes {
+    window: Window,
+    place: u64,
+    limit: u64,
+    is_whole: bool,
+}
+
+impl Model for StreamBytes {
+    ghost use Rattle.std.specs.Prelude.{◌≤◌};
+    ghost use Rattle.polcert_text.specs.Stream.{Ahead};
+
+    ghost Value = { Ahead };
+
+    ghost view = { λ b. record { place = b.place; kept = b.window; limit = b.limit; is_whole = b.is_whole } };
+
+    ghost invariant = { λ b. b.place ≤ b.limit };
+}
+
+impl StreamBytes {
+    ghost use Rattle.std.specs.Prelude.{◌≤◌, ◌⊎◌, OnErr, OnOk, IfOk, Option};
+    ghost use Rattle.polcert_text.specs.declared.lexeme.Front.{Front};
+
+    /// No bytes, at the start of a text.
+    pub fn new(limit: u64) -> StreamBytes
+        ensures { result ≡ (let a : Ahead = record { place = 0; kept = []; limit = limit; is_whole = false } in a) }
+    {
+        StreamBytes {
+            window: Window::new(),
+            place: 0,
+            limit,
+            is_whole: false,
+        }
+    }
+
+    /// The offset of the first byte in the text.
+    pub fn place(&self) -> u64
+        ensures { result ≡ self.now.place }
+    {
+        self.place
+    }
+
+    /// What stands in place of a clean end, where no byte below the limit is left.
+    pub fn ending(&self) -> Option<TokenFault>
+        ensures { result ≡ end_of self.now }
+    {
+        if self.window.as_bytes().is_empty() {
+            None
+        } else {
+            Some(TokenFault::TextTooLong(self.limit))
+        }
+    }
+
+    /// The bytes that stand below the limit.
+    pub fn visible(&self) -> &[u8]
+        ensures bytes { result.now ≡ visible self.now }
+        ensures below { self.now.place + length (visible self.now) ≤ self.now.limit }
+        ensures fits { self.now.place + length (visible self.now) < 2 ^ 64 }
+    {
+        let bytes = self.window.as_bytes();
+        let room = self.limit - self.place;
+        if room < bytes.len() as u64 {
+            &bytes[..room as usize]
+        } else {
+            bytes
+        }
+    }
+
+    /// Takes bytes off the front.
+    pub fn consume(&mut self, count: usize)
+        requires { count ≤ length (visible self.old) }
+        ensures { self.new ≡ skip count self.old }
+    {
+        self.window.consume(count);
+        self.place += count as u64;
+    }
+
+    /// Reads once. False at the true end.
+    fn fill<S: Source>(&mut self, source: &mut S) -> Result<bool, SourceFailed>
+        requires { length self.old.kept < 4096 }
+        ensures ok { IfOk result (λ is_more. Fills S.reads S.failures self.old source.old is_more self.new source.new) }
+        ensures err { OnErr result (FailsAt S.reads S.failures source.old source.new) }
+    {
+        match self.window.fill(source) {
+            Ok(count) => {
+                self.is_whole = count == 0;
+                Ok(count > 0)
+            }
+            Err(error) => Err(error),
+        }
+    }
+
+    /// Whether it takes a read to know what comes next, where the bytes so far go on a gap.
+    fn lacks_byte(&self) -> bool
+        ensures lacks { result ≡ true → (length self.now.kept ≡ 0) × (self.now.is_whole ≡ false) }
+        ensures has { result ≡ false → (self.now.is_whole ≡ true) ⊎ (0 < length self.now.kept) }
+    {
+        if self.is_whole {
+            return false;
+        }
+        self.window.as_bytes().is_empty()
+    }
+
+    /// Takes the bytes that go on the gap off the front, and answers where the gap then stands.
+    fn skip_seen(&mut self, gap: Gap) -> Gap
+        requires { gap ≡ Gap.Ended → ⊥ }
+        ensures below { self.old.place ≤ self.old.limit }
+        ensures skipped { (n : ℕ) × (n ≤ length (visible self.old)) × (self.new ≡ skip n self.old)
+            × (gap_through gap (take n self.old.kept) ≡ result) × (result ≡ Gap.Ended → ⊥)
+            × (n < length (visible self.old) → gap_after result (class_of (slice_index self.old.kept n)) ≡ Gap.Ended) }
+    {
+        let (count, next) = seen_gap(gap, self.visible());
+        self.consume(count);
+        next
+    }
+
+    /// Takes the gap off the front. True where a byte below the limit comes behind it.
+    pub fn skip_gap<S: Source>(&mut self, source: &mut S) -> Result<bool, SourceFailed>
+        ensures { SkipsGapOrFails S.reads S.failures self.old source.old result self.new source.new }
+    {
+        let mut gap = self.skip_seen(Gap::Between);
+        while self.lacks_byte() {
+            match self.fill(source) {
+                Ok(true) => gap = self.skip_seen(gap),
+                Ok(false) => return Ok(false),
+                Err(error) => return Err(error),
+            }
+        }
+        Ok(!self.visible().is_empty())
+    }
+
+    /// Whether it takes a read to know the lexeme at the front.
+    fn lacks_lexeme(&self, scan: LexemeScan) -> bool
+        ensures lacks { result ≡ true → (self.now.is_whole ≡ false)
+            × (self.now.place + length self.now.kept < self.now.limit)
+            × (is_stuck scan.state ≡ false) × (front_len scan.longest ≤ 400) }
+        ensures has { result ≡ false
+            → IsComplete self.now ⊎ ((is_stuck scan.state ≡ true) ⊎ (400 < front_len scan.longest)) }
+    {
+        if self.is_whole {
+            return false;
+        }
+        if self.limit - self.place <= self.window.as_bytes().len() as u64 {
+            return false;
+        }
+        !scan.is_known()
+    }
+
+    /// The lexeme at the front: the longest, or one that is too long.
+    pub fn scan_lexeme<S: Source>(&mut self, source: &mut S) -> Result<Option<Front>, SourceFailed>
+        ensures { ScansLexemeOrFails S.reads S.failures self.old source.old result self.new source.new }
+    {
+        let mut scan = LexemeScan::new().through(self.visible());
+        while self.lacks_lexeme(scan) {
+            match self.fill(source) {
+                Ok(true) => scan = scan.through(self.visible()),
+                Ok(false) => return Ok(scan.longest()),
+                Err(error) => return Err(error),
+            }
+        }
+        Ok(scan.longest())
+    }
+}
+
+/// How many bytes go on the gap, and where the gap then stands.
+fn seen_gap(gap: Gap, bytes: &[u8]) -> (usize, Gap)
+    requires { gap ≡ Gap.Ended → ⊥ }
+    ensures within { result.0 ≤ length bytes.now }
+    ensures state { gap_through gap (take result.0 bytes.now) ≡ result.1 }
+    ensures open { result.1 ≡ Gap.Ended → ⊥ }
+    ensures stops { result.0 < length bytes.now
+        → gap_after result.1 (class_of (slice_index bytes.now result.0)) ≡ Gap.Ended }
+{
+    let mut gap = gap;
+    for (i, byte) in bytes.iter().enumerate() {
+        let next = gap.after(class_of(*byte));
+        if let Gap::Ended = next {
+            return (i, gap);
+        }
+        gap = next;
+    }
+    (bytes.len(), gap)
+}

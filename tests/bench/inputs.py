@@ -1,0 +1,147 @@
+#!/usr/bin/env python3
+"""Makes the inputs of the benchmarks: models, policy graphs and vectors of known sizes, the same at each call.
+
+    inputs.py FOLDER            writes all of them into FOLDER
+    inputs.py FOLDER NAME ..    writes those
+
+Nothing here is a test: `tests/bench/run` times the program on them, and docs/GATE.md has the times.
+"""
+import os
+import random
+import sys
+
+
+def preamble(out, states, actions, observations, discount='0.95'):
+    out.write(f'discount: {discount}\nvalues: reward\nstates: {states}\nactions: {actions}\n')
+    if observations:
+        out.write(f'observations: {observations}\n')
+
+
+def split(generator, parts):
+    """So many numbers of millionths above 0 that sum to one."""
+    cuts = sorted(generator.sample(range(1, 1_000_000), parts - 1))
+    return [b - a for a, b in zip([0] + cuts, cuts + [1_000_000])]
+
+
+def decimal(millionths):
+    text = f'{millionths / 1_000_000:.6f}'.rstrip('0').rstrip('.')
+    return text or '0'
+
+
+def single_cells(out, table, generator, rows, columns, parts):
+    """One line for each cell above 0, `parts` of them in a row."""
+    for action, state in rows:
+        chosen = sorted(generator.sample(range(columns), parts))
+        for column, share in zip(chosen, split(generator, parts)):
+            out.write(f'{table}: {action} : {state} : {column} {decimal(share)}\n')
+
+
+def pairs(actions, states):
+    return ((action, state) for action in range(actions) for state in range(states))
+
+
+def sparse_cells(folder, states=1000):
+    """A plain sparse model: 16 actions, 3 successors each, one line for each cell (1.4 MB with 1,000 states)."""
+    generator = random.Random(1)
+    with open(f'{folder}/sparse{states}.POMDP', 'w') as out:
+        preamble(out, states, 16, 1)
+        single_cells(out, 'T', generator, pairs(16, states), states, 3)
+        out.write('O: * uniform\nR: * : * : 0 : * 1\n')
+
+
+def named_rewards(folder, lines=700_000):
+    """Reward lines by names, each of a single cell."""
+    generator = random.Random(2)
+    names = [f's{number}' for number in range(200)]
+    with open(f'{folder}/rewards{lines}.POMDP', 'w') as out:
+        out.write('discount: 0.95\nvalues: reward\n')
+        out.write('states: ' + ' '.join(names) + '\n')
+        out.write('actions: left right wait listen\nobservations: ' + ' '.join(f'z{n}' for n in range(20)) + '\n')
+        out.write('T: * identity\nO: * uniform\n')
+        for _ in range(lines):
+            action = generator.choice(['left', 'right', 'wait', 'listen'])
+            start, end, seen = generator.choice(names), generator.choice(names), generator.randrange(20)
+            out.write(f'R: {action} : {start} : {end} : z{seen} {generator.randrange(-100, 100)}\n')
+
+
+def million_cells(folder, order):
+    """1,000,000 single cells of T, in rising or falling order."""
+    lines = [f'T: 0 : {s} : {e} 0.001\n' for s in range(1000) for e in range(1000)]
+    if order == 'falling':
+        lines.reverse()
+    with open(f'{folder}/cells_{order}.POMDP', 'w') as out:
+        preamble(out, 1000, 1, 1)
+        out.writelines(lines)
+        out.write('O: * uniform\n')
+
+
+def graph_and_vectors(folder, name, nodes, states, actions, observations, seed, value='0.5'):
+    generator = random.Random(seed)
+    with open(f'{folder}/{name}.pg', 'w') as graph, open(f'{folder}/{name}.alpha', 'w') as vectors:
+        for node in range(nodes):
+            action = generator.randrange(actions)
+            successors = ' '.join(str(generator.randrange(nodes)) for _ in range(observations))
+            graph.write(f'{node} {action} {successors}\n')
+            vectors.write(f'{action}\n' + ' '.join([value] * states) + '\n\n')
+
+
+def dense_check(folder):
+    """500 nodes over a dense model of 128 states, 4 actions and 32 observations; every pair passes."""
+    generator = random.Random(3)
+    with open(f'{folder}/dense.POMDP', 'w') as out:
+        preamble(out, 128, 4, 32)
+        for action in range(4):
+            out.write(f'T: {action}\n')
+            for _ in range(128):
+                out.write(' '.join(decimal(share) for share in split(generator, 128)) + '\n')
+            out.write(f'O: {action}\n')
+            for _ in range(128):
+                out.write(' '.join(decimal(share) for share in split(generator, 32)) + '\n')
+            for start in range(128):
+                out.write(f'R: {action} : {start} : * : * {generator.randrange(1, 10)}\n')
+    graph_and_vectors(folder, 'dense', 500, 128, 4, 32, 4)
+
+
+def sparse_check(folder):
+    """2,000 nodes over a sparse model of 1,000 states, 8 actions and 2 observations (as many as the limit of reward
+    cells allows); every pair passes."""
+    generator = random.Random(5)
+    with open(f'{folder}/wide.POMDP', 'w') as out:
+        preamble(out, 1000, 8, 2)
+        single_cells(out, 'T', generator, pairs(8, 1000), 1000, 4)
+        single_cells(out, 'O', generator, pairs(8, 1000), 2, 2)
+        for action in range(8):
+            for start in range(1000):
+                out.write(f'R: {action} : {start} : * : * {generator.randrange(1, 10)}\n')
+    graph_and_vectors(folder, 'wide', 2000, 1000, 8, 2, 6, value='0.500000000000')
+
+
+def everything_alike(folder):
+    """`T: * uniform` over 16,000,000 cells, and 10,000 entries that cover everything with 0."""
+    with open(f'{folder}/alike.POMDP', 'w') as out:
+        preamble(out, 1000, 16, 1)
+        out.write('T: * : * : * 0\n' * 10_000)
+        out.write('T: * uniform\nO: * uniform\nR: * : * : * : * 1\n')
+
+
+INPUTS = {
+    'sparse': sparse_cells,
+    'sparse_half': lambda folder: sparse_cells(folder, 500),
+    'rewards': named_rewards,
+    'rewards_half': lambda folder: named_rewards(folder, 350_000),
+    'cells_rising': lambda folder: million_cells(folder, 'rising'),
+    'cells_falling': lambda folder: million_cells(folder, 'falling'),
+    'dense': dense_check,
+    'wide': sparse_check,
+    'alike': everything_alike,
+}
+
+
+def main(folder, names):
+    os.makedirs(folder, exist_ok=True)
+    for name in names or INPUTS:
+        INPUTS[name](folder)
+
+
+if __name__ == '__main__':
+    main(sys.argv[1], sys.argv[2:])
