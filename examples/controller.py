@@ -158,18 +158,23 @@ def expected_gain(moves, sees, rewards):
 
 
 def read_full_form(text):
-    """The model of what `polcert print` writes: the lines up to the start, then rows of T, of O and of rewards."""
+    """The model of what `polcert print` writes: the lines up to the start, then rows of T, of O and of rewards. Where there
+    is no line of observations, it is an MDP: the end state is what is observed, and a row of rewards is one of end states."""
     lines = [line.split() for line in text.splitlines()]
-    head = {line[0]: line[1:] for line in lines[:5]}
-    states, actions, observations = (count(head[word]) for word in ("states:", "actions:", "observations:"))
+    start = next(i for i, line in enumerate(lines) if line[0].startswith("start"))
+    head = {line[0]: line[1:] for line in lines[:start]}
+    is_mdp = "observations:" not in head
+    states, actions = count(head["states:"]), count(head["actions:"])
+    observations = states if is_mdp else count(head["observations:"])
     sign = -1 if head["values:"] == ["cost"] else 1
     rows = {"T:": [[None] * states for _ in range(actions)], "O:": [[None] * states for _ in range(actions)]}
     rewards = {}
-    rest = iter(lines[6:])
+    rest = iter(lines[start + 1 :])
     for line in rest:
         place = [int(word) for word in line[1:6:2]]
         if line[0] == "R:":
-            rewards[tuple(place)] = [sign * float(word) for word in next(rest)]
+            numbers = [sign * float(word) for word in next(rest)]
+            rewards.update({(*place, e): {e: h} for e, h in enumerate(numbers)} if is_mdp else {tuple(place): numbers})
         elif len(place) == 3:  # a single cell, behind its row
             rows[line[0]][place[0]][place[1]][place[2]] = float(line[6])
         else:
@@ -177,9 +182,10 @@ def read_full_form(text):
             width = states if line[0] == "T:" else observations
             same = [1 / width] * width
             rows[line[0]][place[0]][place[1]] = same if numbers == ["uniform"] else [float(word) for word in numbers]
-    moves, sees = above_0(rows["T:"]), above_0(rows["O:"])
+    moves = above_0(rows["T:"])
+    sees = [[[(e, 1.0)] for e in range(states)]] * actions if is_mdp else above_0(rows["O:"])
     gain = expected_gain(moves, sees, rewards)
-    return Model(float(head["discount:"][0]), observations, read_start(lines[5], states), moves, sees, gain)
+    return Model(float(head["discount:"][0]), observations, read_start(lines[start], states), moves, sees, gain)
 
 
 def words_of(name):

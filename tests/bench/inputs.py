@@ -85,20 +85,28 @@ def graph_and_vectors(folder, name, nodes, states, actions, observations, seed, 
             vectors.write(f'{action}\n' + ' '.join([value] * states) + '\n\n')
 
 
+def matrix(out, head, generator, rows, columns):
+    """An entry with a number for each cell of a matrix, a row a line."""
+    out.write(head + '\n')
+    for _ in range(rows):
+        out.write(' '.join(decimal(share) for share in split(generator, columns)) + '\n')
+
+
+def rewards(out, generator, action, states, behind):
+    """One line of a reward for each start state."""
+    for start in range(states):
+        out.write(f'R: {action} : {start} : {behind} {generator.randrange(1, 10)}\n')
+
+
 def dense_check(folder):
     """500 nodes over a dense model of 128 states, 4 actions and 32 observations; every pair passes."""
     generator = random.Random(3)
     with open(f'{folder}/dense.POMDP', 'w') as out:
         preamble(out, 128, 4, 32)
         for action in range(4):
-            out.write(f'T: {action}\n')
-            for _ in range(128):
-                out.write(' '.join(decimal(share) for share in split(generator, 128)) + '\n')
-            out.write(f'O: {action}\n')
-            for _ in range(128):
-                out.write(' '.join(decimal(share) for share in split(generator, 32)) + '\n')
-            for start in range(128):
-                out.write(f'R: {action} : {start} : * : * {generator.randrange(1, 10)}\n')
+            matrix(out, f'T: {action}', generator, 128, 128)
+            matrix(out, f'O: {action}', generator, 128, 32)
+            rewards(out, generator, action, 128, '* : *')
     graph_and_vectors(folder, 'dense', 500, 128, 4, 32, 4)
 
 
@@ -111,9 +119,29 @@ def sparse_check(folder):
         single_cells(out, 'T', generator, pairs(8, 1000), 1000, 4)
         single_cells(out, 'O', generator, pairs(8, 1000), 2, 2)
         for action in range(8):
-            for start in range(1000):
-                out.write(f'R: {action} : {start} : * : * {generator.randrange(1, 10)}\n')
+            rewards(out, generator, action, 1000, '* : *')
     graph_and_vectors(folder, 'wide', 2000, 1000, 8, 2, 6, value='0.500000000000')
+
+
+def mdp_check(folder):
+    """20 nodes over an MDP of 1,000 states and 16 actions, 3 successors each; every pair passes."""
+    generator = random.Random(7)
+    with open(f'{folder}/mdp.POMDP', 'w') as out:
+        preamble(out, 1000, 16, 0)
+        single_cells(out, 'T', generator, pairs(16, 1000), 1000, 3)
+        for action in range(16):
+            rewards(out, generator, action, 1000, '*')
+    graph_and_vectors(folder, 'mdp', 20, 1000, 16, 1000, 8)
+
+
+def large_text(folder):
+    """A text of some 50 MB: six matrices of T of 1,000,000 numbers each."""
+    generator = random.Random(9)
+    with open(f'{folder}/large.POMDP', 'w') as out:
+        preamble(out, 1000, 6, 1)
+        for action in range(6):
+            matrix(out, f'T: {action}', generator, 1000, 1000)
+        out.write('O: * uniform\n')
 
 
 def everything_alike(folder):
@@ -133,6 +161,8 @@ INPUTS = {
     'cells_falling': lambda folder: million_cells(folder, 'falling'),
     'dense': dense_check,
     'wide': sparse_check,
+    'mdp': mdp_check,
+    'large': large_text,
     'alike': everything_alike,
 }
 

@@ -2,11 +2,11 @@
 ghost use Rattle.std.specs.Prelude.{◌≡◌};
 
 use crate::choice::{Choice, Names, choose};
-use crate::fault::RunFault;
 use crate::refusal::{LoweredLine, RefusalLine};
-use crate::runs::{run_check, run_lower, run_model, run_print};
-use crate::status::{status_of, status_of_verdict};
 use clap::error::ErrorKind;
+use polcert_answer::{
+    RunFault, run_check, run_lower, run_model, run_print, status_of, status_of_verdict,
+};
 use polcert_text::{ReaderSource, WriterSink};
 use std::alloc::AllocError;
 use std::rt::{Env, Files};

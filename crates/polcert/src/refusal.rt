@@ -1,5 +1,5 @@
 //! The line on standard error where a run stops.
-use crate::fault::{Fault, RunFault};
+use polcert_answer::{Fault, RunFault};
 use polcert_check::LowerFault;
 use polcert_model::{ItemFault, ModelFault};
 use polcert_policy::{GraphFault, VectorFault};
@@ -203,120 +203,150 @@ fn number_code(fault: NumberFault) -> u8 {
 mod tests {
     use super::*;
     use polcert_model::Table;
+    use std::alloc::Global;
     use std::test::Fail;
 
-    fn item(kind: ItemFault, item: u64, place: u64) -> RunFault {
-        RunFault::Text(Fault::Model(ModelFault::Item { kind, item, place }))
-    }
+    const MODEL_LINES: [(ItemFault, u64, u64, &str); 4] = [
+        (
+            ItemFault::BadShape,
+            8,
+            106,
+            "model: M4 in item 8 at byte 106",
+        ),
+        (
+            ItemFault::Token(TokenFault::Glued(10)),
+            1,
+            10,
+            "model: M1 K3 in item 1 at byte 10",
+        ),
+        (
+            ItemFault::Number(NumberFault::TooFine),
+            1,
+            10,
+            "model: M2 N4 in item 1 at byte 10",
+        ),
+        (
+            ItemFault::TextTooLong,
+            3,
+            4_294_967_296,
+            "model: M20 in item 3 at byte 4294967296",
+        ),
+    ];
 
-    fn graph(fault: GraphFault) -> RunFault {
-        RunFault::Text(Fault::Graph(fault))
-    }
+    const GRAPH_LINES: [(GraphFault, &str); 9] = [
+        (
+            GraphFault::Token(TokenFault::BadByte(6)),
+            "graph: G1 K1 at byte 6",
+        ),
+        (GraphFault::BadShape(5), "graph: G2 at byte 5"),
+        (GraphFault::NodeOutOfOrder(8), "graph: G3 at byte 8"),
+        (GraphFault::ActionOutOfRange(2), "graph: G4 at byte 2"),
+        (
+            GraphFault::SuccessorOutOfRange {
+                node: 0,
+                observation: 1,
+            },
+            "graph: G5 at node 0, observation 1",
+        ),
+        (GraphFault::Truncated(5), "graph: G6 at byte 5"),
+        (GraphFault::NoNodes(0), "graph: G7 at byte 0"),
+        (GraphFault::TooManyNodes(7), "graph: G8 at byte 7"),
+        (GraphFault::Memory, "out of memory"),
+    ];
 
-    fn vectors(fault: VectorFault) -> RunFault {
-        RunFault::Text(Fault::Vectors(fault))
+    const VECTOR_LINES: [(VectorFault, &str); 7] = [
+        (
+            VectorFault::Token(TokenFault::BadByte(6)),
+            "vectors: V1 K1 at byte 6",
+        ),
+        (
+            VectorFault::Number {
+                fault: NumberFault::TooLarge,
+                place: 6,
+            },
+            "vectors: V2 N3 at byte 6",
+        ),
+        (VectorFault::BadShape(6), "vectors: V3 at byte 6"),
+        (VectorFault::ActionMismatch(0), "vectors: V4 at byte 0"),
+        (VectorFault::Truncated(9), "vectors: V5 at byte 9"),
+        (VectorFault::WrongVectorCount(10), "vectors: V6 at byte 10"),
+        (VectorFault::Memory, "out of memory"),
+    ];
+
+    const LOWER_LINES: [(LowerFault, &str); 4] = [
+        (
+            LowerFault::NoConstant {
+                node: 0,
+                state: 0,
+                amount: 7,
+            },
+            "lower: L1 at node 0, state 0",
+        ),
+        (LowerFault::OutOfRange, "lower: L2"),
+        (
+            LowerFault::NoSuccessor {
+                node: 0,
+                state: 0,
+                observation: 1,
+            },
+            "lower: L3 at node 0, state 0, observation 1",
+        ),
+        (LowerFault::Memory, "out of memory"),
+    ];
+
+    const OTHER_LINES: [(RunFault, &str); 4] = [
+        (RunFault::ReadModel, "cannot read model"),
+        (RunFault::ReadGraph, "cannot read graph"),
+        (RunFault::ReadVectors, "cannot read vectors"),
+        (RunFault::Write, "cannot write"),
+    ];
+
+    /// Whether this is the line of the fault.
+    fn has_line(alloc: Global, fault: RunFault, line: &str) -> Result<bool, Fail> {
+        Ok(format!(in alloc; "{}", RefusalLine(fault))?.as_str() == line)
     }
 
     #[test]
-    fn lines_say_where(rt: HostRuntime) -> Result<(), Fail> {
-        let rows = [
-            (
-                item(ItemFault::BadShape, 8, 106),
-                "model: M4 in item 8 at byte 106",
-            ),
-            (
-                item(ItemFault::Token(TokenFault::Glued(10)), 1, 10),
-                "model: M1 K3 in item 1 at byte 10",
-            ),
-            (
-                item(ItemFault::Number(NumberFault::TooFine), 1, 10),
-                "model: M2 N4 in item 1 at byte 10",
-            ),
-            (
-                item(ItemFault::TextTooLong, 3, 4_294_967_296),
-                "model: M20 in item 3 at byte 4294967296",
-            ),
-            (
-                RunFault::Text(Fault::Model(ModelFault::RowSum {
-                    table: Table::Observation,
-                    action: 0,
-                    row: 1,
-                })),
-                "model: M17 in O, action 0, row 1",
-            ),
-            (
-                RunFault::Text(Fault::Model(ModelFault::Memory)),
-                "out of memory",
-            ),
-            (graph(GraphFault::BadShape(5)), "graph: G2 at byte 5"),
-            (
-                graph(GraphFault::Token(TokenFault::BadByte(6))),
-                "graph: G1 K1 at byte 6",
-            ),
-            (
-                graph(GraphFault::SuccessorOutOfRange {
-                    node: 0,
-                    observation: 1,
-                }),
-                "graph: G5 at node 0, observation 1",
-            ),
-            (graph(GraphFault::NodeOutOfOrder(8)), "graph: G3 at byte 8"),
-            (
-                graph(GraphFault::ActionOutOfRange(2)),
-                "graph: G4 at byte 2",
-            ),
-            (graph(GraphFault::Truncated(5)), "graph: G6 at byte 5"),
-            (graph(GraphFault::NoNodes(0)), "graph: G7 at byte 0"),
-            (graph(GraphFault::TooManyNodes(7)), "graph: G8 at byte 7"),
-            (graph(GraphFault::Memory), "out of memory"),
-            (vectors(VectorFault::Truncated(9)), "vectors: V5 at byte 9"),
-            (
-                vectors(VectorFault::Token(TokenFault::BadByte(6))),
-                "vectors: V1 K1 at byte 6",
-            ),
-            (
-                vectors(VectorFault::Number {
-                    fault: NumberFault::TooLarge,
-                    place: 6,
-                }),
-                "vectors: V2 N3 at byte 6",
-            ),
-            (vectors(VectorFault::BadShape(6)), "vectors: V3 at byte 6"),
-            (
-                vectors(VectorFault::ActionMismatch(0)),
-                "vectors: V4 at byte 0",
-            ),
-            (
-                vectors(VectorFault::WrongVectorCount(10)),
-                "vectors: V6 at byte 10",
-            ),
-            (vectors(VectorFault::Memory), "out of memory"),
-            (
-                RunFault::Lower(LowerFault::NoConstant {
-                    node: 0,
-                    state: 0,
-                    amount: 7,
-                }),
-                "lower: L1 at node 0, state 0",
-            ),
-            (RunFault::Lower(LowerFault::OutOfRange), "lower: L2"),
-            (
-                RunFault::Lower(LowerFault::NoSuccessor {
-                    node: 0,
-                    state: 0,
-                    observation: 1,
-                }),
-                "lower: L3 at node 0, state 0, observation 1",
-            ),
-            (RunFault::Lower(LowerFault::Memory), "out of memory"),
-            (RunFault::ReadModel, "cannot read model"),
-            (RunFault::ReadGraph, "cannot read graph"),
-            (RunFault::ReadVectors, "cannot read vectors"),
-            (RunFault::Write, "cannot write"),
-        ];
-        for (fault, line) in rows {
-            let printed = format!(in rt.alloc(); "{}", RefusalLine(fault))?;
-            assert_eq!(rt; printed.as_str(), line);
+    fn lines_of_models(rt: HostRuntime) -> Result<(), Fail> {
+        for (kind, item, place, line) in MODEL_LINES {
+            let fault = RunFault::Text(Fault::Model(ModelFault::Item { kind, item, place }));
+            assert!(rt; has_line(rt.alloc(), fault, line)?, "{line}");
+        }
+        let row = ModelFault::RowSum {
+            table: Table::Observation,
+            action: 0,
+            row: 1,
+        };
+        let fault = RunFault::Text(Fault::Model(row));
+        assert!(rt; has_line(rt.alloc(), fault, "model: M17 in O, action 0, row 1")?);
+        let memory = RunFault::Text(Fault::Model(ModelFault::Memory));
+        assert!(rt; has_line(rt.alloc(), memory, "out of memory")?);
+        Ok(())
+    }
+
+    #[test]
+    fn lines_of_policies(rt: HostRuntime) -> Result<(), Fail> {
+        for (fault, line) in GRAPH_LINES {
+            let fault = RunFault::Text(Fault::Graph(fault));
+            assert!(rt; has_line(rt.alloc(), fault, line)?, "{line}");
+        }
+        for (fault, line) in VECTOR_LINES {
+            let fault = RunFault::Text(Fault::Vectors(fault));
+            assert!(rt; has_line(rt.alloc(), fault, line)?, "{line}");
+        }
+        Ok(())
+    }
+
+    #[test]
+    fn lines_of_other_faults(rt: HostRuntime) -> Result<(), Fail> {
+        for (fault, line) in LOWER_LINES {
+            assert!(rt;
+                has_line(rt.alloc(), RunFault::Lower(fault), line)?,
+                "{line}"
+            );
+        }
+        for (fault, line) in OTHER_LINES {
+            assert!(rt; has_line(rt.alloc(), fault, line)?, "{line}");
         }
         Ok(())
     }

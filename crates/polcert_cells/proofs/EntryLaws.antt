@@ -1,5 +1,5 @@
 -- A lexeme stands for at most one element, and the lexemes of an item are at most one entry.
-use Rattle.std.proofs.Common.{◌≡◌, ◌∙◌, ℕ, ◌==◌, true, List, [], ◌∷◌, ◌++◌, length, map, drop, codes, ℤ, pos, refl, sym, ap, subst, arith}
+use Rattle.std.proofs.Common.{◌≡◌, ◌∙◌, ℕ, ◌==◌, Bool, true, List, [], ◌∷◌, ◌++◌, length, map, drop, codes, ℤ, pos, refl, sym, ap, subst, arith}
 use Rattle.std.specs.List.{list_any}
 use Rattle.polcert_text.specs.Cut.{Lexeme}
 use Rattle.polcert_text.specs.declared.lexeme.TokenKind.{TokenKind}
@@ -10,7 +10,7 @@ use Rattle.polcert_cells.specs.Words.{IsWord}
 use Rattle.polcert_cells.specs.Numbers.{IsWhole, AreNumbers}
 use Rattle.polcert_cells.specs.Numbers as numbers
 use Rattle.polcert_cells.specs.Elements.{Elements, StandsFor, by_number, by_name}
-use Rattle.polcert_cells.specs.Preamble.{Preamble, dimensions}
+use Rattle.polcert_cells.specs.Preamble.{Preamble, is_mdp, dimensions}
 use Rattle.polcert_cells.specs.declared.entry.Place.{Place}
 use Rattle.polcert_cells.specs.declared.entry.Place.TheVariants.{Every, Only}
 use Rattle.polcert_cells.specs.declared.entry.Body.{Body}
@@ -108,34 +108,34 @@ pos_once (p ∷ ps) (q ∷ qs) e =
     cc
 
 -- no table may have both probabilities and rewards
-not_both : (table : Table) (ps : List ℕ) (hs : List ℤ) (m n : ℕ) → list_any (λ k. k == m) (forms table (Probabilities ps)) ≡ true → list_any (λ k. k == n) (forms table (Rewards hs)) ≡ true → ⊥
-not_both Transition ps hs m n a b = true≢false b refl
-not_both Observation ps hs m n a b = true≢false b refl
-not_both Reward ps hs m n a b = true≢false a refl
+not_both : (mdp : Bool) (table : Table) (ps : List ℕ) (hs : List ℤ) (m n : ℕ) → list_any (λ k. k == m) (forms mdp table (Probabilities ps)) ≡ true → list_any (λ k. k == n) (forms mdp table (Rewards hs)) ≡ true → ⊥
+not_both mdp Transition ps hs m n a b = true≢false b refl
+not_both mdp Observation ps hs m n a b = true≢false b refl
+not_both mdp Reward ps hs m n a b = true≢false a refl
 
-one_body : (table : Table) (m n : ℕ) {c d : ℕ} {ls : List Lexeme} {x y : Body} → list_any (λ k. k == m) (forms table x) ≡ true → list_any (λ k. k == n) (forms table y) ≡ true
+one_body : (mdp : Bool) (table : Table) (m n : ℕ) {c d : ℕ} {ls : List Lexeme} {x y : Body} → list_any (λ k. k == m) (forms mdp table x) ≡ true → list_any (λ k. k == n) (forms mdp table y) ≡ true
     → IsBody c ls x → IsBody d ls y → x ≡ y
-one_body table m n f g (probabilities {ps = ps} a p q) (probabilities {ps = qs} b r s) = ap Probabilities (pos_once ps qs (one_list a b))
-one_body table m n f g (probabilities {ps = ps} a p q) (rewards {hs = hs} b r) = absurd (not_both table ps hs m n f g)
-one_body table m n f g (probabilities a p q) (uniform w) = absurd (numeral_not_word _ _ _ w a)
-one_body table m n f g (probabilities a p q) (identity w) = absurd (numeral_not_word _ _ _ w a)
-one_body table m n f g (rewards {hs = hs} a p) (probabilities {ps = ps} b r s) = absurd (not_both table ps hs n m g f)
-one_body table m n f g (rewards a p) (rewards b q) = ap Rewards (one_list a b)
-one_body table m n f g (rewards a p) (uniform w) = absurd (numeral_not_word _ _ _ w a)
-one_body table m n f g (rewards a p) (identity w) = absurd (numeral_not_word _ _ _ w a)
-one_body table m n f g (uniform w) (probabilities b r s) = absurd (numeral_not_word _ _ _ w b)
-one_body table m n f g (uniform w) (rewards b r) = absurd (numeral_not_word _ _ _ w b)
-one_body table m n f g (uniform w) (uniform v) = refl
-one_body table m n f g (uniform w) (identity v) = absurd (uniform_not_identity _ w v)
-one_body table m n f g (identity w) (probabilities b r s) = absurd (numeral_not_word _ _ _ w b)
-one_body table m n f g (identity w) (rewards b r) = absurd (numeral_not_word _ _ _ w b)
-one_body table m n f g (identity w) (uniform v) = absurd (uniform_not_identity _ v w)
-one_body table m n f g (identity w) (identity v) = refl
+one_body mdp table m n f g (probabilities {ps = ps} a p q) (probabilities {ps = qs} b r s) = ap Probabilities (pos_once ps qs (one_list a b))
+one_body mdp table m n f g (probabilities {ps = ps} a p q) (rewards {hs = hs} b r) = absurd (not_both mdp table ps hs m n f g)
+one_body mdp table m n f g (probabilities a p q) (uniform w) = absurd (numeral_not_word _ _ _ w a)
+one_body mdp table m n f g (probabilities a p q) (identity w) = absurd (numeral_not_word _ _ _ w a)
+one_body mdp table m n f g (rewards {hs = hs} a p) (probabilities {ps = ps} b r s) = absurd (not_both mdp table ps hs n m g f)
+one_body mdp table m n f g (rewards a p) (rewards b q) = ap Rewards (one_list a b)
+one_body mdp table m n f g (rewards a p) (uniform w) = absurd (numeral_not_word _ _ _ w a)
+one_body mdp table m n f g (rewards a p) (identity w) = absurd (numeral_not_word _ _ _ w a)
+one_body mdp table m n f g (uniform w) (probabilities b r s) = absurd (numeral_not_word _ _ _ w b)
+one_body mdp table m n f g (uniform w) (rewards b r) = absurd (numeral_not_word _ _ _ w b)
+one_body mdp table m n f g (uniform w) (uniform v) = refl
+one_body mdp table m n f g (uniform w) (identity v) = absurd (uniform_not_identity _ w v)
+one_body mdp table m n f g (identity w) (probabilities b r s) = absurd (numeral_not_word _ _ _ w b)
+one_body mdp table m n f g (identity w) (rewards b r) = absurd (numeral_not_word _ _ _ w b)
+one_body mdp table m n f g (identity w) (uniform v) = absurd (uniform_not_identity _ v w)
+one_body mdp table m n f g (identity w) (identity v) = refl
 
 pub one_entry : (p : Preamble) (table : Table) (ls : List Lexeme) (x y : Entry) → IsEntry p table ls x → IsEntry p table ls y → x ≡ y
 one_entry p table ls x y a b =
     let parts = one_pattern a.rest b.rest a.places b.places (body_no_colon a.body) (body_no_colon b.body) (sym a.whole ∙ b.whole) in
     let tables : x.table ≡ y.table = a.table_is ∙ sym b.table_is in
     let body : IsBody (cells_in (drop (length x.places) (dimensions p table))) b.rest x.body = subst (λ r. IsBody (cells_in (drop (length x.places) (dimensions p table))) r x.body) parts.1 a.body in
-    let bodies : x.body ≡ y.body = one_body table _ _ a.form b.form body b.body in
+    let bodies : x.body ≡ y.body = one_body (is_mdp p) table _ _ a.form b.form body b.body in
     λ i. record { table = tables i; places = parts.0 i; body = bodies i }

@@ -6,3 +6,4 @@ pub mod StartLaws
 pub mod StartLimits
 pub mod NameLaws
 pub mod SoundLaws
+pub mod EntryListLaws

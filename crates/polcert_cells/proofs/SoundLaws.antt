@@ -1,5 +1,5 @@
 -- Facts of tables, rewards and starts that printing and reading a model rest on.
-use Rattle.std.proofs.Common.{◌≡◌, ◌∙◌, ℕ, ◌+◌, ◌*◌, ◌<◌, ◌≤◌, Bool, true, List, get_or, ℤ, pos, unsigned_abs, FitsSigned, w64, length, refl, sym, arith}
+use Rattle.std.proofs.Common.{◌≡◌, ◌∙◌, ℕ, ◌+◌, ◌*◌, ◌<◌, ◌≤◌, Bool, true, Option, Some, None, List, get_or, unwrap_or, ℤ, pos, unsigned_abs, FitsSigned, w64, length, refl, sym, arith}
 use Rattle.std.specs.List.{range_with_len}
 use Rattle.std.proofs.lemmas.List.Recursion.{is_count_by}
 use Rattle.std.proofs.lemmas.List.FromFn.{get_or-map-range_with_len, length-range_with_len}
@@ -9,8 +9,18 @@ use Rattle.polcert_cells.specs.declared.entry.Table.{Table}
 use Rattle.polcert_cells.specs.declared.entry.Table.TheVariants.{Transition, Observation, Reward}
 use Rattle.polcert_cells.specs.declared.entry.Entry.{Entry}
 use Rattle.polcert_cells.specs.Cells.{is_table, fit_places, covers}
+use Rattle.polcert_cells.specs.Elements.{Elements, Count, count_of, most_observations}
+use Rattle.polcert_cells.specs.Preamble.{Preamble, observed, rewarded}
 use Rattle.polcert_cells.specs.Start.{alike}
 use Rattle.polcert_cells.proofs.Basics.{and_true, true≢false}
+
+-- where few elements are observed, few are what a reward depends on
+pub rewarded_few : (p : Preamble) → count_of (observed p) ≤ most_observations → count_of (rewarded p) ≤ most_observations
+rewarded_few p = at p.observations p.states
+  where
+    at : (o : Option Elements) (states : Elements) → count_of (unwrap_or o states) ≤ most_observations → count_of (unwrap_or o (Count 1)) ≤ most_observations
+    at None states l = omega arith
+    at (Some elements) states l = l
 
 pub reward_fits : (h : ℤ) → unsigned_abs h ≤ largest → FitsSigned w64 h
 reward_fits h l = fits_signed_from_abs w64 h (omega (arith, l))

@@ -7,7 +7,7 @@ use Rattle.std.proofs.lemmas.List.Sums.{sum_by-cons, sum-map}
 use Rattle.std.proofs.lemmas.Bool.Decides.{nat_tests}
 use Rattle.std.specs.List.{range_with_len, count_by}
 use Rattle.polcert_text.specs.Cut.{Lexeme}
-use Rattle.polcert_cells.specs.Elements.{Elements, Count, Names, count_of, number_of}
+use Rattle.polcert_cells.specs.Elements.{Elements, Count, Names, count_of, number_of, most_states}
 use Rattle.polcert_cells.specs.Start.{Shares, alike, shares_of, is_level, is_positive, included, excluded, IsStartBody, uniform, name, number, only_state, probabilities, IsStart, plain, include, exclude}
 
 -- shares of n states
@@ -52,13 +52,13 @@ bits_some f a (suc n) s e l m =
 alike_sum : (n : ℕ) (picks : ℕ → Bool) → sum (alike n picks).weights ≡ (alike n picks).total
 alike_sum n picks = sum-map (λ s. bit (picks s)) (range_with_len 0 n)
 
-alike_fair : (n : ℕ) (picks : ℕ → Bool) → n ≤ 1000 → 0 < (alike n picks).total → IsFair n (alike n picks)
+alike_fair : (n : ℕ) (picks : ℕ → Bool) → n ≤ most_states → 0 < (alike n picks).total → IsFair n (alike n picks)
 alike_fair n picks l some =
     let le = bits_le picks 0 n in
     let e = alike_sum n picks in
     record { count = length-map-range_with_len (λ s. bit (picks s)) 0 n; adds_up = e; some = some; most = omega (arith, le, e) }
 
-alike_some : (n : ℕ) (picks : ℕ → Bool) (s : ℕ) → n ≤ 1000 → picks s ≡ true → s < n → IsFair n (alike n picks)
+alike_some : (n : ℕ) (picks : ℕ → Bool) (s : ℕ) → n ≤ most_states → picks s ≡ true → s < n → IsFair n (alike n picks)
 alike_some n picks s l e below =
     let some = bits_some picks 0 n s e (omega arith) (omega (arith, below)) in
     let adds = alike_sum n picks in
@@ -110,7 +110,7 @@ level_shares ps = record { weights = map sign ps; total = count_by is_positive p
 abbrev millionth_shares : List ℕ → Shares
 millionth_shares ps = record { weights = ps; total = 1_000_000 }
 
-shares_fair : (ps : List ℕ) → length ps ≤ 1000 → sum ps ≡ 1_000_000 → (level : Bool) → IsFair (length ps) (cond level (level_shares ps) (millionth_shares ps))
+shares_fair : (ps : List ℕ) → length ps ≤ most_states → sum ps ≡ 1_000_000 → (level : Bool) → IsFair (length ps) (cond level (level_shares ps) (millionth_shares ps))
 shares_fair ps l e true =
     let le = signs_le ps in
     let adds : sum (map sign ps) ≡ count_by is_positive ps = sum-map sign ps in
@@ -122,18 +122,18 @@ named_below : (states : Elements) (bytes : List ℕ) (s : ℕ) → number_of sta
 named_below (Count n) bytes s e = absurd cc
 named_below (Names names) bytes s e = (position-Some (bytes_eq bytes) names s [] e).0
 
-body_fair : (states : Elements) (ls : List Lexeme) (x : Shares) → 1 ≤ count_of states → count_of states ≤ 1000 → IsStartBody states ls x → IsFair (count_of states) x
+body_fair : (states : Elements) (ls : List Lexeme) (x : Shares) → 1 ≤ count_of states → count_of states ≤ most_states → IsStartBody states ls x → IsFair (count_of states) x
 body_fair states ls x a m (uniform w) = alike_some (count_of states) (λ s. true) 0 m refl (omega (arith, a))
 body_fair states ls x a m (name {s = s} n e) = alike_some (count_of states) (λ n. n == s) s m (same_index s) (named_below states _ s e)
 body_fair states ls x a m (number {s = s} more n below) = alike_some (count_of states) (λ n. n == s) s m (same_index s) below
 body_fair states ls x a m (only_state e n v) = alike_some (count_of states) (λ s. true) 0 m refl (omega (arith, a))
 body_fair states ls x a m (probabilities ps more n count e) =
-    subst (λ n. IsFair n (shares_of ps)) count (shares_fair ps (subst (λ n. n ≤ 1000) (sym count) m) e (is_level ps))
+    subst (λ n. IsFair n (shares_of ps)) count (shares_fair ps (subst (λ n. n ≤ most_states) (sym count) m) e (is_level ps))
 
-pub start_fair : (states : Elements) (ls : List Lexeme) (x : Shares) → 1 ≤ count_of states → count_of states ≤ 1000 → IsStart states ls x → IsFair (count_of states) x
+pub start_fair : (states : Elements) (ls : List Lexeme) (x : Shares) → 1 ≤ count_of states → count_of states ≤ most_states → IsStart states ls x → IsFair (count_of states) x
 start_fair states ls x a m (plain c b) = body_fair states _ x a m b
 start_fair states ls x a m (include chosen w c z some) = alike_fair (count_of states) (included chosen) m some
 start_fair states ls x a m (exclude chosen w c z some) = alike_fair (count_of states) (excluded chosen) m some
 
-pub no_start_fair : (n : ℕ) → 1 ≤ n → n ≤ 1000 → IsFair n (alike n (λ s. true))
+pub no_start_fair : (n : ℕ) → 1 ≤ n → n ≤ most_states → IsFair n (alike n (λ s. true))
 no_start_fair n a m = alike_some n (λ s. true) 0 m refl (omega (arith, a))

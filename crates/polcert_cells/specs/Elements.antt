@@ -1,7 +1,7 @@
 -- States, actions and observations: so many, or names in order.
 -- Source: the POMDP file format page at pomdp.org, "states:", "actions:" and "observations:": "either a number or a
--- list of names"; an element of a list may also be given by its number, from 0 on. Our own: at most 1,000 elements, all
--- names of a list different, and leading zeros of a number.
+-- list of names"; an element of a list may also be given by its number, from 0 on. Our own: at most 1,000 elements
+-- of a kind, all names of a list different, and leading zeros of a number.
 use Rattle.std.specs.Prelude.{◌≡◌, ◌≢◌, ℕ, ◌<◌, ◌≤◌, List, [], ◌∷◌, length, map, Option, Some, None, All, AllPairs, bytes_eq, position, slice_get}
 use Rattle.polcert_text.specs.Cut.{Lexeme}
 pub use Rattle.polcert_cells.specs.declared.elements.Elements.{Elements}
@@ -28,12 +28,23 @@ pub data StandsFor (elements : Elements) (l : Lexeme) (index : ℕ) : Type 0 whe
   by_number : IsWhole l index → index < count_of elements → StandsFor elements l index
   by_name : IsName l → number_of elements l.bytes ≡ Some index → StandsFor elements l index
 
--- how many elements of one sort there may be
-abbrev pub most_elements : ℕ
-most_elements = 1000
+-- how many elements of each kind there may be
+abbrev pub most_states : ℕ
+most_states = 1000
 
--- The lexemes behind `states:`, `actions:` or `observations:` are a count, or different names.
-pub data AreElements : List Lexeme → Elements → Type 0 where
-  counted : {l : Lexeme} {n : ℕ} → IsWhole l n → 1 ≤ n → n ≤ most_elements → AreElements (l ∷ []) (Count n)
-  named : {ls : List Lexeme} → All IsName ls → 1 ≤ length ls → length ls ≤ most_elements
-      → AllPairs (λ x y. x ≢ y) (map (λ l. l.bytes) ls) → AreElements ls (Names (map (λ l. l.bytes) ls))
+abbrev pub most_actions : ℕ
+most_actions = 1000
+
+-- as many as states, which are what an MDP observes
+abbrev pub most_observations : ℕ
+most_observations = most_states
+
+-- how many elements of a kind there may be, whichever the kind
+abbrev pub most_elements : ℕ
+most_elements = most_states
+
+-- The lexemes behind `states:`, `actions:` or `observations:` are a count, or different names: at most so many.
+pub data AreElements (most : ℕ) : List Lexeme → Elements → Type 0 where
+  counted : {l : Lexeme} {n : ℕ} → IsWhole l n → 1 ≤ n → n ≤ most → AreElements most (l ∷ []) (Count n)
+  named : {ls : List Lexeme} → All IsName ls → 1 ≤ length ls → length ls ≤ most
+      → AllPairs (λ x y. x ≢ y) (map (λ l. l.bytes) ls) → AreElements most ls (Names (map (λ l. l.bytes) ls))

@@ -1,9 +1,9 @@
 -- Entries: the lines of T, O and R. An entry is a table, a pattern of places, and a body that fills the cells which
 -- the places leave open, row after row.
 -- Source: the POMDP file format page at pomdp.org, "the transition probabilities", "the observation probabilities"
--- and "the rewards": these forms are its list of forms, written as one table (but for a matrix behind `R: a`, which is not
--- taken). Our own: `identity` stands for T alone.
-use Rattle.std.specs.Prelude.{◌≡◌, ℕ, ◌*◌, ◌≤◌, ◌==◌, true, List, [], ◌∷◌, ◌++◌, length, drop, map, All, ℤ, pos, codes}
+-- and "the rewards": these forms are its list of forms, written as one table (but for a matrix behind `R: a`, which is
+-- taken in an MDP alone). Our own: `identity` stands for T alone, and an MDP's forms of R.
+use Rattle.std.specs.Prelude.{◌≡◌, ℕ, ◌*◌, ◌≤◌, ◌==◌, Bool, true, false, if◌then◌else◌, List, [], ◌∷◌, ◌++◌, length, drop, map, All, ℤ, pos, codes}
 use Rattle.std.specs.List.{list_any}
 use Rattle.polcert_text.specs.Cut.{Lexeme}
 use Rattle.polcert_cells.specs.declared.entry.Place.{Place}
@@ -17,19 +17,24 @@ use Rattle.polcert_cells.specs.declared.entry.Table.TheVariants.{Transition, Obs
 use Rattle.polcert_cells.specs.Words.{IsWord}
 use Rattle.polcert_cells.specs.Numbers.{AreNumbers, one}
 use Rattle.polcert_cells.specs.Elements.{Elements, count_of, StandsFor}
-use Rattle.polcert_cells.specs.Preamble.{Preamble, dimensions}
+use Rattle.polcert_cells.specs.Preamble.{Preamble, is_mdp, dimensions, named}
 
 -- The table of forms: how many places may be written before such a body. One place less than the table has indices
--- leaves a row open, two places less a matrix; with all of them written the body is a single cell.
--- (In an MDP a reward has three indices and the forms 1, 2 and 3; a fourth place `*` may stand behind the third.)
-abbrev pub forms : Table → Body → List ℕ
-forms Transition (Probabilities ps) = 1 ∷ 2 ∷ 3 ∷ []
-forms Transition Uniform = 1 ∷ 2 ∷ []
-forms Transition Identity = 1 ∷ []
-forms Observation (Probabilities ps) = 1 ∷ 2 ∷ 3 ∷ []
-forms Observation Uniform = 1 ∷ 2 ∷ []
-forms Reward (Rewards hs) = 2 ∷ 3 ∷ 4 ∷ []
-forms _ _ = []
+-- leaves a row open, two places less a matrix; with all of them written the body is a single cell. In an MDP
+-- a reward's three places are all of them, and a fourth, `*`, leaves a single cell too.
+abbrev pub forms : Bool → Table → Body → List ℕ
+forms mdp Transition (Probabilities ps) = 1 ∷ 2 ∷ 3 ∷ []
+forms mdp Transition Uniform = 1 ∷ 2 ∷ []
+forms mdp Transition Identity = 1 ∷ []
+forms mdp Observation (Probabilities ps) = 1 ∷ 2 ∷ 3 ∷ []
+forms mdp Observation Uniform = 1 ∷ 2 ∷ []
+forms mdp Reward (Rewards hs) = if mdp then (1 ∷ 2 ∷ 3 ∷ 4 ∷ []) else (2 ∷ 3 ∷ 4 ∷ [])
+forms _ _ _ = []
+
+-- An MDP has no entries of O: what is observed is the end state.
+abbrev pub MayBeGiven : Preamble → Table → Type 0
+MayBeGiven p Observation = is_mdp p ≡ false
+MayBeGiven p _ = Unit {0}
 
 -- how many cells there are where each index runs over its elements
 abbrev pub cells_in : List Elements → ℕ
@@ -59,6 +64,6 @@ pub record IsEntry (p : Preamble) (table : Table) (lexemes : List Lexeme) (entry
   pub rest : List Lexeme
   pub whole : lexemes ≡ pattern ++ rest
   pub table_is : entry.table ≡ table
-  pub form : list_any (λ n. n == length entry.places) (forms table entry.body) ≡ true
-  pub places : ArePlaces (dimensions p table) pattern entry.places
+  pub form : list_any (λ n. n == length entry.places) (forms (is_mdp p) table entry.body) ≡ true
+  pub places : ArePlaces (named p table) pattern entry.places
   pub body : IsBody (cells_in (drop (length entry.places) (dimensions p table))) rest entry.body

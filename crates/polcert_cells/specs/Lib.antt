@@ -13,3 +13,4 @@ pub mod Tables
 pub mod Drafts
 pub mod Laws
 pub mod SameCells
+pub mod EntryLists

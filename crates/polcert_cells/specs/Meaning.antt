@@ -1,15 +1,15 @@
 -- What callers see of a model: what its text denotes.
--- Source: the POMDP file format page at pomdp.org. Our own is how it is kept: probabilities are whole numbers over a scale (a row sums to its
--- scale exactly), discount and rewards are in millionths, and a reward is what is written, or minus that under
--- `values: cost`, so that more is better.
-use Rattle.std.specs.Prelude.{◌≡◌, ℕ, zero, suc, ◌+◌, ◌*◌, ◌<◌, ◌≤◌, List, [], ◌∷◌, ℤ, unsigned_abs, Option, unwrap_or, length, get_or, sum}
+-- Source: the POMDP file format page at pomdp.org. Our own is how it is kept: probabilities are whole numbers over a
+-- scale (a row sums to its scale exactly), discount and rewards are in millionths, and a reward is what is written, or
+-- minus that under `values: cost`, so that more is better; and that in an MDP the end state is observed.
+use Rattle.std.specs.Prelude.{◌≡◌, ℕ, zero, suc, ◌+◌, ◌*◌, ◌<◌, ◌≤◌, ◌==◌, if◌then◌else◌, List, [], ◌∷◌, ℤ, unsigned_abs, Option, unwrap_or, length, get_or, sum}
 use Rattle.polcert_text.specs.Numbers.{largest}
 use Rattle.polcert_cells.specs.declared.entry.Table.TheVariants.{Transition, Observation}
 use Rattle.polcert_cells.specs.declared.elements.Kind.{Kind}
 use Rattle.polcert_cells.specs.declared.elements.Kind.TheVariants as kinds
-use Rattle.polcert_cells.specs.Elements.{Elements, count_of, most_elements}
+use Rattle.polcert_cells.specs.Elements.{Elements, count_of, most_states, most_actions, most_observations}
 use Rattle.polcert_cells.specs.Numbers.{one}
-use Rattle.polcert_cells.specs.Preamble.{Preamble, observed}
+use Rattle.polcert_cells.specs.Preamble.{Preamble, is_mdp, observed}
 use Rattle.polcert_cells.specs.declared.entry.Entry.{Entry}
 use Rattle.polcert_cells.specs.Cells.{weight, reward}
 use Rattle.polcert_cells.specs.Start.{Shares, all_states}
@@ -51,14 +51,23 @@ start_weight m s = get_or m.start.weights s 0
 abbrev pub start_total : Meaning → ℕ
 start_total m = m.start.total
 
+-- The weight of an observation, at an action and an end state. In an MDP the end state is observed, and nothing else.
+abbrev pub observation_weight : Preamble → List Entry → ℕ → ℕ → ℕ → ℕ
+observation_weight p entries a e z =
+    if is_mdp p then (if e == z then one * count_of p.states else 0) else weight p entries Observation (a ∷ e ∷ z ∷ [])
+
+-- The last index of a reward, where this is observed: in an MDP a reward has nothing to do with it.
+abbrev pub reward_index : Preamble → ℕ → ℕ
+reward_index p z = if is_mdp p then 0 else z
+
 -- what a complete preamble, a start item and entries denote; with no start item all states are alike
 abbrev pub meaning_of : Preamble → Option Shares → List Entry → Meaning
 meaning_of p start entries = record {
   preamble = p;
   start = unwrap_or start (all_states p.states);
   t = (λ a s e. weight p entries Transition (a ∷ s ∷ e ∷ []));
-  o = (λ a e z. weight p entries Observation (a ∷ e ∷ z ∷ []));
-  r = (λ a s e z. reward p entries (a ∷ s ∷ e ∷ z ∷ []));
+  o = observation_weight p entries;
+  r = (λ a s e z. reward p entries (a ∷ s ∷ e ∷ reward_index p z ∷ []));
 }
 
 -- the same, as far as indices are in range
@@ -85,9 +94,9 @@ IsCount most n = (1 ≤ n) × (n ≤ most)
 
 -- what callers may rely on: counts, and how large numbers are
 pub record IsWithinLimits (m : Meaning) : Type 0 where
-  pub states : IsCount most_elements (states_of m)
-  pub actions : IsCount most_elements (actions_of m)
-  pub observations : IsCount most_elements (observations_of m)
+  pub states : IsCount most_states (states_of m)
+  pub actions : IsCount most_actions (actions_of m)
+  pub observations : IsCount most_observations (observations_of m)
   pub discount : m.preamble.discount ≤ one
   pub t : (a s e : ℕ) → a < actions_of m → s < states_of m → e < states_of m → m.t a s e ≤ t_scale m
   pub o : (a e z : ℕ) → a < actions_of m → e < states_of m → z < observations_of m → m.o a e z ≤ o_scale m

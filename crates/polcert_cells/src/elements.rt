@@ -4,8 +4,17 @@ ghost use Rattle.polcert_cells.specs.Elements.{count_of, number_of, name_of};
 
 use crate::names::Names;
 
-/// The most elements of one kind that a model has.
-pub const MOST_ELEMENTS: usize = 1000;
+/// The most states that a model has.
+pub const MOST_STATES: usize = 1000;
+
+/// The most actions that a model has.
+pub const MOST_ACTIONS: usize = 1000;
+
+/// The most observations that a model has: as many as states, which are what an MDP observes.
+pub const MOST_OBSERVATIONS: usize = MOST_STATES;
+
+/// The most elements of a kind that a model has, whichever the kind.
+pub const MOST_ELEMENTS: usize = MOST_STATES;
 
 /// What the elements of a model are: what an index of its cells numbers.
 #[derive(Clone, Copy, Debug, PartialEq, Eq)]

@@ -30,7 +30,7 @@ impl fmt::Display for Table {
 #[derive(Clone, Copy, Debug, PartialEq, Eq)]
 pub enum Place {
     Every,
-    Only(usize),
+    Only(u16),
 }
 
 /// A list that grows at its end. Contracts see it as the list.
@@ -119,9 +119,6 @@ pub struct Entry {
     pub places: Sequence<Place>,
     pub body: Body,
 }
-
-/// The entries of a model, in the order of its text.
-pub type Entries = Sequence<Entry>;
 
 #[cfg(test)]
 mod tests {

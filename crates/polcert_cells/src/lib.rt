@@ -2,14 +2,16 @@
 #![tactic(auto)]
 
 mod elements;
+mod entries;
 mod entry;
 mod names;
 mod shares;
 mod table;
 mod words;
 
-pub use elements::{Elements, Kind, MOST_ELEMENTS};
-pub use entry::{Body, Entries, Entry, Place, Sequence, Table};
+pub use elements::{Elements, Kind, MOST_ACTIONS, MOST_ELEMENTS, MOST_OBSERVATIONS, MOST_STATES};
+pub use entries::{BodyRef, Entries, EntryRef};
+pub use entry::{Body, Entry, Place, Sequence, Table};
 pub use names::Names;
 pub use shares::Shares;
 pub use table::Cells;

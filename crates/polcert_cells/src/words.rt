@@ -54,6 +54,7 @@ fn topic_of(word: &[u8]) -> Option<Topic>
     None
 }
 
+#[inline(always)]
 fn is_same(word: &[u8], other: &[u8]) -> bool
     ensures { result ≡ bytes_eq word.now other.now }
 {

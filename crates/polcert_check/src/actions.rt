@@ -8,7 +8,7 @@ ghost use Rattle.polcert_check.specs.Factored.{node_or, or_verdict, IsActionVerd
 
 use crate::pairs::{is_yes, visit};
 use crate::verdict::Verdict;
-use polcert_cells::{Cells, MOST_ELEMENTS};
+use polcert_cells::{Cells, MOST_STATES};
 use polcert_policy::{Graph, Vectors};
 
 /// The node that the verdict names, or this one where it is yes.
@@ -45,7 +45,7 @@ fn first_of_action<C: Cells>(
     requires limit { limit ≤ nodes graph.now }
     ensures { IsActionVerdict (controller_of (C.table cells.now) graph.now vectors.now) a limit result }
 {
-    let mut sums = [0; MOST_ELEMENTS];
+    let mut sums = [0; MOST_STATES];
     let mut filled = 0;
     for n in 0..limit {
         let found = visit(cells, graph, vectors, a, n, &mut sums, &mut filled);

@@ -8,7 +8,7 @@ ghost use Rattle.polcert_check.specs.Worst.{IsFirstLacking};
 ghost use Rattle.polcert_check.specs.Factored.{IsLeastOf, Misses, AreMissing};
 
 use crate::ends::lesser;
-use polcert_cells::{Cells, MOST_ELEMENTS};
+use polcert_cells::{Cells, MOST_STATES};
 use polcert_policy::{Graph, Vectors};
 
 /// The least observation that can be received behind end state `e` and for which node `n` has no successor.
@@ -81,7 +81,7 @@ pub(crate) fn first_lacking<C: Cells>(cells: &C, graph: &Graph, vectors: &Vector
     requires fits { Fits (C.table cells.now) graph.now vectors.now }
     ensures { IsFirstLacking (controller_of (C.table cells.now) graph.now vectors.now) result }
 {
-    let mut missing = [None; MOST_ELEMENTS];
+    let mut missing = [None; MOST_STATES];
     for n in 0..graph.nodes() {
         fill_missing(cells, graph, n, &mut missing);
         for s in 0..cells.states() {

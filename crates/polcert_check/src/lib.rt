@@ -29,6 +29,3 @@ pub use rounded::millionths_short;
 pub use shortfall::amount_short;
 pub use start::start_worth;
 pub use verdict::{Verdict, check};
-
-#[cfg(test)]
-mod tests;

@@ -11,7 +11,7 @@ use crate::earned::{keep_reward, weighed};
 use crate::ends::{Ends, fill_ends, steps_ahead};
 use crate::shortfall::scaled_value;
 use crate::verdict::Verdict;
-use polcert_cells::{Cells, MOST_ELEMENTS};
+use polcert_cells::{Cells, MOST_STATES};
 use polcert_policy::{Graph, Vectors};
 
 /// How far a value is above what it is backed by: what its action earns, and what its node expects.
@@ -127,8 +127,8 @@ fn at_node<C: Cells>(
     ensures within { filled.new ≤ (C.table cells.now).states }
     ensures kept { AreRewards (C.table cells.now) ((controller_of (C.table cells.now) graph.now vectors.now).action n) sums.new filled.new }
 {
-    let mut worths = [0; MOST_ELEMENTS];
-    let mut missing = [None; MOST_ELEMENTS];
+    let mut worths = [0; MOST_STATES];
+    let mut missing = [None; MOST_STATES];
     fill_ends(cells, graph, vectors, n, &mut worths, &mut missing);
     let ends = Ends {
         worths: &worths,

@@ -11,7 +11,7 @@ ghost use Rattle.polcert_check.specs.Factored.{reward_ahead, AreRewards, AreEnds
 use crate::earned::keep_reward;
 use crate::ends::{Ends, fill_ends, steps_ahead};
 use crate::pairs::amount_above;
-use polcert_cells::{Cells, MOST_ELEMENTS};
+use polcert_cells::{Cells, MOST_STATES};
 use polcert_policy::{Graph, Vectors};
 
 /// The number itself, or 0 where it is below 0.
@@ -110,8 +110,8 @@ fn worst_node<C: Cells>(
     ensures within { filled.new ≤ (C.table cells.now).states }
     ensures kept { AreRewards (C.table cells.now) ((controller_of (C.table cells.now) graph.now vectors.now).action n) sums.new filled.new }
 {
-    let mut worths = [0; MOST_ELEMENTS];
-    let mut missing = [None; MOST_ELEMENTS];
+    let mut worths = [0; MOST_STATES];
+    let mut missing = [None; MOST_STATES];
     fill_ends(cells, graph, vectors, n, &mut worths, &mut missing);
     let ends = Ends {
         worths: &worths,
@@ -158,7 +158,7 @@ fn worst_of_action<C: Cells>(cells: &C, graph: &Graph, vectors: &Vectors, a: usi
     ensures { IsWorstOf (controller_of (C.table cells.now) graph.now vectors.now)
         (OfAction (controller_of (C.table cells.now) graph.now vectors.now) a (nodes graph.now)) result }
 {
-    let mut sums = [0; MOST_ELEMENTS];
+    let mut sums = [0; MOST_STATES];
     let mut filled = 0;
     let mut worst: u128 = 0;
     for n in 0..graph.nodes() {

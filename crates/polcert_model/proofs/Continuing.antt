@@ -1,5 +1,5 @@
 -- What an item's reader holds is still possible: the item can go on, with `: *`, zeros and the like, to its end.
-use Rattle.std.proofs.Common.{◌≡◌, ◌∙◌, ℕ, zero, suc, ◌+◌, ◌-◌, ◌<◌, ◌≤◌, ◌==◌, ◌⊎◌, ⊎_elim, true, false, Option, Some, None, List, [], ◌∷◌, ◌++◌, length, drop, map, ℤ, pos, codes, refl, sym, ap, subst, arith, length-append}
+use Rattle.std.proofs.Common.{◌≡◌, ◌∙◌, ℕ, zero, suc, ◌+◌, ◌-◌, ◌<◌, ◌≤◌, ◌==◌, ◌⊎◌, inl, inr, ⊎_elim, Bool, true, false, Option, Some, None, List, [], ◌∷◌, ◌++◌, length, drop, map, ℤ, pos, codes, refl, sym, ap, subst, arith, lit≤, length-append}
 use Rattle.std.specs.List.{list_any}
 use Rattle.polcert_text.specs.Cut.{Lexeme}
 use Rattle.polcert_text.specs.declared.lexeme.TokenKind.TheVariants.{Name}
@@ -20,15 +20,17 @@ use Rattle.polcert_model.specs.declared.lines.ValuesReader.TheVariants as values
 use Rattle.polcert_model.specs.declared.number.Sign.{Sign}
 use Rattle.polcert_cells.specs.declared.words.Topic.TheVariants.{Start}
 use Rattle.polcert_cells.specs.declared.elements.Elements.{Elements}
+use Rattle.polcert_cells.specs.Elements.{most_states, most_actions, most_observations}
 use Rattle.polcert_cells.specs.Entry as entries
 use Rattle.polcert_cells.specs.Entry.{forms, cells_in}
 use Rattle.polcert_cells.specs.Numbers as numbers
 use Rattle.polcert_model.specs.Text.{Known}
 use Rattle.polcert_model.specs.NumberSteps.{AreNumbersBehind}
-use Rattle.polcert_model.specs.EntrySteps.{indices_in, IsFirstPlace, entry_with, ProbabilitiesGo, RewardsGo, StateGoes, HasRoom, awaited, IsStateWithin}
+use Rattle.polcert_model.specs.EntrySteps.{preamble_in, indices_in, IsFirstPlace, entry_with, ProbabilitiesGo, RewardsGo, StateGoes, HasRoom, awaited, IsStateWithin}
 use Rattle.polcert_model.specs.ItemSteps.{ItemGoes, IsItemWithin, topic_in}
-use Rattle.polcert_model.specs.KnownView.{learned}
-use Rattle.polcert_model.proofs.PatternLaws.{colon_takes, one_to_three, two_to_four}
+use Rattle.polcert_cells.specs.Preamble.{Preamble, is_mdp, dimensions, named}
+use Rattle.polcert_model.specs.KnownView.{learned, least_written}
+use Rattle.polcert_model.proofs.PatternLaws.{colon_takes, one_to_three, rewards_may_stand, same_length}
 use Rattle.polcert_model.proofs.ElementLaws.{elements_can_end}
 use Rattle.polcert_model.proofs.Possible.{a_zero, a_star, a_colon, zero_is, zeros, nothings, zeros_are, nothings_count, nothings_in_range, length-pos, same_form_of_probabilities}
 
@@ -48,18 +50,18 @@ zeros_behind (Some s) (suc m) room = (zero_is s.negative, zeros_are m)
 
 -- ---- entries
 
-record Continues (ds : List Elements) (table : Table) (places : List Place) (state : EntryState) : Type 0 where
+record Continues (preamble : Preamble) (table : Table) (places : List Place) (state : EntryState) : Type 0 where
   more : List Lexeme
   entry : Entry
-  goes : StateGoes ds table places state more entry
+  goes : StateGoes preamble table places state more entry
 
 no_further : (ps : List Place) → ps ≡ ps ++ []
 no_further [] = refl
 no_further (p ∷ ps) = ap (λ (qs : List Place). p ∷ qs) (no_further ps)
 
-with_probabilities : (ds : List Elements) (table : Table) (places : List Place) → list_any (λ n. n == length places) (forms table (bodies.Probabilities [])) ≡ true → Continues ds table places states.Body
-with_probabilities ds table places form =
-    let m = cells_in (drop (length places) ds) in
+with_probabilities : (preamble : Preamble) (table : Table) (places : List Place) → list_any (λ n. n == length places) (forms (is_mdp preamble) table (bodies.Probabilities [])) ≡ true → Continues preamble table places states.Body
+with_probabilities preamble table places form =
+    let m = cells_in (drop (length places) (dimensions preamble table)) in
     record {
       more = zeros m;
       entry = entry_with table places (bodies.Probabilities (nothings m));
@@ -70,15 +72,15 @@ with_probabilities ds table places form =
         whole = refl;
         places_are = no_further places;
         table_is = refl;
-        form = subst (λ f. list_any (λ n. n == length places) f ≡ true) (same_form_of_probabilities table [] (nothings m)) form;
+        form = subst (λ f. list_any (λ n. n == length places) f ≡ true) (same_form_of_probabilities (is_mdp preamble) table [] (nothings m)) form;
         places = entries.none;
         body = entries.probabilities (zeros_are m) (nothings_count m) (nothings_in_range m);
       };
     }
 
-with_rewards : (ds : List Elements) (places : List Place) → list_any (λ n. n == length places) (forms Reward (bodies.Rewards [])) ≡ true → Continues ds Reward places states.Body
-with_rewards ds places form =
-    let m = cells_in (drop (length places) ds) in
+with_rewards : (preamble : Preamble) (places : List Place) → list_any (λ n. n == length places) (forms (is_mdp preamble) Reward (bodies.Rewards [])) ≡ true → Continues preamble Reward places states.Body
+with_rewards preamble places form =
+    let m = cells_in (drop (length places) (dimensions preamble Reward)) in
     record {
       more = zeros m;
       entry = entry_with Reward places (bodies.Rewards (map pos (nothings m)));
@@ -103,37 +105,43 @@ first_star (suc n) (d ∷ ds) l =
     first_star n ds (omega (arith, more))
 
 -- with `*` for the next place
-with_star : (ds : List Elements) (table : Table) (places : List Place) → length places < length ds → Continues ds table (places ++ Every ∷ []) states.Body → Continues ds table places states.Place
-with_star ds table places room c =
-    record { more = a_star ∷ c.more; entry = c.entry; goes = (Every, (first_star (length places) ds room, c.goes)) }
+with_star : (preamble : Preamble) (table : Table) (places : List Place) → length places < length (named preamble table) → Continues preamble table (places ++ Every ∷ []) states.Body → Continues preamble table places states.Place
+with_star preamble table places room c =
+    record { more = a_star ∷ c.more; entry = c.entry; goes = (Every, (first_star (length places) (named preamble table) room, c.goes)) }
 
 -- with a colon before it
-with_colon : (ds : List Elements) (table : Table) (places : List Place) → Continues ds table places states.Place → Continues ds table places states.Body
-with_colon ds table places c =
-    record { more = a_colon ∷ c.more; entry = c.entry; goes = (colon_takes ds table places a_colon refl).back c.more c.entry c.goes }
+with_colon : (preamble : Preamble) (table : Table) (places : List Place) → Continues preamble table places states.Place → Continues preamble table places states.Body
+with_colon preamble table places c =
+    record { more = a_colon ∷ c.more; entry = c.entry; goes = (colon_takes preamble table places a_colon refl).back c.more c.entry c.goes }
 
-one_or_more : (n : ℕ) → 1 ≤ n → (n ≡ 1) ⊎ (2 ≤ n)
+one_or_more : (n : ℕ) → 1 ≤ n → (2 ≤ n) ⊎ (n ≡ 1)
 one_or_more n l = grind arith
+
+-- there are enough places for rewards, or with one more there are
+enough_or_one : (mdp : Bool) (n : ℕ) → 1 ≤ n → (least_written mdp Reward ≤ n) ⊎ ((n ≡ 1) × (least_written mdp Reward ≤ 2))
+enough_or_one true n l = inl l
+enough_or_one false n l = ⊎_elim (λ more. inl more) (λ one. inr (one, let two : 2 ≤ 2 = omega arith in two)) (one_or_more n l)
 
 one_further : (ps : List Place) → length (ps ++ Every ∷ []) ≡ length ps + 1
 one_further ps = length-append ps (Every ∷ [])
 
-body_continues : (k : Known) (table : Table) (places : List Place) → 1 ≤ length places → length places ≤ length (indices_in k table) → Continues (indices_in k table) table places states.Body
-body_continues k Transition places low high = with_probabilities (indices_in k Transition) Transition places (one_to_three (length places) low high)
-body_continues k Observation places low high = with_probabilities (indices_in k Observation) Observation places (one_to_three (length places) low high)
-body_continues k Reward places low high = ⊎_elim
-    (λ (one : length places ≡ 1).
-    let two = one_further places in
-    let ds = indices_in k Reward in
-    with_colon ds Reward places (with_star ds Reward places (omega (arith, one))
-    (with_rewards ds (places ++ Every ∷ []) (two_to_four (length (places ++ Every ∷ [])) (omega (arith, one, two)) (omega (arith, one, two))))))
-    (λ more. with_rewards (indices_in k Reward) places (two_to_four (length places) more high))
-    (one_or_more (length places) low)
+body_continues : (k : Known) (table : Table) (places : List Place) → 1 ≤ length places → length places ≤ length (indices_in k table) → Continues (preamble_in k) table places states.Body
+body_continues k Transition places low high = with_probabilities (preamble_in k) Transition places (one_to_three (length places) low high)
+body_continues k Observation places low high = with_probabilities (preamble_in k) Observation places (one_to_three (length places) low high)
+body_continues k Reward places low high =
+    let preamble = preamble_in k in
+    let further = one_further places in
+    ⊎_elim (λ enough. with_rewards preamble places (rewards_may_stand (is_mdp preamble) (length places) [] enough high))
+    (λ (one : (length places ≡ 1) × (least_written (is_mdp preamble) Reward ≤ 2)).
+    let two : length (places ++ Every ∷ []) ≡ 2 = omega (arith, one.0, further) in
+    with_colon preamble Reward places (with_star preamble Reward places (omega (arith, one.0))
+    (with_rewards preamble (places ++ Every ∷ []) (rewards_may_stand (is_mdp preamble) (length (places ++ Every ∷ [])) [] (subst (λ n. least_written (is_mdp preamble) Reward ≤ n) (sym two) one.1) (omega (arith, two))))))
+    (enough_or_one (is_mdp preamble) (length places) low)
 
-place_continues : (k : Known) (table : Table) (places : List Place) → length places < length (indices_in k table) → Continues (indices_in k table) table places states.Place
+place_continues : (k : Known) (table : Table) (places : List Place) → length places < length (indices_in k table) → Continues (preamble_in k) table places states.Place
 place_continues k table places room =
     let further = one_further places in
-    with_star (indices_in k table) table places room
+    with_star (preamble_in k) table places (subst (λ n. length places < n) (sym (same_length (preamble_in k) table)) room)
     (body_continues k table (places ++ Every ∷ []) (omega (arith, further)) (omega (arith, further, room)))
 
 some_indices : (k : Known) (table : Table) → 0 < length (indices_in k table)
@@ -141,8 +149,8 @@ some_indices k Transition = omega arith
 some_indices k Observation = omega arith
 some_indices k Reward = omega arith
 
-probabilities_continue : (ds : List Elements) (table : Table) (places : List Place) (n : Numbers ℕ) → HasRoom n → Continues ds table places (states.Probabilities n)
-probabilities_continue ds table places n room =
+probabilities_continue : (preamble : Preamble) (table : Table) (places : List Place) (n : Numbers ℕ) → HasRoom n → Continues preamble table places (states.Probabilities n)
+probabilities_continue preamble table places n room =
     let m = n.needed - length n.read in
     let all : length (n.read ++ nothings m) ≡ length n.read + length (nothings m) = length-append n.read (nothings m) in
     let rest = nothings_count m in
@@ -151,8 +159,8 @@ probabilities_continue ds table places n room =
     record { further = nothings m; numbers = zeros_behind n.sign m (omega (arith, room)); small = nothings_in_range m; enough = omega (arith, all, rest, room); body_is = refl } in
     record { more = zeros m; entry = entry_with table places body; goes = (body, (go, refl)) }
 
-rewards_continue : (ds : List Elements) (table : Table) (places : List Place) (n : Numbers ℤ) → HasRoom n → Continues ds table places (states.Rewards n)
-rewards_continue ds table places n room =
+rewards_continue : (preamble : Preamble) (table : Table) (places : List Place) (n : Numbers ℤ) → HasRoom n → Continues preamble table places (states.Rewards n)
+rewards_continue preamble table places n room =
     let m = n.needed - length n.read in
     let further = map pos (nothings m) in
     let all : length (n.read ++ further) ≡ length n.read + length further = length-append n.read further in
@@ -162,14 +170,14 @@ rewards_continue ds table places n room =
     record { further = further; numbers = zeros_behind n.sign m (omega (arith, room)); enough = omega (arith, all, rest, room); body_is = refl } in
     record { more = zeros m; entry = entry_with table places body; goes = (body, (go, refl)) }
 
-state_continues : (k : Known) (table : Table) (places : List Place) (state : EntryState) → IsStateWithin (indices_in k table) table places state → Continues (indices_in k table) table places state
+state_continues : (k : Known) (table : Table) (places : List Place) (state : EntryState) → IsStateWithin (indices_in k table) table places state → Continues (preamble_in k) table places state
 state_continues k table places states.Colon within =
     let c = place_continues k table places (subst (λ (ps : List Place). length ps < length (indices_in k table)) (sym within) (some_indices k table)) in
     record { more = a_colon ∷ c.more; entry = c.entry; goes = (refl, c.goes) }
 state_continues k table places states.Place within = place_continues k table places within
 state_continues k table places states.Body within = body_continues k table places within.0 within.1
-state_continues k table places (states.Probabilities n) within = probabilities_continue (indices_in k table) table places n within.1
-state_continues k table places (states.Rewards n) within = rewards_continue (indices_in k table) table places n within.1
+state_continues k table places (states.Probabilities n) within = probabilities_continue (preamble_in k) table places n within.1
+state_continues k table places (states.Rewards n) within = rewards_continue (preamble_in k) table places n within.1
 state_continues k table places (states.Word w) within = record { more = []; entry = entry_with table places _; goes = (refl, refl) }
 
 -- ---- items
@@ -191,9 +199,9 @@ can_end k (items.Values values.Colon) within other =
 can_end k (items.Values values.Word) within other =
     record { more = a_word (codes "reward") ∷ []; after = learned k (said.Costs false); goes = (false, ((refl, record { kind = refl; bytes = refl }), refl)) }
 can_end k (items.Values (values.Said c)) within other = record { more = []; after = learned k (said.Costs c); goes = (c, ((refl, refl), refl)) }
-can_end k (items.States r) within other = let c = elements_can_end r within in record { more = c.0; after = learned k (said.States c.1.0); goes = (c.1.0, (c.1.1, refl)) }
-can_end k (items.Actions r) within other = let c = elements_can_end r within in record { more = c.0; after = learned k (said.Actions c.1.0); goes = (c.1.0, (c.1.1, refl)) }
-can_end k (items.Observations r) within other = let c = elements_can_end r within in record { more = c.0; after = learned k (said.Observations c.1.0); goes = (c.1.0, (c.1.1, refl)) }
+can_end k (items.States r) within other = let c = elements_can_end most_states (lit≤ tt) r within in record { more = c.0; after = learned k (said.States c.1.0); goes = (c.1.0, (c.1.1, refl)) }
+can_end k (items.Actions r) within other = let c = elements_can_end most_actions (lit≤ tt) r within in record { more = c.0; after = learned k (said.Actions c.1.0); goes = (c.1.0, (c.1.1, refl)) }
+can_end k (items.Observations r) within other = let c = elements_can_end most_observations (lit≤ tt) r within in record { more = c.0; after = learned k (said.Observations c.1.0); goes = (c.1.0, (c.1.1, refl)) }
 can_end k (items.Start r) within other = absurd (other refl)
 can_end k (items.Entry r) within other =
     let c = state_continues k r.table r.places r.state within in

@@ -18,7 +18,7 @@ use Rattle.polcert_cells.specs.Words.{IsName}
 use Rattle.polcert_cells.specs.Numbers.{IsWhole}
 use Rattle.polcert_cells.specs.declared.elements.Elements.{Elements}
 use Rattle.polcert_cells.specs.declared.elements.Elements.TheVariants.{Count, Names}
-use Rattle.polcert_cells.specs.Elements.{AreElements, counted, named, most_elements}
+use Rattle.polcert_cells.specs.Elements.{AreElements, counted, named}
 use Rattle.polcert_model.specs.Reasons.{IsRepeated}
 use Rattle.polcert_model.specs.LineSteps.{Takes, CannotTake}
 use Rattle.polcert_model.specs.ElementSteps.{names_with, NamesGo, ElementsGo, AreNamesRead, IsElementsRead, ElementsReason, AreElementsSeen, IsCountOf}
@@ -33,50 +33,50 @@ whole_not_name l n a b = let e = a.kind in let f = b.kind in cc
 first_is_name : (l : Lexeme) (ls : List Lexeme) → All IsName (l ∷ ls) → IsName l
 first_is_name l ls all = all 0 l (omega arith)
 
-count_alone : (l : Lexeme) (n : ℕ) → IsWhole l n → (xs ls : List Lexeme) (e : Elements) → xs ≡ l ∷ ls → AreElements xs e → (ls ≡ []) × (e ≡ Count n)
-count_alone l n w xs ls e same (counted {l = m} {n = k} v least most) =
+count_alone : (most : ℕ) (l : Lexeme) (n : ℕ) → IsWhole l n → (xs ls : List Lexeme) (e : Elements) → xs ≡ l ∷ ls → AreElements most xs e → (ls ≡ []) × (e ≡ Count n)
+count_alone most l n w xs ls e same (counted {l = m} {n = k} v least few) =
     let here : IsWhole l k = subst (λ x. IsWhole x k) (same_head same) v in
     (sym (same_tail same), ap Count (sym here.value ∙ w.value))
-count_alone l n w xs ls e same (named all least most apart) = absurd (whole_not_name l n w (first_is_name l ls (subst (All IsName) same all)))
+count_alone most l n w xs ls e same (named all least few apart) = absurd (whole_not_name l n w (first_is_name l ls (subst (All IsName) same all)))
 
 -- behind a count nothing comes
-pub count_takes : (l : Lexeme) (n : ℕ) → IsCountOf l n → Takes ElementsGo readers.First l (readers.Counted n)
-count_takes l n c = record {
-  back = λ ls e goes. subst (λ x. AreElements (l ∷ x) e) (sym goes.0) (subst (AreElements (l ∷ [])) (sym goes.1) (counted c.0 c.1 c.2));
-  on = λ ls e a. count_alone l n c.0 (l ∷ ls) ls e refl a;
+pub count_takes : (most : ℕ) (l : Lexeme) (n : ℕ) → IsCountOf most l n → Takes (ElementsGo most) readers.First l (readers.Counted n)
+count_takes most l n c = record {
+  back = λ ls e goes. subst (λ x. AreElements most (l ∷ x) e) (sym goes.0) (subst (AreElements most (l ∷ [])) (sym goes.1) (counted c.0 c.1 c.2));
+  on = λ ls e a. count_alone most l n c.0 (l ∷ ls) ls e refl a;
 }
 
-no_count : (l : Lexeme) → l.kind ≡ Numeral → ((n : ℕ) → IsCountOf l n → ⊥) → (xs ls : List Lexeme) (e : Elements) → xs ≡ l ∷ ls → AreElements xs e → ⊥
-no_count l k none xs ls e same (counted {l = m} {n = n} w least most) = none n (subst (λ x. IsWhole x n) (same_head same) w, least, most)
-no_count l k none xs ls e same (named all least most apart) = let name = first_is_name l ls (subst (All IsName) same all) in let f = name.kind in cc
+no_count : (most : ℕ) (l : Lexeme) → l.kind ≡ Numeral → ((n : ℕ) → IsCountOf most l n → ⊥) → (xs ls : List Lexeme) (e : Elements) → xs ≡ l ∷ ls → AreElements most xs e → ⊥
+no_count most l k none xs ls e same (counted {l = m} {n = n} w least few) = none n (subst (λ x. IsWhole x n) (same_head same) w, least, few)
+no_count most l k none xs ls e same (named all least few apart) = let name = first_is_name l ls (subst (All IsName) same all) in let f = name.kind in cc
 
--- a numeral that is no count from 1 to 1000
-pub count_stuck : (l : Lexeme) → l.kind ≡ Numeral → ((n : ℕ) → IsCountOf l n → ⊥) → CannotTake ElementsGo readers.First l
-count_stuck l k none = λ ls e a. no_count l k none (l ∷ ls) ls e refl a
+-- a numeral that is no count from 1 to the most
+pub count_stuck : (most : ℕ) (l : Lexeme) → l.kind ≡ Numeral → ((n : ℕ) → IsCountOf most l n → ⊥) → CannotTake (ElementsGo most) readers.First l
+count_stuck most l k none = λ ls e a. no_count most l k none (l ∷ ls) ls e refl a
 
 -- ---- names
 
-module _ (names : List (List ℕ)) (l : Lexeme) where
+module _ (most : ℕ) (names : List (List ℕ)) (l : Lexeme) where
   one_more : (ls : List Lexeme) → names_with (names ++ l.bytes ∷ []) ls ≡ names_with names (l ∷ ls)
   one_more ls = append_assoc names (l.bytes ∷ []) (map (λ l. l.bytes) ls)
 
-  pub name_takes : IsName l → Takes NamesGo names l (names ++ l.bytes ∷ [])
+  pub name_takes : IsName l → Takes (NamesGo most) names l (names ++ l.bytes ∷ [])
   name_takes name = record {
     back = λ ls e g. record {
       all = All-cons IsName l ls name g.all;
-      most = subst (λ ns. length ns ≤ most_elements) (one_more ls) g.most;
+      few = subst (λ ns. length ns ≤ most) (one_more ls) g.few;
       apart = subst (AllPairs (λ x y. x ≢ y)) (one_more ls) g.apart;
       elements_are = g.elements_are ∙ ap Names (one_more ls);
     };
     on = λ ls e g. record {
       all = All-tail IsName l ls g.all;
-      most = subst (λ ns. length ns ≤ most_elements) (sym (one_more ls)) g.most;
+      few = subst (λ ns. length ns ≤ most) (sym (one_more ls)) g.few;
       apart = subst (AllPairs (λ x y. x ≢ y)) (sym (one_more ls)) g.apart;
       elements_are = g.elements_are ∙ ap Names (sym (one_more ls));
     };
   }
 
-  pub no_name_stuck : (IsName l → ⊥) → CannotTake NamesGo names l
+  pub no_name_stuck : (IsName l → ⊥) → CannotTake (NamesGo most) names l
   no_name_stuck none = λ ls e g. none (first_is_name l ls g.all)
 
 at_seam : (xs : List (List ℕ)) (x : List ℕ) (ys : List (List ℕ)) (d : List ℕ) → get_or (xs ++ x ∷ ys) (length xs) d ≡ x
@@ -92,38 +92,38 @@ among_apart names name further e apart =
     let there : get_or (names ++ name ∷ further) (length names) found.1 ≡ name = at_seam names name further found.1 in
     apart found.0 (length names) found.1 found.2 (omega (arith, long)) (here ∙ sym ((bytes_eq-Decides name found.1).0 found.4) ∙ sym there)
 
-pub known_stuck : (names : List (List ℕ)) (l : Lexeme) → list_any (bytes_eq l.bytes) names ≡ true → CannotTake NamesGo names l
-known_stuck names l e = λ ls elements g. among_apart names l.bytes (map (λ l. l.bytes) ls) e g.apart
+pub known_stuck : (most : ℕ) (names : List (List ℕ)) (l : Lexeme) → list_any (bytes_eq l.bytes) names ≡ true → CannotTake (NamesGo most) names l
+known_stuck most names l e = λ ls elements g. among_apart names l.bytes (map (λ l. l.bytes) ls) e g.apart
 
-pub more_read : (names : List (List ℕ)) (name : List ℕ) → AreNamesRead names → length names ≢ most_elements → list_any (bytes_eq name) names ≡ false → AreNamesRead (names ++ name ∷ [])
-more_read names name read room new =
+pub more_read : (most : ℕ) (names : List (List ℕ)) (name : List ℕ) → AreNamesRead most names → length names ≢ most → list_any (bytes_eq name) names ≡ false → AreNamesRead most (names ++ name ∷ [])
+more_read most names name read room new =
     let long = length-append names (name ∷ []) in
-    let most = read.most in
+    let few = read.few in
     record {
-      most = omega (arith, long, most, room);
+      few = omega (arith, long, few, room);
       apart = all_pairs_push (λ x y. x ≢ y) names name read.apart (λ k d inside same. true≢false (list_any_at (bytes_eq name) names k d inside ((bytes_eq-Decides name (get_or names k d)).1 (sym same))) new);
     }
 
 -- ---- the first name
 
-names_only : (l : Lexeme) → (l.kind ≡ Numeral → ⊥) → (xs ls : List Lexeme) (e : Elements) → xs ≡ l ∷ ls → AreElements xs e → NamesGo [] xs e
-names_only l k xs ls e same (counted {l = m} w least most) = absurd (k (ap (λ (x : Lexeme). x.kind) (sym (same_head same)) ∙ w.kind))
-names_only l k xs ls e same (named all least most apart) =
-    record { all = all; most = subst (λ n. n ≤ most_elements) (sym (length-map xs (λ l. l.bytes))) most; apart = apart; elements_are = refl }
+names_only : (most : ℕ) (l : Lexeme) → (l.kind ≡ Numeral → ⊥) → (xs ls : List Lexeme) (e : Elements) → xs ≡ l ∷ ls → AreElements most xs e → NamesGo most [] xs e
+names_only most l k xs ls e same (counted {l = m} w least few) = absurd (k (ap (λ (x : Lexeme). x.kind) (sym (same_head same)) ∙ w.kind))
+names_only most l k xs ls e same (named all least few apart) =
+    record { all = all; few = subst (λ n. n ≤ most) (sym (length-map xs (λ l. l.bytes))) few; apart = apart; elements_are = refl }
 
-some_names : (l : Lexeme) (ls : List Lexeme) (e : Elements) → NamesGo [] (l ∷ ls) e → AreElements (l ∷ ls) e
-some_names l ls e g =
-    let most : length (l ∷ ls) ≤ most_elements = subst (λ n. n ≤ most_elements) (length-map (l ∷ ls) (λ l. l.bytes)) g.most in
-    subst (AreElements (l ∷ ls)) (sym g.elements_are) (named g.all (omega arith) most g.apart)
+some_names : (most : ℕ) (l : Lexeme) (ls : List Lexeme) (e : Elements) → NamesGo most [] (l ∷ ls) e → AreElements most (l ∷ ls) e
+some_names most l ls e g =
+    let few : length (l ∷ ls) ≤ most = subst (λ n. n ≤ most) (length-map (l ∷ ls) (λ l. l.bytes)) g.few in
+    subst (AreElements most (l ∷ ls)) (sym g.elements_are) (named g.all (omega arith) few g.apart)
 
-pub first_takes : (l : Lexeme) (names : List (List ℕ)) → IsName l → names ≡ l.bytes ∷ [] → Takes ElementsGo readers.First l (readers.Named names)
-first_takes l names name is = subst (λ ns. Takes ElementsGo readers.First l (readers.Named ns)) (sym is) (record {
-  back = λ ls e g. some_names l ls e ((name_takes [] l name).back ls e g);
-  on = λ ls e a. (name_takes [] l name).on ls e (names_only l (λ k. let f = name.kind in cc) (l ∷ ls) ls e refl a);
+pub first_takes : (most : ℕ) (l : Lexeme) (names : List (List ℕ)) → IsName l → names ≡ l.bytes ∷ [] → Takes (ElementsGo most) readers.First l (readers.Named names)
+first_takes most l names name is = subst (λ ns. Takes (ElementsGo most) readers.First l (readers.Named ns)) (sym is) (record {
+  back = λ ls e g. some_names most l ls e ((name_takes most [] l name).back ls e g);
+  on = λ ls e a. (name_takes most [] l name).on ls e (names_only most l (λ k. let f = name.kind in cc) (l ∷ ls) ls e refl a);
 })
 
-pub first_stuck : (l : Lexeme) → (l.kind ≡ Numeral → ⊥) → CannotTake NamesGo [] l → CannotTake ElementsGo readers.First l
-first_stuck l k stuck = λ ls e a. stuck ls e (names_only l k (l ∷ ls) ls e refl a)
+pub first_stuck : (most : ℕ) (l : Lexeme) → (l.kind ≡ Numeral → ⊥) → CannotTake (NamesGo most) [] l → CannotTake (ElementsGo most) readers.First l
+first_stuck most l k stuck = λ ls e a. stuck ls e (names_only most l k (l ∷ ls) ls e refl a)
 
 pub first_reason : (l : Lexeme) (kind : ItemFault) (place : ℕ) → ElementsReason (readers.Named []) l kind place → ElementsReason readers.First l kind place
 first_reason l DuplicateName place r = absurd (true≢false r.2 refl)
@@ -131,11 +131,11 @@ first_reason l kind place r = r
 
 -- ---- a further name
 
-pub named_takes : (old : ElementsReader) (names new : List (List ℕ)) (l : Lexeme) → old ≡ readers.Named names → IsName l → new ≡ names ++ l.bytes ∷ [] → Takes ElementsGo old l (readers.Named new)
-named_takes old names new l was name is =
-    let takes = name_takes names l name in
-    let here : Takes ElementsGo (readers.Named names) l (readers.Named (names ++ l.bytes ∷ [])) = record { back = takes.back; on = takes.on } in
-    subst (λ r. Takes ElementsGo r l (readers.Named new)) (sym was) (subst (λ ns. Takes ElementsGo (readers.Named names) l (readers.Named ns)) (sym is) here)
+pub named_takes : (most : ℕ) (old : ElementsReader) (names new : List (List ℕ)) (l : Lexeme) → old ≡ readers.Named names → IsName l → new ≡ names ++ l.bytes ∷ [] → Takes (ElementsGo most) old l (readers.Named new)
+named_takes most old names new l was name is =
+    let takes = name_takes most names l name in
+    let here : Takes (ElementsGo most) (readers.Named names) l (readers.Named (names ++ l.bytes ∷ [])) = record { back = takes.back; on = takes.on } in
+    subst (λ r. Takes (ElementsGo most) r l (readers.Named new)) (sym was) (subst (λ ns. Takes (ElementsGo most) (readers.Named names) l (readers.Named ns)) (sym is) here)
 
 pub on_ok_both : {T E : Type 0} (r : Result T E) {P Q R : Type 0} → (P → Q → R) → OnOk r P → OnOk r Q → OnOk r R
 on_ok_both (Ok v) f p q = f p q
@@ -185,17 +185,17 @@ unfolding class_of
 one_is = record { kind = refl; digits = refl; value = refl }
 
 -- a count of one behind a colon, and nothing behind a count or names
-pub elements_can_end : (r : ElementsReader) → IsElementsRead r → (ls : List Lexeme) × ((e : Elements) × ElementsGo r ls e)
-elements_can_end readers.Colon read = (a_colon ∷ a_one ∷ [], (Count 1, (refl, counted one_is (lit≤ tt) (lit≤ tt))))
-elements_can_end readers.First read = (a_one ∷ [], (Count 1, counted one_is (lit≤ tt) (lit≤ tt)))
-elements_can_end (readers.Counted n) read = ([], (Count n, (refl, refl)))
-elements_can_end (readers.Named names) read = (
+pub elements_can_end : (most : ℕ) → 1 ≤ most → (r : ElementsReader) → IsElementsRead most r → (ls : List Lexeme) × ((e : Elements) × ElementsGo most r ls e)
+elements_can_end most some readers.Colon read = (a_colon ∷ a_one ∷ [], (Count 1, (refl, counted one_is (lit≤ tt) some)))
+elements_can_end most some readers.First read = (a_one ∷ [], (Count 1, counted one_is (lit≤ tt) some))
+elements_can_end most some (readers.Counted n) read = ([], (Count n, (refl, refl)))
+elements_can_end most some (readers.Named names) read = (
   [],
   (
     Names names,
     record {
       all = All-nil IsName;
-      most = subst (λ ns. length ns ≤ most_elements) (sym (append-nil names)) read.1.most;
+      few = subst (λ ns. length ns ≤ most) (sym (append-nil names)) read.1.few;
       apart = subst (AllPairs (λ x y. x ≢ y)) (sym (append-nil names)) read.1.apart;
       elements_are = ap Names (sym (append-nil names));
     },

@@ -4,6 +4,7 @@ use Rattle.std.proofs.lemmas.Nat.{div-mul-add, mod-mul-add, div_below, mul-add-l
 use Rattle.std.proofs.lemmas.List.{get_or_push, get_or_append_left}
 use Rattle.std.proofs.Math.Nat.{mul-le-mul_left, mul-le-mul_right}
 use borrow.Author.Count.{below_more}
+use Rattle.polcert_cells.specs.Elements.{most_states, most_actions, most_observations}
 use Rattle.polcert_cells.specs.Numbers.{one}
 use Rattle.polcert_cells.specs.Meaning as meanings
 use Rattle.polcert_cells.specs.Meaning.{Meaning, sum_below, IsCount, HasProperRows}
@@ -41,9 +42,10 @@ product_le : (a b m n : ℕ) → a ≤ m → b ≤ n → a * b ≤ m * n
 product_le a b m n h k = omega (arith, mul-le-mul_right b h, mul-le-mul_left m k)
 
 -- a table of R has at most a million million places
-pub four_fit : (actions starts ends seen : ℕ) → actions ≤ 1000 → starts ≤ 1000 → ends ≤ 1000 → seen ≤ 1000 → actions * starts * ends * seen ≤ 1_000_000_000_000
+pub four_fit : (actions starts ends seen : ℕ) → actions ≤ most_actions → starts ≤ most_states → ends ≤ most_states → seen ≤ most_observations → actions * starts * ends * seen ≤ 1_000_000_000_000
 four_fit actions starts ends seen a s e z =
-    product_le (actions * starts * ends) seen 1_000_000_000 1000 (product_le (actions * starts) ends 1_000_000 1000 (product_le actions starts 1000 1000 a s) e) z
+    product_le (actions * starts * ends) seen (most_actions * most_states * most_states) most_observations
+    (product_le (actions * starts) ends (most_actions * most_states) most_states (product_le actions starts most_actions most_states a s) e) z
 
 -- one place more is filled
 pub filled_next : {X : Type 0} (xs : List X) (f : ℕ → X) (place : ℕ) (x d : X) → length xs ≡ place → ((k : ℕ) → k < place → get_or xs k d ≡ f k) → x ≡ f place → (k : ℕ) → k < place + 1 → get_or (xs ++ x ∷ []) k d ≡ f k
@@ -134,9 +136,9 @@ same_rows x y same proper =
 pub same_limits : (x y : Table) → HasSameCells x y → IsWithinLimits x → IsWithinLimits y
 same_limits x y same limits =
     record {
-      states = subst (λ n. IsCount 1000 n) same.states limits.states;
-      actions = subst (λ n. IsCount 1000 n) same.actions limits.actions;
-      observations = subst (λ n. IsCount 1000 n) same.observations limits.observations;
+      states = subst (λ n. IsCount most_states n) same.states limits.states;
+      actions = subst (λ n. IsCount most_actions n) same.actions limits.actions;
+      observations = subst (λ n. IsCount most_observations n) same.observations limits.observations;
       discount = omega (arith, limits.discount, same.discount);
       t_scale = sym same.t_scale ∙ limits.t_scale ∙ ap (λ n. one * n) same.states;
       o_scale = sym same.o_scale ∙ limits.o_scale ∙ ap (λ n. one * n) same.observations;

@@ -175,9 +175,9 @@ right =
     (texts.more States refl (texts.states (fresh _ refl refl) refl refl (counted whole_2 (lit≤ tt) (lit≤ tt)))
     (texts.more Actions refl (texts.actions (fresh _ refl refl) refl refl (counted whole_1 (lit≤ tt) (lit≤ tt)))
     (texts.more Observations refl (texts.observations (fresh _ refl refl) refl refl (counted whole_2 (lit≤ tt) (lit≤ tt)))
-    (texts.more (Cells Transition) refl (texts.entry (complete []) move)
-    (texts.more (Cells Observation) refl (texts.entry (complete (take 1 first_entries)) hear)
-    (texts.more (Cells Reward) refl (texts.entry (complete (take 2 first_entries)) pay)
+    (texts.more (Cells Transition) refl (texts.entry (complete []) tt move)
+    (texts.more (Cells Observation) refl (texts.entry (complete (take 1 first_entries)) refl hear)
+    (texts.more (Cells Reward) refl (texts.entry (complete (take 2 first_entries)) tt pay)
     texts.none)))))))
 
 pub first_taken : IsRightText first first_preamble (first_known first_entries)

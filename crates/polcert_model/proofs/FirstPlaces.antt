@@ -1,5 +1,5 @@
 -- An entry begins with a colon and a place.
-use Rattle.std.proofs.Common.{◌≡◌, ◌==◌, true, List, ◌∷◌, ◌++◌, length, refl, sym, subst}
+use Rattle.std.proofs.Common.{◌≡◌, ◌==◌, Bool, true, false, List, ◌∷◌, ◌++◌, length, refl, sym, subst}
 use Rattle.std.specs.List.{list_any}
 use Rattle.polcert_text.specs.Cut.{Lexeme}
 use Rattle.polcert_text.specs.declared.lexeme.TokenKind.TheVariants.{Colon}
@@ -16,19 +16,20 @@ use Rattle.polcert_model.specs.Text as texts
 use Rattle.polcert_model.specs.Text.{Known, IsRight}
 
 -- each form has places
-no_form_without_places : (table : Table) (body : Body) → list_any (λ n. n == 0) (forms table body) ≡ true → ⊥
-no_form_without_places Transition (Probabilities ps) e = cc
-no_form_without_places Transition (Rewards hs) e = cc
-no_form_without_places Transition Uniform e = cc
-no_form_without_places Transition Identity e = cc
-no_form_without_places Observation (Probabilities ps) e = cc
-no_form_without_places Observation (Rewards hs) e = cc
-no_form_without_places Observation Uniform e = cc
-no_form_without_places Observation Identity e = cc
-no_form_without_places Reward (Probabilities ps) e = cc
-no_form_without_places Reward (Rewards hs) e = cc
-no_form_without_places Reward Uniform e = cc
-no_form_without_places Reward Identity e = cc
+no_form_without_places : (mdp : Bool) (table : Table) (body : Body) → list_any (λ n. n == 0) (forms mdp table body) ≡ true → ⊥
+no_form_without_places mdp Transition (Probabilities ps) e = cc
+no_form_without_places mdp Transition (Rewards hs) e = cc
+no_form_without_places mdp Transition Uniform e = cc
+no_form_without_places mdp Transition Identity e = cc
+no_form_without_places mdp Observation (Probabilities ps) e = cc
+no_form_without_places mdp Observation (Rewards hs) e = cc
+no_form_without_places mdp Observation Uniform e = cc
+no_form_without_places mdp Observation Identity e = cc
+no_form_without_places mdp Reward (Probabilities ps) e = cc
+no_form_without_places true Reward (Rewards hs) e = cc
+no_form_without_places false Reward (Rewards hs) e = cc
+no_form_without_places mdp Reward Uniform e = cc
+no_form_without_places mdp Reward Identity e = cc
 
 -- a colon and a place at the front
 pub record BeginsWithPlace (body : List Lexeme) : Type 0 where
@@ -38,11 +39,11 @@ pub record BeginsWithPlace (body : List Lexeme) : Type 0 where
   pub whole : body ≡ colon ∷ place ∷ rest
   pub colon_is : colon.kind ≡ Colon
 
-first_colon : (table : Table) (body : Body) {ds : List Elements} {xs : List Lexeme} {ps : List Place} (us : List Lexeme) → ArePlaces ds xs ps
-    → list_any (λ n. n == length ps) (forms table body) ≡ true → BeginsWithPlace (xs ++ us)
-first_colon table body us entries.none form = absurd (no_form_without_places table body form)
-first_colon table body us (entries.more {colon = colon} {l = l} {ls = ls} c a rest) form = record { colon = colon; place = l; rest = ls ++ us; whole = refl; colon_is = c }
+first_colon : (mdp : Bool) (table : Table) (body : Body) {ds : List Elements} {xs : List Lexeme} {ps : List Place} (us : List Lexeme) → ArePlaces ds xs ps
+    → list_any (λ n. n == length ps) (forms mdp table body) ≡ true → BeginsWithPlace (xs ++ us)
+first_colon mdp table body us entries.none form = absurd (no_form_without_places mdp table body form)
+first_colon mdp table body us (entries.more {colon = colon} {l = l} {ls = ls} c a rest) form = record { colon = colon; place = l; rest = ls ++ us; whole = refl; colon_is = c }
 
 pub entry_begins : (k after : Known) (table : Table) (body : List Lexeme) → IsRight k (Cells table) body after → BeginsWithPlace body
-entry_begins k after table body (texts.entry {e = e} complete a) =
-    subst BeginsWithPlace (sym a.whole) (first_colon table e.body a.rest a.places a.form)
+entry_begins k after table body (texts.entry {e = e} complete given a) =
+    subst BeginsWithPlace (sym a.whole) (first_colon _ table e.body a.rest a.places a.form)

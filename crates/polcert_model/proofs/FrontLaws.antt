@@ -47,10 +47,10 @@ pub these_tokens : (text : List ℕ) (seen : List Lexeme) (end : Option TokenFau
     → (ts.lexemes ≡ seen) × (ts.ending ≡ end)
 these_tokens text seen end ts cut tokens = one_cut (text_rest text text_limit) ts.lexemes seen ts.ending end tokens.cut cut
 
-abbrev too_long : List ℕ → Rest
+abbrev pub too_long : List ℕ → Rest
 too_long text = record { place = 0; bytes = take text_limit text; ending = Some (TextTooLong text_limit) }
 
-abbrev whole_text : List ℕ → Rest
+abbrev pub whole_text : List ℕ → Rest
 whole_text text = record { place = 0; bytes = text; ending = None }
 
 short_text : (text : List ℕ) (long : Bool) → nat_lt text_limit (length text) ≡ long → length (cond long (too_long text) (whole_text text)).bytes ≤ text_limit

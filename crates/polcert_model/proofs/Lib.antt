@@ -40,6 +40,7 @@ pub mod StartNumbers
 pub mod StartForms
 pub mod StartShares
 pub mod StartSeen
+pub mod Observing
 pub mod SameForms
 pub mod PrintedNumbers
 pub mod PrintedItems
@@ -66,3 +67,4 @@ pub mod RowCells
 pub mod MisfitLaws
 pub mod WantLaws
 pub mod FilledLaws
+pub mod ModelStreams

@@ -10,16 +10,16 @@ use Rattle.polcert_cells.specs.declared.words.Topic.{Topic}
 use Rattle.polcert_cells.specs.Numbers.{IsMillionths, AreNumbers}
 use Rattle.polcert_cells.specs.Numbers as numbers
 use Rattle.polcert_cells.specs.declared.elements.Elements.{Elements}
-use Rattle.polcert_cells.specs.Elements.{count_of, most_elements, AreElements, counted, named}
+use Rattle.polcert_cells.specs.Elements.{count_of, most_states, most_actions, most_observations, AreElements, counted, named}
 use Rattle.polcert_model.specs.Items.{Item}
-use Rattle.polcert_cells.specs.Preamble.{Preamble}
+use Rattle.polcert_cells.specs.Preamble.{Preamble, observed}
 use Rattle.polcert_cells.specs.declared.entry.Body.{Body}
 use Rattle.polcert_cells.specs.declared.entry.Body.TheVariants.{Probabilities, Rewards, Uniform, Identity}
 use Rattle.polcert_cells.specs.declared.entry.Entry.{Entry}
 use Rattle.polcert_cells.specs.Entry.{IsBody, IsEntry}
 use Rattle.polcert_cells.specs.Entry as entries
 use Rattle.polcert_cells.specs.Cells.{last_covering, reward, reward_of, reward_in, value_or, row_major, IsLastCovering, last, none}
-use Rattle.polcert_cells.specs.Meaning.{Meaning, sum_below, IsCount, IsWithinLimits, states_of, observations_of}
+use Rattle.polcert_cells.specs.Meaning.{Meaning, reward_index, sum_below, IsCount, IsWithinLimits, states_of, observations_of}
 use Rattle.polcert_model.specs.Text as texts
 use Rattle.polcert_model.specs.Text.{Known, nothing_known, IsInPreamble, IsComplete, IsRight, AreRight, Denotes}
 use Rattle.polcert_cells.proofs.NumberLaws.{millionth_pos}
@@ -111,9 +111,9 @@ reward_within : (p : Preamble) (es : List Entry) (indices : List ℕ) → Entrie
 reward_within p es indices a = found_within p es indices (last_covering es Reward indices) a (last_is es Reward indices)
 
 -- ---- what the items so far say
-abbrev pub CountWithin : Option Elements → Type 0
-CountWithin None = Unit {0}
-CountWithin (Some e) = IsCount most_elements (count_of e)
+abbrev pub CountWithin : ℕ → Option Elements → Type 0
+CountWithin most None = Unit {0}
+CountWithin most (Some e) = IsCount most (count_of e)
 
 abbrev pub DiscountWithin : Option ℕ → Type 0
 DiscountWithin None = Unit {0}
@@ -124,31 +124,36 @@ StartWithin o None = Unit {0}
 StartWithin None (Some weights) = ⊥
 StartWithin (Some e) (Some weights) = IsFair (count_of e) weights
 
+-- as many as the line says, or as these
+pub line_within : (most : ℕ) (o : Option Elements) (e : Elements) → CountWithin most o → IsCount most (count_of e) → IsCount most (count_of (unwrap_or o e))
+line_within most None e w l = l
+line_within most (Some found) e w l = w
+
 pub record KnownWithin (k : Known) : Type 0 where
   pub start : StartWithin k.states k.start
   pub discount : DiscountWithin k.discount
-  pub states : CountWithin k.states
-  pub actions : CountWithin k.actions
-  pub observations : CountWithin k.observations
+  pub states : CountWithin most_states k.states
+  pub actions : CountWithin most_actions k.actions
+  pub observations : CountWithin most_observations k.observations
   pub entries : EntriesWithin k.entries
 
-elements_within : {ls : List Lexeme} {e : Elements} → AreElements ls e → IsCount most_elements (count_of e)
-elements_within (counted a l m) = (l, m)
-elements_within (named {ls = ls} all l m d) =
+elements_within : (most : ℕ) {ls : List Lexeme} {e : Elements} → AreElements most ls e → IsCount most (count_of e)
+elements_within most (counted a l m) = (l, m)
+elements_within most (named {ls = ls} all l m d) =
     let e : length (map (λ (x : Lexeme). x.bytes) ls) ≡ length ls = length-map ls (λ (x : Lexeme). x.bytes) in
-    (subst (λ n. 1 ≤ n) (sym e) l, subst (λ n. n ≤ most_elements) (sym e) m)
+    (subst (λ n. 1 ≤ n) (sym e) l, subst (λ n. n ≤ most) (sym e) m)
 
 right_within : (k : Known) (t : Topic) (ls : List Lexeme) (next : Known) → KnownWithin k → IsRight k t ls next → KnownWithin next
 right_within k t ls next w (texts.discount p e c n l) = record { start = w.start; discount = l; states = w.states; actions = w.actions; observations = w.observations; entries = w.entries }
 right_within k t ls next w (texts.rewards p e c v) = record { start = w.start; discount = w.discount; states = w.states; actions = w.actions; observations = w.observations; entries = w.entries }
 right_within k t ls next w (texts.costs p e c v) = record { start = w.start; discount = w.discount; states = w.states; actions = w.actions; observations = w.observations; entries = w.entries }
-right_within k t ls next w (texts.states {elements = found} p e c a) = record { start = subst (λ o. StartWithin (Some found) o) (sym p.no_start) tt; discount = w.discount; states = elements_within a; actions = w.actions; observations = w.observations; entries = w.entries }
-right_within k t ls next w (texts.actions p e c a) = record { start = w.start; discount = w.discount; states = w.states; actions = elements_within a; observations = w.observations; entries = w.entries }
-right_within k t ls next w (texts.observations p e c a) = record { start = w.start; discount = w.discount; states = w.states; actions = w.actions; observations = elements_within a; entries = w.entries }
+right_within k t ls next w (texts.states {elements = found} p e c a) = record { start = subst (λ o. StartWithin (Some found) o) (sym p.no_start) tt; discount = w.discount; states = elements_within most_states a; actions = w.actions; observations = w.observations; entries = w.entries }
+right_within k t ls next w (texts.actions p e c a) = record { start = w.start; discount = w.discount; states = w.states; actions = elements_within most_actions a; observations = w.observations; entries = w.entries }
+right_within k t ls next w (texts.observations p e c a) = record { start = w.start; discount = w.discount; states = w.states; actions = w.actions; observations = elements_within most_observations a; entries = w.entries }
 right_within k t ls next w (texts.start {p = q} {shares = weights} p c a) =
-    let count : IsCount most_elements (count_of q.states) = subst CountWithin c.lines.states w.states in
+    let count : IsCount most_states (count_of q.states) = subst (CountWithin most_states) c.lines.states w.states in
     record { start = subst (λ o. StartWithin o (Some weights)) (sym c.lines.states) (start_fair q.states _ weights count.0 count.1 a); discount = w.discount; states = w.states; actions = w.actions; observations = w.observations; entries = w.entries }
-right_within k t ls next w (texts.entry {e = e} c a) = record { start = w.start; discount = w.discount; states = w.states; actions = w.actions; observations = w.observations; entries = one_more_within k.entries e w.entries (body_within a.body) }
+right_within k t ls next w (texts.entry {e = e} c g a) = record { start = w.start; discount = w.discount; states = w.states; actions = w.actions; observations = w.observations; entries = one_more_within k.entries e w.entries (body_within a.body) }
 
 pub all_within : (k : Known) (items : List Item) (end : Known) → KnownWithin k → AreRight k items end → KnownWithin end
 all_within k items end w texts.none = w
@@ -158,7 +163,7 @@ nothing_within : KnownWithin nothing_known
 nothing_within = record { start = tt; discount = tt; states = tt; actions = tt; observations = tt; entries = tt }
 
 -- the counts that right items give
-pub counts_within : (items : List Item) (k : Known) → AreRight nothing_known items k → CountWithin k.states × (CountWithin k.actions × CountWithin k.observations)
+pub counts_within : (items : List Item) (k : Known) → AreRight nothing_known items k → CountWithin most_states k.states × (CountWithin most_actions k.actions × CountWithin most_observations k.observations)
 counts_within items k right = let w = all_within nothing_known items k nothing_within right in (w.states, (w.actions, w.observations))
 
 -- ---- what is denoted
@@ -170,7 +175,7 @@ one_of_sum f (suc n) i l =
     before_or_last : (i n : ℕ) → i < suc n → (i < n) ⊎ (i ≡ n)
     before_or_last i n l = grind arith
 
-start_within : (e : Elements) (start : Option Shares) → IsCount most_elements (count_of e) → StartWithin (Some e) start → IsFair (count_of e) (unwrap_or start (alike (count_of e) (λ s. true)))
+start_within : (e : Elements) (start : Option Shares) → IsCount most_states (count_of e) → StartWithin (Some e) start → IsFair (count_of e) (unwrap_or start (alike (count_of e) (λ s. true)))
 start_within e None count w = no_start_fair (count_of e) count.0 count.1
 start_within e (Some weights) count w = w
 
@@ -180,18 +185,18 @@ within_limits ls m d =
     let c = d.right.complete in
     let p : m.preamble ≡ d.preamble = d.same.preamble in
     let found : IsFair (count_of d.preamble.states) (unwrap_or d.known.start (alike (count_of d.preamble.states) (λ s. true))) =
-    start_within d.preamble.states d.known.start (subst CountWithin c.lines.states w.states) (subst (λ o. StartWithin o d.known.start) c.lines.states w.start) in
+    start_within d.preamble.states d.known.start (subst (CountWithin most_states) c.lines.states w.states) (subst (λ o. StartWithin o d.known.start) c.lines.states w.start) in
     let fair : IsFair (states_of m) m.start = subst (λ (q : Preamble). IsFair (count_of q.states) m.start) (sym p) (subst (IsFair (count_of d.preamble.states)) (sym d.same.start) found) in
     record {
       start_count = fair.count;
       start_sum = fair.adds_up;
       start_some = fair.some;
       start_most = fair.most;
-      states = subst (λ (q : Preamble). IsCount most_elements (count_of q.states)) (sym p) (subst CountWithin c.lines.states w.states);
-      actions = subst (λ (q : Preamble). IsCount most_elements (count_of q.actions)) (sym p) (subst CountWithin c.lines.actions w.actions);
-      observations = subst (λ (q : Preamble). IsCount most_elements (count_of q.observations)) (sym p) (subst CountWithin c.lines.observations w.observations);
+      states = subst (λ (q : Preamble). IsCount most_states (count_of q.states)) (sym p) (subst (CountWithin most_states) c.lines.states w.states);
+      actions = subst (λ (q : Preamble). IsCount most_actions (count_of q.actions)) (sym p) (subst (CountWithin most_actions) c.lines.actions w.actions);
+      observations = subst (λ (q : Preamble). IsCount most_observations (count_of (observed q))) (sym p) (line_within most_observations d.preamble.observations d.preamble.states (subst (CountWithin most_observations) c.lines.observations w.observations) (subst (CountWithin most_states) c.lines.states w.states));
       discount = subst (λ (q : Preamble). q.discount ≤ 1_000_000) (sym p) (subst DiscountWithin c.lines.discount w.discount);
       t = λ a s e x y z. subst (λ n. m.t a s e ≤ n) (d.rows.transitions a s x y) (one_of_sum (m.t a s) (states_of m) e z);
       o = λ a e o x y z. subst (λ n. m.o a e o ≤ n) (d.rows.observations a e x y) (one_of_sum (m.o a e) (observations_of m) o z);
-      r = λ a s e o x y z v. subst (λ n. unsigned_abs n ≤ largest) (sym (d.same.r a s e o x y z v)) (reward_within d.preamble d.known.entries (a ∷ s ∷ e ∷ o ∷ []) w.entries);
+      r = λ a s e o x y z v. subst (λ n. unsigned_abs n ≤ largest) (sym (d.same.r a s e o x y z v)) (reward_within d.preamble d.known.entries (a ∷ s ∷ e ∷ reward_index d.preamble o ∷ []) w.entries);
     }

@@ -1,19 +1,22 @@
 -- What is decided at an item's word is so: the items of such a topic aren't right there, or the preamble is complete.
-use Rattle.std.proofs.Common.{◌≡◌, ◌∙◌, ℕ, ◌≤◌, Bool, true, false, cond, ◌||◌, ◌&&◌, Option, Some, None, is_some, List, [], ◌∷◌, nat_lt, refl, sym, ap, arith}
+use Rattle.std.proofs.Common.{◌≡◌, ◌∙◌, ℕ, ◌≤◌, Bool, true, false, cond, ◌||◌, ◌&&◌, Option, Some, None, is_some, is_none, unwrap_or, List, [], ◌∷◌, nat_lt, refl, sym, ap, arith}
 use Rattle.std.proofs.lemmas.Bool.Decides.{nat_tests}
 use Rattle.polcert_text.specs.Cut.{Lexeme}
 use Rattle.polcert_model.specs.declared.fault.ItemFault.{ItemFault}
-use Rattle.polcert_model.specs.declared.fault.ItemFault.TheVariants.{DuplicateLine, LateLine, MissingLine, TooManyCells}
+use Rattle.polcert_model.specs.declared.fault.ItemFault.TheVariants.{BadShape, DuplicateLine, LateLine, MissingLine, TooManyCells}
 use Rattle.polcert_cells.specs.declared.entry.Entry.{Entry}
 use Rattle.polcert_cells.specs.declared.entry.Table.{Table}
+use Rattle.polcert_cells.specs.declared.entry.Table.TheVariants.{Transition, Observation, Reward}
+use Rattle.polcert_cells.specs.Entry.{MayBeGiven}
 use Rattle.polcert_cells.specs.declared.words.Topic.{Topic}
 use Rattle.polcert_cells.specs.declared.words.Topic.TheVariants.{Discount, Values, States, Actions, Observations, Start, Cells}
 use Rattle.polcert_cells.specs.declared.elements.Elements.{Elements}
+use Rattle.polcert_cells.specs.declared.elements.Elements.TheVariants.{Count}
 use Rattle.polcert_cells.specs.Elements.{count_of}
-use Rattle.polcert_cells.specs.Preamble.{Preamble, observed}
+use Rattle.polcert_cells.specs.Preamble.{Preamble, observed, rewarded}
 use Rattle.polcert_model.specs.Text as texts
 use Rattle.polcert_model.specs.Text.{Known, IsInPreamble, HasLines, IsWithinCells, IsComplete, IsRight, most_cells}
-use Rattle.polcert_model.specs.Order.{has_entries, has_all_lines, count_in, cells_are_too_many, preamble_fault, word_fault}
+use Rattle.polcert_model.specs.Order.{has_entries, has_all_lines, count_or, count_in, cells_are_too_many, preamble_fault, is_unobserved, fault_behind, word_fault}
 use Rattle.polcert_model.specs.Reading.{IsWrong}
 use Rattle.polcert_cells.proofs.Basics.{or_false}
 
@@ -25,14 +28,27 @@ not_too_many n l = grind (arith, nat_tests)
 all_lines : (k : Known) (p : Preamble) → HasLines k p → has_all_lines k ≡ true
 all_lines k p h = cc
 
-same_counts : (k : Known) (p : Preamble) → HasLines k p
-    → cells_are_too_many (count_in k.states) (count_in k.actions) (count_in k.observations) ≡ cells_are_too_many (count_of p.states) (count_of p.actions) (count_of (observed p))
-same_counts k p h = λ i. cells_are_too_many (count_in (h.states i)) (count_in (h.actions i)) (count_in (h.observations i))
+-- by the counts that are known
+abbrev pub are_too_many : Known → Bool
+are_too_many k = cells_are_too_many (count_in k.states) (count_in k.actions) (count_or (count_in k.states) k.observations) (count_or 1 k.observations)
+
+-- by those of a preamble
+abbrev have_too_many : Preamble → Bool
+have_too_many p = cells_are_too_many (count_of p.states) (count_of p.actions) (count_of (observed p)) (count_of (rewarded p))
+
+pub count_of_line : (o : Option Elements) (e : Elements) → count_or (count_of e) o ≡ count_of (unwrap_or o e)
+count_of_line None e = refl
+count_of_line (Some found) e = refl
+
+same_counts : (k : Known) (p : Preamble) → HasLines k p → are_too_many k ≡ have_too_many p
+same_counts k p h =
+    (λ i. cells_are_too_many (count_in (h.states i)) (count_in (h.actions i)) (count_or (count_in (h.states i)) (h.observations i)) (count_or 1 (h.observations i)))
+    ∙ (λ i. cells_are_too_many (count_of p.states) (count_of p.actions) (count_of_line p.observations p.states i) (count_of_line p.observations (Count 1) i))
 
 none_of_three : (a b c : Bool) → a ≡ false → b ≡ false → c ≡ false → (a || b || c) ≡ false
 none_of_three a b c p q r = cc
 
-few_cells : (p : Preamble) → IsWithinCells p → cells_are_too_many (count_of p.states) (count_of p.actions) (count_of (observed p)) ≡ false
+few_cells : (p : Preamble) → IsWithinCells p → have_too_many p ≡ false
 few_cells p w = none_of_three _ _ _ (not_too_many _ w.transitions) (not_too_many _ w.observations) (not_too_many _ w.rewards)
 
 -- the reason, of whether all lines came and whether there are too many cells
@@ -61,15 +77,14 @@ record Given (d : Option ℕ) (c : Option Bool) (s a o : Option Elements) : Type
   costs : c ≡ Some preamble.costs
   states : s ≡ Some preamble.states
   actions : a ≡ Some preamble.actions
-  observations : o ≡ Some preamble.observations
+  observations : o ≡ preamble.observations
 
-given : (d : Option ℕ) (c : Option Bool) (s a o : Option Elements) → (is_some d && is_some c && is_some s && is_some a && is_some o) ≡ true → Given d c s a o
+given : (d : Option ℕ) (c : Option Bool) (s a o : Option Elements) → (is_some d && is_some c && is_some s && is_some a) ≡ true → Given d c s a o
 given None c s a o e = absurd cc
 given (Some d) None s a o e = absurd cc
 given (Some d) (Some c) None a o e = absurd cc
 given (Some d) (Some c) (Some s) None o e = absurd cc
-given (Some d) (Some c) (Some s) (Some a) None e = absurd cc
-given (Some d) (Some c) (Some s) (Some a) (Some o) e = record {
+given (Some d) (Some c) (Some s) (Some a) o e = record {
   preamble = record { discount = d; costs = c; states = s; actions = a; observations = o };
   discount = refl;
   costs = refl;
@@ -81,7 +96,7 @@ given (Some d) (Some c) (Some s) (Some a) (Some o) e = record {
 few : (n : ℕ) → nat_lt most_cells n ≡ false → n ≤ most_cells
 few n e = grind (arith, nat_tests)
 
-within : (p : Preamble) → cells_are_too_many (count_of p.states) (count_of p.actions) (count_of (observed p)) ≡ false → IsWithinCells p
+within : (p : Preamble) → have_too_many p ≡ false → IsWithinCells p
 within p e =
     let outer = or_false _ _ e in
     let inner = or_false _ _ outer.0 in
@@ -89,7 +104,7 @@ within p e =
 
 pub is_complete : (k : Known) → preamble_fault k ≡ None → (p : Preamble) × IsComplete k p
 is_complete k e =
-    let both = no_fault (has_all_lines k) (cells_are_too_many (count_in k.states) (count_in k.actions) (count_in k.observations)) e in
+    let both = no_fault (has_all_lines k) (are_too_many k) e in
     let g = given k.discount k.costs k.states k.actions k.observations both.0 in
     let lines : HasLines k g.preamble = record { discount = g.discount; costs = g.costs; states = g.states; actions = g.actions; observations = g.observations } in
     (g.preamble, record { lines = lines; cells = within g.preamble (sym (same_counts k g.preamble lines) ∙ both.1) })
@@ -109,11 +124,18 @@ absent o e = ap (λ x. is_some x) e
 line_stands : (k : Known) (came : Bool) → IsInPreamble k → came ≡ false → fault_at (is_some k.start || has_entries k.entries) came false (preamble_fault k) ≡ None
 line_stands k came p e = λ i. fault_at (early k p i) (e i) false (preamble_fault k)
 
-cells_stand : (k : Known) (p : Preamble) → IsComplete k p → fault_at false false true (preamble_fault k) ≡ None
-cells_stand k p c = complete_fault k p c
+observed_by : (k : Known) (p : Preamble) (table : Table) → HasLines k p → MayBeGiven p table → is_unobserved k (Cells table) ≡ false
+observed_by k p Transition h g = refl
+observed_by k p Observation h g = ap (λ o. is_none o) h.observations ∙ g
+observed_by k p Reward h g = refl
 
-start_stands : (k : Known) (p : Preamble) → IsInPreamble k → IsComplete k p → fault_at (has_entries k.entries) (is_some k.start) true (preamble_fault k) ≡ None
-start_stands k p i c = (λ j. fault_at (has_entries (i.no_entry j)) (is_some (i.no_start j)) true (preamble_fault k)) ∙ complete_fault k p c
+cells_stand : (k : Known) (p : Preamble) (table : Table) → IsComplete k p → MayBeGiven p table → word_fault k (Cells table) ≡ None
+cells_stand k p table c g =
+    ap (λ f. fault_behind f k (Cells table)) (complete_fault k p c) ∙ ap (λ b. cond b (Some BadShape) None) (observed_by k p table c.lines g)
+
+start_stands : (k : Known) (p : Preamble) → IsInPreamble k → IsComplete k p → word_fault k Start ≡ None
+start_stands k p i c =
+    (λ j. fault_at (has_entries (i.no_entry j)) (is_some (i.no_start j)) true (fault_behind (preamble_fault k) k Start)) ∙ ap (λ f. fault_behind f k Start) (complete_fault k p c)
 
 no_word_fault : (k next : Known) (t : Topic) (body : List Lexeme) → IsRight k t body next → word_fault k t ≡ None
 no_word_fault k next t body (texts.discount p e c n l) = line_stands k (is_some k.discount) p (absent k.discount e)
@@ -123,7 +145,7 @@ no_word_fault k next t body (texts.states p e c a) = line_stands k (is_some k.st
 no_word_fault k next t body (texts.actions p e c a) = line_stands k (is_some k.actions) p (absent k.actions e)
 no_word_fault k next t body (texts.observations p e c a) = line_stands k (is_some k.observations) p (absent k.observations e)
 no_word_fault k next t body (texts.start {p = p} i c a) = start_stands k p i c
-no_word_fault k next t body (texts.entry {p = p} {table = table} c a) = cells_stand k p c
+no_word_fault k next t body (texts.entry {p = p} {table = table} c g a) = cells_stand k p table c g
 
 pub wrong_at_word : (k : Known) (t : Topic) (fault : ItemFault) (body : List Lexeme) → word_fault k t ≡ Some fault → IsWrong k t body
 wrong_at_word k t fault body e after taken = none≢some (no_word_fault k after t body taken) e
@@ -168,12 +190,28 @@ actions_may_stand k e = let both = line_may_stand k (is_some k.actions) e in (bo
 pub observations_may_stand : (k : Known) → word_fault k Observations ≡ None → IsInPreamble k × (k.observations ≡ None)
 observations_may_stand k e = let both = line_may_stand k (is_some k.observations) e in (both.0, no_some k.observations both.1)
 
--- an entry: the preamble is complete
-pub entry_may_stand : (k : Known) (table : Table) → word_fault k (Cells table) ≡ None → (p : Preamble) × IsComplete k p
-entry_may_stand k table e = is_complete k e
+behind_none : (fault : Option ItemFault) (k : Known) (t : Topic) → fault_behind fault k t ≡ None → (fault ≡ None) × (is_unobserved k t ≡ false)
+behind_none (Some fault) k t e = absurd cc
+behind_none None k t e = (refl, at (is_unobserved k t) e)
+  where
+    at : (b : Bool) → cond b (Some BadShape) None ≡ None → b ≡ false
+    at true f = absurd cc
+    at false f = refl
+
+may_be_given : (k : Known) (p : Preamble) (table : Table) → HasLines k p → is_unobserved k (Cells table) ≡ false → MayBeGiven p table
+may_be_given k p Transition h e = tt
+may_be_given k p Observation h e = sym (ap (λ o. is_none o) h.observations) ∙ e
+may_be_given k p Reward h e = tt
+
+-- an entry: the preamble is complete, and there may be entries of the table
+pub entry_may_stand : (k : Known) (table : Table) → word_fault k (Cells table) ≡ None → (p : Preamble) × IsComplete k p × MayBeGiven p table
+entry_may_stand k table e =
+    let both = behind_none (preamble_fault k) k (Cells table) e in
+    let complete = is_complete k both.0 in
+    (complete.0, complete.1, may_be_given k complete.0 table complete.1.lines both.1)
 
 -- a start item: nothing but a complete preamble came before
 pub start_may_stand : (k : Known) → word_fault k Start ≡ None → IsInPreamble k × ((p : Preamble) × IsComplete k p)
 start_may_stand k e =
-    let all = no_fault_at (has_entries k.entries) (is_some k.start) true (preamble_fault k) e in
-    (record { no_start = no_some k.start all.1; no_entry = no_entries k.entries all.0 }, is_complete k (all.2 refl))
+    let all = no_fault_at (has_entries k.entries) (is_some k.start) true (fault_behind (preamble_fault k) k Start) e in
+    (record { no_start = no_some k.start all.1; no_entry = no_entries k.entries all.0 }, is_complete k (behind_none (preamble_fault k) k Start (all.2 refl)).0)

@@ -63,7 +63,7 @@ possible_front k t taken further p =
     record { more = further ++ p.more; after = p.after; taken = subst (λ l. IsRight k t l p.after) (append_assoc taken further p.more) p.taken }
 
 -- the forms of numbers don't depend on the numbers
-pub same_form_of_probabilities : (table : Table) (qs rs : List ℕ) → forms table (Probabilities qs) ≡ forms table (Probabilities rs)
-same_form_of_probabilities Transition qs rs = refl
-same_form_of_probabilities Observation qs rs = refl
-same_form_of_probabilities Reward qs rs = refl
+pub same_form_of_probabilities : (mdp : Bool) (table : Table) (qs rs : List ℕ) → forms mdp table (Probabilities qs) ≡ forms mdp table (Probabilities rs)
+same_form_of_probabilities mdp Transition qs rs = refl
+same_form_of_probabilities mdp Observation qs rs = refl
+same_form_of_probabilities mdp Reward qs rs = refl

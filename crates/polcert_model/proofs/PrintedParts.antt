@@ -7,14 +7,15 @@ use Rattle.std.proofs.lemmas.List.Sums.{sum_by-cons, get_or-le-sum_by}
 use Rattle.polcert_text.specs.Lines.{line}
 use Rattle.polcert_text.specs.Millionths.{scaled_text}
 use Rattle.polcert_cells.specs.declared.entry.Table.{Table}
-use Rattle.polcert_cells.specs.declared.entry.Table.TheVariants.{Reward}
+use Rattle.polcert_cells.specs.declared.entry.Table.TheVariants.{Observation, Reward}
 use Rattle.polcert_cells.specs.declared.elements.Elements.{Elements}
 use Rattle.polcert_cells.specs.declared.elements.Elements.TheVariants.{Count, Names}
 use Rattle.polcert_cells.specs.Numbers.{one}
 use Rattle.polcert_cells.specs.declared.shares.Shares.{Shares}
-use Rattle.polcert_cells.specs.Meaning.{Meaning}
-use Rattle.polcert_model.specs.FullForm.{for_each, values, all_below, millionths_text, element_words, preamble_text, chosen, is_whole, is_choice, start_text, table_word, row_words, is_uniform, is_decimal, cell_text, row_text, written, is_zero, rewards_row}
-use Rattle.polcert_model.specs.PrintSteps.{behind_blank, settings_text, values_line, name_text, elements_line, share_of, chosen_text, share_text, pattern_text, blank_before, body_text}
+use Rattle.polcert_cells.specs.Preamble.{is_mdp}
+use Rattle.polcert_cells.specs.Meaning.{Meaning, states_of, actions_of, observations_of}
+use Rattle.polcert_model.specs.FullForm.{for_each, values, all_below, millionths_text, element_words, observations_line, preamble_text, chosen, is_whole, is_choice, start_text, table_word, row_words, is_uniform, is_decimal, cell_text, row_text, observations_text, written, is_zero, reward_words, rewards_row, rewards_from}
+use Rattle.polcert_model.specs.PrintSteps.{behind_blank, settings_text, values_line, name_text, elements_line, share_of, chosen_text, share_text, pattern_text, blank_before, body_text, reward_rows}
 use Rattle.polcert_cells.proofs.Basics.{is_true_or_false, true≢false, and_true}
 use Rattle.polcert_model.proofs.RowEntries.{test_below, test_same, test_itself}
 use Rattle.polcert_model.proofs.SameForms.{same_for_each}
@@ -66,9 +67,9 @@ elements_is w (Count n) = simp append_assoc
 elements_is w (Names names) = words_line w names
 
 pub preamble_is : (m : Meaning) → settings_text m ++ elements_line (codes "states:") m.preamble.states ++ elements_line (codes "actions:") m.preamble.actions
-    ++ elements_line (codes "observations:") m.preamble.observations ≡ preamble_text m
+    ++ observations_line m.preamble.observations ≡ preamble_text m
 preamble_is m = λ i. settings m.preamble.costs i ++ elements_is (codes "states:") m.preamble.states i ++ elements_is (codes "actions:") m.preamble.actions i
-    ++ elements_is (codes "observations:") m.preamble.observations i
+    ++ observations_line m.preamble.observations
   where
     settings : (costs : Bool) → codes "discount: " ++ millionths_text m.preamble.discount ++ values_line costs
         ≡ line (codes "discount:" ∷ millionths_text m.preamble.discount ∷ []) ++ line (codes "values:" ∷ (if costs then codes "cost" else codes "reward") ∷ [])
@@ -128,31 +129,54 @@ module _ (table : Table) (a s n : ℕ) (w : ℕ → ℕ) where
   cell_single c e = sym (ap (λ b. cond b [] (line (row_words table a s ++ codes ":" ∷ decimal c ∷ millionths_text (w c / n) ∷ []))) e)
 
 -- ---- rewards
-pub paid_is : (costs : Bool) (a s e n : ℕ) (r : ℕ → ℤ) → 0 < n → all_below n (λ z. is_zero (r z)) ≡ false
-    → pattern_text Reward (a ∷ s ∷ e ∷ []) ++ codes "\n" ++ for_each n (λ z. blank_before z ++ scaled_text (written costs (r z))) ++ codes "\n" ≡ rewards_row costs a s e n r
-paid_is costs a s e n r some f =
-    ap (λ bs. bs ++ for_each n (λ z. blank_before z ++ scaled_text (written costs (r z))) ++ codes "\n") head
-    ∙ append_assoc (line (row_words Reward a s ++ codes ":" ∷ decimal e ∷ [])) (for_each n (λ z. blank_before z ++ scaled_text (written costs (r z)))) (codes "\n")
-    ∙ ap (λ bs. line (row_words Reward a s ++ codes ":" ∷ decimal e ∷ []) ++ bs) (numbers_line n (λ z. scaled_text (written costs (r z))) some)
-    ∙ sym (ap (λ b. cond b [] (line (row_words Reward a s ++ codes ":" ∷ decimal e ∷ []) ++ line (values n (λ z. scaled_text (written costs (r z)))))) f)
-  where
-    head : pattern_text Reward (a ∷ s ∷ e ∷ []) ++ codes "\n" ≡ line (row_words Reward a s ++ codes ":" ∷ decimal e ∷ [])
-    head = ap (λ bs. bs ++ codes "\n") (three_indices Reward a s e) ∙ sym (lines.reward_line_is a s e)
+pub cell_head : (a s e : ℕ) → pattern_text Reward (a ∷ s ∷ e ∷ []) ++ codes "\n" ≡ line (reward_words a s e)
+cell_head a s e = ap (λ bs. bs ++ codes "\n") (three_indices Reward a s e) ∙ sym (lines.reward_line_is a s e)
 
-pub unpaid_is : (costs : Bool) (a s e n : ℕ) (r : ℕ → ℤ) → all_below n (λ z. is_zero (r z)) ≡ true → [] ≡ rewards_row costs a s e n r
-unpaid_is costs a s e n r f = sym (ap (λ b. cond b [] (line (row_words Reward a s ++ codes ":" ∷ decimal e ∷ []) ++ line (values n (λ z. scaled_text (written costs (r z)))))) f)
+pub row_head : (a s : ℕ) → pattern_text Reward (a ∷ s ∷ []) ++ codes "\n" ≡ line (row_words Reward a s)
+row_head a s = simp append_assoc
+
+pub paid_is : (costs : Bool) (indices : List ℕ) (words : List (List ℕ)) (n : ℕ) (r : ℕ → ℤ) → pattern_text Reward indices ++ codes "\n" ≡ line words
+    → 0 < n → all_below n (λ z. is_zero (r z)) ≡ false
+    → pattern_text Reward indices ++ codes "\n" ++ for_each n (λ z. blank_before z ++ scaled_text (written costs (r z))) ++ codes "\n" ≡ rewards_row costs words n r
+paid_is costs indices words n r head some f =
+    ap (λ bs. bs ++ for_each n (λ z. blank_before z ++ scaled_text (written costs (r z))) ++ codes "\n") head
+    ∙ append_assoc (line words) (for_each n (λ z. blank_before z ++ scaled_text (written costs (r z)))) (codes "\n")
+    ∙ ap (λ bs. line words ++ bs) (numbers_line n (λ z. scaled_text (written costs (r z))) some)
+    ∙ sym (ap (λ b. cond b [] (line words ++ line (values n (λ z. scaled_text (written costs (r z)))))) f)
+
+pub unpaid_is : (costs : Bool) (words : List (List ℕ)) (n : ℕ) (r : ℕ → ℤ) → all_below n (λ z. is_zero (r z)) ≡ true → [] ≡ rewards_row costs words n r
+unpaid_is costs words n r f = sym (ap (λ b. cond b [] (line words ++ line (values n (λ z. scaled_text (written costs (r z)))))) f)
+
+all_zero : (n : ℕ) (q : ℕ → ℤ) → ((z : ℕ) → z < n → q z ≡ pos 0) → all_below n (λ z. is_zero (q z)) ≡ true
+all_zero zero q h = refl
+all_zero (suc n) q h = let before = all_zero n q (λ z l. h z (omega (arith, l))) in let here = h n (omega arith) in λ i. before i && is_zero (here i)
 
 -- no row is written where there are no rewards
-pub none_paid : (costs : Bool) (a s n k : ℕ) (r : ℕ → ℕ → ℤ) → ((e z : ℕ) → e < k → z < n → r e z ≡ pos 0) → [] ≡ for_each k (λ e. rewards_row costs a s e n (r e))
-none_paid costs a s n zero r h = refl
-none_paid costs a s n (suc k) r h =
-    let before = none_paid costs a s n k r (λ e z l. h e z (omega (arith, l))) in
-    let here = unpaid_is costs a s k n (r k) (all_zero n (r k) (λ z l. h k z (omega arith) l)) in
+none_in_rows : (costs : Bool) (a s n k : ℕ) (r : ℕ → ℕ → ℤ) → ((e z : ℕ) → e < k → z < n → r e z ≡ pos 0) → [] ≡ for_each k (λ e. rewards_row costs (reward_words a s e) n (r e))
+none_in_rows costs a s n zero r h = refl
+none_in_rows costs a s n (suc k) r h =
+    let before = none_in_rows costs a s n k r (λ e z l. h e z (omega (arith, l))) in
+    let here = unpaid_is costs (reward_words a s k) n (r k) (all_zero n (r k) (λ z l. h k z (omega arith) l)) in
     λ i. before i ++ here i
-  where
-    all_zero : (n : ℕ) (q : ℕ → ℤ) → ((z : ℕ) → z < n → q z ≡ pos 0) → all_below n (λ z. is_zero (q z)) ≡ true
-    all_zero zero q h = refl
-    all_zero (suc n) q h = let before = all_zero n q (λ z l. h z (omega (arith, l))) in let here = h n (omega arith) in λ i. before i && is_zero (here i)
+
+pub none_paid : (mdp costs : Bool) (a s n k : ℕ) (r : ℕ → ℕ → ℤ) → 0 < n → ((e z : ℕ) → e < k → z < n → r e z ≡ pos 0)
+    → [] ≡ (if mdp then rewards_row costs (row_words Reward a s) k (λ e. r e 0) else for_each k (λ e. rewards_row costs (reward_words a s e) n (r e)))
+none_paid true costs a s n k r some h = unpaid_is costs (row_words Reward a s) k (λ e. r e 0) (all_zero k (λ e. r e 0) (λ e l. h e 0 l some))
+none_paid false costs a s n k r some h = none_in_rows costs a s n k r h
+
+-- ---- what an MDP has, and what it leaves out
+module _ (m : Meaning) where
+  pub no_observations : is_mdp m.preamble ≡ true → [] ≡ observations_text m
+  no_observations e = sym (ap (λ b. cond b [] (for_each (actions_of m) (λ a. for_each (states_of m) (λ s. row_text Observation a s (observations_of m) (m.o a s))))) e)
+
+  pub some_observations : is_mdp m.preamble ≡ false → for_each (actions_of m) (λ a. for_each (states_of m) (λ s. row_text Observation a s (observations_of m) (m.o a s))) ≡ observations_text m
+  some_observations e = sym (ap (λ b. cond b [] (for_each (actions_of m) (λ a. for_each (states_of m) (λ s. row_text Observation a s (observations_of m) (m.o a s))))) e)
+
+  pub end_rewards_are : (a s : ℕ) → is_mdp m.preamble ≡ true → rewards_row m.preamble.costs (row_words Reward a s) (states_of m) (λ e. m.r a s e 0) ≡ rewards_from m a s
+  end_rewards_are a s e = sym (ap (λ b. cond b (rewards_row m.preamble.costs (row_words Reward a s) (states_of m) (λ e. m.r a s e 0)) (reward_rows m a s)) e)
+
+  pub reward_rows_are : (a s : ℕ) → is_mdp m.preamble ≡ false → reward_rows m a s ≡ rewards_from m a s
+  reward_rows_are a s e = sym (ap (λ b. cond b (rewards_row m.preamble.costs (row_words Reward a s) (states_of m) (λ e. m.r a s e 0)) (reward_rows m a s)) e)
 
 -- ---- the start
 chosen_parts : (picks : ℕ → Bool) (xs : List ℕ) → flat_map (λ s. cond (picks s) (behind_blank (decimal s)) []) xs ≡ flat_map behind_blank (map decimal (filter picks xs))

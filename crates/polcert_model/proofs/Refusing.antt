@@ -392,7 +392,7 @@ feed_refused seen r l kind place w inner none reason unfit named text ts further
     of_start more h start m (want_steps.number v) =
         start_stops ts kind r.number place r.known w.t ((w.body ++ l ∷ []) ++ more) h start (λ taken x behind. refusals.late_number start v) (stands_further (w.body ++ l ∷ []) more place _ m.stands)
     of_start more h start m (want_steps.token p e) =
-        stops_here ts kind r.number place r.known w.t ((w.body ++ l ∷ []) ++ more) w.body (l ∷ more) h (append_assoc w.body (l ∷ []) more) (refusals.in_start start) (refusals.in_start_item start e) p
+        stops_here ts kind r.number place r.known w.t ((w.body ++ l ∷ []) ++ more) w.body (l ∷ more) h (append_assoc w.body (l ∷ []) more) (refusals.in_start start) (refusals.in_start_item start (stuck seen r w l none) e) p
         (λ none. absurd (cons≢nil none))
 
     at : IsItemReason w.item w.body l kind place → (more : List Lexeme) → Here ts r.number r.known w.t ((w.body ++ l ∷ []) ++ more) → Refuses ts (model_faults.Item kind r.number place)

@@ -7,7 +7,7 @@ use Rattle.polcert_text.specs.Reading.{fault_place}
 use Rattle.polcert_text.specs.declared.tokens.TokenFault.{TokenFault}
 use Rattle.polcert_text.specs.declared.tokens.TokenFault.TheVariants as token_faults
 use Rattle.polcert_model.specs.declared.fault.ItemFault.{ItemFault}
-use Rattle.polcert_model.specs.declared.fault.ItemFault.TheVariants.{BeforeFirstItem, DuplicateLine, LateLine, MissingLine, TooManyCells}
+use Rattle.polcert_model.specs.declared.fault.ItemFault.TheVariants.{BadShape, BeforeFirstItem, DuplicateLine, LateLine, MissingLine, TooManyCells}
 use Rattle.polcert_model.specs.declared.fault.ModelFault.TheVariants as model_faults
 use Rattle.polcert_model.specs.declared.number.Refusal.{Refusal}
 use Rattle.polcert_model.specs.declared.reader.TextReader.{TextReader}
@@ -16,7 +16,7 @@ use Rattle.polcert_cells.specs.declared.words.Topic.{Topic}
 use Rattle.polcert_cells.specs.Words.{topic, begins_item}
 use Rattle.polcert_model.specs.Items.{Item, IsDivided}
 use Rattle.polcert_model.specs.Text.{Known}
-use Rattle.polcert_model.specs.Order.{is_late, came_before, ends_preamble, has_all_lines, cells_are_too_many, count_in, preamble_fault, word_fault}
+use Rattle.polcert_model.specs.Order.{is_late, came_before, ends_preamble, has_all_lines, preamble_fault, is_unobserved, fault_behind, word_fault}
 use Rattle.polcert_model.specs.FirstWrong.{TextTokens, AreTokensOf, LiesIn, IsDecided, wrong_front, wrong_fault, wrong_last, wrong_end, before_items, at_word, at_end}
 use Rattle.polcert_model.specs.Reasons.{IsReason}
 use Rattle.polcert_model.specs.Refusals.{IsItemRefusal, IsOfTokens, IsTaken, IsLastTaken, before_body, of_tokens}
@@ -26,7 +26,7 @@ use Rattle.polcert_model.specs.TextSteps as texts
 use Rattle.polcert_cells.proofs.Basics.{or_false_from, cons≢nil, some≢none}
 use Rattle.polcert_model.proofs.ItemLaws.{has_division, one_division}
 use Rattle.polcert_model.proofs.Dividing.{append_division, empty_division}
-use Rattle.polcert_model.proofs.OrderLaws.{wrong_at_word, not_complete, fault_at}
+use Rattle.polcert_model.proofs.OrderLaws.{wrong_at_word, not_complete, are_too_many, fault_at}
 use Rattle.polcert_model.proofs.PlaceLaws.{tokens_rise, fault_rises, lies_at_word, lies_before_items, lies_at_end, lies_at_fault, lies_at_once}
 use Rattle.polcert_model.proofs.DecidedLaws.{one_decided}
 use Rattle.polcert_model.proofs.Within.{item_begins}
@@ -58,6 +58,7 @@ before_refused seen r l w inner text ts further tokens e =
 
 -- the reasons that are decided there
 abbrev IsOrderFault : ItemFault → Type 0
+IsOrderFault BadShape = Unit {0}
 IsOrderFault DuplicateLine = Unit {0}
 IsOrderFault LateLine = Unit {0}
 IsOrderFault MissingLine = Unit {0}
@@ -65,6 +66,7 @@ IsOrderFault TooManyCells = Unit {0}
 IsOrderFault _ = ⊥
 
 order_reason : (ts : TextTokens) (n place : ℕ) (kind : ItemFault) → IsOrderFault kind → IsDecided ts n kind place → IsReason ts n place kind
+order_reason ts n place BadShape o d = tt
 order_reason ts n place DuplicateLine o d = d
 order_reason ts n place LateLine o d = d
 order_reason ts n place MissingLine o d = d
@@ -87,7 +89,15 @@ lacking_order true false kind e = absurd (none≢some e)
 lacking_order false many kind e = subst IsOrderFault (some_once e) tt
 
 preamble_order : (k : Known) (kind : ItemFault) → preamble_fault k ≡ Some kind → IsOrderFault kind
-preamble_order k kind e = lacking_order (has_all_lines k) (cells_are_too_many (count_in k.states) (count_in k.actions) (count_in k.observations)) kind e
+preamble_order k kind e = lacking_order (has_all_lines k) (are_too_many k) kind e
+
+behind_order : (fault : Option ItemFault) (k : Known) (t : Topic) (kind : ItemFault) → ((f : ItemFault) → fault ≡ Some f → IsOrderFault f) → fault_behind fault k t ≡ Some kind → IsOrderFault kind
+behind_order (Some f) k t kind behind e = behind kind e
+behind_order None k t kind behind e = at (is_unobserved k t) e
+  where
+    at : (b : Bool) → cond b (Some BadShape) None ≡ Some kind → IsOrderFault kind
+    at true f = subst IsOrderFault (some_once f) tt
+    at false f = absurd (none≢some f)
 
 fault_order : (late came ends : Bool) (fault : Option ItemFault) (kind : ItemFault) → ((f : ItemFault) → fault ≡ Some f → IsOrderFault f)
     → fault_at late came ends fault ≡ Some kind → IsOrderFault kind
@@ -97,7 +107,7 @@ fault_order false false true fault kind behind e = behind kind e
 fault_order false false false fault kind behind e = absurd (none≢some e)
 
 word_order : (k : Known) (t : Topic) (kind : ItemFault) → word_fault k t ≡ Some kind → IsOrderFault kind
-word_order k t kind e = fault_order (is_late k t) (came_before k t) (ends_preamble t) (preamble_fault k) kind (preamble_order k) e
+word_order k t kind e = fault_order (is_late k t) (came_before k t) (ends_preamble t) (fault_behind (preamble_fault k) k t) kind (λ f e. behind_order (preamble_fault k) k t f (preamble_order k) e) e
 
 pub word_refused : (seen : List Lexeme) (r : TextReader) (word : Lexeme) (t : Topic) (kind : ItemFault) → AreItemsRead seen r → topic word ≡ Some t
     → word_fault r.known t ≡ Some kind → IsRefusedBehind (seen ++ word ∷ []) (model_faults.Item kind (r.number + 1) word.place)

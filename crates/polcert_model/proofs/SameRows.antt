@@ -2,7 +2,7 @@
 use Rattle.std.proofs.Common.{◌≡◌, ◌∙◌, ℕ, zero, suc, ◌+◌, ◌*◌, ◌<◌, refl, sym, ap, subst, arith}
 use Rattle.polcert_cells.specs.declared.entry.Table.{Table}
 use Rattle.polcert_cells.specs.declared.entry.Table.TheVariants.{Transition, Observation, Reward}
-use Rattle.polcert_cells.specs.Preamble.{Preamble}
+use Rattle.polcert_cells.specs.Preamble.{Preamble, observed}
 use Rattle.polcert_cells.specs.Elements.{count_of}
 use Rattle.polcert_cells.specs.Meaning.{Meaning, IsSame, actions_of, states_of, observations_of, t_scale, o_scale, sum_below}
 use Rattle.polcert_cells.specs.Rows.{IsProperRow, AreProperBefore, IsBehindTransitions, IsFirstWrongRow}
@@ -20,7 +20,7 @@ module _ (m n : Meaning) (same : IsSame m n) where
   actions = ap (λ (p : Preamble). count_of p.actions) same.preamble
 
   observations : observations_of m ≡ observations_of n
-  observations = ap (λ (p : Preamble). count_of p.observations) same.preamble
+  observations = ap (λ (p : Preamble). count_of (observed p)) same.preamble
 
   pub same_row_sums : (table : Table) (a s : ℕ) → a < actions_of m → s < states_of m → IsProperRow m table a s → IsProperRow n table a s
   same_row_sums Transition a s i j p =
@@ -28,7 +28,7 @@ module _ (m n : Meaning) (same : IsSame m n) where
       ∙ ap (sum_below (m.t a s)) (sym states) ∙ p ∙ ap (λ (q : Preamble). 1_000_000 * count_of q.states) same.preamble
   same_row_sums Observation a s i j p =
       sym (same_sum (observations_of n) (m.o a s) (n.o a s) (λ c l. same.o a s c i j (omega (arith, l, observations))))
-      ∙ ap (sum_below (m.o a s)) (sym observations) ∙ p ∙ ap (λ (q : Preamble). 1_000_000 * count_of q.observations) same.preamble
+      ∙ ap (sum_below (m.o a s)) (sym observations) ∙ p ∙ ap (λ (q : Preamble). 1_000_000 * count_of (observed q)) same.preamble
   same_row_sums Reward a s i j p = absurd p
 
 pub turned : (m n : Meaning) → IsSame m n → IsSame n m
@@ -36,8 +36,8 @@ turned m n e = record {
   preamble = sym e.preamble;
   start = sym e.start;
   t = λ a s x i j k. sym (e.t a s x (subst (λ (p : Preamble). a < count_of p.actions) (sym e.preamble) i) (subst (λ (p : Preamble). s < count_of p.states) (sym e.preamble) j) (subst (λ (p : Preamble). x < count_of p.states) (sym e.preamble) k));
-  o = λ a x z i j k. sym (e.o a x z (subst (λ (p : Preamble). a < count_of p.actions) (sym e.preamble) i) (subst (λ (p : Preamble). x < count_of p.states) (sym e.preamble) j) (subst (λ (p : Preamble). z < count_of p.observations) (sym e.preamble) k));
-  r = λ a s x z i j k l. sym (e.r a s x z (subst (λ (p : Preamble). a < count_of p.actions) (sym e.preamble) i) (subst (λ (p : Preamble). s < count_of p.states) (sym e.preamble) j) (subst (λ (p : Preamble). x < count_of p.states) (sym e.preamble) k) (subst (λ (p : Preamble). z < count_of p.observations) (sym e.preamble) l));
+  o = λ a x z i j k. sym (e.o a x z (subst (λ (p : Preamble). a < count_of p.actions) (sym e.preamble) i) (subst (λ (p : Preamble). x < count_of p.states) (sym e.preamble) j) (subst (λ (p : Preamble). z < count_of (observed p)) (sym e.preamble) k));
+  r = λ a s x z i j k l. sym (e.r a s x z (subst (λ (p : Preamble). a < count_of p.actions) (sym e.preamble) i) (subst (λ (p : Preamble). s < count_of p.states) (sym e.preamble) j) (subst (λ (p : Preamble). x < count_of p.states) (sym e.preamble) k) (subst (λ (p : Preamble). z < count_of (observed p)) (sym e.preamble) l));
 }
 
 module _ (m n : Meaning) (same : IsSame m n) where

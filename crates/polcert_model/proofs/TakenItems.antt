@@ -1,5 +1,5 @@
 -- An item as its reader goes on with it, from its word on: the same as what is right of it.
-use Rattle.std.proofs.Common.{◌≡◌, ◌∙◌, ◌≤◌, true, false, Option, Some, None, unwrap_or, List, [], ◌∷◌, ◌++◌, refl, sym, ap, subst, append_assoc}
+use Rattle.std.proofs.Common.{ℕ, ◌≡◌, ◌∙◌, ◌≤◌, true, false, Option, Some, None, unwrap_or, List, [], ◌∷◌, ◌++◌, refl, sym, ap, subst, arith, append_assoc}
 use Rattle.std.proofs.lemmas.List.Elements.{All-cons, All-nil}
 use Rattle.polcert_text.specs.Cut.{Lexeme}
 use Rattle.polcert_cells.specs.declared.entry.Entry.{Entry}
@@ -14,8 +14,8 @@ use Rattle.polcert_cells.specs.declared.words.Topic.{Topic}
 use Rattle.polcert_cells.specs.declared.words.Topic.TheVariants.{Discount, Values, States, Actions, Observations, Start, Cells}
 use Rattle.polcert_cells.specs.declared.elements.Elements.{Elements}
 use Rattle.polcert_cells.specs.declared.elements.Elements.TheVariants.{Count}
-use Rattle.polcert_cells.specs.Elements.{count_of}
-use Rattle.polcert_cells.specs.Preamble.{Preamble, dimensions}
+use Rattle.polcert_cells.specs.Elements.{count_of, most_states, most_actions, most_observations}
+use Rattle.polcert_cells.specs.Preamble.{Preamble, observed, rewarded, dimensions, named}
 use Rattle.polcert_cells.specs.Entry.{IsEntry, ArePlaces}
 use Rattle.polcert_model.specs.Items.{Item}
 use Rattle.polcert_model.specs.Text as texts
@@ -43,7 +43,7 @@ same_preamble k p h = λ i. record {
   costs = unwrap_or (h.costs i) false;
   states = unwrap_or (h.states i) (Count 0);
   actions = unwrap_or (h.actions i) (Count 0);
-  observations = unwrap_or (h.observations i) (Count 0);
+  observations = h.observations i;
 }
 
 same_indices : (k : Known) (p : Preamble) (table : Table) → IsComplete k p → indices_in k table ≡ dimensions p table
@@ -56,16 +56,15 @@ same_states k p c = ap (λ (q : Preamble). q.states) (same_preamble k p c.lines)
 
 -- an entry behind its word
 entry_goes : (k next : Known) (p : Preamble) (table : Table) (ls : List Lexeme) (e : Entry) → IsComplete k p → IsRight k (Cells table) ls next → IsEntry p table ls e
-    → EntryGoes (indices_in k table) (new_entry table) ls e
+    → EntryGoes (preamble_in k) (new_entry table) ls e
 entry_goes k next p table ls e complete taken a =
     let b = entry_begins k next table ls taken in
-    let ds = dimensions p table in
-    let behind : IsEntryBehind ds table [] ls e =
+    let behind : IsEntryBehind p table [] ls e =
     record { further = e.places; pattern = a.pattern; rest = a.rest; whole = a.whole; places_are = refl; table_is = a.table_is; form = a.form; places = a.places; body = a.body } in
-    let goes : EntryGoes ds (new_entry table) ls e =
-    subst (λ x. EntryGoes ds (new_entry table) x e) (sym b.whole)
-    (b.colon_is, (colon_takes ds table [] b.colon b.colon_is).on (b.place ∷ b.rest) e (subst (λ x. IsEntryBehind ds table [] x e) b.whole behind)) in
-    subst (λ es. EntryGoes es (new_entry table) ls e) (sym (same_indices k p table complete)) goes
+    let goes : EntryGoes p (new_entry table) ls e =
+    subst (λ x. EntryGoes p (new_entry table) x e) (sym b.whole)
+    (b.colon_is, (colon_takes p table [] b.colon b.colon_is).on (b.place ∷ b.rest) e (subst (λ x. IsEntryBehind p table [] x e) b.whole behind)) in
+    subst (λ q. EntryGoes q (new_entry table) ls e) (sym (same_preamble k p complete.lines)) goes
 
 pub taken_goes : (k : Known) (t : Topic) (body : List Lexeme) (next : Known) → IsRight k t body next → ItemGoes k (new_item t) body next
 taken_goes k t body next (texts.discount {g = g} p absent c n l) = (g, ((c, (n, l)), refl))
@@ -75,7 +74,7 @@ taken_goes k t body next (texts.states {elements = found} p absent c a) = (found
 taken_goes k t body next (texts.actions {elements = found} p absent c a) = (found, ((c, a), refl))
 taken_goes k t body next (texts.observations {elements = found} p absent c a) = (found, ((c, a), refl))
 taken_goes k t body next (texts.start {p = p} {shares = found} i c a) = (found, (new_start_on (preamble_in k).states body found (subst (λ e. IsStart e body found) (sym (same_states k p c)) a), refl))
-taken_goes k t body next (texts.entry {p = p} {table = table} {e = entry} complete a) = (entry, (entry_goes k next p table body entry complete (texts.entry complete a) a, refl))
+taken_goes k t body next (texts.entry {p = p} {table = table} {e = entry} complete given a) = (entry, (entry_goes k next p table body entry complete (texts.entry complete given a) a, refl))
 
 -- ---- what goes on is right
 
@@ -123,12 +122,12 @@ entry_taken : (k : Known) (table : Table) (body : List Lexeme) (next : Known) �
 entry_taken k table [] next free (entry, (goes, e)) = absurd goes
 entry_taken k table (l ∷ ls) next free (entry, (goes, e)) =
     let stands = entry_may_stand k table free in
-    let ds = dimensions stands.0 table in
-    let rest : EntryGoes ds (new_entry table) (l ∷ ls) entry = subst (λ es. EntryGoes es (new_entry table) (l ∷ ls) entry) (same_indices k stands.0 table stands.1) goes in
-    let b : IsEntryBehind ds table [] (l ∷ ls) entry = (colon_takes ds table [] l rest.0).back ls entry rest.1 in
+    let p = stands.0 in
+    let rest : EntryGoes p (new_entry table) (l ∷ ls) entry = subst (λ q. EntryGoes q (new_entry table) (l ∷ ls) entry) (same_preamble k p stands.1.lines) goes in
+    let b : IsEntryBehind p table [] (l ∷ ls) entry = (colon_takes p table [] l rest.0).back ls entry rest.1 in
     let a : IsEntry stands.0 table (l ∷ ls) entry =
-    record { pattern = b.pattern; rest = b.rest; whole = b.whole; table_is = b.table_is; form = b.form; places = subst (ArePlaces ds b.pattern) (sym b.places_are) b.places; body = b.body } in
-    subst (IsRight k (Cells table) (l ∷ ls)) (sym e) (texts.entry stands.1 a)
+    record { pattern = b.pattern; rest = b.rest; whole = b.whole; table_is = b.table_is; form = b.form; places = subst (ArePlaces (named p table) b.pattern) (sym b.places_are) b.places; body = b.body } in
+    subst (IsRight k (Cells table) (l ∷ ls)) (sym e) (texts.entry stands.1 stands.2 a)
 
 pub goes_taken : (k : Known) (t : Topic) (body : List Lexeme) (next : Known) → word_fault k t ≡ None → ItemGoes k (new_item t) body next → IsRight k t body next
 goes_taken k Discount body next free goes = discount_taken k body next free goes
@@ -215,19 +214,25 @@ item_goes_on k t body old new l r same within takes seen leads =
 
 -- ---- elements
 
-some_count : (o : Option Elements) (e : Elements) → CountWithin o → o ≡ Some e → 1 ≤ count_of e
-some_count o e w same = (subst CountWithin same w).0
+some_count : (most : ℕ) (o : Option Elements) (e : Elements) → CountWithin most o → o ≡ Some e → 1 ≤ count_of e
+some_count most o e w same = (subst (CountWithin most) same w).0
+
+-- as many as the line says, or as these
+some_line : (most : ℕ) (o : Option Elements) (e : Elements) → CountWithin most o → 1 ≤ count_of e → 1 ≤ count_of (unwrap_or o e)
+some_line most None e w l = l
+some_line most (Some found) e w l = w.0
 
 one_more : (e : Elements) (es : List Elements) → 1 ≤ count_of e → AreSome es → AreSome (e ∷ es)
 one_more e es a b = All-cons (λ x. 1 ≤ count_of x) e es a b
 
-all_some : (p : Preamble) (table : Table) → 1 ≤ count_of p.states → 1 ≤ count_of p.actions → 1 ≤ count_of p.observations → AreSome (dimensions p table)
-all_some p table s a o =
+all_some : (p : Preamble) (table : Table) → 1 ≤ count_of p.states → 1 ≤ count_of p.actions → 1 ≤ count_of (observed p) → 1 ≤ count_of (rewarded p) → AreSome (dimensions p table)
+all_some p table s a o r =
     let none : AreSome [] = All-nil (λ x. 1 ≤ count_of x) in
     let to_state : AreSome (p.states ∷ p.states ∷ []) = one_more p.states (p.states ∷ []) s (one_more p.states [] s none) in
-    let observed : AreSome (p.states ∷ p.observations ∷ []) = one_more p.states (p.observations ∷ []) s (one_more p.observations [] o none) in
-    at table (one_more p.actions (p.states ∷ p.states ∷ []) a to_state) (one_more p.actions (p.states ∷ p.observations ∷ []) a observed)
-    (one_more p.actions (p.states ∷ p.states ∷ p.observations ∷ []) a (one_more p.states (p.states ∷ p.observations ∷ []) s observed))
+    let seen : AreSome (p.states ∷ observed p ∷ []) = one_more p.states (observed p ∷ []) s (one_more (observed p) [] o none) in
+    let paid : AreSome (p.states ∷ rewarded p ∷ []) = one_more p.states (rewarded p ∷ []) s (one_more (rewarded p) [] r none) in
+    at table (one_more p.actions (p.states ∷ p.states ∷ []) a to_state) (one_more p.actions (p.states ∷ observed p ∷ []) a seen)
+    (one_more p.actions (p.states ∷ p.states ∷ rewarded p ∷ []) a (one_more p.states (p.states ∷ rewarded p ∷ []) s paid))
   where
     at : (table : Table) → AreSome (dimensions p Transition) → AreSome (dimensions p Observation) → AreSome (dimensions p Reward) → AreSome (dimensions p table)
     at Transition x y z = x
@@ -245,5 +250,7 @@ has_elements xs k (Cells table) right free =
     let stands = entry_may_stand k table free in
     let lines = stands.1.lines in
     let w = counts_within xs k right in
+    let states = some_count most_states _ _ w.0 lines.states in
+    let observations = subst (CountWithin most_observations) lines.observations w.1.1 in
     subst AreSome (sym (same_indices k stands.0 table stands.1))
-    (all_some stands.0 table (some_count _ _ w.0 lines.states) (some_count _ _ w.1.0 lines.actions) (some_count _ _ w.1.1 lines.observations))
+    (all_some stands.0 table states (some_count most_actions _ _ w.1.0 lines.actions) (some_line most_observations stands.0.observations stands.0.states observations states) (some_line most_observations stands.0.observations (Count 1) observations (omega arith)))

@@ -6,9 +6,9 @@ use Rattle.polcert_cells.specs.declared.words.Topic.{Topic}
 use Rattle.polcert_cells.specs.Words.{IsWord, IsName}
 use Rattle.polcert_cells.specs.Numbers.{IsWhole, IsNumber}
 use Rattle.polcert_cells.specs.declared.elements.Elements.{Elements}
-use Rattle.polcert_cells.specs.Elements.{count_of, AreElements, counted, named}
+use Rattle.polcert_cells.specs.Elements.{count_of, most_states, most_actions, most_observations, AreElements, counted, named}
 use Rattle.polcert_model.specs.Items.{Item}
-use Rattle.polcert_cells.specs.Preamble.{Preamble}
+use Rattle.polcert_cells.specs.Preamble.{Preamble, observed}
 use Rattle.polcert_cells.specs.declared.entry.Entry.{Entry}
 use Rattle.polcert_cells.specs.Entry.{IsEntry}
 use Rattle.polcert_cells.specs.declared.shares.Shares.{Shares}
@@ -27,17 +27,17 @@ one_preamble k p q a b =
     let c = one_some a.lines.costs b.lines.costs in
     let s = one_some a.lines.states b.lines.states in
     let n = one_some a.lines.actions b.lines.actions in
-    let o = one_some a.lines.observations b.lines.observations in
+    let o = sym a.lines.observations ∙ b.lines.observations in
     λ i. record { discount = d i; costs = c i; states = s i; actions = n i; observations = o i }
 
 whole_not_name : (l : Lexeme) (n : ℕ) → IsWhole l n → IsName l → ⊥
 whole_not_name l n a b = let e = a.kind in let f = b.kind in cc
 
-pub one_elements : (ls : List Lexeme) (x y : Elements) → AreElements ls x → AreElements ls y → x ≡ y
-one_elements ls x y (counted a l m) (counted b n o) = ap Elements.Count (one_whole _ _ _ a b)
-one_elements ls x y (counted {l = l} a p m) (named all n o d) = absurd (whole_not_name l _ a (all 0 l (omega arith)))
-one_elements ls x y (named all n o d) (counted {l = l} a p m) = absurd (whole_not_name l _ a (all 0 l (omega arith)))
-one_elements ls x y (named all n o d) (named rest p q e) = refl
+pub one_elements : (most : ℕ) (ls : List Lexeme) (x y : Elements) → AreElements most ls x → AreElements most ls y → x ≡ y
+one_elements most ls x y (counted a l m) (counted b n o) = ap Elements.Count (one_whole _ _ _ a b)
+one_elements most ls x y (counted {l = l} a p m) (named all n o d) = absurd (whole_not_name l _ a (all 0 l (omega arith)))
+one_elements most ls x y (named all n o d) (counted {l = l} a p m) = absurd (whole_not_name l _ a (all 0 l (omega arith)))
+one_elements most ls x y (named all n o d) (named rest p q e) = refl
 
 one_discount : (ls : List Lexeme) (g h : ℕ) → IsNumber ls (pos g) → IsNumber ls (pos h) → g ≡ h
 one_discount ls g h a b = let e = same_head (one_list a b) in cc
@@ -54,13 +54,13 @@ one_right k t ls x y (rewards p e c w) (rewards q f d v) = refl
 one_right k t ls x y (rewards p e c w) (costs q f d v) = absurd (reward_not_cost _ w v)
 one_right k t ls x y (costs p e c w) (rewards q f d v) = absurd (reward_not_cost _ v w)
 one_right k t ls x y (costs p e c w) (costs q f d v) = refl
-one_right k t ls x y (states p e c a) (states q f d b) = ap (λ (g : Elements). record k { states = Some g }) (one_elements _ _ _ a b)
-one_right k t ls x y (actions p e c a) (actions q f d b) = ap (λ (g : Elements). record k { actions = Some g }) (one_elements _ _ _ a b)
-one_right k t ls x y (observations p e c a) (observations q f d b) = ap (λ (g : Elements). record k { observations = Some g }) (one_elements _ _ _ a b)
+one_right k t ls x y (states p e c a) (states q f d b) = ap (λ (g : Elements). record k { states = Some g }) (one_elements most_states _ _ _ a b)
+one_right k t ls x y (actions p e c a) (actions q f d b) = ap (λ (g : Elements). record k { actions = Some g }) (one_elements most_actions _ _ _ a b)
+one_right k t ls x y (observations p e c a) (observations q f d b) = ap (λ (g : Elements). record k { observations = Some g }) (one_elements most_observations _ _ _ a b)
 one_right k t ls x y (start {p = p} {shares = f} i a s) (start {p = q} j b r) =
     let same = one_preamble k p q a b in
     ap (λ (g : Shares). record k { start = Some g }) (one_start q.states ls _ _ (subst (λ (w : Preamble). IsStart w.states ls f) same s) r)
-one_right k t ls x y (entry {p = p} {table = table} {e = f} a s) (entry {p = q} b r) =
+one_right k t ls x y (entry {p = p} {table = table} {e = f} a g s) (entry {p = q} b h r) =
     let same = one_preamble k p q a b in
     ap (λ (g : Entry). record k { entries = k.entries ++ g ∷ [] }) (one_entry q table ls _ _ (subst (λ (w : Preamble). IsEntry w table ls f) same s) r)
 
@@ -88,7 +88,7 @@ abbrev actions_in : Preamble → ℕ
 actions_in p = count_of p.actions
 
 abbrev observations_in : Preamble → ℕ
-observations_in p = count_of p.observations
+observations_in p = count_of (observed p)
 
 pub same_through : (m n k l : Meaning) → IsSame m k → IsSame n l → k ≡ l → IsSame m n
 same_through m n k l a b e = record {

@@ -18,11 +18,11 @@ use Rattle.polcert_cells.specs.Words.{topic, topic_of, is_reserved, begins_item,
 use Rattle.polcert_cells.specs.Numbers.{IsMillionths, AreNumbers}
 use Rattle.polcert_cells.specs.Numbers as numbers
 use Rattle.polcert_cells.specs.declared.elements.Elements.TheVariants.{Names}
-use Rattle.polcert_cells.specs.Elements.{StandsFor, AreElements, named, by_name}
+use Rattle.polcert_cells.specs.Elements.{StandsFor, AreElements, named, by_name, most_states, most_actions, most_observations}
 use Rattle.polcert_model.specs.Items.{Item, IsItem, IsDivided}
 use Rattle.polcert_cells.specs.Entry as entries
 use Rattle.polcert_cells.specs.Entry.{ArePlaces, IsEntry, IsBody}
-use Rattle.polcert_cells.specs.Preamble.{dimensions}
+use Rattle.polcert_cells.specs.Preamble.{dimensions, named as named_by}
 use Rattle.polcert_cells.proofs.Basics.{true≢false}
 use Rattle.polcert_model.proofs.RightItems.{append_right}
 use Rattle.polcert_cells.specs.Meaning.{HasProperRows, sum_below}
@@ -175,27 +175,27 @@ two_apart x y xy = AllPairs-cons (λ a b. a ≢ b) x (y ∷ []) (All-from_recurs
 three_apart : (x y z : List ℕ) → x ≢ y → x ≢ z → y ≢ z → Apart (x ∷ y ∷ z ∷ [])
 three_apart x y z xy xz yz = AllPairs-cons (λ a b. a ≢ b) x (y ∷ z ∷ []) (All-from_recursion (λ b. x ≢ b) (y ∷ z ∷ []) (xy, (xz, tt))) (two_apart y z yz)
 
-the_states : AreElements (name (codes "tiger-left") ∷ name (codes "tiger-right") ∷ []) (Names tiger_states)
+the_states : AreElements most_states (name (codes "tiger-left") ∷ name (codes "tiger-right") ∷ []) (Names tiger_states)
 the_states = named
     (All-from_recursion IsName (name (codes "tiger-left") ∷ name (codes "tiger-right") ∷ []) (tiger_left_name, (tiger_right_name, tt)))
     (lit≤ tt) (lit≤ tt) (two_apart _ _ (differ _ _ refl refl))
 
-the_actions : AreElements (name (codes "listen") ∷ name (codes "open-left") ∷ name (codes "open-right") ∷ []) (Names tiger_actions)
+the_actions : AreElements most_actions (name (codes "listen") ∷ name (codes "open-left") ∷ name (codes "open-right") ∷ []) (Names tiger_actions)
 the_actions = named
     (All-from_recursion IsName (name (codes "listen") ∷ name (codes "open-left") ∷ name (codes "open-right") ∷ []) (listen_name, (open_left_name, (open_right_name, tt))))
     (lit≤ tt) (lit≤ tt) (three_apart _ _ _ (differ _ _ refl refl) (differ _ _ refl refl) (differ _ _ refl refl))
 
 -- ---- entries
 
-an_entry : (table : Table) (entry : Entry) (pattern rest : List Lexeme) → entry.table ≡ table → list_any (λ n. n == length entry.places) (entries.forms table entry.body) ≡ true
-    → ArePlaces (dimensions tiger_preamble table) pattern entry.places → IsBody (entries.cells_in (drop (length entry.places) (dimensions tiger_preamble table))) rest entry.body
+an_entry : (table : Table) (entry : Entry) (pattern rest : List Lexeme) → entry.table ≡ table → list_any (λ n. n == length entry.places) (entries.forms false table entry.body) ≡ true
+    → ArePlaces (named_by tiger_preamble table) pattern entry.places → IsBody (entries.cells_in (drop (length entry.places) (dimensions tiger_preamble table))) rest entry.body
     → IsEntry tiger_preamble table (pattern ++ rest) entry
 an_entry table entry pattern rest t f p b = record { pattern = pattern; rest = rest; whole = refl; table_is = t; form = f; places = p; body = b }
 
 -- a word for one action
-word_entry : (table : Table) (action : List ℕ) (n : ℕ) (w : List ℕ) (body : Body) → StandsFor (Names tiger_actions) (name action) n → list_any (λ k. k == 1) (entries.forms table body) ≡ true
+word_entry : (table : Table) (action : List ℕ) (n : ℕ) (w : List ℕ) (body : Body) → StandsFor (Names tiger_actions) (name action) n → list_any (λ k. k == 1) (entries.forms false table body) ≡ true
     → IsBody (entries.cells_in (drop 1 (dimensions tiger_preamble table))) (name w ∷ []) body
-    → ArePlaces (dimensions tiger_preamble table) (colon ∷ name action ∷ []) (Only n ∷ [])
+    → ArePlaces (named_by tiger_preamble table) (colon ∷ name action ∷ []) (Only n ∷ [])
     → IsEntry tiger_preamble table (colon ∷ name action ∷ name w ∷ []) (record { table = table; places = Only n ∷ []; body = body })
 word_entry table action n w body a f b p = an_entry table (record { table = table; places = Only n ∷ []; body = body }) (colon ∷ name action ∷ []) (name w ∷ []) refl f p b
 
@@ -245,7 +245,12 @@ fresh k s e = record { no_start = s; no_entry = e }
 
 one_entry : (es : List Entry) (items : List Item) (table : Table) (body : List Lexeme) (word : List ℕ) (e : Entry) (last : Known) → topic (name word) ≡ Some (Cells table)
     → IsEntry tiger_preamble table body e → AreRight (tiger_known (es ++ e ∷ [])) items last → AreRight (tiger_known es) (an_item word body ∷ items) last
-one_entry es items table body word e last t a rest = texts.more (Cells table) t (texts.entry (complete es) a) rest
+one_entry es items table body word e last t a rest = texts.more (Cells table) t (texts.entry (complete es) (given table) a) rest
+  where
+    given : (table : Table) → entries.MayBeGiven tiger_preamble table
+    given Transition = tt
+    given Observation = refl
+    given Reward = tt
 
 right_rewards : AreRight (tiger_known (take 6 tiger_entries)) (drop 11 tiger_items) (tiger_known tiger_entries)
 unfolding topic_of

@@ -14,7 +14,7 @@ use Rattle.polcert_model.specs.declared.entry_reader.Numbers.{Numbers}
 use Rattle.polcert_model.specs.declared.entry_reader.EntryReader.{EntryReader}
 use Rattle.polcert_model.specs.declared.entry_reader.EntryState.TheVariants as states
 use Rattle.polcert_model.specs.declared.number.Sign.{Sign}
-use Rattle.polcert_cells.specs.declared.elements.Elements.{Elements}
+use Rattle.polcert_cells.specs.Preamble.{Preamble, is_mdp, dimensions}
 use Rattle.polcert_cells.specs.Entry.{cells_in}
 use Rattle.polcert_model.specs.KnownView.{least_written}
 use Rattle.polcert_model.specs.Reasons.{is_sign}
@@ -82,11 +82,11 @@ number_misfit n l kind room not_full m = subst (λ w. IsMisfit w l kind) (more_w
 
 -- ---- entries
 
-pub colon_leads : (ds : List Elements) (table : Table) (written : ℕ) (l : Lexeme) → l.kind ≡ kinds.Colon → Leads (entry_wants ds table false written) l (entry_wants ds table true written)
-colon_leads ds table written l e = record { same = λ ls i. by_kind (e i) (entry_wants ds table true written ls) (numbers_want false (cells_in (drop written ds)) (l ∷ ls)) }
+pub colon_leads : (preamble : Preamble) (table : Table) (written : ℕ) (l : Lexeme) → l.kind ≡ kinds.Colon → Leads (entry_wants preamble table false written) l (entry_wants preamble table true written)
+colon_leads preamble table written l e = record { same = λ ls i. by_kind (e i) (entry_wants preamble table true written ls) (numbers_want false (cells_in (drop written (dimensions preamble table))) (l ∷ ls)) }
 
-pub name_leads : (ds : List Elements) (table : Table) (written : ℕ) (l : Lexeme) → l.kind ≡ kinds.Name → Leads (entry_wants ds table false written) l (λ ls. EndOfWord)
-name_leads ds table written l e = record { same = λ ls i. by_kind (e i) (entry_wants ds table true written ls) (numbers_want false (cells_in (drop written ds)) (l ∷ ls)) }
+pub name_leads : (preamble : Preamble) (table : Table) (written : ℕ) (l : Lexeme) → l.kind ≡ kinds.Name → Leads (entry_wants preamble table false written) l (λ ls. EndOfWord)
+name_leads preamble table written l e = record { same = λ ls i. by_kind (e i) (entry_wants preamble table true written ls) (numbers_want false (cells_in (drop written (dimensions preamble table))) (l ∷ ls)) }
 
 number_kind : (k : TokenKind) (a b : Wanted) → begins_number k ≡ true → by_kind k a b ≡ b
 number_kind kinds.Numeral a b e = refl
@@ -96,10 +96,10 @@ number_kind kinds.Star a b e = refl
 number_kind kinds.Colon a b e = absurd (true≢false (sym e))
 number_kind kinds.Name a b e = absurd (true≢false (sym e))
 
-pub numbers_lead : (ds : List Elements) (table : Table) (written : ℕ) (l : Lexeme) (new : List Lexeme → Wanted) → begins_number l.kind ≡ true
-    → Leads (numbers_want false (cells_in (drop written ds))) l new → Leads (entry_wants ds table false written) l new
-numbers_lead ds table written l new e leads =
-    record { same = λ ls. number_kind l.kind (entry_wants ds table true written ls) (numbers_want false (cells_in (drop written ds)) (l ∷ ls)) e ∙ leads.same ls }
+pub numbers_lead : (preamble : Preamble) (table : Table) (written : ℕ) (l : Lexeme) (new : List Lexeme → Wanted) → begins_number l.kind ≡ true
+    → Leads (numbers_want false (cells_in (drop written (dimensions preamble table)))) l new → Leads (entry_wants preamble table false written) l new
+numbers_lead preamble table written l new e leads =
+    record { same = λ ls. number_kind l.kind (entry_wants preamble table true written ls) (numbers_want false (cells_in (drop written (dimensions preamble table))) (l ∷ ls)) e ∙ leads.same ls }
 
 -- enough places were written for numbers, or too few
 pub enough : (written least : ℕ) → least ≤ written → nat_lt written least ≡ false
@@ -108,10 +108,10 @@ enough written least l = grind (arith, common_steps)
 pub too_few : (written least : ℕ) → (least ≤ written → ⊥) → nat_lt written least ≡ true
 too_few written least l = grind (arith, common_steps)
 
-pub numbers_misfit : (ds : List Elements) (table : Table) (written : ℕ) (l : Lexeme) (kind : ItemFault) → least_written table ≤ written
-    → IsMisfit (numbers_want false (cells_in (drop written ds)) []) l kind → IsMisfit (entry_wants ds table false written []) l kind
-numbers_misfit ds table written l kind low m =
-    subst (λ b. IsMisfit (if b then Mark else numbers_want false (cells_in (drop written ds)) []) l kind) (sym (enough written (least_written table) low)) m
+pub numbers_misfit : (preamble : Preamble) (table : Table) (written : ℕ) (l : Lexeme) (kind : ItemFault) → least_written (is_mdp preamble) table ≤ written
+    → IsMisfit (numbers_want false (cells_in (drop written (dimensions preamble table))) []) l kind → IsMisfit (entry_wants preamble table false written []) l kind
+numbers_misfit preamble table written l kind low m =
+    subst (λ b. IsMisfit (if b then Mark else numbers_want false (cells_in (drop written (dimensions preamble table))) []) l kind) (sym (enough written (least_written (is_mdp preamble) table) low)) m
 
 -- what begins no number
 number_no_value : (k : TokenKind) → begins_number k ≡ false → tests_value Number k ≡ false
@@ -128,14 +128,14 @@ body_misfit_at true cells l kind none e = of_place refl e
 body_misfit_at false zero l kind none e = of_place refl (e ∙ sym (λ i. if is_reset l.kind l.bytes then Reset else (if none i then WrongNumberCount else BadShape)))
 body_misfit_at false (suc cells) l kind none e = of_place (number_no_value l.kind none) e
 
-pub body_misfit : (ds : List Elements) (table : Table) (written : ℕ) (l : Lexeme) (kind : ItemFault) → begins_number l.kind ≡ false → kind ≡ misfit EndOfWord (Some l)
-    → IsMisfit (entry_wants ds table false written []) l kind
-body_misfit ds table written l kind none e = body_misfit_at (nat_lt written (least_written table)) (cells_in (drop written ds)) l kind none e
+pub body_misfit : (preamble : Preamble) (table : Table) (written : ℕ) (l : Lexeme) (kind : ItemFault) → begins_number l.kind ≡ false → kind ≡ misfit EndOfWord (Some l)
+    → IsMisfit (entry_wants preamble table false written []) l kind
+body_misfit preamble table written l kind none e = body_misfit_at (nat_lt written (least_written (is_mdp preamble) table)) (cells_in (drop written (dimensions preamble table))) l kind none e
 
-pub few_misfit : (ds : List Elements) (table : Table) (written : ℕ) (l : Lexeme) (kind : ItemFault) → (least_written table ≤ written → ⊥) → kind ≡ misfit EndOfWord (Some l)
-    → IsMisfit (entry_wants ds table false written []) l kind
-few_misfit ds table written l kind few e =
-    subst (λ b. IsMisfit (if b then Mark else numbers_want false (cells_in (drop written ds)) []) l kind) (sym (too_few written (least_written table) few)) (of_place refl e)
+pub few_misfit : (preamble : Preamble) (table : Table) (written : ℕ) (l : Lexeme) (kind : ItemFault) → (least_written (is_mdp preamble) table ≤ written → ⊥) → kind ≡ misfit EndOfWord (Some l)
+    → IsMisfit (entry_wants preamble table false written []) l kind
+few_misfit preamble table written l kind few e =
+    subst (λ b. IsMisfit (if b then Mark else numbers_want false (cells_in (drop written (dimensions preamble table))) []) l kind) (sym (too_few written (least_written (is_mdp preamble) table) few)) (of_place refl e)
 
 pub no_number : (k : TokenKind) → k ≢ kinds.Numeral → k ≢ kinds.Plus → k ≢ kinds.Minus → begins_number k ≡ false
 no_number kinds.Numeral a b c = absurd (a refl)
@@ -148,17 +148,17 @@ no_number kinds.Name a b c = refl
 -- ---- where an entry ends
 
 -- some cells are left open
-pub body_ends : (ds : List Elements) (table : Table) (written : ℕ) → least_written table ≤ written → 1 ≤ cells_in (drop written ds) → WrongNumberCount ≡ misfit (entry_wants ds table false written []) None
-body_ends ds table written low some =
-    subst (λ b. WrongNumberCount ≡ misfit (if b then Mark else number_end false (cells_in (drop written ds))) None) (sym (enough written (least_written table) low)) (at (cells_in (drop written ds)) some)
+pub body_ends : (preamble : Preamble) (table : Table) (written : ℕ) → least_written (is_mdp preamble) table ≤ written → 1 ≤ cells_in (drop written (dimensions preamble table)) → WrongNumberCount ≡ misfit (entry_wants preamble table false written []) None
+body_ends preamble table written low some =
+    subst (λ b. WrongNumberCount ≡ misfit (if b then Mark else number_end false (cells_in (drop written (dimensions preamble table)))) None) (sym (enough written (least_written (is_mdp preamble) table) low)) (at (cells_in (drop written (dimensions preamble table))) some)
   where
     at : (cells : ℕ) → 1 ≤ cells → WrongNumberCount ≡ misfit (number_end false cells) None
     at zero l = absurd (omega (arith, l))
     at (suc cells) l = refl
 
-pub few_end : (ds : List Elements) (table : Table) (written : ℕ) → (least_written table ≤ written → ⊥) → BadShape ≡ misfit (entry_wants ds table false written []) None
-few_end ds table written few =
-    subst (λ b. BadShape ≡ misfit (if b then Mark else number_end false (cells_in (drop written ds))) None) (sym (too_few written (least_written table) few)) refl
+pub few_end : (preamble : Preamble) (table : Table) (written : ℕ) → (least_written (is_mdp preamble) table ≤ written → ⊥) → BadShape ≡ misfit (entry_wants preamble table false written []) None
+few_end preamble table written few =
+    subst (λ b. BadShape ≡ misfit (if b then Mark else number_end false (cells_in (drop written (dimensions preamble table)))) None) (sym (too_few written (least_written (is_mdp preamble) table) few)) refl
 
 -- ---- from a known state
 
@@ -168,13 +168,13 @@ no_numbers_lead n needed l new e leads =
     let begun : Leads (numbers_want false (needed - 0)) l new = subst (λ (m : Numbers _). Leads (list_wants m) l new) e leads in
     subst (λ m. Leads (numbers_want false m) l new) all begun
 
-pub body_leads : (ds : List Elements) (r : EntryReader) (l : Lexeme) (new : List Lexeme → Wanted) → r.state ≡ states.Body
-    → Leads (entry_wants ds r.table false (length r.places)) l new → Leads (reader_wants ds r) l new
-body_leads ds r l new e leads = subst (λ s. Leads (state_wants ds r.table r.places s) l new) (sym e) leads
+pub body_leads : (preamble : Preamble) (r : EntryReader) (l : Lexeme) (new : List Lexeme → Wanted) → r.state ≡ states.Body
+    → Leads (entry_wants preamble r.table false (length r.places)) l new → Leads (reader_wants preamble r) l new
+body_leads preamble r l new e leads = subst (λ s. Leads (state_wants preamble r.table r.places s) l new) (sym e) leads
 
-pub body_ends_in : (ds : List Elements) (r : EntryReader) → r.state ≡ states.Body → least_written r.table ≤ length r.places → 1 ≤ cells_in (drop (length r.places) ds)
-    → WrongNumberCount ≡ misfit (reader_wants ds r []) None
-body_ends_in ds r e low some = subst (λ s. WrongNumberCount ≡ misfit (state_wants ds r.table r.places s []) None) (sym e) (body_ends ds r.table (length r.places) low some)
+pub body_ends_in : (preamble : Preamble) (r : EntryReader) → r.state ≡ states.Body → least_written (is_mdp preamble) r.table ≤ length r.places → 1 ≤ cells_in (drop (length r.places) (dimensions preamble r.table))
+    → WrongNumberCount ≡ misfit (reader_wants preamble r []) None
+body_ends_in preamble r e low some = subst (λ s. WrongNumberCount ≡ misfit (state_wants preamble r.table r.places s []) None) (sym e) (body_ends preamble r.table (length r.places) low some)
 
 pub number_begins : (k : TokenKind) → BeginsNumber k → begins_number k ≡ true
 number_begins k (inl e) = ap begins_number e

@@ -17,7 +17,7 @@ use Rattle.polcert_model.specs.Refusals.{IsRefusal}
 use Rattle.polcert_model.specs.Kept.{Kept, IsKeptOf, meaning}
 use Rattle.polcert_cells.specs.Sound.{IsSound, draft_of}
 use Rattle.polcert_model.specs.EntrySteps.{preamble_in}
-use Rattle.polcert_model.specs.TextSteps.{IsWholeRead, Refuses, IsRefusedWhole, said}
+use Rattle.polcert_model.specs.TextSteps.{IsTextOf, IsWholeRead, Refuses, IsRefusedWhole, said}
 use Rattle.polcert_model.proofs.LimitLaws.{within_limits}
 use Rattle.polcert_model.proofs.OrderLaws.{is_complete}
 use Rattle.polcert_model.proofs.SoundTexts.{right_text_sound}
@@ -66,15 +66,15 @@ module _ (seen : List Lexeme) (k : Known) (w : IsWholeRead seen k) (m : Kept) (k
 
 -- ---- what the end of the text gives
 
-pub read_to_end : (text : List ℕ) (result : Result Known ModelFault) (seen : List Lexeme) (place : ℕ) → IsCut (text_rest text text_limit) seen None
-    → MatchResult result (IsWholeRead seen) (IsRefusedWhole seen place) → IfOk result (λ k. (xs : List Lexeme) × IsCut (text_rest text text_limit) xs None × IsWholeRead xs k)
-read_to_end text (Ok k) seen place cut w = (seen, cut, w)
-read_to_end text (Err fault) seen place cut w = tt
+pub read_to_end : {V : Type 0} (text : List ℕ) (k : Known) (result : Result V ModelFault) (seen : List Lexeme) (place : ℕ) → IsCut (text_rest text text_limit) seen None
+    → MatchResult result (λ _. IsWholeRead seen k) (IsRefusedWhole seen place) → IfOk result (λ _. IsTextOf text k)
+read_to_end text k (Ok v) seen place cut w = (seen, cut, w)
+read_to_end text k (Err fault) seen place cut w = tt
 
-pub refused_at_text_end : (text : List ℕ) (result : Result Known ModelFault) (seen : List Lexeme) (place : ℕ) → IsCut (text_rest text text_limit) seen None → end_place (text_rest text text_limit) ≡ place
-    → MatchResult result (IsWholeRead seen) (IsRefusedWhole seen place) → IfErr result (λ fault. (ts : TextTokens) → AreTokensOf text ts → Refuses ts fault)
-refused_at_text_end text (Ok k) seen place cut stop w = tt
-refused_at_text_end text (Err fault) seen place cut stop refused = λ ts tokens.
+pub refused_at_text_end : {V : Type 0} (P : V → Type 0) (text : List ℕ) (result : Result V ModelFault) (seen : List Lexeme) (place : ℕ) → IsCut (text_rest text text_limit) seen None → end_place (text_rest text text_limit) ≡ place
+    → MatchResult result P (IsRefusedWhole seen place) → IfErr result (λ fault. (ts : TextTokens) → AreTokensOf text ts → Refuses ts fault)
+refused_at_text_end P text (Ok v) seen place cut stop w = tt
+refused_at_text_end P text (Err fault) seen place cut stop refused = λ ts tokens.
     let these = these_tokens text seen None ts cut tokens in
     refused text ts tokens these.0 these.1 (tokens.end_is ∙ stop)
 
@@ -83,5 +83,5 @@ refused_at_text_end text (Err fault) seen place cut stop refused = λ ts tokens.
 -- what the items say, of the lines as they are held
 pub said_is : (k : Known) (discount : Option ℕ) (costs : Option Bool) (states actions observations : Option Elements) (start : Option Shares) (es : List Entry)
     → known_of discount costs states actions observations start es ≡ k
-    → said k ≡ draft_of (unwrap_or discount 0) (unwrap_or costs false) (unwrap_or states (Count 0)) (unwrap_or actions (Count 0)) (unwrap_or observations (Count 0)) start es
+    → said k ≡ draft_of (unwrap_or discount 0) (unwrap_or costs false) (unwrap_or states (Count 0)) (unwrap_or actions (Count 0)) observations start es
 said_is k discount costs states actions observations start es e = ap said (sym e)

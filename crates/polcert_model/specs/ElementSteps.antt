@@ -12,7 +12,7 @@ use Rattle.polcert_cells.specs.Words.{IsName}
 use Rattle.polcert_cells.specs.Numbers.{IsWhole}
 use Rattle.polcert_cells.specs.declared.elements.Elements.{Elements}
 use Rattle.polcert_cells.specs.declared.elements.Elements.TheVariants.{Count, Names}
-use Rattle.polcert_cells.specs.Elements.{AreElements, most_elements}
+use Rattle.polcert_cells.specs.Elements.{AreElements}
 use Rattle.polcert_cells.specs.Meaning.{IsCount}
 use Rattle.polcert_model.specs.NumberSteps.{IsMisplaced}
 use Rattle.polcert_model.specs.LineSteps.{BehindColon}
@@ -21,37 +21,37 @@ use Rattle.polcert_model.specs.LineSteps.{BehindColon}
 abbrev pub IsText : Lexeme → Type 0
 IsText l = l.kind ≡ Name → IsAscii l.bytes
 
--- a count within its limits
-abbrev pub IsCountOf : Lexeme → ℕ → Type 0
-IsCountOf l n = IsWhole l n × (1 ≤ n) × (n ≤ most_elements)
+-- a count of at most so many
+abbrev pub IsCountOf : ℕ → Lexeme → ℕ → Type 0
+IsCountOf most l n = IsWhole l n × (1 ≤ n) × (n ≤ most)
 
 -- these names, and the further ones
 abbrev pub names_with : List (List ℕ) → List Lexeme → List (List ℕ)
 names_with names ls = names ++ map (λ l. l.bytes) ls
 
--- further names, which all differ from one another and from these
-pub record NamesGo (names : List (List ℕ)) (ls : List Lexeme) (elements : Elements) : Type 0 where
+-- further names, which all differ from one another and from these, with these at most so many
+pub record NamesGo (most : ℕ) (names : List (List ℕ)) (ls : List Lexeme) (elements : Elements) : Type 0 where
   pub all : All IsName ls
-  pub most : length (names_with names ls) ≤ most_elements
+  pub few : length (names_with names ls) ≤ most
   pub apart : AllPairs (λ x y. x ≢ y) (names_with names ls)
   pub elements_are : elements ≡ Names (names_with names ls)
 
-abbrev pub ElementsGo : ElementsReader → List Lexeme → Elements → Type 0
-ElementsGo readers.Colon ls elements = BehindColon AreElements ls elements
-ElementsGo readers.First ls elements = AreElements ls elements
-ElementsGo (readers.Counted n) ls elements = (ls ≡ []) × (elements ≡ Count n)
-ElementsGo (readers.Named names) ls elements = NamesGo names ls elements
+abbrev pub ElementsGo : ℕ → ElementsReader → List Lexeme → Elements → Type 0
+ElementsGo most readers.Colon ls elements = BehindColon (AreElements most) ls elements
+ElementsGo most readers.First ls elements = AreElements most ls elements
+ElementsGo most (readers.Counted n) ls elements = (ls ≡ []) × (elements ≡ Count n)
+ElementsGo most (readers.Named names) ls elements = NamesGo most names ls elements
 
--- names that were read: not too many, and all different
-pub record AreNamesRead (names : List (List ℕ)) : Type 0 where
-  pub most : length names ≤ most_elements
+-- names that were read: at most so many, and all different
+pub record AreNamesRead (most : ℕ) (names : List (List ℕ)) : Type 0 where
+  pub few : length names ≤ most
   pub apart : AllPairs (λ x y. x ≢ y) names
 
 -- a count that was read is within its limits, and so are names
-abbrev pub IsElementsRead : ElementsReader → Type 0
-IsElementsRead (readers.Counted n) = IsCount most_elements n
-IsElementsRead (readers.Named names) = (1 ≤ length names) × AreNamesRead names
-IsElementsRead _ = Unit {0}
+abbrev pub IsElementsRead : ℕ → ElementsReader → Type 0
+IsElementsRead most (readers.Counted n) = IsCount most n
+IsElementsRead most (readers.Named names) = (1 ≤ length names) × AreNamesRead most names
+IsElementsRead most _ = Unit {0}
 
 -- the lexeme's bytes are among the names that were read
 abbrev pub IsAmong : ElementsReader → Lexeme → Type 0

@@ -1,6 +1,6 @@
 -- An entry, token by token: what is still to come of an entry that was read so far.
--- Nobody has to believe this: only contracts of private functions cite it.
-use Rattle.std.specs.Prelude.{◌≡◌, ◌≢◌, ℕ, ◌+◌, ◌<◌, ◌≤◌, ◌==◌, true, false, Option, Some, None, List, [], ◌∷◌, ◌++◌, length, drop, map, All, ℤ, pos, unwrap_or, codes}
+-- Nobody has to believe this but for `preamble_in`, which `Wants` cites: else only contracts of private functions do.
+use Rattle.std.specs.Prelude.{◌≡◌, ◌≢◌, ℕ, ◌+◌, ◌<◌, ◌≤◌, ◌==◌, Bool, true, false, Option, Some, None, List, [], ◌∷◌, ◌++◌, length, drop, map, All, ℤ, pos, unwrap_or, codes}
 use Rattle.std.specs.List.{list_any}
 use Rattle.polcert_text.specs.Cut.{Lexeme}
 use Rattle.polcert_model.specs.declared.fault.ItemFault.{ItemFault}
@@ -28,38 +28,42 @@ use Rattle.polcert_cells.specs.Numbers.{one}
 use Rattle.polcert_cells.specs.declared.elements.Elements.{Elements}
 use Rattle.polcert_cells.specs.declared.elements.Elements.TheVariants.{Count}
 use Rattle.polcert_cells.specs.Elements.{count_of}
-use Rattle.polcert_cells.specs.Preamble.{Preamble, dimensions}
+use Rattle.polcert_cells.specs.Preamble.{Preamble, is_mdp, dimensions, named}
 use Rattle.polcert_cells.specs.Entry.{forms, cells_in, IsPlace, ArePlaces, IsBody}
 use Rattle.polcert_model.specs.Text.{Known}
 use Rattle.polcert_model.specs.Reasons.{IsDigits}
 use Rattle.polcert_model.specs.NumberSteps.{AreNumbersBehind, IsNumberReason, IsMisplaced, IsBehindNumbers}
 use Rattle.polcert_model.specs.LineSteps.{BehindColon, Takes, CannotTake}
 
--- the preamble that is known, as if a missing line said nothing
+-- the preamble that is known, as if a missing line (but that of observations) said nothing
 abbrev pub preamble_in : Known → Preamble
 preamble_in k = record {
   discount = unwrap_or k.discount 0;
   costs = unwrap_or k.costs false;
   states = unwrap_or k.states (Count 0);
   actions = unwrap_or k.actions (Count 0);
-  observations = unwrap_or k.observations (Count 0);
+  observations = k.observations;
 }
 
 -- what the indices of a table's cells number
 abbrev pub indices_in : Known → Table → List Elements
 indices_in k table = dimensions (preamble_in k) table
 
+-- what the places of an entry may name
+abbrev pub named_in : Known → Table → List Elements
+named_in k table = named (preamble_in k) table
+
 -- behind these places the lexemes go on as this entry
-pub record IsEntryBehind (ds : List Elements) (table : Table) (before : List Place) (ls : List Lexeme) (entry : Entry) : Type 0 where
+pub record IsEntryBehind (p : Preamble) (table : Table) (before : List Place) (ls : List Lexeme) (entry : Entry) : Type 0 where
   pub further : List Place
   pub pattern : List Lexeme
   pub rest : List Lexeme
   pub whole : ls ≡ pattern ++ rest
   pub places_are : entry.places ≡ before ++ further
   pub table_is : entry.table ≡ table
-  pub form : list_any (λ n. n == length entry.places) (forms table entry.body) ≡ true
-  pub places : ArePlaces (drop (length before) ds) pattern further
-  pub body : IsBody (cells_in (drop (length entry.places) ds)) rest entry.body
+  pub form : list_any (λ n. n == length entry.places) (forms (is_mdp p) table entry.body) ≡ true
+  pub places : ArePlaces (drop (length before) (named p table)) pattern further
+  pub body : IsBody (cells_in (drop (length entry.places) (dimensions p table))) rest entry.body
 
 -- a place of the first of these indices
 abbrev pub IsFirstPlace : List Elements → Lexeme → Place → Type 0
@@ -67,10 +71,10 @@ IsFirstPlace [] l p = ⊥
 IsFirstPlace (d ∷ ds) l p = IsPlace d l p
 
 -- a place, and then the rest of the entry
-abbrev pub PlaceRest : List Elements → Table → List Place → List Lexeme → Entry → Type 0
-PlaceRest ds table before [] entry = ⊥
-PlaceRest ds table before (l ∷ ls) entry =
-    (p : Place) × (IsFirstPlace (drop (length before) ds) l p × IsEntryBehind ds table (before ++ p ∷ []) ls entry)
+abbrev pub PlaceRest : Preamble → Table → List Place → List Lexeme → Entry → Type 0
+PlaceRest p table before [] entry = ⊥
+PlaceRest p table before (l ∷ ls) entry =
+    (q : Place) × (IsFirstPlace (drop (length before) (named p table)) l q × IsEntryBehind p table (before ++ q ∷ []) ls entry)
 
 abbrev pub entry_with : Table → List Place → Body → Entry
 entry_with table places body = record { table = table; places = places; body = body }
@@ -97,16 +101,16 @@ body_of words.Identity = bodies.Identity
 abbrev pub BodyIs : Table → List Place → (List Lexeme → Body → Type 0) → List Lexeme → Entry → Type 0
 BodyIs table places Goes ls entry = (body : Body) × (Goes ls body × (entry ≡ entry_with table places body))
 
-abbrev pub StateGoes : List Elements → Table → List Place → EntryState → List Lexeme → Entry → Type 0
-StateGoes ds table places states.Colon ls entry = BehindColon (PlaceRest ds table places) ls entry
-StateGoes ds table places states.Place ls entry = PlaceRest ds table places ls entry
-StateGoes ds table places states.Body ls entry = IsEntryBehind ds table places ls entry
-StateGoes ds table places (states.Probabilities n) ls entry = BodyIs table places (ProbabilitiesGo n) ls entry
-StateGoes ds table places (states.Rewards n) ls entry = BodyIs table places (RewardsGo n) ls entry
-StateGoes ds table places (states.Word w) ls entry = (ls ≡ []) × (entry ≡ entry_with table places (body_of w))
+abbrev pub StateGoes : Preamble → Table → List Place → EntryState → List Lexeme → Entry → Type 0
+StateGoes p table places states.Colon ls entry = BehindColon (PlaceRest p table places) ls entry
+StateGoes p table places states.Place ls entry = PlaceRest p table places ls entry
+StateGoes p table places states.Body ls entry = IsEntryBehind p table places ls entry
+StateGoes p table places (states.Probabilities n) ls entry = BodyIs table places (ProbabilitiesGo n) ls entry
+StateGoes p table places (states.Rewards n) ls entry = BodyIs table places (RewardsGo n) ls entry
+StateGoes p table places (states.Word w) ls entry = (ls ≡ []) × (entry ≡ entry_with table places (body_of w))
 
-abbrev pub EntryGoes : List Elements → EntryReader → List Lexeme → Entry → Type 0
-EntryGoes ds r ls entry = StateGoes ds r.table r.places r.state ls entry
+abbrev pub EntryGoes : Preamble → EntryReader → List Lexeme → Entry → Type 0
+EntryGoes p r ls entry = StateGoes p r.table r.places r.state ls entry
 
 -- one more number is awaited behind a sign
 abbrev pub awaited : Option Sign → ℕ
@@ -167,12 +171,12 @@ word_text words.Uniform = codes "uniform"
 word_text words.Identity = codes "identity"
 
 -- so many places may be written before this body
-abbrev pub MayStand : Table → Body → ℕ → Type 0
-MayStand table body written = list_any (λ n. n == written) (forms table body) ≡ true
+abbrev pub MayStand : Bool → Table → Body → ℕ → Type 0
+MayStand mdp table body written = list_any (λ n. n == written) (forms mdp table body) ≡ true
 
 -- the lexeme is this word, and it may stand behind so many places
-abbrev pub IsWordBehind : Table → ℕ → Lexeme → Word → Type 0
-IsWordBehind table written l w = IsWord (word_text w) l × MayStand table (body_of w) written
+abbrev pub IsWordBehind : Bool → Table → ℕ → Lexeme → Word → Type 0
+IsWordBehind mdp table written l w = IsWord (word_text w) l × MayStand mdp table (body_of w) written
 
 -- before the first number
 abbrev pub no_numbers : {T : Type 0} → ℕ → Numbers T

@@ -1,5 +1,5 @@
 -- Small models, to be computed by hand.
-use Rattle.std.specs.Prelude.{ℕ, ◌*◌, false, List, [], ◌∷◌, map, ℤ, pos, neg_ℤ, None, codes}
+use Rattle.std.specs.Prelude.{ℕ, ◌*◌, false, List, [], ◌∷◌, map, ℤ, pos, neg_ℤ, Some, None, codes}
 use Rattle.std.specs.List.{range_with_len}
 use Rattle.polcert_text.specs.Cut.{Lexeme}
 use Rattle.polcert_text.specs.declared.lexeme.TokenKind.TheVariants as kinds
@@ -14,7 +14,7 @@ use Rattle.polcert_cells.specs.declared.entry.Entry.{Entry}
 use Rattle.polcert_cells.specs.Meaning.{Meaning, meaning_of}
 
 abbrev pub counts : ℕ → ℕ → ℕ → Preamble
-counts states actions observations = record { discount = 1_000_000; costs = false; states = Count states; actions = Count actions; observations = Count observations }
+counts states actions observations = record { discount = 1_000_000; costs = false; states = Count states; actions = Count actions; observations = Some (Count observations) }
 
 abbrev pub transition : List Place → Body → Entry
 transition places body = record { table = Transition; places = places; body = body }

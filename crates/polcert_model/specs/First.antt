@@ -24,7 +24,7 @@ first =
     ∷ name (codes "R") ∷ colon ∷ numeral (codes "0") ∷ colon ∷ numeral (codes "0") ∷ colon ∷ numeral (codes "0") ∷ colon ∷ numeral (codes "0") ∷ minus ∷ numeral (codes "1") ∷ []
 
 abbrev pub first_preamble : Preamble
-first_preamble = record { discount = 950_000; costs = false; states = Count 2; actions = Count 1; observations = Count 2 }
+first_preamble = record { discount = 950_000; costs = false; states = Count 2; actions = Count 1; observations = Some (Count 2) }
 
 abbrev pub first_entries : List Entry
 first_entries =

@@ -22,6 +22,7 @@ use Rattle.polcert_cells.specs.declared.words.Topic.{Topic}
 use Rattle.polcert_cells.specs.declared.words.Topic.TheVariants.{Discount, Values, States, Actions, Observations, Start, Cells}
 use Rattle.polcert_cells.specs.declared.elements.Elements.{Elements}
 use Rattle.polcert_cells.specs.declared.shares.Shares.{Shares}
+use Rattle.polcert_cells.specs.Elements.{most_states, most_actions, most_observations}
 use Rattle.polcert_model.specs.Text.{Known}
 use Rattle.polcert_model.specs.Reasons.{ends_in_sign, IsNoFraction, IsOfElements, IsOfProbabilities, IsRepeated}
 use Rattle.polcert_model.specs.NumberSteps.{SignEnds, is_negative, number_place}
@@ -35,11 +36,11 @@ use Rattle.polcert_model.specs.KnownView.{learned}
 abbrev pub ItemGoes : Known → ItemReader → List Lexeme → Known → Type 0
 ItemGoes k (items.Discount r) ls next = (g : ℕ) × (DiscountGoes r ls g × (next ≡ learned k (said.Discount g)))
 ItemGoes k (items.Values r) ls next = (b : Bool) × (ValuesGoes r ls b × (next ≡ learned k (said.Costs b)))
-ItemGoes k (items.States r) ls next = (e : Elements) × (ElementsGo r ls e × (next ≡ learned k (said.States e)))
-ItemGoes k (items.Actions r) ls next = (e : Elements) × (ElementsGo r ls e × (next ≡ learned k (said.Actions e)))
-ItemGoes k (items.Observations r) ls next = (e : Elements) × (ElementsGo r ls e × (next ≡ learned k (said.Observations e)))
+ItemGoes k (items.States r) ls next = (e : Elements) × (ElementsGo most_states r ls e × (next ≡ learned k (said.States e)))
+ItemGoes k (items.Actions r) ls next = (e : Elements) × (ElementsGo most_actions r ls e × (next ≡ learned k (said.Actions e)))
+ItemGoes k (items.Observations r) ls next = (e : Elements) × (ElementsGo most_observations r ls e × (next ≡ learned k (said.Observations e)))
 ItemGoes k (items.Start r) ls next = (found : Shares) × (StartGoes (preamble_in k).states r ls found × (next ≡ learned k (said.Start found)))
-ItemGoes k (items.Entry r) ls next = (e : Entry) × (EntryGoes (indices_in k r.table) r ls e × (next ≡ learned k (said.Entry e)))
+ItemGoes k (items.Entry r) ls next = (e : Entry) × (EntryGoes (preamble_in k) r ls e × (next ≡ learned k (said.Entry e)))
 
 abbrev pub topic_in : ItemReader → Topic
 topic_in (items.Discount r) = Discount
@@ -63,9 +64,9 @@ pending_in _ = None
 
 -- what was read is within its limits
 abbrev pub IsItemWithin : Known → ItemReader → Type 0
-IsItemWithin k (items.States r) = IsElementsRead r
-IsItemWithin k (items.Actions r) = IsElementsRead r
-IsItemWithin k (items.Observations r) = IsElementsRead r
+IsItemWithin k (items.States r) = IsElementsRead most_states r
+IsItemWithin k (items.Actions r) = IsElementsRead most_actions r
+IsItemWithin k (items.Observations r) = IsElementsRead most_observations r
 IsItemWithin k (items.Start r) = (states : Elements) × ((k.states ≡ Some states) × IsStartWithin states r)
 IsItemWithin k (items.Entry r) = IsWithinIndices (indices_in k r.table) r
 IsItemWithin k _ = Unit {0}

@@ -1,23 +1,31 @@
 -- What a model keeps of its text, and what that means: the preamble, the start, and the cells as sparse rows and as rules.
-use Rattle.std.specs.Prelude.{◌≡◌, ℕ, List, Option, unwrap_or}
-use Rattle.polcert_cells.specs.declared.entry.Table.{Table}
+use Rattle.std.specs.Prelude.{◌≡◌, ℕ, ◌*◌, ◌==◌, true, false, if◌then◌else◌, List, Option, Some, None, unwrap_or}
 use Rattle.polcert_cells.specs.declared.entry.Table.TheVariants.{Transition, Observation}
 use Rattle.polcert_cells.specs.declared.shares.Shares.{Shares}
-use Rattle.polcert_cells.specs.Preamble.{Preamble}
+use Rattle.polcert_cells.specs.declared.entry.Entry.{Entry}
+use Rattle.polcert_cells.specs.Elements.{count_of}
+use Rattle.polcert_cells.specs.Numbers.{one}
+use Rattle.polcert_cells.specs.Preamble.{Preamble, is_mdp}
 use Rattle.polcert_cells.specs.Start.{all_states}
-use Rattle.polcert_cells.specs.Meaning.{Meaning}
+use Rattle.polcert_cells.specs.Meaning.{Meaning, reward_index}
 use Rattle.polcert_cells.specs.Drafts.{Draft}
 use Rattle.polcert_rules.specs.Sparse.{weight_at}
 use Rattle.polcert_rules.specs.RowTables.{RowTable, row_at, AreRowsOf}
 use Rattle.polcert_rules.specs.Rewards.{RewardRules, AreRewardsOf}
 use Rattle.polcert_rules.specs.RewardAt.{reward_at}
 
+-- (an MDP keeps no rows of O)
 pub record Kept : Type 0 where
   pub preamble : Preamble
   pub start : Option Shares
   pub transitions : RowTable
-  pub observations : RowTable
+  pub observations : Option RowTable
   pub rewards : RewardRules
+
+-- the weight of an observation; where no rows of O are kept the end state is observed
+abbrev pub observed_at : Preamble → Option RowTable → ℕ → ℕ → ℕ → ℕ
+observed_at p (Some rows) a e z = weight_at (row_at rows a e) z
+observed_at p None a e z = if e == z then one * count_of p.states else 0
 
 -- what they denote; with no start item all states are alike
 abbrev pub meaning : Kept → Meaning
@@ -25,19 +33,19 @@ meaning k = record {
   preamble = k.preamble;
   start = unwrap_or k.start (all_states k.preamble.states);
   t = (λ a s e. weight_at (row_at k.transitions a s) e);
-  o = (λ a e z. weight_at (row_at k.observations a e) z);
-  r = (λ a s e z. reward_at k.rewards a s e z);
+  o = observed_at k.preamble k.observations;
+  r = (λ a s e z. reward_at k.rewards a s e (reward_index k.preamble z));
 }
 
--- the rows of a table of weights
-abbrev pub rows_of : Kept → Table → RowTable
-rows_of k Observation = k.observations
-rows_of k _ = k.transitions
+-- the rows of O are those of the entries; an MDP has none
+abbrev pub AreObservationsOf : Preamble → List Entry → Option RowTable → Type 0
+AreObservationsOf p entries (Some rows) = (is_mdp p ≡ false) × AreRowsOf p entries Observation rows
+AreObservationsOf p entries None = is_mdp p ≡ true
 
 -- they are what these items of a text say
 pub record IsKeptOf (d : Draft) (k : Kept) : Type 0 where
   pub preamble : k.preamble ≡ d.preamble
   pub start : k.start ≡ d.start
   pub transitions : AreRowsOf d.preamble d.entries Transition k.transitions
-  pub observations : AreRowsOf d.preamble d.entries Observation k.observations
+  pub observations : AreObservationsOf d.preamble d.entries k.observations
   pub rewards : AreRewardsOf d.preamble d.entries k.rewards

@@ -7,6 +7,7 @@ pub mod FirstWrong
 pub mod Reasons
 pub mod Misfits
 pub mod Refusals
+pub mod RefusedTexts
 pub mod Examples
 pub mod NumberSteps
 pub mod LineSteps

@@ -9,12 +9,11 @@ use Rattle.polcert_model.specs.declared.fault.ItemFault.{ItemFault}
 use Rattle.polcert_model.specs.declared.fault.ItemFault.TheVariants.{BadShape, BadCount, DuplicateName, UnknownName, IndexOutOfRange, WrongNumberCount, Reset, StartSum, StartEmpty, ProbabilityRange, DiscountRange}
 use Rattle.polcert_model.specs.declared.fault.ItemFault.TheVariants as faults
 use Rattle.polcert_cells.specs.Words.{is_reserved}
-use Rattle.polcert_cells.specs.Elements.{most_elements}
 use Rattle.polcert_model.specs.Reasons.{is_sign}
 
 -- what a place of a body is for
 pub data Wanted : Type 0 where
-  -- a colon, the word of `values:`, or `include` or `exclude`
+  -- a colon, the word of `values:`, `include` or `exclude`, or `*` where nothing has a name or a number
   Mark : Wanted
   -- an action, a state or an observation
   Index : Wanted
@@ -22,8 +21,8 @@ pub data Wanted : Type 0 where
   Listed : Wanted
   -- a count, or the first name
   CountOrName : Wanted
-  -- a further name, behind these
-  FurtherName : List (List ℕ) → Wanted
+  -- a further name, behind these, where there may be so many
+  FurtherName : ℕ → List (List ℕ) → Wanted
   -- `uniform`, a state's name or the first number, behind `start:`
   StartBody : Wanted
   -- a further number, behind digits that are a state's number where nothing follows them
@@ -44,9 +43,9 @@ no_index Name bytes = if is_reserved bytes then BadShape else UnknownName
 no_index _ bytes = BadShape
 
 -- what cannot stand behind these names: a name too many, one that stands there already, or something else
-abbrev pub no_name : List (List ℕ) → TokenKind → List ℕ → ItemFault
-no_name names Name bytes = if is_reserved bytes then BadShape else (if length names == most_elements then BadCount else DuplicateName)
-no_name names _ bytes = BadShape
+abbrev pub no_name : ℕ → List (List ℕ) → TokenKind → List ℕ → ItemFault
+no_name most names Name bytes = if is_reserved bytes then BadShape else (if length names == most then BadCount else DuplicateName)
+no_name most names _ bytes = BadShape
 
 -- a numeral that is no count, or something else
 abbrev pub no_count : TokenKind → ItemFault
@@ -63,7 +62,7 @@ misfit_at Index l = no_index l.kind l.bytes
 misfit_at Listed l = no_index l.kind l.bytes
 misfit_at StartBody l = no_index l.kind l.bytes
 misfit_at CountOrName l = no_count l.kind
-misfit_at (FurtherName names) l = no_name names l.kind l.bytes
+misfit_at (FurtherName most names) l = no_name most names l.kind l.bytes
 misfit_at EndOfNumbers l = if begins_number l.kind then WrongNumberCount else BadShape
 misfit_at _ l = BadShape
 

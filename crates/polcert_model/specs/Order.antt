@@ -1,10 +1,11 @@
 -- Which items may stand where: what is decided at an item's word, before its body.
 -- Source: the POMDP file format page at pomdp.org: the preamble first, then the start item, then the entries. Our own:
 -- which of these faults comes first, and its name.
-use Rattle.std.specs.Prelude.{ℕ, ◌*◌, Bool, true, false, ◌||◌, ◌&&◌, Option, Some, None, is_some, List, [], ◌∷◌, nat_lt, if◌then◌else◌}
+use Rattle.std.specs.Prelude.{ℕ, ◌*◌, Bool, true, false, ◌||◌, ◌&&◌, Option, Some, None, is_some, is_none, List, [], ◌∷◌, nat_lt, if◌then◌else◌}
 use Rattle.polcert_model.specs.declared.fault.ItemFault.{ItemFault}
-use Rattle.polcert_model.specs.declared.fault.ItemFault.TheVariants.{DuplicateLine, LateLine, MissingLine, TooManyCells}
+use Rattle.polcert_model.specs.declared.fault.ItemFault.TheVariants.{BadShape, DuplicateLine, LateLine, MissingLine, TooManyCells}
 use Rattle.polcert_cells.specs.declared.entry.Entry.{Entry}
+use Rattle.polcert_cells.specs.declared.entry.Table.TheVariants.{Observation}
 use Rattle.polcert_cells.specs.declared.words.Topic.{Topic}
 use Rattle.polcert_cells.specs.declared.words.Topic.TheVariants.{Discount, Values, States, Actions, Observations, Start, Cells}
 use Rattle.polcert_cells.specs.declared.elements.Elements.{Elements}
@@ -38,30 +39,45 @@ ends_preamble Start = true
 ends_preamble (Cells table) = true
 ends_preamble _ = false
 
--- (in an MDP the line of observations isn't missed)
+-- (a text without a line of observations is an MDP's)
 abbrev pub has_all_lines : Known → Bool
-has_all_lines k = is_some k.discount && is_some k.costs && is_some k.states && is_some k.actions && is_some k.observations
+has_all_lines k = is_some k.discount && is_some k.costs && is_some k.states && is_some k.actions
+
+-- how many elements a line says, or so many where it didn't come
+abbrev pub count_or : ℕ → Option Elements → ℕ
+count_or count None = count
+count_or count (Some elements) = count_of elements
 
 abbrev pub count_in : Option Elements → ℕ
-count_in None = 0
-count_in (Some elements) = count_of elements
+count_in elements = count_or 0 elements
 
-abbrev pub cells_are_too_many : ℕ → ℕ → ℕ → Bool
-cells_are_too_many states actions observations =
-    nat_lt most_cells (actions * states * states) || nat_lt most_cells (actions * states * observations)
-    || nat_lt most_cells (actions * states * states * observations)
+-- by how many elements are observed, and how many a reward depends on beside the action and the states
+abbrev pub cells_are_too_many : ℕ → ℕ → ℕ → ℕ → Bool
+cells_are_too_many states actions observed rewarded =
+    nat_lt most_cells (actions * states * states) || nat_lt most_cells (actions * states * observed)
+    || nat_lt most_cells (actions * states * states * rewarded)
 
 -- why the preamble isn't complete: a line is missing, or else a table has too many cells
 abbrev pub preamble_fault : Known → Option ItemFault
 preamble_fault k =
     if has_all_lines k then
-    (if cells_are_too_many (count_in k.states) (count_in k.actions) (count_in k.observations) then Some TooManyCells else None)
+    (if cells_are_too_many (count_in k.states) (count_in k.actions) (count_or (count_in k.states) k.observations) (count_or 1 k.observations) then Some TooManyCells else None)
     else Some MissingLine
+
+-- an item of O in an MDP
+abbrev pub is_unobserved : Known → Topic → Bool
+is_unobserved k (Cells Observation) = is_none k.observations
+is_unobserved k _ = false
+
+-- why an item of this topic cannot stand behind a preamble with this fault, if it has one
+abbrev pub fault_behind : Option ItemFault → Known → Topic → Option ItemFault
+fault_behind (Some fault) k t = Some fault
+fault_behind None k t = if is_unobserved k t then Some BadShape else None
 
 -- why an item of this topic cannot stand behind what is known, whatever its body: the first of these reasons
 abbrev pub word_fault : Known → Topic → Option ItemFault
 word_fault k t =
     if is_late k t then Some LateLine
     else (if came_before k t then Some DuplicateLine
-    else (if ends_preamble t then preamble_fault k
+    else (if ends_preamble t then fault_behind (preamble_fault k) k t
     else None))

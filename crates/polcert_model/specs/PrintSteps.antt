@@ -11,7 +11,7 @@ use Rattle.polcert_cells.specs.Meaning.{Meaning, states_of, actions_of, observat
 use Rattle.polcert_model.specs.Kept.{Kept, meaning}
 use Rattle.polcert_model.specs.RowSums.{row_of}
 use Rattle.polcert_text.specs.Lines.{line}
-use Rattle.polcert_model.specs.FullForm.{for_each, values, is_uniform, is_decimal, millionths_text, table_word, cell_text, row_text, written, rewards_row}
+use Rattle.polcert_model.specs.FullForm.{for_each, values, is_uniform, is_decimal, millionths_text, table_word, cell_text, row_text, written, reward_words, rewards_row, rewards_from}
 
 -- ---- lines of words
 abbrev pub behind_blank : List ℕ → List ℕ
@@ -88,8 +88,9 @@ rows_text d table = for_each (actions_of (meaning d)) (rows_at d table)
 abbrev pub reward_text : Bool → List ℤ → ℕ → List ℕ
 reward_text costs rewards z = number_text z (written costs (get_or rewards z (pos 0)))
 
-abbrev pub rewards_from : Meaning → ℕ → ℕ → List ℕ
-rewards_from m a s = for_each (states_of m) (λ e. rewards_row m.preamble.costs a s e (observations_of m) (m.r a s e))
+-- the rows of an action in a state, where observations are made
+abbrev pub reward_rows : Meaning → ℕ → ℕ → List ℕ
+reward_rows m a s = for_each (states_of m) (λ e. rewards_row m.preamble.costs (reward_words a s e) (observations_of m) (m.r a s e))
 
 abbrev pub rewards_at : Meaning → ℕ → List ℕ
 rewards_at m a = for_each (states_of m) (rewards_from m a)

@@ -59,14 +59,14 @@ pub data IsTaken (k : Known) (t : Topic) (taken : List Lexeme) : Type 0 where
 
 -- Behind the lexemes taken the item is no longer possible: with the next lexeme, with the next two as a sign and a
 -- numeral, or, where nothing is left of it, as it is. The kind is so of what this place is for and of what stands there.
--- (At a lexeme of a start item only the kind is said, and not where a number is refused for its value or as no state's: its
--- first number is tested late, only where more follow or the item ends.)
+-- (Of a start item it isn't said at which of its numbers one is refused for its value or as no state's: the first is tested
+-- late, only where more follow or the item ends.)
 pub data Stops (k : Known) (t : Topic) (kind : ItemFault) (taken : List Lexeme) : List Lexeme → Type 0 where
   at_lexeme : {l : Lexeme} {behind : List Lexeme} → CannotGoOn k t (taken ++ l ∷ []) → IsMisfit (wanted k t taken) l kind → Stops k t kind taken (l ∷ behind)
   at_number : {sign l : Lexeme} {behind : List Lexeme} → is_sign sign.kind ≡ true → l.kind ≡ Numeral → IsPossible k t (taken ++ sign ∷ [])
       → CannotGoOn k t (taken ++ sign ∷ l ∷ []) → IsOfValue kind → IsMisfit (wanted k t (taken ++ sign ∷ [])) l kind → Stops k t kind taken (sign ∷ l ∷ behind)
   at_end : IsWrong k t taken → kind ≡ misfit (wanted k t taken) None → Stops k t kind taken []
-  in_start_item : {l : Lexeme} {behind : List Lexeme} → t ≡ Start → kind ≡ misfit (wanted k t taken) (Some l) → Stops k t kind taken (l ∷ behind)
+  in_start_item : {l : Lexeme} {behind : List Lexeme} → t ≡ Start → CannotGoOn k t (taken ++ l ∷ []) → kind ≡ misfit (wanted k t taken) (Some l) → Stops k t kind taken (l ∷ behind)
   late_number : {l : Lexeme} {behind : List Lexeme} → t ≡ Start → IsOfValue kind → Stops k t kind taken (l ∷ behind)
   late_state : {l : Lexeme} {behind : List Lexeme} → t ≡ Start → kind ≡ IndexOutOfRange → Stops k t kind taken (l ∷ behind)
 

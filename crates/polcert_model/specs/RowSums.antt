@@ -4,13 +4,13 @@ use Rattle.std.specs.Prelude.{ℕ, ◌<◌}
 use Rattle.polcert_cells.specs.declared.entry.Table.{Table}
 use Rattle.polcert_cells.specs.Meaning.{Meaning, states_of, actions_of}
 use Rattle.polcert_cells.specs.Rows.{IsProperRow, AreProperBefore}
-use Rattle.polcert_rules.specs.Sparse.{weight_at}
-use Rattle.polcert_rules.specs.RowTables.{row_at}
-use Rattle.polcert_model.specs.Kept.{Kept, rows_of}
+use Rattle.polcert_cells.specs.declared.entry.Table.TheVariants.{Observation}
+use Rattle.polcert_model.specs.Kept.{Kept, meaning}
 
 -- the weights of a row, by column
 abbrev pub row_of : Kept → Table → ℕ → ℕ → ℕ → ℕ
-row_of k table action state column = weight_at (row_at (rows_of k table) action state) column
+row_of k Observation action state column = (meaning k).o action state column
+row_of k _ action state column = (meaning k).t action state column
 
 -- each row of the table sums to its scale
 abbrev pub AreProper : Meaning → Table → Type 0

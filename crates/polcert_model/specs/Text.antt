@@ -1,7 +1,7 @@
 -- Right texts: each item is right behind those before it, and a text denotes a model where its rows sum to one.
 -- Source: the POMDP file format page and its grammar at pomdp.org. The lines of the preamble stand in any order, each
--- once, before the start item and all entries; at most one start item stands before all entries. Our own: no line is
--- missing (a line of observations too, until MDP files are taken), the limits of cells, and that rows sum exactly.
+-- once, before the start item and all entries; at most one start item stands before all entries. Our own: MDP files, which
+-- have no line of observations; that no other line is missing; the limits of cells; and that rows sum exactly.
 use Rattle.std.specs.Prelude.{◌≡◌, ℕ, ◌*◌, ◌≤◌, Bool, true, false, List, [], ◌∷◌, ◌++◌, pos, Option, Some, None, codes}
 use Rattle.polcert_text.specs.Cut.{Lexeme, text_rest, IsCut, text_limit}
 use Rattle.polcert_text.specs.declared.lexeme.TokenKind.TheVariants.{Colon}
@@ -12,10 +12,10 @@ use Rattle.polcert_cells.specs.declared.words.Topic.TheVariants.{Discount, Value
 use Rattle.polcert_cells.specs.Words.{topic, IsWord}
 use Rattle.polcert_cells.specs.Numbers.{IsNumber, one}
 use Rattle.polcert_cells.specs.declared.elements.Elements.{Elements}
-use Rattle.polcert_cells.specs.Elements.{AreElements, count_of}
+use Rattle.polcert_cells.specs.Elements.{AreElements, count_of, most_states, most_actions, most_observations}
 use Rattle.polcert_model.specs.Items.{Item, IsDivided}
-use Rattle.polcert_cells.specs.Preamble.{Preamble, observed}
-use Rattle.polcert_cells.specs.Entry.{IsEntry}
+use Rattle.polcert_cells.specs.Preamble.{Preamble, observed, rewarded}
+use Rattle.polcert_cells.specs.Entry.{MayBeGiven, IsEntry}
 use Rattle.polcert_cells.specs.declared.shares.Shares.{Shares}
 use Rattle.polcert_cells.specs.Start.{IsStart}
 use Rattle.polcert_cells.specs.Meaning.{Meaning, meaning_of, HasProperRows, IsSame}
@@ -42,20 +42,19 @@ pub record IsInPreamble (k : Known) : Type 0 where
 abbrev pub most_cells : ℕ
 most_cells = 16_777_216
 
--- No line of the preamble is missing, and this is what they say. (The line of observations is the one that an MDP
--- leaves out.)
+-- No line of the preamble is missing but that of observations, which an MDP leaves out, and this is what they say.
 pub record HasLines (k : Known) (p : Preamble) : Type 0 where
   pub discount : k.discount ≡ Some p.discount
   pub costs : k.costs ≡ Some p.costs
   pub states : k.states ≡ Some p.states
   pub actions : k.actions ≡ Some p.actions
-  pub observations : k.observations ≡ Some p.observations
+  pub observations : k.observations ≡ p.observations
 
 -- no table has too many cells
 pub record IsWithinCells (p : Preamble) : Type 0 where
   pub transitions : count_of p.actions * count_of p.states * count_of p.states ≤ most_cells
   pub observations : count_of p.actions * count_of p.states * count_of (observed p) ≤ most_cells
-  pub rewards : count_of p.actions * count_of p.states * count_of p.states * count_of (observed p) ≤ most_cells
+  pub rewards : count_of p.actions * count_of p.states * count_of p.states * count_of (rewarded p) ≤ most_cells
 
 -- the preamble is complete, so that a start item, an entry or the end may stand
 pub record IsComplete (k : Known) (p : Preamble) : Type 0 where
@@ -63,7 +62,6 @@ pub record IsComplete (k : Known) (p : Preamble) : Type 0 where
   pub cells : IsWithinCells p
 
 -- An item of this topic and body is right behind what is known, and this is known behind it.
--- (In an MDP no item of observation entries is right.)
 pub data IsRight (k : Known) : Topic → List Lexeme → Known → Type 0 where
   discount : {colon : Lexeme} {ls : List Lexeme} {g : ℕ} → IsInPreamble k → k.discount ≡ None → colon.kind ≡ Colon
       → IsNumber ls (pos g) → g ≤ one → IsRight k Discount (colon ∷ ls) (record k { discount = Some g })
@@ -72,14 +70,14 @@ pub data IsRight (k : Known) : Topic → List Lexeme → Known → Type 0 where
   costs : {colon l : Lexeme} → IsInPreamble k → k.costs ≡ None → colon.kind ≡ Colon
       → IsWord (codes "cost") l → IsRight k Values (colon ∷ l ∷ []) (record k { costs = Some true })
   states : {colon : Lexeme} {ls : List Lexeme} {elements : Elements} → IsInPreamble k → k.states ≡ None → colon.kind ≡ Colon
-      → AreElements ls elements → IsRight k States (colon ∷ ls) (record k { states = Some elements })
+      → AreElements most_states ls elements → IsRight k States (colon ∷ ls) (record k { states = Some elements })
   actions : {colon : Lexeme} {ls : List Lexeme} {elements : Elements} → IsInPreamble k → k.actions ≡ None → colon.kind ≡ Colon
-      → AreElements ls elements → IsRight k Actions (colon ∷ ls) (record k { actions = Some elements })
+      → AreElements most_actions ls elements → IsRight k Actions (colon ∷ ls) (record k { actions = Some elements })
   observations : {colon : Lexeme} {ls : List Lexeme} {elements : Elements} → IsInPreamble k → k.observations ≡ None → colon.kind ≡ Colon
-      → AreElements ls elements → IsRight k Observations (colon ∷ ls) (record k { observations = Some elements })
+      → AreElements most_observations ls elements → IsRight k Observations (colon ∷ ls) (record k { observations = Some elements })
   start : {p : Preamble} {ls : List Lexeme} {shares : Shares} → IsInPreamble k → IsComplete k p
       → IsStart p.states ls shares → IsRight k Start ls (record k { start = Some shares })
-  entry : {p : Preamble} {table : Table} {ls : List Lexeme} {e : Entry} → IsComplete k p
+  entry : {p : Preamble} {table : Table} {ls : List Lexeme} {e : Entry} → IsComplete k p → MayBeGiven p table
       → IsEntry p table ls e → IsRight k (Cells table) ls (record k { entries = k.entries ++ e ∷ [] })
 
 -- Each item is right behind those before it, from what was known to what is known at the end.

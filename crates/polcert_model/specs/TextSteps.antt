@@ -1,7 +1,7 @@
 -- A text, item by item: what its reader holds behind the lexemes so far.
 -- Nobody has to believe this: only contracts of private functions cite it.
 use Rattle.std.specs.Prelude.{◌≡◌, ℕ, ◌+◌, true, Option, Some, None, List, [], ◌∷◌, ◌++◌, length}
-use Rattle.polcert_text.specs.Cut.{Lexeme}
+use Rattle.polcert_text.specs.Cut.{Lexeme, IsCut, text_rest, text_limit}
 use Rattle.polcert_text.specs.Reading.{fault_place}
 use Rattle.polcert_text.specs.declared.tokens.TokenFault.{TokenFault}
 use Rattle.polcert_text.specs.declared.tokens.TokenFault.TheVariants as token_faults
@@ -101,6 +101,10 @@ tokens_end number (Some r) fault = model_faults.Item r.kind number r.place
 pub record IsWholeRead (seen : List Lexeme) (k : Known) : Type 0 where
   pub items : AreRightItems seen k
   pub complete : preamble_fault k ≡ None
+
+-- the whole text was read, and this is known of it
+abbrev pub IsTextOf : List ℕ → Known → Type 0
+IsTextOf text k = (seen : List Lexeme) × IsCut (text_rest text text_limit) seen None × IsWholeRead seen k
 
 -- a refusal where the text ends cleanly here
 abbrev pub IsRefusedWhole : List Lexeme → ℕ → ModelFault → Type 0

@@ -45,7 +45,7 @@ tiger_actions = codes "listen" ∷ codes "open-left" ∷ codes "open-right" ∷ 
 
 -- what the agent hears has the names of the states
 abbrev pub tiger_preamble : Preamble
-tiger_preamble = record { discount = 950_000; costs = false; states = Names tiger_states; actions = Names tiger_actions; observations = Names tiger_states }
+tiger_preamble = record { discount = 950_000; costs = false; states = Names tiger_states; actions = Names tiger_actions; observations = Some (Names tiger_states) }
 
 abbrev pub minus_whole : ℕ → ℤ
 minus_whole n = neg_ℤ (whole n)

@@ -24,11 +24,11 @@ use Rattle.polcert_model.specs.declared.stop.ItemEnd.{ItemEnd}
 use Rattle.polcert_model.specs.declared.stop.ItemEnd.TheVariants as ends
 use Rattle.polcert_cells.specs.declared.words.Topic.{Topic}
 use Rattle.polcert_cells.specs.declared.words.Topic.TheVariants.{Start}
-use Rattle.polcert_cells.specs.declared.elements.Elements.{Elements}
-use Rattle.polcert_cells.specs.Elements.{count_of}
+use Rattle.polcert_cells.specs.Elements.{count_of, most_states, most_actions, most_observations}
 use Rattle.polcert_model.specs.Text.{Known}
 use Rattle.polcert_model.specs.ElementSteps.{names_with}
-use Rattle.polcert_model.specs.EntrySteps.{preamble_in, indices_in}
+use Rattle.polcert_cells.specs.Preamble.{Preamble}
+use Rattle.polcert_model.specs.EntrySteps.{preamble_in}
 use Rattle.polcert_model.specs.Misfits.{Wanted, Mark, Listed, FurtherName, NumberOrEnd, Number, Digits, EndOfWord, misfit, IsOfValue}
 use Rattle.polcert_model.specs.Wants as wants
 use Rattle.polcert_model.specs.Wants.{numbers_want}
@@ -56,26 +56,26 @@ values_want values.Colon ls = wants.values_want ls
 values_want values.Word ls = word_wants ls
 values_want (values.Said b) ls = EndOfWord
 
-abbrev pub elements_want : ElementsReader → List Lexeme → Wanted
-elements_want elements.Colon ls = wants.elements_want ls
-elements_want elements.First ls = wants.names_want ls
-elements_want (elements.Counted n) ls = EndOfWord
-elements_want (elements.Named names) ls = FurtherName (names_with names ls)
+abbrev pub elements_want : ℕ → ElementsReader → List Lexeme → Wanted
+elements_want most elements.Colon ls = wants.elements_want most ls
+elements_want most elements.First ls = wants.names_want most ls
+elements_want most (elements.Counted n) ls = EndOfWord
+elements_want most (elements.Named names) ls = FurtherName most (names_with names ls)
 
 -- so many numbers are still to come
 abbrev pub list_wants : {T : Type 0} → Numbers T → List Lexeme → Wanted
 list_wants n ls = numbers_want (is_some n.sign) (n.needed - length n.read) ls
 
-abbrev pub state_wants : List Elements → Table → List Place → EntryState → List Lexeme → Wanted
-state_wants ds table places states.Colon ls = wants.cells_want ds table ls
-state_wants ds table places states.Place ls = wants.entry_wants ds table true (length places) ls
-state_wants ds table places states.Body ls = wants.entry_wants ds table false (length places) ls
-state_wants ds table places (states.Probabilities n) ls = list_wants n ls
-state_wants ds table places (states.Rewards n) ls = list_wants n ls
-state_wants ds table places (states.Word w) ls = EndOfWord
+abbrev pub state_wants : Preamble → Table → List Place → EntryState → List Lexeme → Wanted
+state_wants p table places states.Colon ls = wants.cells_want p table ls
+state_wants p table places states.Place ls = wants.entry_wants p table true (length places) ls
+state_wants p table places states.Body ls = wants.entry_wants p table false (length places) ls
+state_wants p table places (states.Probabilities n) ls = list_wants n ls
+state_wants p table places (states.Rewards n) ls = list_wants n ls
+state_wants p table places (states.Word w) ls = EndOfWord
 
-abbrev pub entry_wants : List Elements → EntryReader → List Lexeme → Wanted
-entry_wants ds r ls = state_wants ds r.table r.places r.state ls
+abbrev pub entry_wants : Preamble → EntryReader → List Lexeme → Wanted
+entry_wants p r ls = state_wants p r.table r.places r.state ls
 
 -- behind digits that may be a state's number
 abbrev pub digits_want : ℕ → List Lexeme → Wanted
@@ -97,11 +97,11 @@ start_wants count (starts.Probabilities n) ls = list_wants n ls
 abbrev pub item_wants : Known → ItemReader → List Lexeme → Wanted
 item_wants k (items.Discount r) ls = discount_wants r ls
 item_wants k (items.Values r) ls = values_want r ls
-item_wants k (items.States r) ls = elements_want r ls
-item_wants k (items.Actions r) ls = elements_want r ls
-item_wants k (items.Observations r) ls = elements_want r ls
+item_wants k (items.States r) ls = elements_want most_states r ls
+item_wants k (items.Actions r) ls = elements_want most_actions r ls
+item_wants k (items.Observations r) ls = elements_want most_observations r ls
 item_wants k (items.Start r) ls = start_wants (count_of (preamble_in k).states) r ls
-item_wants k (items.Entry r) ls = entry_wants (indices_in k r.table) r ls
+item_wants k (items.Entry r) ls = entry_wants (preamble_in k) r ls
 
 -- this holds of items that are no start item
 abbrev pub IfNotStart : Topic → Type 0 → Type 0

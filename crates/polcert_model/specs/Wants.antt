@@ -1,6 +1,6 @@
 -- What each place of an item's body is for, by the item's topic and the lexemes of the body before it.
 -- Source: the POMDP file format page at pomdp.org, whose forms of items these are, read from left to right.
-use Rattle.std.specs.Prelude.{ℕ, zero, suc, ◌+◌, ◌-◌, ◌==◌, nat_lt, Bool, true, false, List, [], ◌∷◌, map, drop, if◌then◌else◌}
+use Rattle.std.specs.Prelude.{ℕ, zero, suc, ◌+◌, ◌-◌, ◌==◌, ◌&&◌, nat_lt, Bool, true, false, List, [], ◌∷◌, map, drop, if◌then◌else◌}
 use Rattle.polcert_text.specs.Cut.{Lexeme}
 use Rattle.polcert_text.specs.Lexemes.{are_digits}
 use Rattle.polcert_text.specs.declared.lexeme.TokenKind.{TokenKind}
@@ -8,13 +8,13 @@ use Rattle.polcert_text.specs.declared.lexeme.TokenKind.TheVariants as kinds
 use Rattle.polcert_cells.specs.declared.entry.Table.{Table}
 use Rattle.polcert_cells.specs.declared.words.Topic.{Topic}
 use Rattle.polcert_cells.specs.declared.words.Topic.TheVariants.{Discount, Values, States, Actions, Observations, Start, Cells}
-use Rattle.polcert_cells.specs.declared.elements.Elements.{Elements}
-use Rattle.polcert_cells.specs.Elements.{count_of}
+use Rattle.polcert_cells.specs.Elements.{count_of, most_states, most_actions, most_observations}
 use Rattle.polcert_cells.specs.Entry.{cells_in}
 use Rattle.polcert_model.specs.Text.{Known}
 use Rattle.polcert_model.specs.Reasons.{is_sign}
 use Rattle.polcert_model.specs.KnownView.{least_written}
-use Rattle.polcert_model.specs.EntrySteps.{preamble_in, indices_in}
+use Rattle.polcert_cells.specs.Preamble.{Preamble, is_mdp, dimensions}
+use Rattle.polcert_model.specs.EntrySteps.{preamble_in}
 use Rattle.polcert_model.specs.Misfits.{Wanted, Mark, Index, Listed, CountOrName, FurtherName, StartBody, NumberOrEnd, Number, Digits, EndOfNumbers, EndOfWord}
 
 -- where a number may end: whether a sign stands before it, and how many numbers are still to come
@@ -43,14 +43,14 @@ abbrev pub is_numeral : TokenKind → Bool
 is_numeral kinds.Numeral = true
 is_numeral _ = false
 
--- a count, or names
-abbrev pub names_want : List Lexeme → Wanted
-names_want [] = CountOrName
-names_want (l ∷ ls) = if is_numeral l.kind then EndOfWord else FurtherName (map (λ m. m.bytes) (l ∷ ls))
+-- a count, or names, of at most so many
+abbrev pub names_want : ℕ → List Lexeme → Wanted
+names_want most [] = CountOrName
+names_want most (l ∷ ls) = if is_numeral l.kind then EndOfWord else FurtherName most (map (λ m. m.bytes) (l ∷ ls))
 
-abbrev pub elements_want : List Lexeme → Wanted
-elements_want [] = Mark
-elements_want (colon ∷ ls) = names_want ls
+abbrev pub elements_want : ℕ → List Lexeme → Wanted
+elements_want most [] = Mark
+elements_want most (colon ∷ ls) = names_want most ls
 
 -- behind an index: a colon and further places, a word, or numbers
 abbrev pub by_kind : TokenKind → Wanted → Wanted → Wanted
@@ -58,18 +58,22 @@ by_kind kinds.Colon further other = further
 by_kind kinds.Name further other = EndOfWord
 by_kind _ further other = other
 
+-- a place behind so many others: in an MDP the fourth is `*`
+abbrev pub place_wants : Preamble → ℕ → Wanted
+place_wants p written = if is_mdp p && written == 3 then Mark else Index
+
 -- An entry: whether a colon stands before the lexemes, and how many places were written. Numbers for the cells that
 -- these leave open stand behind enough of them, and before that only a colon.
-abbrev pub entry_wants : List Elements → Table → Bool → ℕ → List Lexeme → Wanted
-entry_wants ds table true written [] = Index
-entry_wants ds table true written (l ∷ ls) = entry_wants ds table false (written + 1) ls
-entry_wants ds table false written [] = if nat_lt written (least_written table) then Mark else numbers_want false (cells_in (drop written ds)) []
-entry_wants ds table false written (l ∷ ls) = by_kind l.kind (entry_wants ds table true written ls) (numbers_want false (cells_in (drop written ds)) (l ∷ ls))
+abbrev pub entry_wants : Preamble → Table → Bool → ℕ → List Lexeme → Wanted
+entry_wants p table true written [] = place_wants p written
+entry_wants p table true written (l ∷ ls) = entry_wants p table false (written + 1) ls
+entry_wants p table false written [] = if nat_lt written (least_written (is_mdp p) table) then Mark else numbers_want false (cells_in (drop written (dimensions p table))) []
+entry_wants p table false written (l ∷ ls) = by_kind l.kind (entry_wants p table true written ls) (numbers_want false (cells_in (drop written (dimensions p table))) (l ∷ ls))
 
 -- a colon, the first place, and what follows it
-abbrev pub cells_want : List Elements → Table → List Lexeme → Wanted
-cells_want ds table [] = Mark
-cells_want ds table (colon ∷ ls) = entry_wants ds table true 0 ls
+abbrev pub cells_want : Preamble → Table → List Lexeme → Wanted
+cells_want p table [] = Mark
+cells_want p table (colon ∷ ls) = entry_wants p table true 0 ls
 
 -- digits alone behind `start:` may be a state's number, unless there is one state
 abbrev pub may_be_state : ℕ → TokenKind → List ℕ → Bool
@@ -100,8 +104,8 @@ start_wants count (l ∷ ls) = if is_colon l.kind then start_body_wants count ls
 abbrev pub wanted : Known → Topic → List Lexeme → Wanted
 wanted k Discount taken = discount_wants taken
 wanted k Values taken = values_want taken
-wanted k States taken = elements_want taken
-wanted k Actions taken = elements_want taken
-wanted k Observations taken = elements_want taken
+wanted k States taken = elements_want most_states taken
+wanted k Actions taken = elements_want most_actions taken
+wanted k Observations taken = elements_want most_observations taken
 wanted k Start taken = start_wants (count_of (preamble_in k).states) taken
-wanted k (Cells table) taken = cells_want (indices_in k table) table taken
+wanted k (Cells table) taken = cells_want (preamble_in k) table taken

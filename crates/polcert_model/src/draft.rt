@@ -1,11 +1,15 @@
 //! A model whose rows aren't tested yet.
 ghost use Rattle.std.specs.Prelude.{◌≡◌, ◌<◌, ◌≤◌, option_map, false, pos, ℕ, IfOk, IsTrue};
-ghost use Rattle.std.specs.Option.{ForSome};
+ghost use Rattle.std.specs.Option.{ForSome, option_copied};
 ghost use Rattle.polcert_cells.specs.Cursors.{IsNext};
-ghost use Rattle.polcert_cells.specs.Elements.{most_elements, count_of, name_of};
-ghost use Rattle.polcert_cells.specs.Preamble.{columns as columns_in};
-ghost use Rattle.polcert_cells.specs.Meaning.{IsCount, states_of, actions_of, observations_of, t_scale, o_scale, start_weight, start_total, elements_of, sum_below};
-ghost use Rattle.polcert_model.specs.Kept.{meaning, rows_of, IsKeptOf};
+ghost use Rattle.polcert_cells.specs.Elements.{most_states, most_actions, most_observations, most_elements, count_of, name_of};
+ghost use Rattle.polcert_cells.specs.declared.entry.Table.TheVariants.{Transition};
+ghost use Rattle.polcert_cells.specs.Preamble.{Preamble, is_mdp, columns as columns_in};
+ghost use Rattle.polcert_cells.specs.Meaning.{IsCount, reward_index, states_of, actions_of, observations_of, t_scale, o_scale, start_weight, start_total, elements_of, sum_below};
+ghost use Rattle.polcert_model.specs.Kept.{meaning, IsKeptOf, AreObservationsOf};
+ghost use Rattle.polcert_model.specs.Order.{count_or};
+ghost use Rattle.polcert_rules.specs.Newest.{IsIndexOf};
+ghost use Rattle.polcert_rules.specs.Shapes.{IsShapeOf, AreSound};
 ghost use Rattle.polcert_model.specs.RowSums.{row_of};
 
 use polcert_cells::{Elements, Entries, Kind, Shares, Table};
@@ -16,21 +20,24 @@ use std::marker;
 /// One, in millionths.
 pub(crate) const ONE: u64 = 1_000_000;
 
+/// How many things a reward of an MDP depends on beside the action and the states.
+const ONE_THING: usize = 1;
+
 /// The share of each state in a start where all states are alike.
 const ALIKE: u64 = 1;
 
 /// What the items of a text say: a model whose rows aren't tested yet. Its readers answer as those of `Model` do. Rows of T
-/// and O are sparse, and rewards are rules.
+/// and O are sparse, and rewards are rules. An MDP has no observations, and no rows of O.
 #[derive(Drop)]
 pub(crate) struct Draft {
     discount: u32,
     costs: bool,
     states: Elements,
     actions: Elements,
-    observations: Elements,
+    observations: Option<Elements>,
     start: Option<Shares>,
     transitions: Rows,
-    observed: Rows,
+    observed: Option<Rows>,
     rewards: Rewards,
 }
 
@@ -55,14 +62,14 @@ impl Draft {
         costs: bool,
         states: Elements,
         actions: Elements,
-        observations: Elements,
+        observations: Option<Elements>,
         start: Option<Shares>,
         entries: Entries,
     ) -> Result<Draft, AllocError>
         requires { IsSound (draft_of discount costs states actions observations start entries) }
         ensures { IfOk result (IsKeptOf (draft_of discount costs states actions observations start entries)) }
     {
-        let entries = entries.as_slice();
+        let entries = &entries;
         let index = Index::of(alloc, entries)?;
         let shape = Shape {
             actions: actions.count(),
@@ -70,18 +77,13 @@ impl Draft {
             columns: states.count(),
         };
         let transitions = Rows::of(alloc, shape, Table::Transition, entries, &index)?;
-        let shape = Shape {
-            actions: actions.count(),
-            states: states.count(),
-            columns: observations.count(),
-        };
-        let observed = Rows::of(alloc, shape, Table::Observation, entries, &index)?;
+        let observed = observed_rows(alloc, shape, &observations, entries, &index)?;
         let shape = RewardShape {
             actions: actions.count(),
             states: states.count(),
-            observations: observations.count(),
+            observations: count_or(ONE_THING, &observations),
         };
-        let rewards = Rewards::of(alloc, shape, costs, entries, &index)?;
+        let rewards = Rewards::of(alloc, shape, costs, entries, index)?;
         Ok(Draft {
             discount,
             costs,
@@ -98,7 +100,7 @@ impl Draft {
     /// How many states there are: 1 to 1,000.
     pub(crate) fn states(&self) -> usize
         ensures elements { result ≡ states_of (meaning self.now) }
-        ensures count { IsCount most_elements result }
+        ensures count { IsCount most_states result }
     {
         self.states.count()
     }
@@ -106,7 +108,7 @@ impl Draft {
     /// How many actions there are: 1 to 1,000.
     pub(crate) fn actions(&self) -> usize
         ensures elements { result ≡ actions_of (meaning self.now) }
-        ensures count { IsCount most_elements result }
+        ensures count { IsCount most_actions result }
     {
         self.actions.count()
     }
@@ -114,9 +116,9 @@ impl Draft {
     /// How many observations there are: 1 to 1,000.
     pub(crate) fn observations(&self) -> usize
         ensures elements { result ≡ observations_of (meaning self.now) }
-        ensures count { IsCount most_elements result }
+        ensures count { IsCount most_observations result }
     {
-        self.observations.count()
+        count_or(self.states.count(), &self.observations)
     }
 
     /// The name of the element of this number, where the text gives names and not a count.
@@ -134,8 +136,22 @@ impl Draft {
         match kind {
             Kind::State => &self.states,
             Kind::Action => &self.actions,
-            Kind::Observation => &self.observations,
+            Kind::Observation => self.observations.as_ref().unwrap_or(&self.states),
         }
+    }
+
+    /// Whether there is no line of observations, so that the end state is observed.
+    pub(crate) fn is_mdp(&self) -> bool
+        ensures { result ≡ is_mdp (meaning self.now).preamble }
+    {
+        self.observations.is_none()
+    }
+
+    /// The observations' line, where there is one.
+    pub(crate) fn observations_line(&self) -> Option<&Elements>
+        ensures { option_copied result ≡ (meaning self.now).preamble.observations }
+    {
+        self.observations.as_ref()
     }
 
     /// Whether the text gives costs in place of rewards.
@@ -202,7 +218,10 @@ impl Draft {
         requires end { e < states_of (meaning self.now) }
         ensures { result ≡ (meaning self.now).o a e z }
     {
-        self.observed.at(a, e, z)
+        match &self.observed {
+            Some(rows) => rows.at(a, e, z),
+            None => if e == z { self.t_scale() } else { 0 },
+        }
     }
 
     /// R: the reward, in millionths, where action `a` is taken in state `s`, ends in state `e` and observation `z` is made.
@@ -213,7 +232,14 @@ impl Draft {
         requires observation { z < observations_of (meaning self.now) }
         ensures { result ≡ (meaning self.now).r a s e z }
     {
-        self.rewards.at(a, s, e, z)
+        self.rewards.at(a, s, e, self.reward_index(z))
+    }
+
+    /// The last index of a reward where observation `z` is made: in an MDP a reward has nothing to do with it.
+    fn reward_index(&self, z: usize) -> usize
+        ensures { result ≡ reward_index (meaning self.now).preamble z }
+    {
+        if self.is_mdp() { 0 } else { z }
     }
 
     /// The reward where action `a` is taken in state `s` and ends in state `e`, where it is known at once that it is the
@@ -224,7 +250,10 @@ impl Draft {
         requires end { e < states_of (meaning self.now) }
         ensures { ForSome result (λ h. (z : ℕ) → z < observations_of (meaning self.now) → (meaning self.now).r a s e z ≡ h) }
     {
-        self.rewards.alike(a, s, e)
+        match &self.observations {
+            None => Some(self.r(a, s, e, 0)),
+            Some(_) => self.rewards.alike(a, s, e),
+        }
     }
 
     /// Whether an entry gives rewards where action `a` is taken in state `s`: where none does, all are 0.
@@ -252,7 +281,14 @@ impl Draft {
         requires end { e < states_of (meaning self.now) }
         ensures { IsNext ((meaning self.now).o a e) (observations_of (meaning self.now)) from result }
     {
-        self.observed.next(a, e, from)
+        match &self.observed {
+            Some(rows) => rows.next(a, e, from),
+            None => if from <= e {
+                Some((e, self.t_scale()))
+            } else {
+                None
+            },
+        }
     }
 
     /// The weight of a cell of T or O.
@@ -261,7 +297,10 @@ impl Draft {
         requires state { state < states_of (meaning self.now) }
         ensures { result ≡ row_of self.now table action state column }
     {
-        self.rows(table).at(action, state, column)
+        match table {
+            Table::Observation => self.o(action, state, column),
+            Table::Transition | Table::Reward => self.t(action, state, column),
+        }
     }
 
     /// What the weights of all end states sum to where action `a` is taken in state `s`.
@@ -279,7 +318,10 @@ impl Draft {
         requires end { e < states_of (meaning self.now) }
         ensures { result ≡ sum_below ((meaning self.now).o a e) (observations_of (meaning self.now)) }
     {
-        self.observed.sum(a, e)
+        match &self.observed {
+            Some(rows) => rows.sum(a, e),
+            None => self.o_scale(),
+        }
     }
 
     /// How many columns a row of the table has: those of R have one.
@@ -293,16 +335,38 @@ impl Draft {
             Table::Reward => 1,
         }
     }
+}
 
-    /// The rows of T or of O.
-    fn rows(&self, table: Table) -> &Rows
-        ensures rows { result.now ≡ rows_of self.now table }
-        ensures actions { result.now.actions ≡ actions_of (meaning self.now) }
-        ensures states { result.now.states ≡ states_of (meaning self.now) }
-    {
-        match table {
-            Table::Observation => &self.observed,
-            Table::Transition | Table::Reward => &self.transitions,
-        }
+/// How many elements a line says, or so many where it didn't come.
+pub(crate) fn count_or(count: usize, elements: &Option<Elements>) -> usize
+    ensures { result ≡ count_or count elements.now }
+{
+    match elements {
+        Some(elements) => elements.count(),
+        None => count,
     }
+}
+
+/// The rows of O, where there are observations.
+fn observed_rows(
+    alloc: Global,
+    shape: Shape,
+    observations: &Option<Elements>,
+    entries: &Entries,
+    index: &Index,
+) -> Result<Option<Rows>, AllocError>
+    requires sound { (p : Preamble) × (p.observations ≡ observations.now) × IsShapeOf p Transition shape × AreSound p entries.now }
+    requires index { IsIndexOf entries.now index.now }
+    ensures rows { IfOk result (λ rows. (p : Preamble) → p.observations ≡ observations.now → IsShapeOf p Transition shape → AreObservationsOf p entries.now rows) }
+{
+    let Some(elements) = observations else {
+        return Ok(None);
+    };
+    let shape = Shape {
+        actions: shape.actions,
+        states: shape.states,
+        columns: elements.count(),
+    };
+    let rows = Rows::of(alloc, shape, Table::Observation, entries, index)?;
+    Ok(Some(rows))
 }

@@ -1,20 +1,20 @@
 //! An entry, read token by token behind the word of its table.
-ghost use Rattle.std.specs.Prelude.{◌≡◌, ◌<◌, ◌≤◌, ◌↔◌, [], List, length, IsTrue, IfOk, OnOk, IfErr, OnErr, IfSome, IfNone, MatchOption, Some, None, false, unwrap_or};
+ghost use Rattle.std.specs.Prelude.{◌≡◌, ◌<◌, ◌≤◌, ◌↔◌, [], List, Bool, length, drop, IsTrue, IfOk, OnOk, IfErr, OnErr, IfSome, IfNone, MatchOption, Some, None, false, unwrap_or};
 ghost use Rattle.polcert_text.specs.Reading.{lexeme_of};
 ghost use Rattle.std.specs.Option.{option_copied};
-ghost use Rattle.polcert_cells.specs.declared.elements.Elements.{Elements};
+ghost use Rattle.polcert_cells.specs.Preamble.{Preamble};
 ghost use Rattle.polcert_cells.specs.declared.elements.Elements.TheVariants.{Count};
 ghost use Rattle.polcert_cells.specs.Elements.{count_of, most_elements};
 ghost use Rattle.polcert_model.specs.ElementSteps.{IsText};
 ghost use Rattle.polcert_cells.specs.Entry.{IsPlace};
 ghost use Rattle.polcert_model.specs.KnownView.{least_written};
 ghost use Rattle.polcert_model.specs.LineSteps.{Takes, CannotTake, CannotEnd};
-ghost use Rattle.polcert_model.specs.EntrySteps.{indices_in, ProbabilitiesGo, RewardsGo, EntryGoes, IsWithinIndices, IsEntryReason, IsPlaceReason, IfRefused, IsFull, IsListReason, MayStand, IsWordBehind, AreBegun, CannotBegin, range_of, HasRoom, HasRoomIn, no_numbers, body_of, entry_sign, AreSome};
-ghost use Rattle.polcert_model.specs.Misfits.{misfit, IsMisfit, Index};
+ghost use Rattle.polcert_model.specs.EntrySteps.{preamble_in, indices_in, named_in, IsFirstPlace, ProbabilitiesGo, RewardsGo, EntryGoes, IsWithinIndices, IsEntryReason, IsPlaceReason, IfRefused, IsFull, IsListReason, MayStand, IsWordBehind, AreBegun, CannotBegin, range_of, HasRoom, HasRoomIn, no_numbers, body_of, entry_sign, AreSome};
+ghost use Rattle.polcert_model.specs.Misfits.{misfit, IsMisfit, Index, Mark};
 ghost use Rattle.polcert_model.specs.NumberSteps.{SignIs};
 ghost use Rattle.polcert_model.specs.ItemSteps.{IsEndReason};
 ghost use Rattle.polcert_model.specs.Text.{Known};
-ghost use Rattle.polcert_model.specs.Wants.{numbers_want};
+ghost use Rattle.polcert_model.specs.Wants.{numbers_want, place_wants};
 ghost use Rattle.polcert_model.specs.WantSteps.{Leads, list_wants, state_wants, entry_wants};
 ghost use Rattle.polcert_cells.specs.declared.words.Topic.{Topic};
 ghost use Rattle.polcert_cells.specs.declared.entry.Place.{Place};
@@ -174,17 +174,17 @@ impl EntryReader {
         requires text { IsText (lexeme_of token) }
         ensures table { self.new.table ≡ self.old.table }
         ensures within { OnOk result (IsWithinIndices (indices_in known.now self.old.table) self.new) }
-        ensures takes { OnOk result (Takes (EntryGoes (indices_in known.now self.old.table))
+        ensures takes { OnOk result (Takes (EntryGoes (preamble_in known.now))
             self.old (lexeme_of token.entry) self.new) }
         ensures refused { IfErr result (λ stop. IfRefused stop (λ r.
-            CannotTake (EntryGoes (indices_in known.now self.old.table)) self.old (lexeme_of token.entry))) }
+            CannotTake (EntryGoes (preamble_in known.now)) self.old (lexeme_of token.entry))) }
         ensures reason { IfErr result (λ stop. IfRefused stop (λ r.
             IsEntryReason self.old (lexeme_of token.entry) r.kind r.place)) }
         ensures sign { OnOk result (SignIs (entry_sign self.new.state) (lexeme_of token.entry)) }
-        ensures leads { OnOk result (Leads (entry_wants (indices_in known.now self.old.table) self.old)
-            (lexeme_of token.entry) (entry_wants (indices_in known.now self.old.table) self.new)) }
+        ensures leads { OnOk result (Leads (entry_wants (preamble_in known.now) self.old)
+            (lexeme_of token.entry) (entry_wants (preamble_in known.now) self.new)) }
         ensures kind { IfErr result (λ stop. IfRefused stop (λ r.
-            IsMisfit (entry_wants (indices_in known.now self.old.table) self.old []) (lexeme_of token.entry) r.kind)) }
+            IsMisfit (entry_wants (preamble_in known.now) self.old []) (lexeme_of token.entry) r.kind)) }
     {
         match &mut self.state {
             EntryState::Colon => {
@@ -207,23 +207,40 @@ impl EntryReader {
         requires text { IsText (lexeme_of token) }
         ensures table { self.new.table ≡ self.old.table }
         ensures within { OnOk result (IsWithinIndices (indices_in known.now self.old.table) self.new) }
-        ensures takes { OnOk result (Takes (EntryGoes (indices_in known.now self.old.table))
+        ensures takes { OnOk result (Takes (EntryGoes (preamble_in known.now))
             self.old (lexeme_of token.entry) self.new) }
         ensures refused { IfErr result (λ stop. IfRefused stop (λ r.
-            CannotTake (EntryGoes (indices_in known.now self.old.table)) self.old (lexeme_of token.entry))) }
+            CannotTake (EntryGoes (preamble_in known.now)) self.old (lexeme_of token.entry))) }
         ensures reason { IfErr result (λ stop. IfRefused stop (λ r.
             IsPlaceReason (lexeme_of token.entry) r.kind r.place)) }
         ensures sign { OnOk result (SignIs (entry_sign self.new.state) (lexeme_of token.entry)) }
-        ensures leads { OnOk result (Leads (entry_wants (indices_in known.now self.old.table) self.old)
-            (lexeme_of token.entry) (entry_wants (indices_in known.now self.old.table) self.new)) }
+        ensures leads { OnOk result (Leads (entry_wants (preamble_in known.now) self.old)
+            (lexeme_of token.entry) (entry_wants (preamble_in known.now) self.new)) }
         ensures kind { IfErr result (λ stop. IfRefused stop (λ r.
-            IsMisfit (entry_wants (indices_in known.now self.old.table) self.old []) (lexeme_of token.entry) r.kind)) }
+            IsMisfit (entry_wants (preamble_in known.now) self.old []) (lexeme_of token.entry) r.kind)) }
     {
-        let elements = known.elements(self.table, self.places.len());
-        let place = place_of(token, elements)?;
+        let place = self.next_place(known, token)?;
         self.places.push(place)?;
         self.state = EntryState::Body;
         Ok(())
+    }
+
+    /// The next place that the token is. In an MDP the fourth is `*`: a reward has nothing to do with what is observed.
+    fn next_place(&self, known: &Known, token: Token<'_>) -> Result<Place, Refusal>
+        requires within { length self.now.places < length (indices_in known.now self.now.table) }
+        requires text { IsText (lexeme_of token) }
+        ensures place { IfOk result (IsFirstPlace (drop (length self.now.places) (named_in known.now self.now.table)) (lexeme_of token.entry)) }
+        ensures refused { OnErr result ((p : Place) →
+            IsFirstPlace (drop (length self.now.places) (named_in known.now self.now.table)) (lexeme_of token.entry) p → ⊥) }
+        ensures reason { IfErr result (λ r. IsPlaceReason (lexeme_of token.entry) r.kind r.place) }
+        ensures kind { IfErr result (λ r.
+            r.kind ≡ misfit (place_wants (preamble_in known.now) (length self.now.places)) (Some (lexeme_of token.entry))) }
+    {
+        let written = self.places.len();
+        if known.is_mdp() && written == 3 {
+            return every(token);
+        }
+        place_of(token, known.elements(self.table, written))
     }
 
     /// Goes on behind a place.
@@ -232,17 +249,17 @@ impl EntryReader {
         requires within { length self.old.places ≤ length (indices_in known.now self.old.table) }
         ensures table { self.new.table ≡ self.old.table }
         ensures within { OnOk result (IsWithinIndices (indices_in known.now self.old.table) self.new) }
-        ensures takes { OnOk result (Takes (EntryGoes (indices_in known.now self.old.table))
+        ensures takes { OnOk result (Takes (EntryGoes (preamble_in known.now))
             self.old (lexeme_of token.entry) self.new) }
         ensures refused { IfErr result (λ stop. IfRefused stop (λ r.
-            CannotTake (EntryGoes (indices_in known.now self.old.table)) self.old (lexeme_of token.entry))) }
+            CannotTake (EntryGoes (preamble_in known.now)) self.old (lexeme_of token.entry))) }
         ensures reason { IfErr result (λ stop. IfRefused stop (λ r.
             IsEntryReason self.old (lexeme_of token.entry) r.kind r.place)) }
         ensures sign { OnOk result (SignIs (entry_sign self.new.state) (lexeme_of token.entry)) }
-        ensures leads { OnOk result (Leads (entry_wants (indices_in known.now self.old.table) self.old)
-            (lexeme_of token.entry) (entry_wants (indices_in known.now self.old.table) self.new)) }
+        ensures leads { OnOk result (Leads (entry_wants (preamble_in known.now) self.old)
+            (lexeme_of token.entry) (entry_wants (preamble_in known.now) self.new)) }
         ensures kind { IfErr result (λ stop. IfRefused stop (λ r.
-            IsMisfit (entry_wants (indices_in known.now self.old.table) self.old []) (lexeme_of token.entry) r.kind)) }
+            IsMisfit (entry_wants (preamble_in known.now) self.old []) (lexeme_of token.entry) r.kind)) }
     {
         let written = self.places.len();
         match token.kind {
@@ -251,7 +268,7 @@ impl EntryReader {
                 Ok(())
             }
             TokenKind::Numeral | TokenKind::Plus | TokenKind::Minus
-                if takes_numbers(self.table, written) => {
+                if takes_numbers(known.is_mdp(), self.table, written) => {
                 let needed = known.cells_behind(self.table, written);
                 self.state = begin_numbers(alloc, self.table, needed, token)?;
                 Ok(())
@@ -267,12 +284,12 @@ impl EntryReader {
     }
 
     /// The entry, or why it cannot end here.
-    pub fn end(self) -> Result<Entry, ItemFault>
-        ensures said { (ds : List Elements) → IfOk result (EntryGoes ds self []) }
-        ensures refused { (ds : List Elements) → AreSome ds → OnErr result (CannotEnd (EntryGoes ds) self) }
+    pub fn end(self, known: &Known) -> Result<Entry, ItemFault>
+        ensures said { IfOk result (EntryGoes (preamble_in known.now) self []) }
+        ensures refused { AreSome (indices_in known.now self.table) → OnErr result (CannotEnd (EntryGoes (preamble_in known.now)) self) }
         ensures reason { IfErr result (IsEndReason (Topic.Cells self.table)) }
-        ensures kind { (ds : List Elements) → AreSome ds → IsWithinIndices ds self →
-            IfErr result (λ kind. kind ≡ misfit (entry_wants ds self []) None) }
+        ensures kind { AreSome (indices_in known.now self.table) → IsWithinIndices (indices_in known.now self.table) self →
+            IfErr result (λ kind. kind ≡ misfit (entry_wants (preamble_in known.now) self []) None) }
     {
         let EntryReader {
             table,
@@ -289,7 +306,7 @@ impl EntryReader {
                 None => Body::Rewards(numbers.read),
             },
             EntryState::Word(word) => body_of(word),
-            EntryState::Body if takes_numbers(table, places.len()) => {
+            EntryState::Body if takes_numbers(known.is_mdp(), table, places.len()) => {
                 return Err(ItemFault::WrongNumberCount);
             }
             _ => return Err(ItemFault::BadShape),
@@ -323,8 +340,8 @@ fn begin_numbers(
     ensures reason { IfErr result (λ stop. IfRefused stop (λ r.
         IsListReason (range_of table) None (lexeme_of token.entry) r.kind r.place)) }
     ensures sign { IfOk result (λ state. SignIs (entry_sign state) (lexeme_of token.entry)) }
-    ensures leads { (ds : List Elements) (places : List Place) → IfOk result (λ state.
-        Leads (numbers_want false needed) (lexeme_of token.entry) (state_wants ds table places state)) }
+    ensures leads { (p : Preamble) (places : List Place) → IfOk result (λ state.
+        Leads (numbers_want false needed) (lexeme_of token.entry) (state_wants p table places state)) }
     ensures kind { IfErr result (λ stop. IfRefused stop (λ r.
         IsMisfit (numbers_want false needed []) (lexeme_of token.entry) r.kind)) }
     ensures room { IfOk result HasRoomIn }
@@ -384,8 +401,21 @@ fn place_of(token: Token<'_>, elements: Option<&Elements>) -> Result<Place, Refu
 {
     match (token.kind, elements) {
         (TokenKind::Star, _) => Ok(Place::Every),
-        (_, Some(elements)) => Ok(Place::Only(element_of(token, elements)?)),
-        (_, None) => Ok(Place::Only(element_of(token, &Elements::Count(0))?)),
+        (_, Some(elements)) => Ok(Place::Only(element_of(token, elements)? as u16)),
+        (_, None) => Ok(Place::Only(element_of(token, &Elements::Count(0))? as u16)),
+    }
+}
+
+/// The place that the token is where only `*` may stand.
+fn every(token: Token<'_>) -> Result<Place, Refusal>
+    ensures star { IfOk result (λ p. (p ≡ Place.Every) × ((lexeme_of token.entry).kind ≡ TokenKind.Star)) }
+    ensures refused { OnErr result ((lexeme_of token.entry).kind ≡ TokenKind.Star → ⊥) }
+    ensures reason { IfErr result (λ r. IsPlaceReason (lexeme_of token.entry) r.kind r.place) }
+    ensures kind { IfErr result (λ r. r.kind ≡ misfit Mark (Some (lexeme_of token.entry))) }
+{
+    match token.kind {
+        TokenKind::Star => Ok(Place::Every),
+        _ => Err(misplaced(token)),
     }
 }
 
@@ -400,19 +430,20 @@ fn indices_of(table: Table) -> usize
 }
 
 /// Whether numbers may stand behind so many places.
-fn takes_numbers(table: Table, written: usize) -> bool
-    ensures { IsTrue result ↔ (least_written table ≤ written) }
+fn takes_numbers(is_mdp: bool, table: Table, written: usize) -> bool
+    ensures { IsTrue result ↔ (least_written is_mdp table ≤ written) }
 {
     match table {
-        Table::Transition | Table::Observation => 1 <= written,
-        Table::Reward => 2 <= written,
+        Table::Reward if !is_mdp => 2 <= written,
+        _ => 1 <= written,
     }
 }
 
 /// The word that the token is in place of numbers behind so many places, if it may stand there.
 fn word_of(table: Table, written: usize, token: Token<'_>) -> Option<Word>
-    ensures word { IfSome result (IsWordBehind table written (lexeme_of token.entry)) }
-    ensures none { IfNone result ((w : Word) → IsWordBehind table written (lexeme_of token.entry) w → ⊥) }
+    ensures name { IfSome result (λ _. (lexeme_of token.entry).kind ≡ TokenKind.Name) }
+    ensures word { (mdp : Bool) → IfSome result (IsWordBehind mdp table written (lexeme_of token.entry)) }
+    ensures none { (mdp : Bool) → IfNone result ((w : Word) → IsWordBehind mdp table written (lexeme_of token.entry) w → ⊥) }
 {
     if is_word(&token, b"uniform") && takes_uniform(table, written) {
         return Some(Word::Uniform);
@@ -424,7 +455,7 @@ fn word_of(table: Table, written: usize, token: Token<'_>) -> Option<Word>
 }
 
 fn takes_uniform(table: Table, written: usize) -> bool
-    ensures { IsTrue result ↔ MayStand table Body.Uniform written }
+    ensures { (mdp : Bool) → (IsTrue result ↔ MayStand mdp table Body.Uniform written) }
 {
     match table {
         Table::Transition | Table::Observation => 1 <= written && written <= 2,
@@ -433,7 +464,7 @@ fn takes_uniform(table: Table, written: usize) -> bool
 }
 
 fn takes_identity(table: Table, written: usize) -> bool
-    ensures { IsTrue result ↔ MayStand table Body.Identity written }
+    ensures { (mdp : Bool) → (IsTrue result ↔ MayStand mdp table Body.Identity written) }
 {
     match table {
         Table::Transition => written == 1,

@@ -1,5 +1,5 @@
 //! Rows and tables computed from small models.
-ghost use Rattle.std.specs.Prelude.{codes, true, Some, None, ◌≡◌, ◌∷◌, [], sum, pos, neg_ℤ};
+ghost use Rattle.std.specs.Prelude.{codes, true, false, Some, None, ◌≡◌, ◌∷◌, [], sum, pos, neg_ℤ};
 ghost use Rattle.polcert_cells.specs.Meaning.{t_scale, HasProperRows, sum_below, states_of, actions_of, observations_of, start_total};
 ghost use Rattle.polcert_model.specs.Examples.{first_row, thirds, decimal_thirds, sixths, patterns, reward_table, whole, reward_cells, general_first, general_last, name, numeral};
 ghost use Rattle.polcert_cells.specs.declared.shares.Shares.{Shares};
@@ -12,8 +12,8 @@ ghost use Rattle.polcert_model.specs.declared.fault.ItemFault.TheVariants.{Token
 ghost use Rattle.polcert_model.specs.Refusals.{IsItemRefusal, StopsInBody};
 ghost use Rattle.polcert_model.specs.RefusedExamples.{empty_text, hello, twice, above_one, glued};
 ghost use Rattle.polcert_model.specs.First.{first, first_preamble, first_entries, first_known, first_model};
-ghost use Rattle.polcert_model.specs.FullForm.{full_form, start_text, rewards_row};
-ghost use Rattle.polcert_model.specs.FullFormExamples.{tiger_form, first_form, sixths_form, thirds_form};
+ghost use Rattle.polcert_model.specs.FullForm.{full_form, start_text, reward_words, rewards_row};
+ghost use Rattle.polcert_model.specs.FullFormExamples.{tiger_form, first_form, sixths_form, thirds_form, two_states, two_states_form};
 ghost use Rattle.polcert_model.specs.Misfits.{misfit, Mark, Index, Number, Digits, EndOfNumbers};
 
 /// `uniform` over three states is exactly a third each.
@@ -118,13 +118,15 @@ pub fn kinds_of_misfits()
     ensures reset { misfit Number (Some (name (codes "reset"))) ≡ Reset }
 {}
 
-/// The full forms of four models: the tiger problem, one by numbers alone, one whose rows are thirds, and one with
-/// single cells behind `uniform`.
+/// The full forms of six models: the tiger problem, one by numbers alone, one whose rows are thirds, one with
+/// single cells behind `uniform`, and an MDP, with rewards and with costs.
 pub fn full_forms()
     ensures tiger { full_form tiger_model ≡ tiger_form }
     ensures first { full_form first_model ≡ first_form }
     ensures thirds { full_form thirds ≡ thirds_form }
     ensures sixths { full_form sixths ≡ sixths_form }
+    ensures mdp { full_form (two_states false) ≡ two_states_form (codes "reward") }
+    ensures mdp_costs { full_form (two_states true) ≡ two_states_form (codes "cost") }
 {}
 
 /// Printed start items: all states alike, one of them, and millionths. Below them a row of costs.
@@ -132,6 +134,6 @@ pub fn printed_lines()
     ensures uniform { start_text (shares (1 ∷ 1 ∷ []) 2) ≡ codes "start: uniform\n" }
     ensures include { start_text (shares (0 ∷ 1 ∷ []) 1) ≡ codes "start include: 1\n" }
     ensures millionths { start_text (shares (250_000 ∷ 750_000 ∷ []) 1_000_000) ≡ codes "start: 0.25 0.75\n" }
-    ensures costs { rewards_row true 0 0 0 1 (λ z. pos 1_500_000) ≡ codes "R: 0 : 0 : 0\n-1.5\n" }
-    ensures nothing { rewards_row true 0 0 0 1 (λ z. pos 0) ≡ [] }
+    ensures costs { rewards_row true (reward_words 0 0 0) 1 (λ z. pos 1_500_000) ≡ codes "R: 0 : 0 : 0\n-1.5\n" }
+    ensures nothing { rewards_row true (reward_words 0 0 0) 1 (λ z. pos 0) ≡ [] }
 {}

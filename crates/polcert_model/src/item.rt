@@ -19,7 +19,7 @@ use crate::number::Refusal;
 use crate::start_reader::StartReader;
 use crate::stop::{ItemEnd, Stop};
 use crate::{Entry, ItemFault};
-use polcert_cells::{Elements, Shares, Topic};
+use polcert_cells::{Elements, MOST_ACTIONS, MOST_OBSERVATIONS, MOST_STATES, Shares, Topic};
 use polcert_text::Token;
 use std::alloc::Global;
 
@@ -84,9 +84,9 @@ impl ItemReader {
         match self {
             ItemReader::Discount(reader) => Ok(reader.feed(token)?),
             ItemReader::Values(reader) => Ok(reader.feed(token)?),
-            ItemReader::States(reader) => reader.feed(alloc, token),
-            ItemReader::Actions(reader) => reader.feed(alloc, token),
-            ItemReader::Observations(reader) => reader.feed(alloc, token),
+            ItemReader::States(reader) => reader.feed(alloc, MOST_STATES, token),
+            ItemReader::Actions(reader) => reader.feed(alloc, MOST_ACTIONS, token),
+            ItemReader::Observations(reader) => reader.feed(alloc, MOST_OBSERVATIONS, token),
             ItemReader::Start(reader) => reader.feed(alloc, known.states(), token),
             ItemReader::Entry(reader) => reader.feed(alloc, known, token),
         }
@@ -119,7 +119,7 @@ impl ItemReader {
             ItemReader::Actions(reader) => Ok(Said::Actions(reader.end()?)),
             ItemReader::Observations(reader) => Ok(Said::Observations(reader.end()?)),
             ItemReader::Start(reader) => Ok(Said::Start(reader.end(alloc, known.states())?)),
-            ItemReader::Entry(reader) => Ok(Said::Entry(reader.end()?)),
+            ItemReader::Entry(reader) => Ok(Said::Entry(reader.end(known)?)),
         }
     }
 }

@@ -3,19 +3,21 @@ ghost use Rattle.std.specs.Prelude.{◌≡◌, ◌<◌, ◌≤◌, length, drop,
 ghost use Rattle.std.specs.Option.{option_copied};
 ghost use Rattle.polcert_cells.specs.declared.elements.Elements.{Elements};
 ghost use Rattle.polcert_cells.specs.declared.elements.Elements.TheVariants.{Count};
-ghost use Rattle.polcert_cells.specs.Elements.{count_of, most_elements};
+ghost use Rattle.polcert_cells.specs.Elements.{count_of, most_states, most_actions, most_observations, most_elements};
 ghost use Rattle.polcert_cells.specs.Entry.{cells_in};
-ghost use Rattle.polcert_model.specs.EntrySteps.{indices_in};
+ghost use Rattle.polcert_cells.specs.declared.words.Topic.{Topic};
+ghost use Rattle.polcert_cells.specs.Preamble.{is_mdp};
+ghost use Rattle.polcert_model.specs.EntrySteps.{preamble_in, indices_in, named_in};
 ghost use Rattle.polcert_model.specs.KnownView.{least_written, learned, IsSaidWithin};
 ghost use Rattle.polcert_cells.specs.Meaning.{IsCount};
 ghost use Rattle.polcert_model.specs.Kept.{IsKeptOf};
 ghost use Rattle.polcert_model.specs.Order.{word_fault};
-ghost use Rattle.polcert_model.specs.Order.{count_in, preamble_fault, is_late, came_before, cells_are_too_many};
+ghost use Rattle.polcert_model.specs.Order.{count_in, preamble_fault, is_late, came_before, is_unobserved, cells_are_too_many};
 ghost use Rattle.polcert_model.specs.Text.{nothing_known};
 ghost use Rattle.polcert_model.specs.TextSteps.{IsWholeRead, said};
 ghost use Rattle.polcert_text.specs.Cut.{Lexeme};
 
-use crate::draft::Draft;
+use crate::draft::{Draft, count_or};
 use crate::item::Said;
 use crate::{Entries, ItemFault, Table};
 use polcert_cells::{Elements, Shares, Topic};
@@ -39,13 +41,14 @@ pub struct Known {
 
 impl Model for Known {
     ghost use Rattle.polcert_model.specs.Text as text;
+    ghost use Rattle.polcert_cells.specs.Elements.{most_states, most_actions, most_observations};
     ghost use Rattle.polcert_model.specs.KnownView.{known_of, IsCountIn};
 
     ghost Value = { text.Known };
 
     ghost view = { λ k. known_of k.discount k.costs k.states k.actions k.observations k.start k.entries };
 
-    ghost invariant = { λ k. IsCountIn k.states × IsCountIn k.actions × IsCountIn k.observations };
+    ghost invariant = { λ k. IsCountIn most_states k.states × IsCountIn most_actions k.actions × IsCountIn most_observations k.observations };
 }
 
 impl Known {
@@ -102,21 +105,25 @@ impl Known {
             costs.unwrap_or(false),
             states.unwrap_or(Elements::Count(0)),
             actions.unwrap_or(Elements::Count(0)),
-            observations.unwrap_or(Elements::Count(0)),
+            observations,
             start,
             entries,
         )
     }
 
-    /// The elements that the index of this number has in a table's cells, where the line came that says them.
+    /// What the place of this number may name in an entry of the table, where it may name anything.
     pub fn elements(&self, table: Table, number: usize) -> Option<&Elements>
         requires { number < length (indices_in self.now table) }
-        ensures elements { get_or (indices_in self.now table) number (Count 0) ≡ unwrap_or (option_copied result) (Count 0) }
+        ensures elements { get_or (named_in self.now table) number (Count 0) ≡ unwrap_or (option_copied result) (Count 0) }
         ensures few { count_of (unwrap_or (option_copied result) (Count 0)) ≤ most_elements }
     {
         match (table, number) {
             (_, 0) => self.actions.as_ref(),
-            (Table::Observation, 2) | (Table::Reward, 3) => self.observations.as_ref(),
+            (Table::Observation, 2) => match &self.observations {
+                Some(elements) => Some(elements),
+                None => self.states.as_ref(),
+            },
+            (Table::Reward, 3) => self.observations.as_ref(),
             _ => self.states.as_ref(),
         }
     }
@@ -125,25 +132,36 @@ impl Known {
     pub fn states(&self) -> &Elements
         requires { (states : Elements) × (self.now.states ≡ Some states) }
         ensures states { self.now.states ≡ Some result.now }
-        ensures count { IsCount most_elements (count_of result.now) }
+        ensures count { IsCount most_states (count_of result.now) }
     {
         self.states.as_ref().unwrap()
     }
 
     /// How many cells so many places leave open.
     pub fn cells_behind(&self, table: Table, written: usize) -> usize
-        requires { least_written table ≤ written }
+        requires { least_written (is_mdp (preamble_in self.now)) table ≤ written }
         ensures { result ≡ cells_in (drop written (indices_in self.now table)) }
     {
         let states = count_in(&self.states);
-        let observations = count_in(&self.observations);
+        let observed = count_or(states, &self.observations);
+        let rewarded = count_or(1, &self.observations);
         match (table, written) {
             (Table::Transition, 1) => states * states,
             (Table::Transition, 2) => states,
-            (Table::Observation, 1) | (Table::Reward, 2) => states * observations,
-            (Table::Observation, 2) | (Table::Reward, 3) => observations,
+            (Table::Observation, 1) => states * observed,
+            (Table::Observation, 2) => observed,
+            (Table::Reward, 1) => states * states * rewarded,
+            (Table::Reward, 2) => states * rewarded,
+            (Table::Reward, 3) => rewarded,
             _ => 1,
         }
+    }
+
+    /// Whether there is no line of observations.
+    pub fn is_mdp(&self) -> bool
+        ensures { result ≡ is_mdp (preamble_in self.now) }
+    {
+        self.observations.is_none()
     }
 
     /// Why an item of this topic cannot stand here, whatever its body.
@@ -157,7 +175,21 @@ impl Known {
             return Some(ItemFault::DuplicateLine);
         }
         match topic {
-            Topic::Start | Topic::Cells(_) => self.preamble_fault(),
+            Topic::Start => self.preamble_fault(),
+            Topic::Cells(table) => match self.preamble_fault() {
+                Some(fault) => Some(fault),
+                None => self.table_fault(table),
+            },
+            _ => None,
+        }
+    }
+
+    /// Why the table has no entries: what is observed in an MDP is the end state.
+    fn table_fault(&self, table: Table) -> Option<ItemFault>
+        ensures { result ≡ (if is_unobserved self.now (Topic.Cells table) then Some ItemFault.BadShape else None) }
+    {
+        match table {
+            Table::Observation if self.is_mdp() => Some(ItemFault::BadShape),
             _ => None,
         }
     }
@@ -193,9 +225,12 @@ impl Known {
         if self.discount.is_none() || self.costs.is_none() {
             return Some(ItemFault::MissingLine);
         }
-        match (&self.states, &self.actions, &self.observations) {
-            (Some(states), Some(actions), Some(observations)) => {
-                cells_fault(states.count(), actions.count(), observations.count())
+        match (&self.states, &self.actions) {
+            (Some(states), Some(actions)) => {
+                let states = states.count();
+                let observed = count_or(states, &self.observations);
+                let rewarded = count_or(1, &self.observations);
+                cells_fault(states, actions.count(), observed, rewarded)
             }
             _ => Some(ItemFault::MissingLine),
         }
@@ -205,23 +240,21 @@ impl Known {
 fn count_in(elements: &Option<Elements>) -> usize
     ensures { result ≡ count_in elements.now }
 {
-    match elements {
-        Some(elements) => elements.count(),
-        None => 0,
-    }
+    count_or(0, elements)
 }
 
-fn cells_fault(states: usize, actions: usize, observations: usize) -> Option<ItemFault>
-    requires states { states ≤ most_elements }
-    requires actions { actions ≤ most_elements }
-    requires observations { observations ≤ most_elements }
-    ensures { result ≡ (if cells_are_too_many states actions observations then Some ItemFault.TooManyCells else None) }
+fn cells_fault(states: usize, actions: usize, observed: usize, rewarded: usize) -> Option<ItemFault>
+    requires states { states ≤ most_states }
+    requires actions { actions ≤ most_actions }
+    requires observed { observed ≤ most_observations }
+    requires rewarded { rewarded ≤ most_observations }
+    ensures { result ≡ (if cells_are_too_many states actions observed rewarded then Some ItemFault.TooManyCells else None) }
 {
     let pairs = actions * states;
     let transitions = pairs * states;
     if transitions > MOST_CELLS
-        || pairs * observations > MOST_CELLS
-        || transitions * observations > MOST_CELLS
+        || pairs * observed > MOST_CELLS
+        || transitions * rewarded > MOST_CELLS
     {
         Some(ItemFault::TooManyCells)
     } else {

@@ -24,8 +24,6 @@ mod rows;
 mod start_reader;
 mod stop;
 mod table;
-#[cfg(test)]
-mod tests;
 
 pub use dense::{DenseModel, dense_of};
 pub use examples::{
@@ -44,4 +42,4 @@ pub use laws::{
 pub use model::Model;
 pub use polcert_cells::{Body, Cells, Entries, Entry, Kind, Place, Sequence, Table, Topic};
 pub use print::write_model;
-pub use reader::read_model;
+pub use reader::{read_model, read_model_from};

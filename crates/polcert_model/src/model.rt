@@ -1,7 +1,8 @@
 //! A model, as it was read.
 ghost use Rattle.std.specs.Prelude.{◌≡◌, ◌<◌, option_map};
-ghost use Rattle.polcert_cells.specs.Elements.{most_elements, count_of, name_of};
+ghost use Rattle.polcert_cells.specs.Elements.{most_states, most_actions, most_observations, count_of, name_of};
 ghost use Rattle.polcert_cells.specs.Meaning.{HasProperRows, IsWithinLimits, IsCount, states_of, actions_of, observations_of, t_scale, o_scale, start_weight, start_total, elements_of};
+ghost use Rattle.polcert_cells.specs.Preamble.{is_mdp};
 ghost use Rattle.polcert_model.specs.Kept as kept;
 ghost use Rattle.polcert_model.specs.Contents.{meaning};
 ghost use Rattle.polcert_model.specs.Writable.{IsWritable};
@@ -10,7 +11,8 @@ use crate::draft::Draft;
 use polcert_cells::Kind;
 use std::marker;
 
-/// A model of a partially observable Markov decision process: what its text says.
+/// A model of a partially observable Markov decision process, or of one whose states are observed (an MDP): what its text
+/// says.
 ///
 /// States, actions and observations go by their numbers, counted from 0 in the order of the text. Probabilities are
 /// weights over a scale, so that each row of T sums to `t_scale` and each row of O to `o_scale`, exactly. The discount
@@ -54,7 +56,7 @@ impl Model {
     /// How many states there are: 1 to 1,000.
     pub fn states(&self) -> usize
         ensures elements { result ≡ states_of (meaning self.now) }
-        ensures count { IsCount most_elements result }
+        ensures count { IsCount most_states result }
     {
         self.draft.states()
     }
@@ -62,7 +64,7 @@ impl Model {
     /// How many actions there are: 1 to 1,000.
     pub fn actions(&self) -> usize
         ensures elements { result ≡ actions_of (meaning self.now) }
-        ensures count { IsCount most_elements result }
+        ensures count { IsCount most_actions result }
     {
         self.draft.actions()
     }
@@ -70,7 +72,7 @@ impl Model {
     /// How many observations there are: 1 to 1,000.
     pub fn observations(&self) -> usize
         ensures elements { result ≡ observations_of (meaning self.now) }
-        ensures count { IsCount most_elements result }
+        ensures count { IsCount most_observations result }
     {
         self.draft.observations()
     }
@@ -81,6 +83,14 @@ impl Model {
         ensures { option_map (λ name. name.now) result ≡ name_of (elements_of (meaning self.now) kind) index }
     {
         self.draft.name_of(kind, index)
+    }
+
+    /// Whether the text has no line of observations, so that the model is an MDP: the end state is observed. Observations are then
+    /// the states, and a reward does not depend on the observation.
+    pub fn is_mdp(&self) -> bool
+        ensures { result ≡ is_mdp (meaning self.now).preamble }
+    {
+        self.draft.is_mdp()
     }
 
     /// Whether the text gives costs in place of rewards. `r` gives rewards in either case.

@@ -2,11 +2,13 @@
 ghost use Rattle.std.specs.Prelude.{◌≡◌, ◌==◌, ◌||◌, ◌++◌, ◌<◌, length, codes, decimal};
 ghost use Rattle.polcert_text.specs.Sink.{WritesText};
 ghost use Rattle.polcert_model.specs.Contents.{meaning};
+ghost use Rattle.polcert_model.specs.Kept.{meaning as kept_meaning};
 ghost use Rattle.polcert_cells.specs.Meaning.{states_of};
 ghost use Rattle.polcert_model.specs.Text.{IsModelText};
-ghost use Rattle.polcert_model.specs.FullForm.{for_each, all_below, full_form, preamble_text, start_text};
+ghost use Rattle.polcert_model.specs.FullForm.{for_each, all_below, full_form, observations_line, observations_text, preamble_text, start_text};
 ghost use Rattle.polcert_model.specs.PrintSteps.{values_line, settings_text, elements_text, elements_line, name_text, share_of, chosen_text, share_text, behind_blank};
 
+use crate::draft::Draft;
 use crate::print_rewards::write_rewards;
 use crate::print_rows::write_rows;
 use crate::print_words::write_number;
@@ -29,8 +31,19 @@ pub fn write_model<W: Sink>(model: &Model, out: &mut W) -> Result<(), SinkFailed
     write_preamble(model, out)?;
     write_start(model, out)?;
     write_rows(model, Table::Transition, out)?;
-    write_rows(model, Table::Observation, out)?;
+    write_observation_rows(model, out)?;
     write_rewards(model, out)
+}
+
+/// Writes the rows of O, which an MDP leaves out.
+fn write_observation_rows<W: Sink>(model: &Model, out: &mut W) -> Result<(), SinkFailed>
+    ensures { WritesText W.writes W.failures out.old (observations_text (meaning model.now)) result out.new }
+{
+    if model.is_mdp() {
+        Ok(())
+    } else {
+        write_rows(model, Table::Observation, out)
+    }
 }
 
 fn write_preamble<W: Sink>(model: &Model, out: &mut W) -> Result<(), SinkFailed>
@@ -40,7 +53,17 @@ fn write_preamble<W: Sink>(model: &Model, out: &mut W) -> Result<(), SinkFailed>
     write_settings(model, out)?;
     write_elements(b"states:", draft.elements(Kind::State), out)?;
     write_elements(b"actions:", draft.elements(Kind::Action), out)?;
-    write_elements(b"observations:", draft.elements(Kind::Observation), out)
+    write_observations(draft, out)
+}
+
+/// Writes the line of observations, which an MDP leaves out.
+fn write_observations<W: Sink>(draft: &Draft, out: &mut W) -> Result<(), SinkFailed>
+    ensures { WritesText W.writes W.failures out.old (observations_line (kept_meaning draft.now).preamble.observations) result out.new }
+{
+    match draft.observations_line() {
+        Some(elements) => write_elements(b"observations:", elements, out),
+        None => Ok(()),
+    }
 }
 
 /// Writes the lines of the discount and of the kind of values.

@@ -1,19 +1,19 @@
 //! Writes the rewards.
-ghost use Rattle.std.specs.Prelude.{◌≡◌, ◌++◌, ◌<◌, ◌≤◌, ◌^◌, ◌∷◌, [], ℕ, pos, get_or, length, codes, unsigned_abs, EachIndex};
+ghost use Rattle.std.specs.Prelude.{◌≡◌, ◌++◌, ◌<◌, ◌≤◌, ◌^◌, ℕ, pos, get_or, length, codes, unsigned_abs, EachIndex};
 ghost use Rattle.std.specs.List.{list_all};
 ghost use Rattle.polcert_text.specs.Numbers.{largest};
 ghost use Rattle.polcert_text.specs.Sink.{WritesText};
 ghost use Rattle.polcert_model.specs.Contents.{meaning};
 ghost use Rattle.polcert_cells.specs.Meaning.{states_of, actions_of, observations_of};
-ghost use Rattle.polcert_model.specs.FullForm.{for_each, written, is_zero, rewards_row, rewards_text};
-ghost use Rattle.polcert_model.specs.PrintSteps.{pattern_text, reward_text, rewards_from, rewards_at};
+ghost use Rattle.polcert_model.specs.FullForm.{for_each, row_words, reward_words, written, is_zero, rewards_row, rewards_from, rewards_text};
+ghost use Rattle.polcert_model.specs.PrintSteps.{pattern_text, reward_text, reward_rows, rewards_at};
 
 use crate::print_words::{write_head, write_number_at};
-use crate::row_cells::reward_row;
+use crate::row_cells::{end_rewards, reward_row};
 use crate::{Model, Table};
 use polcert_text::{Sink, SinkFailed, write_all};
 
-/// Writes the rows of rewards that are not all 0, by action, start state and end state.
+/// Writes the rows of rewards that are not all 0, by action, start state and end state; in an MDP by action and start state.
 pub(crate) fn write_rewards<W: Sink>(model: &Model, out: &mut W) -> Result<(), SinkFailed>
     ensures { WritesText W.writes W.failures out.old (rewards_text (meaning model.now)) result out.new }
 {
@@ -47,9 +47,36 @@ fn write_rewards_from<W: Sink>(
     if !model.draft().is_paid(action, start) {
         return Ok(());
     }
-    write_reward_rows(model, action, start, out)
+    if model.is_mdp() {
+        write_end_rewards(model, action, start, out)
+    } else {
+        write_reward_rows(model, action, start, out)
+    }
 }
 
+/// Writes the rewards of an action in a state of an MDP, by end state, if they are not all 0.
+fn write_end_rewards<W: Sink>(
+    model: &Model,
+    action: usize,
+    start: usize,
+    out: &mut W,
+) -> Result<(), SinkFailed>
+    requires action { action < actions_of (meaning model.now) }
+    requires start { start < states_of (meaning model.now) }
+    ensures { WritesText W.writes W.failures out.old
+        (rewards_row (meaning model.now).preamble.costs (row_words Table.Reward action start) (states_of (meaning model.now)) (λ e. (meaning model.now).r action start e 0))
+        result out.new }
+{
+    let rewards = end_rewards(model, action, start);
+    let rewards = &rewards[..model.states()];
+    if is_unpaid(rewards) {
+        Ok(())
+    } else {
+        write_paid_row(model.is_cost(), &[action, start], rewards, out)
+    }
+}
+
+/// Writes the rows of rewards of an action in a state, by end state.
 fn write_reward_rows<W: Sink>(
     model: &Model,
     action: usize,
@@ -58,7 +85,7 @@ fn write_reward_rows<W: Sink>(
 ) -> Result<(), SinkFailed>
     requires action { action < actions_of (meaning model.now) }
     requires start { start < states_of (meaning model.now) }
-    ensures { WritesText W.writes W.failures out.old (rewards_from (meaning model.now) action start) result out.new }
+    ensures { WritesText W.writes W.failures out.old (reward_rows (meaning model.now) action start) result out.new }
 {
     for end in 0..model.states() {
         write_rewards_row(model, action, start, end, out)?;
@@ -77,7 +104,7 @@ fn write_rewards_row<W: Sink>(
     requires start { start < states_of (meaning model.now) }
     requires end { end < states_of (meaning model.now) }
     ensures { WritesText W.writes W.failures out.old
-        (rewards_row (meaning model.now).preamble.costs action start end (observations_of (meaning model.now)) ((meaning model.now).r action start end))
+        (rewards_row (meaning model.now).preamble.costs (reward_words action start end) (observations_of (meaning model.now)) ((meaning model.now).r action start end))
         result out.new }
 {
     let rewards = reward_row(model, action, start, end);
@@ -85,7 +112,7 @@ fn write_rewards_row<W: Sink>(
     if is_unpaid(rewards) {
         Ok(())
     } else {
-        write_paid_row(model.is_cost(), action, start, end, rewards, out)
+        write_paid_row(model.is_cost(), &[action, start, end], rewards, out)
     }
 }
 
@@ -98,18 +125,16 @@ fn is_unpaid(rewards: &[i64]) -> bool
 
 fn write_paid_row<W: Sink>(
     is_cost: bool,
-    action: usize,
-    start: usize,
-    end: usize,
+    indices: &[usize],
     rewards: &[i64],
     out: &mut W,
 ) -> Result<(), SinkFailed>
     requires { EachIndex rewards.now (λ z. unsigned_abs (get_or rewards.now z (pos 0)) ≤ largest) }
     ensures { WritesText W.writes W.failures out.old
-        (pattern_text Table.Reward (action ∷ start ∷ end ∷ []) ++ codes "\n" ++ for_each (length rewards.now) (reward_text is_cost rewards.now) ++ codes "\n")
+        (pattern_text Table.Reward indices.now ++ codes "\n" ++ for_each (length rewards.now) (reward_text is_cost rewards.now) ++ codes "\n")
         result out.new }
 {
-    write_head(Table::Reward, &[action, start, end], out)?;
+    write_head(Table::Reward, indices, out)?;
     write_written(is_cost, rewards, out)?;
     write_all(out, b"\n")
 }

@@ -1,14 +1,17 @@
 //! A model's text, read item by item.
-ghost use Rattle.std.specs.Prelude.{None, IfOk, IfErr, ◌≡◌, ◌+◌, ◌<◌, ◌≤◌, ◌^◌, ◌++◌, ◌∷◌, [], Some, false, List, MatchResult};
-ghost use Rattle.polcert_text.specs.Cut.{Lexeme, IsCut, text_rest, text_limit};
+ghost use Rattle.std.specs.Prelude.{None, IfOk, IfErr, IsErrOf, ◌≡◌, ◌≢◌, ◌+◌, ◌<◌, ◌≤◌, ◌^◌, ◌++◌, ◌∷◌, [], ℕ, Some, false, List, MatchResult};
+ghost use Rattle.polcert_text.specs.Device.{HasFailed};
+ghost use Rattle.polcert_text.specs.Source.{IsText, EachTextThatFits};
+ghost use Rattle.polcert_text.specs.Cut.{Lexeme};
 ghost use Rattle.polcert_text.specs.Reading.{lexeme_of};
 ghost use Rattle.polcert_cells.specs.Words.{topic, begins_item};
-ghost use Rattle.polcert_model.specs.ElementSteps.{IsText};
+ghost use Rattle.polcert_model.specs.ElementSteps.{IsText as IsTextToken};
 ghost use Rattle.polcert_model.specs.Text.{IsModelText};
 ghost use Rattle.polcert_model.specs.FirstWrong.{TextTokens, AreTokensOf};
 ghost use Rattle.polcert_model.specs.Refusals.{IsRefusal, IsPlacedRight, IsNoModel};
+ghost use Rattle.polcert_model.specs.RefusedTexts.{IsRefusedModelText};
 ghost use Rattle.polcert_model.specs.Contents.{meaning};
-ghost use Rattle.polcert_model.specs.TextSteps.{IsTextRead, AreItemsRead, IsWholeRead, IsRefusedBehind, IsRefusedAt, IsRefusedWhole, Refuses, tokens_end, pending_at};
+ghost use Rattle.polcert_model.specs.TextSteps.{IsTextRead, AreItemsRead, IsWholeRead, IsTextOf, IsRefusedBehind, IsRefusedAt, IsRefusedWhole, Refuses, tokens_end, pending_at};
 
 use crate::item::ItemReader;
 use crate::known::Known;
@@ -17,7 +20,9 @@ use crate::rows::{WrongRow, first_wrong_row};
 use crate::stop::{ItemEnd, Stop};
 use crate::{ItemFault, ModelFault};
 use polcert_cells::{Topic, begun_topic};
-use polcert_text::{TEXT_LIMIT, Token, TokenFault, Tokens};
+use polcert_text::{
+    Source, SourceFault, StreamFault, StreamTokens, TEXT_LIMIT, Token, TokenFault, Tokens,
+};
 use std::alloc::{AllocError, Global};
 
 /// Reads the items of a text, token by token.
@@ -54,7 +59,7 @@ impl TextReader {
     fn take(&mut self, alloc: Global, token: Token<'_>) -> Result<(), ModelFault>
         requires read { (seen : List Lexeme) × IsTextRead seen self.old }
         requires few { self.old.number < 2 ^ 63 }
-        requires text { IsText (lexeme_of token) }
+        requires text { IsTextToken (lexeme_of token) }
         ensures number { self.new.number ≤ self.old.number + 1 }
         ensures read { let l = lexeme_of token.entry in (seen : List Lexeme) → IsTextRead seen self.old → MatchResult result
             (λ _. IsTextRead (seen ++ l ∷ []) self.new)
@@ -72,7 +77,7 @@ impl TextReader {
     /// Goes on with a token that begins no item.
     fn feed(&mut self, alloc: Global, token: Token<'_>) -> Result<(), ModelFault>
         requires read { (seen : List Lexeme) × IsTextRead seen self.old }
-        requires text { IsText (lexeme_of token) }
+        requires text { IsTextToken (lexeme_of token) }
         ensures number { self.new.number ≡ self.old.number }
         ensures read { let l = lexeme_of token.entry in (seen : List Lexeme) → IsTextRead seen self.old → begins_item l ≡ false → MatchResult result
             (λ _. IsTextRead (seen ++ l ∷ []) self.new)
@@ -143,30 +148,37 @@ impl TextReader {
     }
 
     /// Ends the text.
-    fn finish(self, alloc: Global, end: u64) -> Result<Known, ModelFault>
-        requires read { (seen : List Lexeme) × IsTextRead seen self }
-        requires few { self.number < 2 ^ 63 }
-        ensures { (seen : List Lexeme) → IsTextRead seen self → MatchResult result
-            (IsWholeRead seen)
+    fn finish(&mut self, alloc: Global, end: u64) -> Result<(), ModelFault>
+        requires read { (seen : List Lexeme) × IsTextRead seen self.old }
+        requires few { self.old.number < 2 ^ 63 }
+        ensures { (seen : List Lexeme) → IsTextRead seen self.old → MatchResult result
+            (λ _. IsWholeRead seen self.new.known)
             (IsRefusedWhole seen end) }
     {
-        let mut reader = self;
-        reader.close(alloc, end)?;
-        reader.number += 1;
-        if let Some(kind) = reader.known.preamble_fault() {
-            return Err(reader.fault(kind, end));
+        self.close(alloc, end)?;
+        self.number += 1; // the item that would come next
+        match self.known.preamble_fault() {
+            Some(kind) => Err(self.fault(kind, end)),
+            None => Ok(()),
         }
-        Ok(reader.known)
+    }
+
+    /// What its items say.
+    fn into_known(self) -> Known
+        ensures { result ≡ self.known }
+    {
+        self.known
     }
 }
 
-/// What the items of a whole text say.
-fn read_text(alloc: Global, text: &[u8]) -> Result<Known, ModelFault>
-    ensures read { IfOk result (λ k. (seen : List Lexeme) × IsCut (text_rest text.now text_limit) seen None × IsWholeRead seen k) }
+/// Reads the items of a whole text.
+fn read_items(alloc: Global, text: &[u8], reader: &mut TextReader) -> Result<(), ModelFault>
+    requires none { IsTextRead [] reader.old }
+    requires first { reader.old.number ≡ 0 }
+    ensures read { IfOk result (λ _. IsTextOf text.now reader.new.known) }
     ensures refused { IfErr result (λ fault. (ts : TextTokens) → AreTokensOf text.now ts → Refuses ts fault) }
 {
     let mut tokens = Tokens::new(text, TEXT_LIMIT);
-    let mut reader = TextReader::new(alloc);
     while let Some(next) = tokens.next_token() {
         match next {
             Ok(token) => reader.take(alloc, token)?,
@@ -174,6 +186,86 @@ fn read_text(alloc: Global, text: &[u8]) -> Result<Known, ModelFault>
         }
     }
     reader.finish(alloc, tokens.end())
+}
+
+/// What the items of a whole text say.
+fn read_text(alloc: Global, text: &[u8]) -> Result<Known, ModelFault>
+    ensures read { IfOk result (IsTextOf text.now) }
+    ensures refused { IfErr result (λ fault. (ts : TextTokens) → AreTokensOf text.now ts → Refuses ts fault) }
+{
+    let mut reader = TextReader::new(alloc);
+    match read_items(alloc, text, &mut reader) {
+        Ok(()) => Ok(reader.into_known()),
+        Err(fault) => Err(fault),
+    }
+}
+
+/// Reads the items of the whole text of a source.
+fn read_items_from<S: Source>(
+    alloc: Global,
+    source: &mut S,
+    reader: &mut TextReader,
+) -> Result<(), SourceFault<ModelFault>>
+    requires none { IsTextRead [] reader.old }
+    requires first { reader.old.number ≡ 0 }
+    ensures read { IfOk result (λ _. (text : List ℕ) × IsText S.reads source.old text source.new × IsTextOf text reader.new.known) }
+    ensures refused { (fault : ModelFault) → IsErrOf result (SourceFault.Refused fault)
+        → EachTextThatFits S.reads source.old source.new (IsRefusedModelText fault) }
+    ensures device { IsErrOf result SourceFault.Device → HasFailed (S.failures source.old) (S.failures source.new) }
+    ensures same_count { (result ≢ Err SourceFault.Device) → S.failures source.new ≡ S.failures source.old }
+{
+    let mut tokens = StreamTokens::new(TEXT_LIMIT);
+    loop {
+        match tokens.next_token(source) {
+            Ok(Some(token)) => {
+                if let Err(fault) = reader.take(alloc, token) {
+                    return Err(SourceFault::Refused(fault));
+                }
+            }
+            Ok(None) => {
+                return match reader.finish(alloc, tokens.place()) {
+                    Ok(()) => Ok(()),
+                    Err(fault) => Err(SourceFault::Refused(fault)),
+                };
+            }
+            Err(StreamFault::Token(fault)) => {
+                return Err(SourceFault::Refused(reader.token_fault(fault)));
+            }
+            Err(StreamFault::Device) => return Err(SourceFault::Device),
+        }
+    }
+}
+
+/// What the items of the whole text of a source say.
+fn read_text_from<S: Source>(
+    alloc: Global,
+    source: &mut S,
+) -> Result<Known, SourceFault<ModelFault>>
+    ensures read { IfOk result (λ k. (text : List ℕ) × IsText S.reads source.old text source.new × IsTextOf text k) }
+    ensures refused { (fault : ModelFault) → IsErrOf result (SourceFault.Refused fault)
+        → EachTextThatFits S.reads source.old source.new (IsRefusedModelText fault) }
+    ensures device { IsErrOf result SourceFault.Device → HasFailed (S.failures source.old) (S.failures source.new) }
+    ensures same_count { (result ≢ Err SourceFault.Device) → S.failures source.new ≡ S.failures source.old }
+{
+    let mut reader = TextReader::new(alloc);
+    match read_items_from(alloc, source, &mut reader) {
+        Ok(()) => Ok(reader.into_known()),
+        Err(fault) => Err(fault),
+    }
+}
+
+/// The model of what the items of a whole text say, where each row of its tables sums to its scale.
+fn model_of(alloc: Global, known: Known) -> Result<Model, ModelFault>
+    requires { (text : List ℕ) × IsTextOf text known }
+    ensures { (text : List ℕ) → IsTextOf text known → MatchResult result
+        (λ m. IsModelText text (meaning m))
+        (λ fault. IsRefusedModelText fault text) }
+{
+    let draft = known.into_draft(alloc)?;
+    match first_wrong_row(&draft) {
+        None => Ok(Model::of(draft)),
+        Some(WrongRow { table, action, row }) => Err(ModelFault::RowSum { table, action, row }),
+    }
 }
 
 /// Reads the text of a model, and tests that each row of its tables sums to its scale.
@@ -190,9 +282,31 @@ pub fn read_model(alloc: Global, text: &[u8]) -> Result<Model, ModelFault>
     ensures refused { IfErr result (λ fault. (ts : TextTokens) → AreTokensOf text.now ts → IsRefusal ts fault) }
     ensures placed { IfErr result (λ fault. (ts : TextTokens) → AreTokensOf text.now ts → IsPlacedRight ts fault) }
 {
-    let draft = read_text(alloc, text)?.into_draft(alloc)?;
-    match first_wrong_row(&draft) {
-        None => Ok(Model::of(draft)),
-        Some(WrongRow { table, action, row }) => Err(ModelFault::RowSum { table, action, row }),
+    let known = read_text(alloc, text)?;
+    model_of(alloc, known)
+}
+
+/// Reads the model whose text the source gives, to its true end, and tests that each row of its tables sums to its
+/// scale. Nothing of the text is kept but the model.
+///
+/// # Errors
+///
+/// `Device` where a read failed, and else what `read_model` refuses. A text that is refused before its source fails is
+/// refused.
+pub fn read_model_from<S: Source>(
+    alloc: Global,
+    source: &mut S,
+) -> Result<Model, SourceFault<ModelFault>>
+    ensures accepted { IfOk result (λ m. (text : List ℕ) × IsText S.reads source.old text source.new
+        × IsModelText text (meaning m)) }
+    ensures refused { (fault : ModelFault) → IsErrOf result (SourceFault.Refused fault)
+        → EachTextThatFits S.reads source.old source.new (IsRefusedModelText fault) }
+    ensures device { IsErrOf result SourceFault.Device → HasFailed (S.failures source.old) (S.failures source.new) }
+    ensures same_count { (result ≢ Err SourceFault.Device) → S.failures source.new ≡ S.failures source.old }
+{
+    let known = read_text_from(alloc, source)?;
+    match model_of(alloc, known) {
+        Ok(model) => Ok(model),
+        Err(fault) => Err(SourceFault::Refused(fault)),
     }
 }

@@ -8,7 +8,7 @@ ghost use Rattle.polcert_model.specs.RowSums.{row_of};
 
 use crate::draft::Draft;
 use crate::{Model, Table};
-use polcert_cells::MOST_ELEMENTS;
+use polcert_cells::{MOST_ELEMENTS, MOST_OBSERVATIONS, MOST_STATES};
 
 /// The weights of a row of T or O, by column, and 0 behind its last column.
 pub(crate) fn row_weights(
@@ -34,15 +34,28 @@ pub(crate) fn reward_row(
     action: usize,
     start: usize,
     end: usize,
-) -> [i64; MOST_ELEMENTS]
+) -> [i64; MOST_OBSERVATIONS]
     requires action { action < actions_of (meaning model.now) }
     requires start { start < states_of (meaning model.now) }
     requires end { end < states_of (meaning model.now) }
     ensures { (z : ℕ) → z < observations_of (meaning model.now) → get_or result z (pos 0) ≡ (meaning model.now).r action start end z }
 {
-    let mut rewards = [0; MOST_ELEMENTS];
+    let mut rewards = [0; MOST_OBSERVATIONS];
     for observation in 0..model.observations() {
         rewards[observation] = model.r(action, start, end, observation);
+    }
+    rewards
+}
+
+/// The rewards of an action and a start state of an MDP, by end state, and 0 behind the last.
+pub(crate) fn end_rewards(model: &Model, action: usize, start: usize) -> [i64; MOST_STATES]
+    requires action { action < actions_of (meaning model.now) }
+    requires start { start < states_of (meaning model.now) }
+    ensures { (e : ℕ) → e < states_of (meaning model.now) → get_or result e (pos 0) ≡ (meaning model.now).r action start e 0 }
+{
+    let mut rewards = [0; MOST_STATES];
+    for end in 0..model.states() {
+        rewards[end] = model.r(action, start, end, 0);
     }
     rewards
 }

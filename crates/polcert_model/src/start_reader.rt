@@ -6,7 +6,7 @@ ghost use Rattle.polcert_text.specs.Reading.{lexeme_of};
 ghost use Rattle.polcert_text.specs.Lexemes.{are_digits};
 ghost use Rattle.polcert_model.specs.ElementSteps.{IsText};
 ghost use Rattle.polcert_cells.specs.declared.elements.Elements.{Elements as AnyElements};
-ghost use Rattle.polcert_cells.specs.Elements.{count_of, most_elements};
+ghost use Rattle.polcert_cells.specs.Elements.{count_of, most_states};
 ghost use Rattle.polcert_model.specs.EntrySteps.{IfRefused, HasRoom};
 ghost use Rattle.polcert_model.specs.LineSteps.{Takes, CannotTake, CannotEnd};
 ghost use Rattle.polcert_cells.specs.Meaning.{IsCount};
@@ -96,7 +96,7 @@ impl StartReader {
 
     /// Goes on with a token that begins no item.
     pub fn feed(&mut self, alloc: Global, states: &Elements, token: Token<'_>) -> Result<(), Stop>
-        requires count { IsCount most_elements (count_of states.now) }
+        requires count { IsCount most_states (count_of states.now) }
         requires text { IsText (lexeme_of token) }
         requires within { IsStartWithin states.now self.old }
         ensures within { OnOk result (IsStartWithin states.now self.new) }
@@ -167,7 +167,7 @@ impl StartReader {
 
     /// The shares, or why the item cannot end here.
     pub fn end(self, alloc: Global, states: &Elements) -> Result<Shares, ItemEnd>
-        requires count { IsCount most_elements (count_of states.now) }
+        requires count { IsCount most_states (count_of states.now) }
         requires within { IsStartWithin states.now self }
         ensures said { IfOk result (StartGoes states.now self []) }
         ensures refused { IfErr result (λ e. IfNotMemory e (CannotEnd (StartGoes states.now) self)) }
@@ -224,7 +224,7 @@ impl Chosen {
 
     /// One more state of the list.
     fn feed(&mut self, states: &Elements, token: Token<'_>) -> Result<(), Refusal>
-        requires count { IsCount most_elements (count_of states.now) }
+        requires count { IsCount most_states (count_of states.now) }
         requires text { IsText (lexeme_of token) }
         requires size { length self.old.marks ≡ count_of states.now }
         ensures size { OnOk result (length self.new.marks ≡ count_of states.now) }
@@ -242,7 +242,7 @@ impl Chosen {
 
     /// The shares of the list, if it leaves a state.
     fn end(self, alloc: Global) -> Result<Shares, ItemEnd>
-        requires { length self.marks ≤ most_elements }
+        requires { length self.marks ≤ most_states }
         ensures said { (states : AnyElements) → length self.marks ≡ count_of states →
             IfOk result (StartGoes states (StartReader.List self) []) }
         ensures refused { (states : AnyElements) → length self.marks ≡ count_of states →
@@ -259,7 +259,7 @@ impl Chosen {
 
     /// The shares of the states that the choice picks, alike.
     fn shares(&self, alloc: Global) -> Result<Shares, AllocError>
-        requires { length self.now.marks ≤ most_elements }
+        requires { length self.now.marks ≤ most_states }
         ensures { IfOk result (λ s. s ≡ alike (length self.now.marks) (picks self.now.choice (marked self.now.marks))) }
     {
         let mut weights = Sequence::new(alloc);
@@ -286,7 +286,7 @@ impl Chosen {
 
 /// The shares where all states are alike.
 fn every_state(alloc: Global, count: usize) -> Result<Shares, AllocError>
-    requires { count ≤ most_elements }
+    requires { count ≤ most_states }
     ensures { (states : AnyElements) → count ≡ count_of states → IfOk result (λ s. s ≡ all_states states) }
 {
     Chosen::new(alloc, count, Choice::Exclude)?.shares(alloc)
@@ -294,7 +294,7 @@ fn every_state(alloc: Global, count: usize) -> Result<Shares, AllocError>
 
 /// The shares where one state is all there is.
 fn one_state(alloc: Global, count: usize, state: usize) -> Result<Shares, AllocError>
-    requires few { count ≤ most_elements }
+    requires few { count ≤ most_states }
     requires state { state < count }
     ensures { (states : AnyElements) → count ≡ count_of states → IfOk result (λ s. s ≡ single states state) }
 {
@@ -305,7 +305,7 @@ fn one_state(alloc: Global, count: usize, state: usize) -> Result<Shares, AllocE
 
 /// What the item goes on with behind the first token of the plain form.
 fn begin_body(states: &Elements, token: Token<'_>) -> Result<StartReader, Refusal>
-    requires count { IsCount most_elements (count_of states.now) }
+    requires count { IsCount most_states (count_of states.now) }
     requires text { IsText (lexeme_of token) }
     ensures begun { IfOk result (Takes (StartGoes states.now) StartReader.Body (lexeme_of token.entry)) }
     ensures within { IfOk result (IsStartWithin states.now) }
@@ -326,7 +326,7 @@ fn begin_body(states: &Elements, token: Token<'_>) -> Result<StartReader, Refusa
 
 /// `uniform`, or a state's name.
 fn begin_name(states: &Elements, token: Token<'_>) -> Result<StartReader, Refusal>
-    requires count { IsCount most_elements (count_of states.now) }
+    requires count { IsCount most_states (count_of states.now) }
     requires text { IsText (lexeme_of token) }
     requires name { token.kind ≡ TokenKind.Name }
     ensures begun { IfOk result (Takes (StartGoes states.now) StartReader.Body (lexeme_of token.entry)) }
@@ -346,7 +346,7 @@ fn begin_name(states: &Elements, token: Token<'_>) -> Result<StartReader, Refusa
 
 /// Digits that may be a state's number, or the first number.
 fn begin_numeral(states: &Elements, token: Token<'_>) -> Result<StartReader, Refusal>
-    requires count { IsCount most_elements (count_of states.now) }
+    requires count { IsCount most_states (count_of states.now) }
     requires numeral { token.kind ≡ TokenKind.Numeral }
     ensures begun { IfOk result (Takes (StartGoes states.now) StartReader.Body (lexeme_of token.entry)) }
     ensures within { IfOk result (IsStartWithin states.now) }
@@ -365,7 +365,7 @@ fn begin_numeral(states: &Elements, token: Token<'_>) -> Result<StartReader, Ref
 
 /// What is kept of a numeral of digits alone, where there is more than one state.
 fn digits_of(count: usize, token: Token<'_>) -> Option<Digits>
-    requires count { IsCount most_elements count }
+    requires count { IsCount most_states count }
     requires numeral { token.kind ≡ TokenKind.Numeral }
     ensures { MatchOption result ((count ≡ 1) ⊎ (are_digits (lexeme_of token.entry).bytes ≡ false))
         (AreDigits count (lexeme_of token.entry)) }
@@ -405,7 +405,7 @@ fn first_number(sign: Option<Sign>, token: Token<'_>) -> Result<StartReader, Ref
 impl FirstNumber {
     /// The numbers, where one more token follows the first of them.
     fn go_on(self, alloc: Global, states: &Elements, token: Token<'_>) -> Result<Numbers<u32>, Stop>
-        requires { IsCount most_elements (count_of states.now) }
+        requires { IsCount most_states (count_of states.now) }
         ensures takes { IfOk result (λ n. Takes (StartGoes states.now)
             (StartReader.Number self) (lexeme_of token.entry) (StartReader.Probabilities n)) }
         ensures within { IfOk result (λ n. IsStartWithin states.now (StartReader.Probabilities n)) }
@@ -428,7 +428,7 @@ impl FirstNumber {
 
     /// The numbers, where another number or its sign follows the first of them.
     fn add(self, alloc: Global, states: &Elements, token: Token<'_>) -> Result<Numbers<u32>, Stop>
-        requires { IsCount most_elements (count_of states.now) }
+        requires { IsCount most_states (count_of states.now) }
         ensures takes { IfOk result (λ n. Takes (StartGoes states.now)
             (StartReader.Number self) (lexeme_of token.entry) (StartReader.Probabilities n)) }
         ensures within { IfOk result (λ n. IsStartWithin states.now (StartReader.Probabilities n)) }
@@ -459,7 +459,7 @@ impl FirstNumber {
 
     /// The shares where this number is all there is, behind `start:`.
     fn end(self, alloc: Global, states: &Elements) -> Result<Shares, ItemEnd>
-        requires { IsCount most_elements (count_of states.now) }
+        requires { IsCount most_states (count_of states.now) }
         ensures said { IfOk result (StartGoes states.now (StartReader.Number self) []) }
         ensures refused { IfErr result (λ e. IfNotMemory e (CannotEnd (StartGoes states.now) (StartReader.Number self))) }
         ensures reason { (body : List Lexeme) → IfErr result (IsStartEndReason body) }
@@ -480,7 +480,7 @@ impl FirstNumber {
 impl Digits {
     /// The numbers, where one more token follows the digits.
     fn go_on(self, alloc: Global, states: &Elements, token: Token<'_>) -> Result<Numbers<u32>, Stop>
-        requires { IsCount most_elements (count_of states.now) }
+        requires { IsCount most_states (count_of states.now) }
         ensures takes { IfOk result (λ n. Takes (StartGoes states.now)
             (StartReader.Digits self) (lexeme_of token.entry) (StartReader.Probabilities n)) }
         ensures within { IfOk result (λ n. IsStartWithin states.now (StartReader.Probabilities n)) }
@@ -510,7 +510,7 @@ impl Digits {
 
     /// The shares where the digits stand alone: they are a state's number.
     fn end(self, alloc: Global, states: &Elements) -> Result<Shares, ItemEnd>
-        requires count { IsCount most_elements (count_of states.now) }
+        requires count { IsCount most_states (count_of states.now) }
         requires within { IsStartWithin states.now (StartReader.Digits self) }
         ensures said { IfOk result (StartGoes states.now (StartReader.Digits self) []) }
         ensures refused { IfErr result (λ e. IfNotMemory e (CannotEnd (StartGoes states.now) (StartReader.Digits self))) }
@@ -529,7 +529,7 @@ impl Digits {
 
 /// The shares that a list of probabilities gives, if it is whole and sums to 1.
 fn end_probabilities(alloc: Global, numbers: Numbers<u32>) -> Result<Shares, ItemEnd>
-    requires { numbers.needed ≤ most_elements }
+    requires { numbers.needed ≤ most_states }
     ensures said { (states : AnyElements) → IfOk result (StartGoes states (StartReader.Probabilities numbers) []) }
     ensures refused { (states : AnyElements) →
         IfErr result (λ e. IfNotMemory e (CannotEnd (StartGoes states) (StartReader.Probabilities numbers))) }
@@ -546,7 +546,7 @@ fn end_probabilities(alloc: Global, numbers: Numbers<u32>) -> Result<Shares, Ite
 }
 
 fn sum_of(numbers: &[u32]) -> u64
-    requires { length numbers.now ≤ most_elements }
+    requires { length numbers.now ≤ most_states }
     ensures { result ≡ sum numbers.now }
 {
     numbers.iter().map(|number| *number as u64).sum()
@@ -554,7 +554,7 @@ fn sum_of(numbers: &[u32]) -> u64
 
 /// The shares where each state has a probability: alike, where those above 0 are.
 fn shares_of(alloc: Global, probabilities: Sequence<u32>) -> Result<Shares, AllocError>
-    requires { length probabilities ≤ most_elements }
+    requires { length probabilities ≤ most_states }
     ensures { IfOk result (λ s. s ≡ shares_of probabilities) }
 {
     if is_level(probabilities.as_slice()) {
@@ -593,7 +593,7 @@ fn is_level_at(level: u32, probabilities: &[u32]) -> bool
 
 /// A share of 1 for each state whose probability is above 0.
 fn level_shares(alloc: Global, probabilities: &[u32]) -> Result<Shares, AllocError>
-    requires { length probabilities.now ≤ most_elements }
+    requires { length probabilities.now ≤ most_states }
     ensures weights { IfOk result (λ s. s.weights ≡ map level_share probabilities.now) }
     ensures total { IfOk result (λ s. s.total ≡ count_by is_positive probabilities.now) }
 {

@@ -12,6 +12,7 @@ use Rattle.polcert_text.specs.Numbers.{millionth, size_of, largest, signed, IsRe
 use Rattle.polcert_text.proofs.SignedLaws.{signed-mul}
 use Rattle.polcert_text.proofs.SizeLaws.{millionth_pos}
 use Rattle.polcert_policy.specs.Graphs.{PolicyGraph, nodes}
+use Rattle.polcert_cells.specs.Elements.{most_states}
 use Rattle.polcert_policy.specs.Vectors.{PolicyVectors, Part, sign_kind, is_negative, with_sign, tokens_of, AreVectors, IsVectors, IsInRange, AreProper}
 use Rattle.polcert_policy.specs.VectorText.{IsPartColumn}
 use Rattle.polcert_policy.specs.VectorsRead.{AreVectorsUpTo, open_of, IsOpenSign, HasVectors, AreUnfinished}
@@ -162,7 +163,7 @@ vectors_read g seen r e enough h =
       records = at.records;
     }
 
-pub proper_read : (g : PolicyGraph) (seen : List Lexeme) (r : VectorsReading) → 1 ≤ r.states → r.states ≤ 1000 → r.column ≤ 0 → nodes g ≤ r.node → HasVectors g seen r → AreProper r.node r.states r.values.items
+pub proper_read : (g : PolicyGraph) (seen : List Lexeme) (r : VectorsReading) → 1 ≤ r.states → r.states ≤ most_states → r.column ≤ 0 → nodes g ≤ r.node → HasVectors g seen r → AreProper r.node r.states r.values.items
 proper_read g seen r some few e enough h =
     let at = at_column g seen r e h in
     record {

@@ -9,7 +9,8 @@ use Rattle.polcert_text.specs.Numbers.{IsFloor, IsReadable, largest}
 use Rattle.polcert_text.specs.declared.lexeme.TokenKind.{TokenKind}
 use Rattle.polcert_text.specs.declared.lexeme.TokenKind.TheVariants.{Plus, Minus}
 use Rattle.polcert_policy.specs.Words.{numeral_kind, minus_kind, is_whole, whole_of}
-use Rattle.polcert_policy.specs.Graphs.{PolicyGraph, nodes, action_of, most_nodes, most_elements}
+use Rattle.polcert_cells.specs.Elements.{most_states}
+use Rattle.polcert_policy.specs.Graphs.{PolicyGraph, nodes, action_of, most_nodes}
 
 -- a value for each node and state, node by node, in millionths
 pub record PolicyVectors : Type 0 where
@@ -87,7 +88,7 @@ pub record AreProper (nodes states : ℕ) (values : List ℤ) : Type 0 where
   pub some_nodes : 1 ≤ nodes
   pub few_nodes : nodes ≤ most_nodes
   pub some_states : 1 ≤ states
-  pub few_states : states ≤ most_elements
+  pub few_states : states ≤ most_states
   pub filled : length values ≡ nodes * states
   pub in_range : (k : ℕ) (h : ℤ) → slice_get values k ≡ Some h → IsInRange h
 

@@ -5,7 +5,8 @@ ghost use Rattle.polcert_text.specs.Source.{IsText, EachTextThatFits};
 ghost use Rattle.polcert_text.specs.Cut.{Lexeme};
 ghost use Rattle.polcert_text.specs.Reading.{lexeme_of};
 ghost use Rattle.polcert_policy.specs.Words.{minus_kind, is_joined};
-ghost use Rattle.polcert_policy.specs.Graphs.{IsGraph, most_elements, most_nodes};
+ghost use Rattle.polcert_cells.specs.Elements.{most_actions, most_observations};
+ghost use Rattle.polcert_policy.specs.Graphs.{IsGraph, most_nodes};
 ghost use Rattle.polcert_policy.specs.GraphText.{IsGraphText, IsGraphRefusal, IsNoGraphText, IsRefusedGraphText, HasFirstBeyond, NamesSuccessor};
 ghost use Rattle.polcert_policy.specs.GraphRead.{IsRead, IsTokenRefusal, IsEndRefusal, MinusOf, HasCounts, CheckedNumber, ReadAction, Advanced, TakesNext, IsApartFrom, AllBelow, IsFirstBeyondAt};
 
@@ -50,9 +51,9 @@ fn minus_of(token: Token<'_>) -> Option<MinusSign>
 impl GraphReading {
     fn new(alloc: Global, actions: usize, observations: usize) -> Self
         requires some_actions { 1 ≤ actions }
-        requires few_actions { actions ≤ most_elements }
+        requires few_actions { actions ≤ most_actions }
         requires some_observations { 1 ≤ observations }
-        requires few_observations { observations ≤ most_elements }
+        requires few_observations { observations ≤ most_observations }
         ensures read { IsRead [] result }
         ensures counts { HasCounts actions observations result }
     {
@@ -248,9 +249,9 @@ pub fn read_graph(
     observations: usize,
 ) -> Result<Graph, GraphFault>
     requires some_actions { 1 ≤ actions }
-    requires few_actions { actions ≤ most_elements }
+    requires few_actions { actions ≤ most_actions }
     requires some_observations { 1 ≤ observations }
-    requires few_observations { observations ≤ most_elements }
+    requires few_observations { observations ≤ most_observations }
     ensures accepted { MatchResult result (IsGraphText actions observations text.now) (IsNoGraphText actions observations text.now) }
     ensures refused { IfErr result (IsGraphRefusal actions observations text.now) }
 
@@ -283,9 +284,9 @@ pub fn read_graph_from<S: Source>(
     observations: usize,
 ) -> Result<Graph, SourceFault<GraphFault>>
     requires some_actions { 1 ≤ actions }
-    requires few_actions { actions ≤ most_elements }
+    requires few_actions { actions ≤ most_actions }
     requires some_observations { 1 ≤ observations }
-    requires few_observations { observations ≤ most_elements }
+    requires few_observations { observations ≤ most_observations }
     ensures accepted { IfOk result (λ g. (text : List ℕ) × IsText S.reads source.old text source.new
         × IsGraphText actions observations text g) }
     ensures refused { (fault : GraphFault) → IsErrOf result (SourceFault.Refused fault)

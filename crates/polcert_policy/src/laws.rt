@@ -1,6 +1,7 @@
 //! Laws of the definitions, each the contract of a function with nothing to do.
 ghost use Rattle.std.specs.Prelude.{◌≡◌, ◌≢◌, ◌<◌, ◌≤◌, ℕ, List};
-ghost use Rattle.polcert_policy.specs.Graphs.{PolicyGraph, IsProperGraph, HasNodesOnly, nodes, action_of, most_nodes, most_elements};
+ghost use Rattle.polcert_policy.specs.Graphs.{PolicyGraph, IsProperGraph, HasNodesOnly, nodes, action_of, most_nodes};
+ghost use Rattle.polcert_cells.specs.Elements.{most_states, most_actions, most_observations};
 ghost use Rattle.polcert_policy.specs.GraphText.{IsGraphText, IsGraphRefusal};
 ghost use Rattle.polcert_policy.specs.Vectors.{PolicyVectors, AreProperVectors, IsInRange, value_of};
 ghost use Rattle.polcert_policy.specs.VectorText.{IsVectorsText, IsVectorsRefusal};
@@ -35,7 +36,7 @@ pub fn graph_within_limits()
 
     // So, where the counts are within theirs, it is what is true of every graph.
     ensures proper { (actions observations : ℕ) (text : List ℕ) (g : PolicyGraph) →
-        actions ≤ most_elements → 1 ≤ observations → observations ≤ most_elements →
+        actions ≤ most_actions → 1 ≤ observations → observations ≤ most_observations →
         IsGraphText actions observations text g → IsProperGraph g }
 {}
 
@@ -62,7 +63,7 @@ pub fn vectors_within_limits()
 
     // So, where the counts are within theirs, they are what is true of all vectors.
     ensures proper { (graph : PolicyGraph) (states : ℕ) (text : List ℕ) (v : PolicyVectors) →
-        1 ≤ nodes graph → nodes graph ≤ most_nodes → 1 ≤ states → states ≤ most_elements →
+        1 ≤ nodes graph → nodes graph ≤ most_nodes → 1 ≤ states → states ≤ most_states →
         IsVectorsText graph states text v → AreProperVectors v }
 {}
 

@@ -5,7 +5,8 @@ ghost use Rattle.polcert_text.specs.Source.{IsText, EachTextThatFits};
 ghost use Rattle.polcert_text.specs.Cut.{Lexeme};
 ghost use Rattle.polcert_text.specs.Reading.{lexeme_of};
 ghost use Rattle.polcert_policy.specs.Words.{numeral_kind, minus_kind};
-ghost use Rattle.polcert_policy.specs.Graphs.{PolicyGraph, IsProperGraph, most_elements};
+ghost use Rattle.polcert_policy.specs.Graphs.{PolicyGraph, IsProperGraph};
+ghost use Rattle.polcert_cells.specs.Elements.{most_states};
 ghost use Rattle.polcert_policy.specs.Vectors.{sign_kind, IsVectors};
 ghost use Rattle.polcert_policy.specs.VectorText.{IsVectorsText, IsNoVectorsText, IsVectorsRefusal, IsRefusedVectorsText};
 ghost use Rattle.polcert_policy.specs.VectorsRead.{place_behind, is_minus, HasVectors, TakesPart, CheckedAction, AdvancedValue, AreEndRefusal};
@@ -24,7 +25,7 @@ use std::alloc::Global;
 impl VectorsReading {
     fn new(alloc: Global, states: usize) -> Self
         requires some_states { 1 ≤ states }
-        requires few_states { states ≤ most_elements }
+        requires few_states { states ≤ most_states }
         ensures read { (graph : PolicyGraph) → IsProperGraph graph → HasVectors graph [] result }
         ensures states { result.states ≡ states }
     {
@@ -196,7 +197,7 @@ pub fn read_vectors(
     states: usize,
 ) -> Result<Vectors, VectorFault>
     requires some_states { 1 ≤ states }
-    requires few_states { states ≤ most_elements }
+    requires few_states { states ≤ most_states }
     ensures accepted { MatchResult result
         (IsVectorsText graph.now states text.now)
         (IsNoVectorsText graph.now states text.now) }
@@ -228,7 +229,7 @@ pub fn read_vectors_from<S: Source>(
     states: usize,
 ) -> Result<Vectors, SourceFault<VectorFault>>
     requires some_states { 1 ≤ states }
-    requires few_states { states ≤ most_elements }
+    requires few_states { states ≤ most_states }
     ensures accepted { IfOk result (λ v. (text : List ℕ) × IsText S.reads source.old text source.new
         × IsVectorsText graph.now states text v) }
     ensures refused { (fault : VectorFault) → IsErrOf result (SourceFault.Refused fault)

@@ -1,6 +1,7 @@
 //! How far vectors have been read.
 ghost use Rattle.std.specs.Prelude.{◌<◌, ◌≤◌};
-ghost use Rattle.polcert_policy.specs.Graphs.{most_elements, most_nodes};
+ghost use Rattle.polcert_cells.specs.Elements.{most_states};
+ghost use Rattle.polcert_policy.specs.Graphs.{most_nodes};
 
 /// A sign that no numeral has followed yet: where it stands, and whether it is a `-`.
 #[derive(Clone, Copy)]
@@ -19,7 +20,7 @@ pub struct VectorsReading {
     pub values: Vec<i64>,
     pub sign: Option<OpenSign>,
     ghost some_states: { 1 ≤ states },
-    ghost few_states: { states ≤ most_elements },
+    ghost few_states: { states ≤ most_states },
     ghost column_within: { column ≤ states },
     ghost few: { node ≤ most_nodes },
     ghost few_begun: { 0 < column → node < most_nodes },

@@ -14,7 +14,7 @@ use Rattle.polcert_cells.specs.Elements.{count_of}
 use Rattle.polcert_cells.specs.Entry.{forms, cells_in}
 use Rattle.polcert_cells.specs.Cells.{weight_in, weight_of}
 use Rattle.polcert_cells.specs.Numbers.{one}
-use Rattle.polcert_cells.specs.Preamble.{Preamble, dimensions, observed, columns}
+use Rattle.polcert_cells.specs.Preamble.{Preamble, is_mdp, dimensions, observed, columns}
 use Rattle.polcert_cells.specs.Rows.{IsWeighted}
 use Rattle.polcert_cells.specs.Sound.{ArePlacesIn, Fills, IsSoundEntry}
 use Rattle.polcert_rules.specs.declared.shape.Shape.{Shape}
@@ -52,7 +52,7 @@ in_one n e = at (eqb 1 n) refl e
     at true f e = let same : 1 ≡ n = grind (arith, nat_tests) in sym same
     at false f e = cc
 
-lens : (t : Table) (body : Body) (n : ℕ) → IsWeighted t → list_any (λ k. k == n) (forms t body) ≡ true → Lens body n
+lens : (t : Table) (body : Body) (n : ℕ) → IsWeighted t → list_any (λ k. k == n) (forms false t body) ≡ true → Lens body n
 lens Transition (Probabilities ps) n w e = in_three n e
 lens Transition Uniform n w e = in_two n e
 lens Transition Identity n w e = in_one n e
@@ -62,6 +62,18 @@ lens Observation Uniform n w e = in_two n e
 lens Observation Identity n w e = cc
 lens Observation (Rewards hs) n w e = cc
 lens Reward body n w e = absurd w
+
+-- the forms of T and O are the same in an MDP
+weighted_form : (mdp : Bool) (t : Table) (body : Body) (n : ℕ) → IsWeighted t → list_any (λ k. k == n) (forms mdp t body) ≡ true → list_any (λ k. k == n) (forms false t body) ≡ true
+weighted_form mdp Transition (Probabilities ps) n w e = e
+weighted_form mdp Transition Uniform n w e = e
+weighted_form mdp Transition Identity n w e = e
+weighted_form mdp Transition (Rewards hs) n w e = e
+weighted_form mdp Observation (Probabilities ps) n w e = e
+weighted_form mdp Observation Uniform n w e = e
+weighted_form mdp Observation Identity n w e = e
+weighted_form mdp Observation (Rewards hs) n w e = e
+weighted_form mdp Reward body n w e = absurd w
 
 -- what the last index of a table of weights runs over, as the states of a preamble
 last_of : Preamble → Table → Preamble
@@ -98,9 +110,9 @@ gives n a s c m d (p ∷ q ∷ r ∷ []) (Probabilities ps) e l = refl
 gives n a s c m d (p ∷ q ∷ r ∷ t ∷ rest) (Probabilities ps) e l = let high = l.1 in absurd (omega arith)
 
 pub given_is : (p : Preamble) (table : Table) (shape : Shape) (e : Entry) (a s c : ℕ) → IsWeighted table → IsShapeOf p table shape → e.table ≡ table
-    → list_any (λ n. n == length e.places) (forms e.table e.body) ≡ true → weight_of p (a ∷ s ∷ c ∷ []) e ≡ given shape.columns e s c
+    → list_any (λ n. n == length e.places) (forms false e.table e.body) ≡ true → weight_of p (a ∷ s ∷ c ∷ []) e ≡ given shape.columns e s c
 given_is p table shape e a s c w is t form =
-    let f = subst (λ u. list_any (λ n. n == length e.places) (forms u e.body) ≡ true) t form in
+    let f = subst (λ u. list_any (λ n. n == length e.places) (forms false u e.body) ≡ true) t form in
     ap (λ u. weight_in (columns p u) e.body (drop (length e.places) (dimensions p u)) (drop (length e.places) (a ∷ s ∷ c ∷ []))) t
     ∙ ap (λ ds. weight_in (columns p table) e.body (drop (length e.places) ds) (drop (length e.places) (a ∷ s ∷ c ∷ []))) (three_dimensions p table w)
     ∙ ap (λ n. weight_in n e.body (drop (length e.places) (p.actions ∷ p.states ∷ (last_of p table).states ∷ [])) (drop (length e.places) (a ∷ s ∷ c ∷ []))) (sym is.columns)
@@ -135,11 +147,11 @@ sound_fits p table shape e w is t sound =
     let dims = ap (dimensions p) t ∙ three_dimensions p table w in
     let places = subst (λ ds. ArePlacesIn ds e.places) dims sound.places in
     let fills = subst (λ ds. Fills (cells_in (drop (length e.places) ds)) e.body) dims sound.body in
-    let form = subst (λ u. list_any (λ n. n == length e.places) (forms u e.body) ≡ true) t sound.form in
+    let form = weighted_form (is_mdp p) table e.body (length e.places) w (subst (λ u. list_any (λ n. n == length e.places) (forms (is_mdp p) u e.body) ≡ true) t sound.form) in
     let count = last_count p table w ∙ sym is.columns in
     let some = one_or_more e.body (length e.places) (lens table e.body (length e.places) w form) in
     record {
-      form = sound.form;
+      form = subst (λ u. list_any (λ n. n == length e.places) (forms false u e.body) ≡ true) (sym t) form;
       column = column_in shape.columns p (last_of p table) e.places count places;
       body = subst (λ n. Fills n e.body) (open_are shape p (last_of p table) e.places (sym is.states) count places some) fills;
     }
@@ -163,6 +175,6 @@ one_number (Rewards hs) l f = absurd l
 
 pub single_number : (shape : Shape) (table : Table) (e : Entry) (p q r : Place) → IsWeighted table → e.table ≡ table → e.places ≡ p ∷ q ∷ r ∷ [] → FitsShape shape e → IsOneNumber e.body
 single_number shape table e p q r w t is f =
-    let form = subst (λ u. list_any (λ n. n == length e.places) (forms u e.body) ≡ true) t f.form in
+    let form = subst (λ u. list_any (λ n. n == length e.places) (forms false u e.body) ≡ true) t f.form in
     let l = lens table e.body (length e.places) w form in
     one_number e.body (subst (λ ps. Lens e.body (length ps)) is l) (subst (λ ps. Fills (open_cells shape ps) e.body) is f.body)

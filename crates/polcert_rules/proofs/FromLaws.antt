@@ -2,7 +2,8 @@
 use Rattle.std.proofs.Common.{◌≡◌, ◌∙◌, ℕ, zero, suc, ◌+◌, ◌<◌, ◌≤◌, ⊎_elim, Bool, true, false, cond, ltb, Some, None, List, [], ◌∷◌, length, get_or, drop, refl, sym, ap, subst, arith}
 use Rattle.std.specs.List.{slice_get}
 use Rattle.std.specs.List.Sorted.{IsPartitionedBy, IsNonDecreasingBy}
-use Rattle.std.proofs.lemmas.Bool.{cases_lt}
+use Rattle.std.proofs.lemmas.Bool.{cases_lt, lt-ltb, le-ltb}
+use Rattle.std.proofs.lemmas.Option.{slice_get_within, get_or_from_slice_get}
 use Rattle.std.proofs.lemmas.Bool.Decides.{nat_tests}
 use Rattle.std.proofs.lemmas.List.Sorted.{IsPartitionedBy-ltb}
 use Rattle.polcert_cells.specs.Cursors.{IsNext}
@@ -32,6 +33,16 @@ drop_is_from (x ∷ xs) (suc k) column low high =
     let here : ltb x.column column ≡ true = low 0 x (omega arith) (omega arith) in
     drop_is_from xs k column (λ i d l m. low (suc i) d (omega arith) (omega arith)) (λ i d l m. high (suc i) d (omega arith) (omega arith))
     ∙ sym (ap (λ b. cond b (from column xs) (x ∷ xs)) here)
+
+-- where no column below is missing, it is at its own number
+pub full_up_to : (xs : List Cell) (column : ℕ) (x : Cell) → AreRising xs → slice_get xs column ≡ Some x → x.column ≡ column → drop column xs ≡ from column xs
+full_up_to xs column x up is same =
+    let inside = slice_get_within xs column x is in
+    drop_is_from xs column column
+    (λ i d l m. let here = ap (λ (z : Cell). z.column) (get_or_from_slice_get xs column x d is) ∙ same in
+    let less = up i column d l inside in lt-ltb (get_or xs i d).column column (omega arith))
+    (λ i d l m. let here = ap (λ (z : Cell). z.column) (get_or_from_slice_get xs column x d is) ∙ same in
+    let no_less = in_order xs up column i d l m in le-ltb (get_or xs i d).column column (omega arith))
 
 from_climbs : (low n column : ℕ) (xs : List Cell) → Climbs low n xs → Climbs column n (from column xs)
 from_climbs low n column [] h = tt

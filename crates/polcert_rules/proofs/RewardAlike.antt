@@ -108,12 +108,12 @@ pub alike_none : (p : Preamble) (entries : List Entry) (rewards : RewardRules) (
 alike_none p entries rewards a s e y z are unnamed last = sym (no_reward p entries (a ∷ s ∷ e ∷ z ∷ []) (number_moved p entries rewards a s e y z None are unnamed last))
 
 pub alike_some : (p : Preamble) (entries : List Entry) (rewards : RewardRules) (a s e y z : ℕ) (b : RewardBody) → AreRewardsOf p entries rewards → NoneBegins rewards (a ∷ s ∷ e ∷ []) 2
-    → e < rewards.shape.states → z < rewards.shape.observations → 4 ≤ b.places → IsLastBody p.costs entries rewards.numbers (a ∷ s ∷ e ∷ y ∷ []) (Some b)
+    → s < rewards.shape.states → e < rewards.shape.states → z < rewards.shape.observations → 4 ≤ b.places → IsLastBody p.costs entries rewards.numbers (a ∷ s ∷ e ∷ y ∷ []) (Some b)
     → reward p entries (a ∷ s ∷ e ∷ z ∷ []) ≡ get_or rewards.numbers (b.start + 0) (pos 0)
-alike_some p entries rewards a s e y z b are unnamed le lz single last =
+alike_some p entries rewards a s e y z b are unnamed ls le lz single last =
     let states = are.shape.states in
     let observations = are.shape.observations in
     let here : IsLastBody p.costs entries rewards.numbers (a ∷ s ∷ e ∷ z ∷ []) (Some b) = (number_moved p entries rewards a s e y z (Some b.number) are unnamed last.0, last.1) in
     let none_left : drop b.places (a ∷ s ∷ e ∷ z ∷ []) ≡ [] = drop_all b.places (a ∷ s ∷ e ∷ z ∷ []) single in
-    sym (body_reward p entries rewards (a ∷ s ∷ e ∷ z ∷ []) b are (λ n f. is_open p n a s e z f (omega arith) (omega arith)) here)
-    ∙ ap (λ is. get_or rewards.numbers (b.start + cell_in rewards.shape.observations is) (pos 0)) none_left
+    sym (body_reward p entries rewards (a ∷ s ∷ e ∷ z ∷ []) b are (λ n f. is_open p n a s e z f (omega arith) (omega arith) (omega arith)) here)
+    ∙ ap (λ is. get_or rewards.numbers (b.start + cell_in rewards.shape.states rewards.shape.observations is) (pos 0)) none_left

@@ -3,8 +3,8 @@ use Rattle.std.proofs.Common.{◌≡◌, ◌∙◌, ℕ, zero, suc, ◌<◌, ◌
 use Rattle.std.specs.Option.{IsSomeAnd}
 use Rattle.polcert_cells.specs.declared.entry.Entry.{Entry}
 use Rattle.polcert_cells.specs.declared.entry.Table.TheVariants.{Reward}
-use Rattle.polcert_cells.specs.Elements.{count_of, most_elements}
-use Rattle.polcert_cells.specs.Preamble.{Preamble, observed, dimensions}
+use Rattle.polcert_cells.specs.Elements.{count_of, most_states, most_actions, most_observations}
+use Rattle.polcert_cells.specs.Preamble.{Preamble, rewarded, dimensions}
 use Rattle.polcert_cells.specs.Cells.{reward}
 use Rattle.polcert_rules.specs.declared.reward_parts.RewardBody.{RewardBody}
 use Rattle.polcert_rules.specs.Keys.{AreIndices, Fits, table_key, most_places}
@@ -52,8 +52,8 @@ module _ (p : Preamble) (entries : List Entry) (rewards : RewardRules) (indices 
   cell_is = of_number (newest_in most_places (table_key Reward) rewards.rules indices) (newest_is most_places (table_key Reward) rewards.rules indices)
 
 -- in a model whose counts are within their limits
-pub reward_is : (p : Preamble) (entries : List Entry) (rewards : RewardRules) (a s e z : ℕ) → AreRewardsOf p entries rewards → count_of p.actions ≤ most_elements → count_of p.states ≤ most_elements
-    → count_of (observed p) ≤ most_elements → a < count_of p.actions → s < count_of p.states → e < count_of p.states → z < count_of (observed p)
+pub reward_is : (p : Preamble) (entries : List Entry) (rewards : RewardRules) (a s e z : ℕ) → AreRewardsOf p entries rewards → count_of p.actions ≤ most_actions → count_of p.states ≤ most_states
+    → count_of (rewarded p) ≤ most_observations → a < count_of p.actions → s < count_of p.states → e < count_of p.states → z < count_of (rewarded p)
     → reward_at rewards a s e z ≡ reward p entries (a ∷ s ∷ e ∷ z ∷ [])
 reward_is p entries rewards a s e z are la ls lo i j k l =
     cell_is p entries rewards (a ∷ s ∷ e ∷ z ∷ []) are (omega (arith, la, i), (omega (arith, ls, j), (omega (arith, ls, k), (omega (arith, lo, l), tt)))) (i, (j, (k, (l, tt))))

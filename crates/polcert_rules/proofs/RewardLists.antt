@@ -5,7 +5,7 @@ use Rattle.std.specs.List.Sorted.{IsNonDecreasingBy, IsPartitionPoint}
 use Rattle.std.specs.Option.{IsSomeAnd, MatchOption, option_map, option_copied}
 use Rattle.std.proofs.lemmas.Bool.{cases_lt}
 use Rattle.std.proofs.lemmas.Bool.Decides.{nat_tests}
-use Rattle.std.proofs.lemmas.List.{drop_more}
+use Rattle.std.proofs.lemmas.List.{drop_more, drop_all, append-nil}
 use Rattle.std.proofs.lemmas.List.Elements.{Contains-get_or, Contains-push_cases}
 use Rattle.std.proofs.lemmas.Option.{slice_get-get_or, slice_get_past, slice_get-map, same_Some}
 use Rattle.polcert_cells.specs.declared.entry.Entry.{Entry}
@@ -18,6 +18,10 @@ pub one_more : {X Y : Type 0} (f : X → Y) (xs : List X) (i : ℕ) (d : X) (x :
 one_more f xs i d x before after whole l is pushed so_far =
     ap (λ ys. ys ++ map f (drop (i + 1) xs)) pushed ∙ append_assoc before (x ∷ []) (map f (drop (i + 1) xs)) ∙ ap (λ y. before ++ y ∷ map f (drop (i + 1) xs)) is
     ∙ sym (ap (λ ys. before ++ map f ys) (drop_more xs i d l)) ∙ so_far
+
+-- none is still to come
+pub none_left : {X Y : Type 0} (f : X → Y) (xs : List X) (i : ℕ) (before whole : List Y) → length xs ≤ i → before ++ map f (drop i xs) ≡ whole → before ≡ whole
+none_left f xs i before whole l e = sym (append-nil before) ∙ sym (ap (λ ys. before ++ map f ys) (drop_all i xs l)) ∙ e
 
 pub map-push : {X Y : Type 0} (f : X → Y) (xs : List X) (x : X) → map f (xs ++ x ∷ []) ≡ map f xs ++ f x ∷ []
 map-push f [] x = refl

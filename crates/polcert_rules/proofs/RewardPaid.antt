@@ -1,5 +1,5 @@
 -- Where an entry of R is about an action and a start state.
-use Rattle.std.proofs.Common.{◌≡◌, ◌∙◌, ℕ, zero, suc, ◌+◌, ◌-◌, ◌*◌, ◌^◌, ◌<◌, ◌≤◌, true, ◌&&◌, inl, inr, ⊎_elim, Some, List, [], ◌∷◌, length, take, Contains, refl, sym, ap, subst, arith, suc-mul, pos}
+use Rattle.std.proofs.Common.{◌≡◌, ◌∙◌, ℕ, zero, suc, ◌+◌, ◌-◌, ◌*◌, ◌^◌, ◌<◌, ◌≤◌, true, false, ◌&&◌, inl, inr, ⊎_elim, Some, None, List, [], ◌∷◌, length, take, Contains, refl, sym, ap, subst, arith, suc-mul, pos}
 use Rattle.std.specs.Prelude.{◌==◌}
 use Rattle.std.specs.List.{slice_get, list_any}
 use Rattle.std.proofs.Math.Nat.{mul-le-mul_right}
@@ -14,32 +14,29 @@ use Rattle.polcert_cells.specs.declared.entry.Entry.{Entry}
 use Rattle.polcert_cells.specs.Preamble.{Preamble}
 use Rattle.polcert_cells.specs.Entry.{forms}
 use Rattle.polcert_cells.specs.Sound.{IsSoundEntry}
-use Rattle.polcert_cells.specs.Cells.{fits_place, fit_places, is_table, reward}
+use Rattle.polcert_cells.specs.Cells.{fits_place, fit_places, is_table, covers, reward}
 use Rattle.polcert_rules.specs.Meeting.{fits_at, meets_row}
 use Rattle.polcert_rules.specs.declared.rule.Rule.{Rule}
 use Rattle.polcert_rules.specs.Keys.{digit, key_in, table_key, AreDigits, most_places}
 use Rattle.polcert_rules.specs.Rewards.{AreRewardsOf, RewardRules}
+use Rattle.polcert_rules.specs.Newest.{IsLastNumber}
 use Rattle.polcert_rules.specs.RewardSearch.{Begins}
+use Rattle.polcert_cells.proofs.Basics.{true≢false}
 use Rattle.polcert_rules.proofs.Fitting.{and_true, key_low, key_high, power_some, fit_digits}
 use Rattle.polcert_rules.proofs.Covering.{keyed_at}
 use Rattle.polcert_rules.proofs.RewardKeys.{key_room}
 use Rattle.polcert_rules.proofs.RewardAlike.{NoneBegins, covering}
-use Rattle.polcert_rules.proofs.RewardValues.{IsForm, form_of, of_entry, no_reward}
+use Rattle.polcert_rules.proofs.RewardValues.{no_reward}
 
 -- ---- no entry is
-two_places : (p : Preamble) (x : Entry) → x.table ≡ Reward → IsSoundEntry p x → 2 ≤ length x.places
-two_places p x t s = at x.body (of_entry p x t s).form
+-- an entry that covers a cell has two places, or covers all cells of the action
+two_places : (x : Entry) (a s e z : ℕ) → x.table ≡ Reward → fit_places x.places (a ∷ s ∷ e ∷ z ∷ []) ≡ true → (covers Reward (a ∷ []) x ≡ true → ⊥) → 2 ≤ length x.places
+two_places x a s e z t fits not_all = at x.places fits (λ f. not_all (ap (λ u. is_table u Reward && fit_places x.places (a ∷ [])) t ∙ f))
   where
-    some : IsForm (length x.places) → 2 ≤ length x.places
-    some (inl e) = omega arith
-    some (inr (inl e)) = omega arith
-    some (inr (inr e)) = omega arith
-
-    at : (body : Body) → list_any (λ k. k == length x.places) (forms Reward body) ≡ true → 2 ≤ length x.places
-    at (Rewards hs) e = some (form_of (length x.places) e)
-    at (Probabilities ps) e = cc
-    at Uniform e = cc
-    at Identity e = cc
+    at : (ps : List Place) → fit_places ps (a ∷ s ∷ e ∷ z ∷ []) ≡ true → (fit_places ps (a ∷ []) ≡ true → ⊥) → 2 ≤ length ps
+    at [] f none = absurd (none refl)
+    at (p ∷ []) f none = absurd (none f)
+    at (p ∷ q ∷ ps) f none = omega arith
 
 -- an entry that covers a cell begins with places that fit its action and start state
 covering_begins : (low a s e z key : ℕ) (ps : List Place) → 2 ≤ length ps → fit_places ps (a ∷ s ∷ e ∷ z ∷ []) ≡ true → AreDigits most_places ps → key ≡ key_in most_places low ps
@@ -60,12 +57,12 @@ covering_begins low a s e z key (p ∷ q ∷ rest) two fits digits is =
       to = omega arith;
     }
 
-pub unpaid : (p : Preamble) (entries : List Entry) (rewards : RewardRules) (a s e z : ℕ) → AreRewardsOf p entries rewards → NoneBegins rewards (a ∷ s ∷ []) 0
+pub unpaid : (p : Preamble) (entries : List Entry) (rewards : RewardRules) (a s e z : ℕ) → AreRewardsOf p entries rewards → IsLastNumber entries Reward (a ∷ []) None → NoneBegins rewards (a ∷ s ∷ []) 0
     → reward p entries (a ∷ s ∷ e ∷ z ∷ []) ≡ pos 0
-unpaid p entries rewards a s e z are none = sym (no_reward p entries (a ∷ s ∷ e ∷ z ∷ [])
+unpaid p entries rewards a s e z are nowhere none = sym (no_reward p entries (a ∷ s ∷ e ∷ z ∷ [])
     (λ k x is c.
     let d = covering p entries rewards (a ∷ s ∷ e ∷ z ∷ []) k x are is c in
-    none d.rule d.among (covering_begins (table_key Reward) a s e z d.rule.key x.places (two_places p x d.table d.sound) d.fits d.digits d.key)))
+    none d.rule d.among (covering_begins (table_key Reward) a s e z d.rule.key x.places (two_places x a s e z d.table d.fits (nowhere k x is)) d.fits d.digits d.key)))
 
 -- ---- a rule that begins with places that fit
 digit_some : (p : Place) → 1 ≤ digit p
@@ -137,9 +134,22 @@ meets a s (p ∷ q ∷ []) (x ∷ y ∷ rest) two fits same =
     let second : y ≡ q = cc in
     (ap (λ z. fits_place z a) first ∙ one.0, ap (λ z. fits_place z s) second ∙ other.0)
 
+-- an entry that covers all cells of the action
+meets_all : (a s : ℕ) (ps : List Place) → fit_places ps (a ∷ []) ≡ true → (fits_at ps 0 a ≡ true) × (fits_at ps 1 s ≡ true)
+meets_all a s [] f = (refl, refl)
+meets_all a s (p ∷ []) f = ((and_true (fits_place p a) true f).0, refl)
+meets_all a s (p ∷ q ∷ ps) f = absurd (true≢false (and_true (fits_place p a) false f).1 refl)
+
 -- such an entry
 abbrev pub IsPaidBy : List Entry → ℕ → ℕ → Type 0
 IsPaidBy entries a s = (n : ℕ) × (x : Entry) × (slice_get entries n ≡ Some x) × (meets_row Reward a s x ≡ true)
+
+pub paid_by_all : (entries : List Entry) (a s n : ℕ) → IsLastNumber entries Reward (a ∷ []) (Some n) → IsPaidBy entries a s
+paid_by_all entries a s n last =
+    let x = last.0.0 in
+    let both = and_true (is_table x.table Reward) (fit_places x.places (a ∷ [])) last.0.2 in
+    let m = meets_all a s x.places both.1 in
+    (n, x, last.0.1, ap (λ b. b && fits_at x.places 0 a && fits_at x.places 1 s) both.0 ∙ ap (λ b. b && fits_at x.places 1 s) m.0 ∙ m.1)
 
 pub paid : (p : Preamble) (entries : List Entry) (rewards : RewardRules) (a s : ℕ) (r : Rule) → AreRewardsOf p entries rewards → a + 2 < 1024 → s + 2 < 1024
     → Contains rewards.rules r → Begins most_places (table_key Reward) (a ∷ s ∷ []) 0 r.key → IsPaidBy entries a s

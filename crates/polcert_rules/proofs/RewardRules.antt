@@ -40,40 +40,43 @@ no_rule = record { key = 0; number = 0 }
 abbrev no_body : RewardBody
 no_body = record { number = 0; start = 0; places = 0 }
 
-named_in_order : (bodies : List RewardBody) (rules : List Rule) → AreNamed bodies rules → IsNonDecreasingBy (λ r. r.number) rules → IsNonDecreasingBy (λ b. b.number) bodies
-named_in_order bodies rules named up i j d le l =
-    let many = as_many bodies rules named in
-    let a = same_number bodies rules named i d no_rule (omega arith) in
-    let b = same_number bodies rules named j d no_rule l in
-    let c = up i j no_rule le (omega arith) in
-    omega arith
-
 some_named : (bodies : List RewardBody) (rules : List Rule) → AreNamed bodies rules → (r : Rule) → Contains rules r → (b : RewardBody) × Contains bodies b × (b.number ≡ r.number)
 some_named bodies rules named r (k, l, e) =
     let many = as_many bodies rules named in
     let inside : k < length bodies = omega arith in
     (get_or bodies k no_body, Contains-get_or bodies k no_body inside, same_number bodies rules named k no_body r inside ∙ ap (λ (x : Rule). x.number) e)
 
+-- each rule has a body, however the bodies are sorted
+pub sorted_named : (bodies sorted : List RewardBody) (rules : List Rule) → AreNamed bodies rules → IsPermutation bodies sorted → (r : Rule) → Contains rules r
+    → (b : RewardBody) × Contains sorted b × (b.number ≡ r.number)
+sorted_named bodies sorted rules named permuted r among =
+    let found = some_named bodies rules named r among in
+    (found.0, Contains-permutation bodies sorted found.0 permuted found.1, found.2)
+
+pub sorted_bodies : (costs : Bool) (entries : List Entry) (numbers : List ℤ) (bodies sorted : List RewardBody) → AreBodiesOf costs entries numbers bodies → IsPermutation bodies sorted
+    → AreBodiesOf costs entries numbers sorted
+sorted_bodies costs entries numbers bodies sorted each permuted b among =
+    each b (Contains-permutation sorted bodies b (IsPermutation-sym bodies sorted permuted) among)
+
 -- ---- the rules of R
-pub number_within : (entries : List Entry) (index part sorted : List Rule) (low size : ℕ) → IsIndexOf entries index → IsSpan index part low size → IsPermutation part sorted
-    → (r : Rule) → Contains sorted r → r.number < length entries
-number_within entries index part sorted low size is span p r among =
-    let old = Contains-permutation sorted part r (IsPermutation-sym part sorted p) among in
-    let e = is.sound r ((span r).0 old).0 in
+pub number_within : (entries : List Entry) (index part : List Rule) (low size : ℕ) → IsIndexOf entries index → IsSpan index part low size
+    → (r : Rule) → Contains part r → r.number < length entries
+number_within entries index part low size is span r among =
+    let e = is.sound r ((span r).0 among).0 in
     slice_get_within entries r.number e.0 e.1
 
-pub are_rewards : (p : Preamble) (entries : List Entry) (shape : RewardShape) (costs : Bool) (index rules sorted : List Rule) (bodies : List RewardBody) (numbers : List ℤ)
+pub are_rewards : (p : Preamble) (entries : List Entry) (shape : RewardShape) (costs : Bool) (index rules : List Rule) (bodies : List RewardBody) (numbers : List ℤ)
     → IsShapeOf p shape → p.costs ≡ costs → AreKeyed entries → All (IsSoundEntry p) entries → IsIndexOf entries index
-    → IsSpan index rules (table_key Reward) (1024 ^ most_places) → IsPermutation rules sorted → IsNonDecreasingBy (λ r. r.number) sorted → AreNamed bodies sorted
-    → AreBodiesOf costs entries numbers bodies → AreRewardsOf p entries (reward_rules shape rules bodies numbers)
-are_rewards p entries shape costs index rules sorted bodies numbers shape_is costs_are keyed sound is span permuted up named each = record {
+    → IsSpan index rules (table_key Reward) (1024 ^ most_places) → ((r : Rule) → Contains rules r → (b : RewardBody) × Contains bodies b × (b.number ≡ r.number))
+    → IsNonDecreasingBy (λ b. b.number) bodies → AreBodiesOf costs entries numbers bodies → AreRewardsOf p entries (reward_rules shape rules bodies numbers)
+are_rewards p entries shape costs index rules bodies numbers shape_is costs_are keyed sound is span some_body in_order each = record {
   shape = shape_is;
   sound = sound;
   keyed = keyed;
   index = index;
   index_is = is;
   rules = span;
-  some_body = λ r among. some_named bodies sorted named r (Contains-permutation rules sorted r permuted among);
-  in_order = named_in_order bodies sorted named up;
+  some_body = some_body;
+  in_order = in_order;
   bodies = subst (λ c. AreBodiesOf c entries numbers bodies) (sym costs_are) each;
 }

@@ -6,17 +6,18 @@ use Rattle.polcert_cells.specs.declared.entry.Table.TheVariants.{Transition, Obs
 use Rattle.polcert_cells.specs.declared.entry.Place.{Place}
 use Rattle.polcert_cells.specs.declared.entry.Place.TheVariants.{Every, Only}
 use Rattle.polcert_cells.specs.declared.entry.Entry.{Entry}
-use Rattle.polcert_cells.specs.Elements.{count_of, most_elements}
-use Rattle.polcert_cells.specs.Preamble.{Preamble, dimensions, observed}
+use Rattle.polcert_cells.specs.Elements.{count_of, most_states, most_actions, most_observations}
+use Rattle.polcert_cells.specs.Preamble.{Preamble, dimensions, observed, rewarded}
 use Rattle.polcert_cells.specs.Sound.{IsPlaceIn, ArePlacesIn, IsSoundEntry}
+use Rattle.polcert_cells.proofs.SoundLaws.{rewarded_few}
 use Rattle.polcert_rules.specs.Keys.{digit, AreDigits, most_places}
 use Rattle.polcert_rules.specs.Newest.{AreKeyed}
 
 -- no more elements of a kind than a model may have
 pub record HasFew (p : Preamble) : Type 0 where
-  pub actions : count_of p.actions ≤ most_elements
-  pub states : count_of p.states ≤ most_elements
-  pub observations : count_of (observed p) ≤ most_elements
+  pub actions : count_of p.actions ≤ most_actions
+  pub states : count_of p.states ≤ most_states
+  pub observations : count_of (observed p) ≤ most_observations
 
 an_action : (p : Preamble) (q : Place) → HasFew p → IsPlaceIn p.actions q → digit q < 1024
 an_action p Every few i = omega arith
@@ -39,9 +40,17 @@ states : (m : ℕ) (p : Preamble) (ps : List Place) → HasFew p → ArePlacesIn
 states m p [] few a = tt
 states m p (q ∷ qs) few a = (a_state p q few a.0, no_more m p qs a.1)
 
+a_rewarded : (p : Preamble) (q : Place) → HasFew p → IsPlaceIn (rewarded p) q → digit q < 1024
+a_rewarded p Every few i = omega arith
+a_rewarded p (Only n) few i = let few_of = rewarded_few p few.observations in omega arith
+
 observations : (m : ℕ) (p : Preamble) (ps : List Place) → HasFew p → ArePlacesIn (observed p ∷ []) ps → AreDigits (suc m) ps
 observations m p [] few a = tt
 observations m p (q ∷ qs) few a = (an_observation p q few a.0, no_more m p qs a.1)
+
+rewards : (m : ℕ) (p : Preamble) (ps : List Place) → HasFew p → ArePlacesIn (rewarded p ∷ []) ps → AreDigits (suc m) ps
+rewards m p [] few a = tt
+rewards m p (q ∷ qs) few a = (a_rewarded p q few a.0, no_more m p qs a.1)
 
 two_states : (m : ℕ) (p : Preamble) (ps : List Place) → HasFew p → ArePlacesIn (p.states ∷ p.states ∷ []) ps → AreDigits (suc (suc m)) ps
 two_states m p [] few a = tt
@@ -51,16 +60,20 @@ states_observations : (m : ℕ) (p : Preamble) (ps : List Place) → HasFew p �
 states_observations m p [] few a = tt
 states_observations m p (q ∷ qs) few a = (a_state p q few a.0, observations m p qs few a.1)
 
-two_states_observations : (m : ℕ) (p : Preamble) (ps : List Place) → HasFew p → ArePlacesIn (p.states ∷ p.states ∷ observed p ∷ []) ps → AreDigits (suc (suc (suc m))) ps
-two_states_observations m p [] few a = tt
-two_states_observations m p (q ∷ qs) few a = (a_state p q few a.0, states_observations m p qs few a.1)
+states_rewards : (m : ℕ) (p : Preamble) (ps : List Place) → HasFew p → ArePlacesIn (p.states ∷ rewarded p ∷ []) ps → AreDigits (suc (suc m)) ps
+states_rewards m p [] few a = tt
+states_rewards m p (q ∷ qs) few a = (a_state p q few a.0, rewards m p qs few a.1)
+
+two_states_rewards : (m : ℕ) (p : Preamble) (ps : List Place) → HasFew p → ArePlacesIn (p.states ∷ p.states ∷ rewarded p ∷ []) ps → AreDigits (suc (suc (suc m))) ps
+two_states_rewards m p [] few a = tt
+two_states_rewards m p (q ∷ qs) few a = (a_state p q few a.0, states_rewards m p qs few a.1)
 
 -- ---- all places
 places_digits : (p : Preamble) (table : Table) (ps : List Place) → HasFew p → ArePlacesIn (dimensions p table) ps → AreDigits most_places ps
 places_digits p table [] few a = tt
 places_digits p Transition (q ∷ qs) few a = (an_action p q few a.0, two_states 1 p qs few a.1)
 places_digits p Observation (q ∷ qs) few a = (an_action p q few a.0, states_observations 1 p qs few a.1)
-places_digits p Reward (q ∷ qs) few a = (an_action p q few a.0, two_states_observations 0 p qs few a.1)
+places_digits p Reward (q ∷ qs) few a = (an_action p q few a.0, two_states_rewards 0 p qs few a.1)
 
 pub sound_keyed : (p : Preamble) (entries : List Entry) → HasFew p → All (IsSoundEntry p) entries → AreKeyed entries
 sound_keyed p entries few sound =

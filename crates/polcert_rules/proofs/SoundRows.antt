@@ -6,14 +6,15 @@ use Rattle.polcert_cells.specs.declared.entry.Table.TheVariants.{Transition, Obs
 use Rattle.polcert_cells.specs.declared.entry.Place.{Place}
 use Rattle.polcert_cells.specs.declared.entry.Place.TheVariants.{Every, Only}
 use Rattle.polcert_cells.specs.declared.entry.Entry.{Entry}
-use Rattle.polcert_cells.specs.Elements.{count_of, most_elements}
+use Rattle.polcert_cells.specs.Elements.{count_of, most_states, most_actions, most_observations, most_elements}
 use Rattle.polcert_cells.specs.Cells.{is_table, fit_places, last_covering, IsLastCovering, last, weight, weight_of, value_or}
 use Rattle.polcert_cells.specs.Meaning.{IsCount}
 use Rattle.polcert_cells.specs.Numbers.{one}
-use Rattle.polcert_cells.specs.Preamble.{Preamble, dimensions, observed}
+use Rattle.polcert_cells.specs.Preamble.{Preamble, dimensions, observed, rewarded}
 use Rattle.polcert_cells.specs.Rows.{IsWeighted}
 use Rattle.polcert_cells.specs.Sound.{IsPlaceIn, ArePlacesIn, IsSoundEntry}
 use Rattle.polcert_cells.proofs.CellLaws as cells
+use Rattle.polcert_cells.proofs.SoundLaws.{rewarded_few}
 use Rattle.polcert_rules.specs.declared.rule.Rule.{Rule}
 use Rattle.polcert_rules.specs.declared.shape.Shape.{Shape}
 use Rattle.polcert_rules.specs.Keys.{digit, AreDigits, most_places}
@@ -29,8 +30,8 @@ use Rattle.polcert_rules.proofs.KeptLaws.{at_number, given_small}
 use Rattle.polcert_rules.proofs.FormLaws.{given_is, sound_fits, single_number}
 
 -- ---- places within their counts have keys, and no column is too large
-module _ (p : Preamble) (sound : (count_of p.states ≤ 1000) × (count_of p.actions ≤ 1000) × (count_of (observed p) ≤ 1000)) where
-  place_digit : (q : Preamble) (x : Place) → count_of q.states ≤ 1000 → IsPlaceIn q.states x → digit x < 1024
+module _ (p : Preamble) (sound : (count_of p.states ≤ most_states) × (count_of p.actions ≤ most_actions) × (count_of (observed p) ≤ most_observations)) where
+  place_digit : (q : Preamble) (x : Place) → count_of q.states ≤ most_states → IsPlaceIn q.states x → digit x < 1024
   place_digit q Every l h = omega arith
   place_digit q (Only k) l h = omega arith
 
@@ -42,6 +43,9 @@ module _ (p : Preamble) (sound : (count_of p.states ≤ 1000) × (count_of p.act
 
   observed_digit : (x : Place) → IsPlaceIn (observed p) x → digit x < 1024
   observed_digit x h = place_digit (record p { states = observed p }) x sound.2 h
+
+  rewarded_digit : (x : Place) → IsPlaceIn (rewarded p) x → digit x < 1024
+  rewarded_digit x h = place_digit (record p { states = rewarded p }) x (rewarded_few p sound.2) h
 
   keyed : (t : Table) (ps : List Place) → ArePlacesIn (dimensions p t) ps → AreDigits most_places ps
   keyed t [] h = tt
@@ -56,7 +60,7 @@ module _ (p : Preamble) (sound : (count_of p.states ≤ 1000) × (count_of p.act
   keyed Reward (x ∷ []) h = (actions_digit x h.0, tt)
   keyed Reward (x ∷ y ∷ []) h = (actions_digit x h.0, (states_digit y h.1.0, tt))
   keyed Reward (x ∷ y ∷ z ∷ []) h = (actions_digit x h.0, (states_digit y h.1.0, (states_digit z h.1.1.0, tt)))
-  keyed Reward (x ∷ y ∷ z ∷ w ∷ []) h = (actions_digit x h.0, (states_digit y h.1.0, (states_digit z h.1.1.0, (observed_digit w h.1.1.1.0, tt))))
+  keyed Reward (x ∷ y ∷ z ∷ w ∷ []) h = (actions_digit x h.0, (states_digit y h.1.0, (states_digit z h.1.1.0, (rewarded_digit w h.1.1.1.0, tt))))
   keyed Reward (x ∷ y ∷ z ∷ w ∷ v ∷ ps) h = absurd h.1.1.1.1
 
   no_such : (t : Table) (ps : List Place) → ArePlacesIn (dimensions p t) ps → HasNoSuchColumn ps
@@ -155,19 +159,16 @@ module _ (p : Preamble) (table : Table) (shape : Shape) (entries : List Entry) (
           small = λ c l. small_is c;
         }
 
-abbrev Count : ℕ → Type 0
-Count = IsCount most_elements
-
 -- the counts of a shape are within their limits
 pub sound_within : (p : Preamble) (table : Table) (shape : Shape) (entries : List Entry) → IsWeighted table → IsShapeOf p table shape → AreSound p entries → IsWithin shape
 sound_within p Transition shape entries w is sound =
     let a = sound.actions in
     let s = sound.states in
-    record { actions = subst Count (sym is.actions) a; states = subst Count (sym is.states) s; columns = subst Count (sym is.columns) s }
+    record { actions = subst (IsCount most_actions) (sym is.actions) a; states = subst (IsCount most_states) (sym is.states) s; columns = subst (IsCount most_elements) (sym is.columns) s }
 sound_within p Observation shape entries w is sound =
     let a = sound.actions in
     let s = sound.states in
-    record { actions = subst Count (sym is.actions) a; states = subst Count (sym is.states) s; columns = subst Count (sym is.columns) sound.observations }
+    record { actions = subst (IsCount most_actions) (sym is.actions) a; states = subst (IsCount most_states) (sym is.states) s; columns = subst (IsCount most_elements) (sym is.columns) sound.observations }
 sound_within p Reward shape entries w is sound = absurd w
 
 -- the numbers of a row, by what the index says of it

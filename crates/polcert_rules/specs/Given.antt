@@ -1,12 +1,12 @@
 -- What an entry of T or O gives a row. Nobody has to believe this file: only private functions cite it.
-use Rattle.std.specs.Prelude.{◌≡◌, ℕ, ◌+◌, ◌*◌, ◌<◌, ◌==◌, true, List, [], ◌∷◌, length, slice_index, if◌then◌else◌}
+use Rattle.std.specs.Prelude.{◌≡◌, ℕ, ◌+◌, ◌*◌, ◌<◌, ◌==◌, true, List, [], ◌∷◌, length, slice_index, false, if◌then◌else◌}
 use Rattle.std.specs.List.{list_any}
 use Rattle.polcert_cells.specs.declared.entry.Place.{Place}
 use Rattle.polcert_cells.specs.declared.entry.Place.TheVariants.{Only}
 use Rattle.polcert_cells.specs.declared.entry.Body.{Body}
 use Rattle.polcert_cells.specs.declared.entry.Body.TheVariants.{Probabilities, Rewards, Uniform, Identity}
 use Rattle.polcert_cells.specs.declared.entry.Entry.{Entry}
-use Rattle.polcert_cells.specs.Elements.{most_elements}
+use Rattle.polcert_cells.specs.Elements.{most_states, most_actions, most_elements}
 use Rattle.polcert_cells.specs.Entry.{forms}
 use Rattle.polcert_cells.specs.Meaning.{IsCount}
 use Rattle.polcert_cells.specs.Numbers.{one}
@@ -16,8 +16,8 @@ use Rattle.polcert_rules.specs.declared.shape.Shape.{Shape}
 
 -- each count within its limits
 pub record IsWithin (shape : Shape) : Type 0 where
-  pub actions : IsCount most_elements shape.actions
-  pub states : IsCount most_elements shape.states
+  pub actions : IsCount most_actions shape.actions
+  pub states : IsCount most_states shape.states
   pub columns : IsCount most_elements shape.columns
 
 -- how many cells these places leave open
@@ -31,9 +31,10 @@ abbrev pub HasColumn : ℕ → List Place → Type 0
 HasColumn columns (p ∷ q ∷ Only n ∷ ps) = n < columns
 HasColumn columns _ = Unit {0}
 
--- the entry has one of the forms, and its body fills the cells that its places leave open
+-- the entry has one of the forms (those of T and O are the same in an MDP), and its body fills the cells that its places
+-- leave open
 pub record FitsShape (shape : Shape) (entry : Entry) : Type 0 where
-  pub form : list_any (λ n. n == length entry.places) (forms entry.table entry.body) ≡ true
+  pub form : list_any (λ n. n == length entry.places) (forms false entry.table entry.body) ≡ true
   pub column : HasColumn shape.columns entry.places
   pub body : Fills (open_cells shape entry.places) entry.body
 

@@ -14,7 +14,7 @@ body_of number (b ∷ bs) = if b.number == number then Some b else body_of numbe
 -- what a body gives the cell at these indices
 abbrev pub given : RewardRules → List ℕ → Option RewardBody → ℤ
 given rewards indices None = pos 0
-given rewards indices (Some b) = get_or rewards.numbers (b.start + cell_in rewards.shape.observations (drop b.places indices)) (pos 0)
+given rewards indices (Some b) = get_or rewards.numbers (b.start + cell_in rewards.shape.states rewards.shape.observations (drop b.places indices)) (pos 0)
 
 -- what the rule of this number gives it
 abbrev pub given_by : RewardRules → List ℕ → Option ℕ → ℤ

@@ -7,8 +7,8 @@ use Rattle.polcert_cells.specs.declared.entry.Table.TheVariants.{Reward}
 use Rattle.polcert_cells.specs.declared.entry.Body.{Body}
 use Rattle.polcert_cells.specs.declared.entry.Body.TheVariants.{Rewards}
 use Rattle.polcert_cells.specs.declared.entry.Entry.{Entry}
-use Rattle.polcert_cells.specs.Elements.{count_of, most_elements}
-use Rattle.polcert_cells.specs.Preamble.{Preamble, observed}
+use Rattle.polcert_cells.specs.Elements.{count_of, most_states, most_actions, most_observations}
+use Rattle.polcert_cells.specs.Preamble.{Preamble, rewarded}
 use Rattle.polcert_cells.specs.Sound.{IsSoundEntry}
 use Rattle.polcert_rules.specs.declared.rule.Rule.{Rule}
 use Rattle.polcert_rules.specs.declared.reward_parts.RewardShape.{RewardShape}
@@ -16,17 +16,17 @@ use Rattle.polcert_rules.specs.declared.reward_parts.RewardBody.{RewardBody}
 use Rattle.polcert_rules.specs.Keys.{table_key, most_places}
 use Rattle.polcert_rules.specs.Newest.{IsRising, IsIndexOf, AreKeyed}
 
--- the shape has as many elements of each kind as the preamble
+-- the shape has as many elements of each kind as the indices of a reward run over
 pub record IsShapeOf (p : Preamble) (shape : RewardShape) : Type 0 where
   pub actions : count_of p.actions ≡ shape.actions
   pub states : count_of p.states ≡ shape.states
-  pub observations : count_of (observed p) ≡ shape.observations
+  pub observations : count_of (rewarded p) ≡ shape.observations
 
 -- no more elements of a kind than a model may have
 pub record IsSmall (shape : RewardShape) : Type 0 where
-  pub actions : shape.actions ≤ most_elements
-  pub states : shape.states ≤ most_elements
-  pub observations : shape.observations ≤ most_elements
+  pub actions : shape.actions ≤ most_actions
+  pub states : shape.states ≤ most_states
+  pub observations : shape.observations ≤ most_observations
 
 -- the rules of R by their keys, the bodies of their entries by their numbers, and the numbers of all bodies
 pub record RewardRules : Type 0 where
@@ -76,11 +76,12 @@ pub record AreRewardsOf (p : Preamble) (entries : List Entry) (rewards : RewardR
   pub in_order : IsNonDecreasingBy (λ b. b.number) rewards.bodies
   pub bodies : AreBodiesOf p.costs entries rewards.numbers rewards.bodies
 
--- the number of a cell in a body, by the indices that are left for it, in a table with so many columns
-abbrev pub cell_in : ℕ → List ℕ → ℕ
-cell_in columns (row ∷ column ∷ []) = row * columns + column
-cell_in columns (column ∷ []) = column
-cell_in columns _ = 0
+-- the number of a cell in a body, by the indices that are left for it, in a table with so many rows and columns
+abbrev pub cell_in : ℕ → ℕ → List ℕ → ℕ
+cell_in rows columns (matrix ∷ row ∷ column ∷ []) = (matrix * rows + row) * columns + column
+cell_in rows columns (row ∷ column ∷ []) = row * columns + column
+cell_in rows columns (column ∷ []) = column
+cell_in rows columns _ = 0
 
 abbrev pub reward_rules : RewardShape → List Rule → List RewardBody → List ℤ → RewardRules
 reward_rules shape rules bodies numbers = record { shape = shape; rules = rules; bodies = bodies; numbers = numbers }

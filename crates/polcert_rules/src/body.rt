@@ -2,11 +2,12 @@
 ghost use Rattle.std.specs.Prelude.{◌≡◌, ℕ, ◌+◌, ◌*◌, ◌<◌, ◌≤◌, ◌==◌, All, IfOk, length, slice_index, if◌then◌else◌};
 ghost use Rattle.polcert_cells.specs.Numbers.{one};
 ghost use Rattle.polcert_cells.specs.Elements.{most_elements};
+ghost use Rattle.polcert_cells.specs.EntryLists.{entry_of};
 ghost use Rattle.polcert_rules.specs.Given.{IsWithin, FitsShape, given};
 ghost use Rattle.polcert_rules.specs.Sparse.{IsRow};
 
 use crate::{Cell, Shape};
-use polcert_cells::{Body, Entry};
+use polcert_cells::{BodyRef, EntryRef};
 use std::alloc::{AllocError, Global};
 
 /// One, in millionths.
@@ -15,28 +16,28 @@ const ONE: u64 = 1_000_000;
 /// What an entry of T or O that covers whole rows gives the row of this state.
 pub(crate) fn body_row(
     alloc: Global,
-    entry: &Entry,
+    entry: EntryRef<'_>,
     state: usize,
     shape: Shape,
 ) -> Result<Vec<Cell>, AllocError>
     requires within { IsWithin shape }
     requires state { state < shape.states }
-    requires fits { FitsShape shape entry.now }
-    ensures { IfOk result (λ cells. IsRow shape.columns (given shape.columns entry.now state) cells.items) }
+    requires fits { FitsShape shape (entry_of entry) }
+    ensures { IfOk result (λ cells. IsRow shape.columns (given shape.columns (entry_of entry.entry) state) cells.items) }
 {
     let columns = shape.columns;
-    match &entry.body {
-        Body::Probabilities(numbers) => match entry.places.len() {
+    match entry.body {
+        BodyRef::Probabilities(numbers) => match entry.places.len() {
             1 => {
-                let line = line_of(numbers.as_slice(), columns, state);
+                let line = line_of(numbers, columns, state);
                 Ok(row_of_numbers(alloc, line)?)
             }
-            2 => Ok(row_of_numbers(alloc, numbers.as_slice())?),
-            _ => Ok(even_row(alloc, columns, numbers.at(0) as u64 * columns as u64)?),
+            2 => Ok(row_of_numbers(alloc, numbers)?),
+            _ => Ok(even_row(alloc, columns, numbers[0] as u64 * columns as u64)?),
         },
-        Body::Uniform => Ok(even_row(alloc, columns, ONE)?),
-        Body::Identity => Ok(diagonal_row(alloc, columns, state)?),
-        Body::Rewards(_) => Ok(even_row(alloc, columns, 0)?),
+        BodyRef::Uniform => Ok(even_row(alloc, columns, ONE)?),
+        BodyRef::Identity => Ok(diagonal_row(alloc, columns, state)?),
+        BodyRef::Rewards(_) => Ok(even_row(alloc, columns, 0)?),
     }
 }
 

@@ -1,24 +1,25 @@
 //! Building an index: a rule for each entry, in the order of their keys, and of each key the newest.
 ghost use Rattle.std.specs.Prelude.{◌≡◌, ◌≤◌, IfOk};
+ghost use Rattle.polcert_cells.specs.EntryLists.{entry_of};
 ghost use Rattle.polcert_rules.specs.Keys.{digit, table_digit, key_of, AreDigits, most_places};
 ghost use Rattle.polcert_rules.specs.Newest.{AreKeyed, rules_from, newest_of_each};
 
 use crate::Rule;
 use crate::newest::span;
-use polcert_cells::{Entry, Place, Table};
+use polcert_cells::{Entries, EntryRef, Place, Table};
 use std::alloc::{AllocError, Global};
 
 /// How many places an entry has at most.
 const MOST_PLACES: usize = 4;
 
 /// A rule for each entry.
-pub(crate) fn numbered(alloc: Global, entries: &[Entry]) -> Result<Vec<Rule>, AllocError>
+pub(crate) fn numbered(alloc: Global, entries: &Entries) -> Result<Vec<Rule>, AllocError>
     requires { AreKeyed entries.now }
     ensures { IfOk result (λ rules. rules.items ≡ rules_from 0 entries.now) }
 {
-    let mut rules = Vec::new(alloc);
+    let mut rules = Vec::with_capacity(alloc, entries.len())?;
     for number in 0..entries.len() {
-        let key = key_of(&entries[number]);
+        let key = key_of(entries.at(number));
         rules.push(Rule { key, number })?;
     }
     Ok(rules)
@@ -46,13 +47,13 @@ pub(crate) fn newest_of_each(alloc: Global, rules: &[Rule]) -> Result<Vec<Rule>,
 }
 
 /// The key of an entry's pattern, its table in front.
-fn key_of(entry: &Entry) -> u64
-    requires { AreDigits most_places entry.now.places }
-    ensures { result ≡ key_of entry.now }
+fn key_of(entry: EntryRef<'_>) -> u64
+    requires { AreDigits most_places entry.places.now }
+    ensures { result ≡ key_of (entry_of entry.entry) }
 {
     let mut key = table_digit(entry.table) * span(MOST_PLACES);
     let mut levels = MOST_PLACES;
-    for place in entry.places.as_slice() {
+    for place in entry.places {
         levels -= 1;
         key += digit(*place) * span(levels);
     }

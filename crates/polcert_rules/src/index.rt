@@ -13,7 +13,7 @@ use crate::build::{newest_of_each, numbered, table_digit};
 use crate::newest::{newest, span};
 use crate::part::between;
 use crate::row::{Row, cells};
-use polcert_cells::{Entry, Table};
+use polcert_cells::{Entries, Table};
 use std::alloc::{AllocError, Global};
 use std::marker::Model;
 
@@ -39,8 +39,8 @@ impl Model for Index {
 }
 
 impl Index {
-    /// The index of these entries.
-    pub fn of(alloc: Global, entries: &[Entry]) -> Result<Index, AllocError>
+    /// The index of these entries. An error is want of memory.
+    pub fn of(alloc: Global, entries: &Entries) -> Result<Index, AllocError>
         requires { AreKeyed entries.now }
         ensures { IfOk result (IsIndexOf entries.now) }
     {

@@ -2,6 +2,7 @@
 ghost use Rattle.std.specs.Prelude.{◌≡◌, ℕ, ◌*◌, ◌<◌, ◌≤◌, ◌^◌, ◌↔◌, All, IfOk, OnOk, IfSome, IsTrue, length};
 ghost use Rattle.polcert_cells.specs.Numbers.{one};
 ghost use Rattle.polcert_cells.specs.Elements.{most_elements};
+ghost use Rattle.polcert_cells.specs.EntryLists.{entry_of};
 ghost use Rattle.polcert_cells.specs.declared.entry.Table.{Table as T};
 ghost use Rattle.polcert_rules.specs.declared.shape.Shape.{Shape as S};
 ghost use Rattle.polcert_rules.specs.Given.{IsWithin};
@@ -13,7 +14,7 @@ use crate::body::body_row;
 use crate::merging::merged;
 use crate::single::newer_cells;
 use crate::{Cell, Row, Shape};
-use polcert_cells::{Body, Entry};
+use polcert_cells::{BodyRef, Entries, EntryRef};
 use std::alloc::{AllocError, Global};
 
 /// What a row is made of.
@@ -41,7 +42,7 @@ pub(crate) fn row_number(
     alloc: Global,
     kept: &mut Vec<Kept>,
     numbers: &[usize],
-    entries: &[Entry],
+    entries: &Entries,
     row: &Row,
     state: usize,
     shape: Shape,
@@ -84,7 +85,7 @@ fn shared_row(
     alloc: Global,
     kept: &mut Vec<Kept>,
     numbers: &[usize],
-    entries: &[Entry],
+    entries: &Entries,
     whole: Option<usize>,
     state: usize,
     shape: Shape,
@@ -111,7 +112,7 @@ fn own_row(
     alloc: Global,
     kept: &mut Vec<Kept>,
     newer: &[Cell],
-    entries: &[Entry],
+    entries: &Entries,
     whole: Option<usize>,
     state: usize,
     shape: Shape,
@@ -134,7 +135,7 @@ fn own_row(
 /// What the entry that covers the whole row gives it, if there is one.
 fn whole_row(
     alloc: Global,
-    entries: &[Entry],
+    entries: &Entries,
     whole: Option<usize>,
     state: usize,
     shape: Shape,
@@ -146,12 +147,12 @@ fn whole_row(
 {
     match whole {
         None => Ok(Vec::new(alloc)),
-        Some(number) => Ok(body_row(alloc, &entries[number], state, shape)?),
+        Some(number) => Ok(body_row(alloc, entries.at(number), state, shape)?),
     }
 }
 
 /// What the row of a state is made of, by the number of the entry that covers the whole row.
-fn source_of(entries: &[Entry], whole: Option<usize>, state: usize) -> Source
+fn source_of(entries: &Entries, whole: Option<usize>, state: usize) -> Source
     requires { (shape : S) × IsWhole shape entries.now whole }
     ensures { result ≡ source_of entries.now whole state }
 {
@@ -159,19 +160,19 @@ fn source_of(entries: &[Entry], whole: Option<usize>, state: usize) -> Source
         None => Source::Nothing,
         Some(number) => Source::Line {
             entry: number,
-            line: line_of(&entries[number], state),
+            line: line_of(entries.at(number), state),
         },
     }
 }
 
 /// The line of the entry's body that is the row of this state.
-fn line_of(entry: &Entry, state: usize) -> usize
-    ensures { result ≡ line_of entry.now state }
+fn line_of(entry: EntryRef<'_>, state: usize) -> usize
+    ensures { result ≡ line_of (entry_of entry.entry) state }
 {
-    match &entry.body {
-        Body::Probabilities(_) => if entry.places.len() == 1 { state } else { 0 },
-        Body::Identity => state,
-        Body::Uniform | Body::Rewards(_) => 0,
+    match entry.body {
+        BodyRef::Probabilities(_) => if entry.places.len() == 1 { state } else { 0 },
+        BodyRef::Identity => state,
+        BodyRef::Uniform | BodyRef::Rewards(_) => 0,
     }
 }
 

@@ -1,4 +1,4 @@
-//! An index of entries by their patterns.
+//! The rows of T and O, sparse, and the rewards as rules, made from an index of entries by their patterns.
 #![tactic(auto)]
 
 mod body;

@@ -3,14 +3,15 @@ ghost use Rattle.std.specs.Prelude.{◌≡◌, ◌<◌, ◌≤◌, ◌+◌, ◌+
 ghost use Rattle.std.specs.Option.{IsSomeAnd};
 ghost use Rattle.std.specs.List.Sorted.{IsNonDecreasingBy};
 ghost use Rattle.polcert_cells.specs.declared.entry.Entry.{Entry as E};
-ghost use Rattle.polcert_cells.specs.Elements.{most_elements};
+ghost use Rattle.polcert_cells.specs.Elements.{most_states, most_elements};
+ghost use Rattle.polcert_cells.specs.EntryLists.{body_of};
 ghost use Rattle.polcert_rules.specs.declared.rule.Rule.{Rule as R};
 ghost use Rattle.polcert_rules.specs.declared.reward_parts.RewardBody.{RewardBody as B};
 ghost use Rattle.polcert_rules.specs.Rewards.{worth, rewards_in, AreBodiesOf, cell_in};
 
 use crate::Rule;
 use crate::reward_parts::RewardBody;
-use polcert_cells::{Body, Entry};
+use polcert_cells::{BodyRef, Entries};
 use std::alloc::{AllocError, Global};
 
 /// The bodies of some entries of R, in the order of their numbers, and the numbers of all of them.
@@ -25,25 +26,27 @@ impl RewardBodies {
     pub(crate) fn of(
         alloc: Global,
         costs: bool,
-        entries: &[Entry],
+        entries: &Entries,
         rules: &[Rule],
     ) -> Result<RewardBodies, AllocError>
         requires { (r : R) → Contains rules.now r → r.number < length entries.now }
-        ensures numbers { IfOk result (λ kept. map (λ b. b.number) kept.bodies.items ≡ map (λ r. r.number) rules.now) }
+        ensures some_body { IfOk result (λ kept. (r : R) → Contains rules.now r → (b : B) × Contains kept.bodies.items b × (b.number ≡ r.number)) }
+        ensures in_order { IfOk result (λ kept. IsNonDecreasingBy (λ b. b.number) kept.bodies.items) }
         ensures bodies { IfOk result (λ kept. AreBodiesOf costs entries.now kept.numbers.items kept.bodies.items) }
     {
-        let mut bodies = Vec::new(alloc);
-        let mut numbers = Vec::new(alloc);
+        let mut bodies = Vec::with_capacity(alloc, rules.len())?;
+        let mut numbers = Vec::with_capacity(alloc, rules.len())?;
         for rule in rules {
-            let entry = &entries[rule.number];
+            let entry = entries.at(rule.number);
             let body = RewardBody {
-                number: rule.number,
-                start: numbers.len(),
-                places: entry.places.len(),
+                number: in_half(rule.number)?,
+                start: in_half(numbers.len())?,
+                places: in_half(entry.places.len())?,
             };
-            add_numbers(&mut numbers, costs, &entry.body)?;
+            add_numbers(&mut numbers, costs, entry.body)?;
             bodies.push(body)?;
         }
+        bodies.sort_unstable_by_key(|body| body.number);
         Ok(RewardBodies { bodies, numbers })
     }
 
@@ -52,7 +55,9 @@ impl RewardBodies {
         ensures { IsNonDecreasingBy (λ b. b.number) self.now.bodies.items → (b : B) → Contains self.now.bodies.items b → b.number ≡ number →
             IsSomeAnd result (λ found. Contains self.now.bodies.items found × (found.number ≡ number)) }
     {
-        let place = self.bodies.partition_point(|body| body.number < number);
+        let place = self
+            .bodies
+            .partition_point(|body| (body.number as usize) < number);
         self.bodies.get(place).copied()
     }
 
@@ -60,19 +65,29 @@ impl RewardBodies {
     pub(crate) fn number_at(&self, body: RewardBody, cell: usize) -> i64
         ensures { result ≡ get_or self.now.numbers.items (body.start + cell) (pos 0) }
     {
-        match body.start.checked_add(cell) {
+        match (body.start as usize).checked_add(cell) {
             Some(place) => self.numbers.get(place).copied().unwrap_or(0),
             None => 0,
         }
     }
 }
 
-/// Puts the rewards of a body behind the others, each as it is worth.
-fn add_numbers(numbers: &mut Vec<i64>, costs: bool, body: &Body) -> Result<(), AllocError>
-    ensures { OnOk result (numbers.new.items ≡ numbers.old.items ++ map (worth costs) (rewards_in body.now)) }
+/// A number in half the bits. More numbers than these count as want of memory.
+fn in_half(number: usize) -> Result<u32, AllocError>
+    ensures { IfOk result (λ n. n ≡ number) }
 {
-    if let Body::Rewards(written) = body {
-        for h in written.as_slice() {
+    if number > u32::MAX as usize {
+        return Err(AllocError);
+    }
+    Ok(number as u32)
+}
+
+/// Puts the rewards of a body behind the others, each as it is worth.
+fn add_numbers(numbers: &mut Vec<i64>, costs: bool, body: BodyRef<'_>) -> Result<(), AllocError>
+    ensures { OnOk result (numbers.new.items ≡ numbers.old.items ++ map (worth costs) (rewards_in (body_of body.entry))) }
+{
+    if let BodyRef::Rewards(written) = body {
+        for h in written {
             numbers.push(worth(costs, *h))?;
         }
     }
@@ -87,13 +102,15 @@ fn worth(costs: bool, h: i64) -> i64
     if costs { h.wrapping_neg() } else { h }
 }
 
-/// The number of a cell in a body, by the indices that are left for it.
-pub(crate) fn cell_in(columns: usize, left: &[usize]) -> usize
+/// The number of a cell in a body, by the indices that are left for it, in a table with so many rows and columns.
+pub(crate) fn cell_in(rows: usize, columns: usize, left: &[usize]) -> usize
+    requires rows { rows ≤ most_states }
     requires columns { columns ≤ most_elements }
     requires small { All (λ i. i < 1024) left.now }
-    ensures { result ≡ cell_in columns left.now }
+    ensures { result ≡ cell_in rows columns left.now }
 {
     match left {
+        [matrix, row, column] => (*matrix * rows + *row) * columns + *column,
         [row, column] => *row * columns + *column,
         [column] => *column,
         _ => 0,

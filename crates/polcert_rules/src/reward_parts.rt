@@ -1,6 +1,7 @@
 //! The parts that rewards are kept in.
 
-/// How many elements of each kind a model has.
+/// How many elements each index of a reward runs over: in an MDP, where nothing but the end state is observed, there is
+/// one observation.
 #[derive(Clone, Copy)]
 pub struct RewardShape {
     pub actions: usize,
@@ -9,11 +10,11 @@ pub struct RewardShape {
 }
 
 /// The body of an entry of R: the entry's number in the order of the file, where its numbers begin among those of all
-/// entries, and how many places it has. The fewer places, the more numbers: one, a row of observations, or a matrix of end
-/// states by observations.
+/// entries, and how many places it has. The fewer places, the more numbers: one, a row of observations, a matrix of end
+/// states by observations, or such a matrix for each start state.
 #[derive(Clone, Copy)]
 pub struct RewardBody {
-    pub number: usize,
-    pub start: usize,
-    pub places: usize,
+    pub number: u32,
+    pub start: u32,
+    pub places: u32,
 }

@@ -3,7 +3,7 @@ ghost use Rattle.std.specs.Prelude.{◌≡◌, ◌<◌, IfOk};
 ghost use Rattle.polcert_rules.specs.Keys.{AreDigits, digit, most_places};
 
 use crate::{Index, RewardShape, Rewards};
-use polcert_cells::{Body, Entry, Place, Sequence, Table};
+use polcert_cells::{Body, Entries, Entry, Place, Sequence, Table};
 use std::alloc::{AllocError, Global};
 
 const SHAPE: RewardShape = RewardShape {
@@ -21,7 +21,7 @@ fn place(element: usize) -> Place
     ensures { digit result < 1024 }
 {
     if element < ANY {
-        Place::Only(element)
+        Place::Only(element as u16)
     } else {
         Place::Every
     }
@@ -58,12 +58,12 @@ fn entry(alloc: Global, pattern: &[usize], written: &[i64]) -> Result<Entry, All
 fn rewards(alloc: Global, costs: bool, lines: &[(&[usize], &[i64])]) -> Result<Rewards, AllocError>
     ensures { IfOk result (λ rewards. rewards.shape ≡ SHAPE) }
 {
-    let mut entries = Vec::new(alloc);
+    let mut entries = Entries::new(alloc);
     for (pattern, written) in lines {
         entries.push(entry(alloc, pattern, written)?)?;
     }
-    let index = Index::of(alloc, entries.as_slice())?;
-    Rewards::of(alloc, SHAPE, costs, entries.as_slice(), &index)
+    let index = Index::of(alloc, &entries)?;
+    Rewards::of(alloc, SHAPE, costs, &entries, index)
 }
 
 fn cells(alloc: Global, costs: bool, lines: &[(&[usize], &[i64])]) -> Option<[i64; CELLS]> {

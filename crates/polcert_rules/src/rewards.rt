@@ -1,6 +1,7 @@
 //! The rewards of a model, as rules.
-ghost use Rattle.std.specs.Prelude.{◌≡◌, ◌<◌, ℕ, List, [], ◌∷◌, map, All, pos, true, false, IfOk, Some, slice_get};
+ghost use Rattle.std.specs.Prelude.{◌≡◌, ◌<◌, ◌≤◌, ◌+◌, ◌^◌, ◌↔◌, ℕ, List, [], ◌∷◌, map, All, Contains, pos, true, false, IfOk, Some, slice_get};
 ghost use Rattle.std.specs.Option.{ForSome};
+ghost use Rattle.polcert_rules.specs.declared.rule.Rule.{Rule as R};
 ghost use Rattle.polcert_cells.specs.declared.entry.Entry.{Entry as E};
 ghost use Rattle.polcert_cells.specs.declared.entry.Table.TheVariants.{Reward as RewardTable};
 ghost use Rattle.polcert_cells.specs.Elements.{count_of};
@@ -9,7 +10,7 @@ ghost use Rattle.polcert_cells.specs.Sound.{IsSoundEntry};
 ghost use Rattle.polcert_cells.specs.Cells.{reward};
 ghost use Rattle.polcert_rules.specs.Meeting.{meets_row};
 ghost use Rattle.polcert_rules.specs.Keys.{AreIndices, Fits, most_places, table_key};
-ghost use Rattle.polcert_rules.specs.Newest.{AreKeyed, IsIndexOf, IsNewest};
+ghost use Rattle.polcert_rules.specs.Newest.{AreKeyed, IsIndexOf, IsNewest, IsLastNumber, IsRising};
 ghost use Rattle.polcert_rules.specs.Rewards.{IsShapeOf, IsSmall, AreRewardsOf};
 ghost use Rattle.polcert_rules.specs.RewardSearch.{AreWithin, IsLastBody};
 
@@ -18,7 +19,7 @@ use crate::reward_bodies::{RewardBodies, behind, cell_in};
 use crate::reward_parts::{RewardBody, RewardShape};
 use crate::reward_search::some_begins;
 use crate::{Index, Rule};
-use polcert_cells::{Entry, Table};
+use polcert_cells::{Entries, Table};
 use std::alloc::{AllocError, Global};
 use std::marker::Model;
 
@@ -49,24 +50,22 @@ impl Model for Rewards {
 }
 
 impl Rewards {
-    /// The rewards of these entries, of which `index` is the index, in a model of this shape.
+    /// The rewards of these entries, of which `index` is the index, in a model of this shape. The index is given up. An error is want of memory.
     pub fn of(
         alloc: Global,
         shape: RewardShape,
         costs: bool,
-        entries: &[Entry],
-        index: &Index,
+        entries: &Entries,
+        index: Index,
     ) -> Result<Rewards, AllocError>
         requires shape { IsSmall shape }
-        requires index { IsIndexOf entries.now index.now }
+        requires index { IsIndexOf entries.now index }
         ensures shape { IfOk result (λ rewards. rewards.shape ≡ shape) }
         ensures rewards { IfOk result (λ rewards. (p : Preamble) → IsShapeOf p shape → p.costs ≡ costs → AreKeyed entries.now →
             All (IsSoundEntry p) entries.now → AreRewardsOf p entries.now rewards) }
     {
-        let rules = index.of_table(Table::Reward).to_vec(alloc)?;
-        let mut in_order = rules.as_slice().to_vec(alloc)?;
-        in_order.sort_unstable_by_key(|rule| rule.number);
-        let bodies = RewardBodies::of(alloc, costs, entries, in_order.as_slice())?;
+        let rules = rules_of(alloc, index)?;
+        let bodies = RewardBodies::of(alloc, costs, entries, rules.as_slice())?;
         Ok(Rewards {
             shape,
             rules,
@@ -117,7 +116,7 @@ impl Rewards {
         }
         match self.newest_body(&cell) {
             None => Some(0),
-            Some(body) => if body.places < MOST_PLACES {
+            Some(body) => if (body.places as usize) < MOST_PLACES {
                 None
             } else {
                 Some(self.bodies.number_at(body, 0))
@@ -134,7 +133,11 @@ impl Rewards {
         ensures paid { result ≡ true → (p : Preamble) (entries : List E) → AreRewardsOf p entries self.now →
             (n : ℕ) × (e : E) × (slice_get entries n ≡ Some e) × (meets_row RewardTable action start e ≡ true) }
     {
-        some_begins(self.rules.as_slice(), LOW, MOST_PLACES, &[action, start], 0)
+        prove!(action < self.shape.actions);
+        match self.newest_number(&[action]) {
+            Some(_) => true,
+            None => some_begins(self.rules.as_slice(), LOW, MOST_PLACES, &[action, start], 0),
+        }
     }
 
     /// The reward of the cell at these indices.
@@ -145,12 +148,21 @@ impl Rewards {
     {
         match self.newest_body(indices) {
             Some(body) => {
-                let left = behind(body.places, indices);
-                self.bodies
-                    .number_at(body, cell_in(self.shape.observations, left))
+                let left = behind(body.places as usize, indices);
+                let cell = cell_in(self.shape.states, self.shape.observations, left);
+                self.bodies.number_at(body, cell)
             }
             None => 0,
         }
+    }
+
+    /// The number of the last entry that covers all cells that begin with these indices, if one does.
+    fn newest_number(&self, indices: &[usize]) -> Option<usize>
+        requires { AreIndices most_places indices.now }
+        ensures { (p : Preamble) (entries : List E) → AreRewardsOf p entries self.now →
+            IsLastNumber entries RewardTable indices.now result }
+    {
+        newest(self.rules.as_slice(), LOW, MOST_PLACES, indices)
     }
 
     /// The body of the last entry that covers the cell at these indices, if one does.
@@ -164,4 +176,14 @@ impl Rewards {
             None => None,
         }
     }
+}
+
+/// The rules of R in an index, which is given up: no more is kept of it.
+fn rules_of(alloc: Global, index: Index) -> Result<Vec<Rule>, AllocError>
+    ensures rising { IfOk result (λ rules. IsRising rules.items) }
+    ensures kept { IfOk result (λ rules. (r : R) →
+        Contains rules.items r ↔ (Contains index r × (table_key RewardTable ≤ r.key) × (r.key < table_key RewardTable + 1024 ^ most_places))) }
+{
+    let rules = index.of_table(Table::Reward).to_vec(alloc)?;
+    Ok(rules)
 }

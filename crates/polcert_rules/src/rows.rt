@@ -1,9 +1,10 @@
 //! The rows of T or O.
-ghost use Rattle.std.specs.Prelude.{◌≡◌, ℕ, ◌<◌, IfOk};
+ghost use Rattle.std.specs.Prelude.{◌≡◌, ℕ, ◌<◌, IfOk, IsTrue, Some, slice_get};
 ghost use Rattle.polcert_cells.specs.Preamble.{Preamble};
 ghost use Rattle.polcert_cells.specs.Rows.{IsWeighted};
 ghost use Rattle.polcert_cells.specs.Cursors.{IsNext};
 ghost use Rattle.polcert_cells.specs.Meaning.{sum_below};
+ghost use Rattle.polcert_rules.specs.declared.cell.Cell.{Cell as C};
 ghost use Rattle.polcert_rules.specs.Newest.{IsIndexOf};
 ghost use Rattle.polcert_rules.specs.Shapes.{IsShapeOf, AreSound};
 ghost use Rattle.polcert_rules.specs.Sparse.{weight_at, IsSparse};
@@ -13,7 +14,7 @@ ghost use Rattle.polcert_rules.specs.Sources.{IsKept};
 
 use crate::kept::{Kept, row_number};
 use crate::{Cell, Index, Shape};
-use polcert_cells::{Entry, Table};
+use polcert_cells::{Entries, Table};
 use std::alloc::{AllocError, Global};
 use std::marker::Model;
 
@@ -47,12 +48,12 @@ impl Model for Rows {
 }
 
 impl Rows {
-    /// The rows of a table of weights, from the index of its entries.
+    /// The rows of a table of weights, from the index of its entries. An error is want of memory.
     pub fn of(
         alloc: Global,
         shape: Shape,
         table: Table,
-        entries: &[Entry],
+        entries: &Entries,
         index: &Index,
     ) -> Result<Rows, AllocError>
         requires weighted { IsWeighted table }
@@ -135,11 +136,24 @@ impl Rows {
     }
 }
 
-/// The cells of a row from a column on.
+/// The cells of a row from a column on. In a row without zeros a column stands at its own number.
 fn cells_from(cells: &[Cell], column: usize) -> &[Cell]
     requires { (columns : ℕ) × IsSparse columns cells.now }
     ensures { result.now ≡ cells_from column cells.now }
 {
+    if stands_at_its_number(cells, column) {
+        return &cells[column..];
+    }
     let start = cells.partition_point(|cell| cell.column < column);
     &cells[start..]
+}
+
+/// Whether the cell of this number is that of the column of this number.
+fn stands_at_its_number(cells: &[Cell], column: usize) -> bool
+    ensures { IsTrue result → (cell : C) × (slice_get cells.now column ≡ Some cell) × (cell.column ≡ column) }
+{
+    match cells.get(column) {
+        Some(cell) => cell.column == column,
+        None => false,
+    }
 }

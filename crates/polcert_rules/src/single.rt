@@ -6,13 +6,13 @@ ghost use Rattle.polcert_rules.specs.Merging.{given_at, is_newer, newer_cells};
 ghost use Rattle.polcert_rules.specs.Sources.{IsNumber, IsColumnOf};
 
 use crate::{Cell, Rule};
-use polcert_cells::{Body, Entry};
+use polcert_cells::{BodyRef, Entries};
 use std::alloc::{AllocError, Global};
 
 /// Of the cells of a row those that are newer than what covers the whole row, with their weights, 0 too.
 pub(crate) fn newer_cells(
     alloc: Global,
-    entries: &[Entry],
+    entries: &Entries,
     whole: Option<usize>,
     cells: &[Rule],
     columns: usize,
@@ -45,13 +45,13 @@ fn is_newer(whole: Option<usize>, number: usize) -> bool
 }
 
 /// What the entry of this number gives, where it gives one number.
-fn single_weight(entries: &[Entry], number: usize, columns: usize) -> u64
+fn single_weight(entries: &Entries, number: usize, columns: usize) -> u64
     requires few { columns ≤ most_elements }
     requires number { IsNumber entries.now number }
     ensures { (s c : ℕ) → result ≡ given_at columns entries.now (Some number) s c }
 {
-    match &entries[number].body {
-        Body::Probabilities(numbers) => numbers.at(0) as u64 * columns as u64,
+    match entries.at(number).body {
+        BodyRef::Probabilities(numbers) => numbers[0] as u64 * columns as u64,
         _ => 0,
     }
 }

@@ -58,20 +58,29 @@ pub enum State {
 }
 
 impl State {
+    /// Behind the first byte.
+    #[inline(always)]
+    fn first(class: ByteClass) -> State
+        ensures { result ≡ state_after State.Start class }
+    {
+        match class {
+            ByteClass::Letter | ByteClass::ExponentMark => State::Name,
+            ByteClass::Digit => State::Whole,
+            ByteClass::Point => State::Point,
+            ByteClass::Colon => State::Single(TokenKind::Colon),
+            ByteClass::Star => State::Single(TokenKind::Star),
+            ByteClass::Plus => State::Single(TokenKind::Plus),
+            ByteClass::Minus => State::Single(TokenKind::Minus),
+            _ => State::Stuck,
+        }
+    }
+
+    /// Behind one more byte.
     pub fn after(self, class: ByteClass) -> State
         ensures { result ≡ state_after self class }
     {
         match self {
-            State::Start => match class {
-                ByteClass::Letter | ByteClass::ExponentMark => State::Name,
-                ByteClass::Digit => State::Whole,
-                ByteClass::Point => State::Point,
-                ByteClass::Colon => State::Single(TokenKind::Colon),
-                ByteClass::Star => State::Single(TokenKind::Star),
-                ByteClass::Plus => State::Single(TokenKind::Plus),
-                ByteClass::Minus => State::Single(TokenKind::Minus),
-                _ => State::Stuck,
-            },
+            State::Start => State::first(class),
             State::Name => match class {
                 ByteClass::Letter
                 | ByteClass::ExponentMark

@@ -14,8 +14,6 @@ mod source;
 mod std_io;
 mod stream_bytes;
 mod stream_tokens;
-#[cfg(test)]
-mod tests;
 mod tokens;
 mod whole;
 mod window;

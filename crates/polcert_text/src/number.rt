@@ -64,6 +64,11 @@ impl Size {
 }
 
 /// The exact value of a numeral with the sign before it, in millionths.
+///
+/// # Errors
+///
+/// The first that holds: no numeral, more than 400 bytes or an exponent of more than 400 in size, a value beyond 10,000,000 in
+/// size, no whole number of millionths.
 pub fn scaled_of(negative: bool, numeral: &[u8]) -> Result<i64, NumberFault>
     ensures value { IfOk result (λ h. IsReadable numeral.now × IsExact negative numeral.now h) }
     ensures fault { IfErr result (IsRefusedExactly negative numeral.now) }
@@ -76,6 +81,10 @@ pub fn scaled_of(negative: bool, numeral: &[u8]) -> Result<i64, NumberFault>
 }
 
 /// The value of a numeral with the sign before it, in millionths and rounded down (a negative one away from 0).
+///
+/// # Errors
+///
+/// Those of `scaled_of`, but for the last.
 pub fn floor_of(negative: bool, numeral: &[u8]) -> Result<i64, NumberFault>
     ensures value { IfOk result (λ h. IsReadable numeral.now × IsFloor negative numeral.now h) }
     ensures fault { IfErr result (IsRefused numeral.now) }

@@ -47,6 +47,10 @@ pub trait Source {
 const PIECE: usize = 4096;
 
 /// Reads a source whole, or one byte past the limit (a number of bytes), where it stops.
+///
+/// # Errors
+///
+/// `Device` where a read failed, `Memory` where memory ran out.
 pub fn read_all<S: Source>(alloc: Global, source: &mut S, limit: u64) -> Result<Vec<u8>, ReadFault>
     requires { limit < 2 ^ 64 - 1 }
 

@@ -2,7 +2,7 @@ use Rattle.std.proofs.Common.{◌∙◌, ℕ, List, refl, rules}
 use Rattle.polcert_text.specs.Sink.{nothing}
 use Rattle.polcert_model.specs.Contents.{meaning}
 use Rattle.polcert_cells.specs.Meaning.{states_of}
-use Rattle.polcert_model.specs.PrintSteps.{rewards_from}
+use Rattle.polcert_model.specs.FullForm.{rewards_from}
 use Rattle.polcert_model.proofs.Parts.{parts_fail, one_more_part}
 use Rattle.polcert_model.proofs.print_rewards.write_rewards_at.Goals as goal
 

@@ -1,8 +1,7 @@
 use Rattle.std.proofs.Common.{◌≡◌}
 use Rattle.polcert_text.specs.Sink.{Takes}
 use Rattle.polcert_model.specs.Contents.{meaning}
-use Rattle.polcert_model.specs.FullForm.{for_each}
-use Rattle.polcert_model.specs.PrintSteps.{rewards_from}
+use Rattle.polcert_model.specs.FullForm.{for_each, rewards_from}
 use Rattle.polcert_model.proofs.print_rewards.write_rewards_at.Given as goal
 
 abbrev pub invariant-loop-start : goal.invariant-loop-start

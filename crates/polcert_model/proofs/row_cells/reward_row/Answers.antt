@@ -1,4 +1,5 @@
 use Rattle.std.proofs.Common.{◌∙◌, pos, rules, arith, FitsSigned}
+use Rattle.polcert_cells.specs.Elements.{most_observations}
 use Rattle.polcert_model.specs.Contents.{meaning}
 use Rattle.std.proofs.lemmas.Int.{to_z-of_z}
 use mir.Syntax.{w64}
@@ -7,7 +8,7 @@ use Rattle.polcert_model.proofs.RowCells as cells
 use Rattle.std.proofs.lemmas.List.{length-replicate, length-set}
 
 pub loop-observation-init : goal.loop-observation-init
-loop-observation-init c = record { size = length-replicate 1000 (pos 0); each = λ k l. absurd (omega (arith, l)) }
+loop-observation-init c = record { size = length-replicate most_observations (pos 0); each = λ k l. absurd (omega (arith, l)) }
 
 pub loop-observation-preserved : goal.loop-observation-preserved
 loop-observation-preserved c =

@@ -1,11 +1,12 @@
 use Rattle.std.proofs.Common.{◌∙◌, ℕ, arith}
+use Rattle.polcert_cells.specs.Elements.{most_elements}
 use Rattle.polcert_model.specs.RowSums.{row_of}
 use Rattle.polcert_model.proofs.row_cells.row_weights.Goals as goal
 use Rattle.polcert_model.proofs.RowCells as cells
 use Rattle.std.proofs.lemmas.List.{length-replicate, length-set}
 
 pub loop-column-init : goal.loop-column-init
-loop-column-init c = record { size = length-replicate {A = ℕ} 1000 0; each = λ k l. absurd (omega (arith, l)) }
+loop-column-init c = record { size = length-replicate {A = ℕ} most_elements 0; each = λ k l. absurd (omega (arith, l)) }
 
 pub loop-column-preserved : goal.loop-column-preserved
 loop-column-preserved c =

@@ -1,8 +1,7 @@
-use Rattle.std.proofs.Common.{◌∙◌, ◌+◌, ◌*◌, ◌≤◌, ap, sym, subst, length}
+use Rattle.std.proofs.Common.{ap}
+use Rattle.polcert_cells.specs.EntryLists.{entry_of, body_of}
 use Rattle.polcert_rules.proofs.BodyLaws.{matrix_room}
 use Rattle.polcert_rules.proofs.body.body_row.Goals as goal
 
 pub line_of-line-requires-clause-room : goal.line_of-line-requires-clause-room
-line_of-line-requires-clause-room c =
-    subst (λ n. c.args.state * c.args.shape.columns + c.args.shape.columns ≤ n) (ap length (sym c.as_slice.ensures))
-    (matrix_room c.args.shape c.args.entry.now _ c.requires.fits c.in-Probabilities.is c.args.state (sym c.len.ensures ∙ c.in-1.is) c.requires.state)
+line_of-line-requires-clause-room c = matrix_room c.args.shape (entry_of c.args.entry) _ c.requires.fits (ap body_of c.in-Probabilities.is) c.args.state c.in-1.is c.requires.state

@@ -4,4 +4,4 @@ use Rattle.polcert_rules.proofs.reward_bodies.add_numbers.Given as goal
 
 abbrev pub invariant-loop-h : goal.invariant-loop-h
 invariant-loop-h l =
-    l.numbers.items ++ map (worth l.costs) (drop l.h-index l.h-items) ≡ l.initial.numbers.items ++ map (worth l.costs) l.h-items
+    l.numbers.items ++ map (worth l.costs) (drop l.h-index l.written) ≡ l.initial.numbers.items ++ map (worth l.costs) l.written

@@ -2,8 +2,14 @@ use Rattle.std.proofs.Common.{◌∙◌, ltb, rules, arith}
 use Rattle.std.proofs.lemmas.List.{take_rest}
 use Rattle.std.proofs.lemmas.List.Sorted.{IsPartitionPoint-from_clause}
 use Rattle.polcert_rules.specs.declared.cell.Cell.{Cell}
-use Rattle.polcert_rules.proofs.FromLaws.{parted, drop_is_from}
+use Rattle.polcert_rules.proofs.FromLaws.{parted, drop_is_from, full_up_to}
 use Rattle.polcert_rules.proofs.rows.cells_from.Goals as goal
+
+pub returns-then-stands_at_its_number : goal.returns-then-stands_at_its_number
+returns-then-stands_at_its_number c =
+    let xs = c.args.cells.now in
+    let at = c.stands_at_its_number.ensures c.if-stands_at_its_number.true in
+    take_rest xs c.args.column ∙ full_up_to xs c.args.column at.0 c.requires.1.rising at.1 at.2
 
 pub returns : goal.returns
 returns c =

@@ -11,4 +11,4 @@ returns-in_ok-self-in-First-clause-seen c = λ body seen.
 
 pub returns-in-Named-clause-takes : goal.returns-in-Named-clause-takes
 returns-in-Named-clause-takes c =
-    on_ok_both c.add_name.result (λ name added. named_takes c.args.self.now c.in-Named.names c.add_name.new.names (lexeme_of c.args.token) c.in-Named.is name added) c.add_name.ensures.name c.add_name.ensures.added
+    on_ok_both c.add_name.result (λ name added. named_takes c.args.most c.args.self.now c.in-Named.names c.add_name.new.names (lexeme_of c.args.token) c.in-Named.is name added) c.add_name.ensures.name c.add_name.ensures.added

@@ -1,5 +1,5 @@
 use Rattle.polcert_text.specs.Reading.{lexeme_of}
-use Rattle.polcert_model.specs.EntrySteps.{indices_in}
+use Rattle.polcert_model.specs.EntrySteps.{preamble_in, indices_in}
 use Rattle.polcert_model.proofs.PatternLaws.{probabilities_in, rewards_in, probabilities_stuck, rewards_stuck, probability_reason, if_err_map, refused_map, each_refused_map, on_ok_map}
 use Rattle.std.proofs.Common.{subst}
 use Rattle.polcert_model.specs.EntrySteps.{IsStateWithin}
@@ -7,13 +7,13 @@ use Rattle.polcert_model.proofs.entry_reader.EntryReader.feed.Goals as goal
 
 pub returns-in-Probabilities-clause-takes : goal.returns-in-Probabilities-clause-takes
 returns-in-Probabilities-clause-takes c =
-    let ds = indices_in c.args.known.now c.args.self.now.table in
-    on_ok_map _ (probabilities_in ds c.args.self.now c.in-Probabilities.numbers c.feed_probability.new.self (lexeme_of c.args.token) c.in-Probabilities.is) c.feed_probability.ensures.takes
+    let preamble = preamble_in c.args.known.now in
+    on_ok_map _ (probabilities_in preamble c.args.self.now c.in-Probabilities.numbers c.feed_probability.new.self (lexeme_of c.args.token) c.in-Probabilities.is) c.feed_probability.ensures.takes
 
 pub returns-in-Probabilities-clause-refused : goal.returns-in-Probabilities-clause-refused
 returns-in-Probabilities-clause-refused c =
-    let ds = indices_in c.args.known.now c.args.self.now.table in
-    if_err_map _ _ _ (λ stop h. refused_map stop (probabilities_stuck ds c.args.self.now c.in-Probabilities.numbers (lexeme_of c.args.token) c.in-Probabilities.is) h) c.feed_probability.ensures.refused
+    let preamble = preamble_in c.args.known.now in
+    if_err_map _ _ _ (λ stop h. refused_map stop (probabilities_stuck preamble c.args.self.now c.in-Probabilities.numbers (lexeme_of c.args.token) c.in-Probabilities.is) h) c.feed_probability.ensures.refused
 
 pub returns-in-Probabilities-clause-reason : goal.returns-in-Probabilities-clause-reason
 returns-in-Probabilities-clause-reason c =
@@ -24,10 +24,10 @@ returns-in-Probabilities-clause-reason c =
 
 pub returns-in-Rewards-clause-takes : goal.returns-in-Rewards-clause-takes
 returns-in-Rewards-clause-takes c =
-    let ds = indices_in c.args.known.now c.args.self.now.table in
-    on_ok_map _ (rewards_in ds c.args.self.now c.in-Rewards.numbers c.feed_reward.new.self (lexeme_of c.args.token) c.in-Rewards.is) c.feed_reward.ensures.takes
+    let preamble = preamble_in c.args.known.now in
+    on_ok_map _ (rewards_in preamble c.args.self.now c.in-Rewards.numbers c.feed_reward.new.self (lexeme_of c.args.token) c.in-Rewards.is) c.feed_reward.ensures.takes
 
 pub returns-in-Rewards-clause-refused : goal.returns-in-Rewards-clause-refused
 returns-in-Rewards-clause-refused c =
-    let ds = indices_in c.args.known.now c.args.self.now.table in
-    if_err_map _ _ _ (λ stop h. refused_map stop (rewards_stuck ds c.args.self.now c.in-Rewards.numbers (lexeme_of c.args.token) c.in-Rewards.is) h) c.feed_reward.ensures.refused
+    let preamble = preamble_in c.args.known.now in
+    if_err_map _ _ _ (λ stop h. refused_map stop (rewards_stuck preamble c.args.self.now c.in-Rewards.numbers (lexeme_of c.args.token) c.in-Rewards.is) h) c.feed_reward.ensures.refused

@@ -1,6 +1,7 @@
 use Rattle.std.proofs.Common.{subst}
 use Rattle.std.proofs.lemmas.Result.{err_from_is_err_and}
-use Rattle.polcert_model.specs.ItemSteps.{IsSeen}
+use Rattle.polcert_cells.specs.Elements.{most_states, most_actions, most_observations}
+use Rattle.polcert_model.specs.ItemSteps.{IsSeen, IsItemWithin}
 use Rattle.polcert_model.proofs.ItemReading.{start_end_reason, start_ends}
 use Rattle.polcert_model.proofs.item.ItemReader.end.Goals as goal
 
@@ -13,3 +14,12 @@ pub returns-in_err-end-in-Start-clause-kind : goal.returns-in_err-end-in-Start-c
 returns-in_err-end-in-Start-clause-kind c = λ some.
     let p = err_from_is_err_and c.from_residual-in_err-end-in-Start.result c.from_residual-in_err-end-in-Start.ensures.1 in
     rw (p.1, p.2) (start_ends c.args.known.now c.states.result.now c.args.self c.in-Start.reader _ c.states.ensures.states c.in-Start.is c.in_err-end-in-Start.ensures.kind)
+
+pub returns-in_ok-end-in-States-clause-within : goal.returns-in_ok-end-in-States-clause-within
+returns-in_ok-end-in-States-clause-within c = c.in_ok-end-in-States.ensures.within most_states (subst (IsItemWithin c.args.known.now) c.in-States.is c.requires)
+
+pub returns-in_ok-end-in-Actions-clause-within : goal.returns-in_ok-end-in-Actions-clause-within
+returns-in_ok-end-in-Actions-clause-within c = c.in_ok-end-in-Actions.ensures.within most_actions (subst (IsItemWithin c.args.known.now) c.in-Actions.is c.requires)
+
+pub returns-in_ok-end-in-Observations-clause-within : goal.returns-in_ok-end-in-Observations-clause-within
+returns-in_ok-end-in-Observations-clause-within c = c.in_ok-end-in-Observations.ensures.within most_observations (subst (IsItemWithin c.args.known.now) c.in-Observations.is c.requires)

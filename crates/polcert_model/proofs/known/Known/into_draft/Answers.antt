@@ -7,7 +7,7 @@ use Rattle.polcert_model.proofs.known.Known.into_draft.Goals as goal
 pub of-requires : goal.of-requires
 of-requires c =
     let i = c.self.inside in
-    let same : draft_of c.unwrap_or.result c.unwrap_or-2.result c.unwrap_or-3.result c.unwrap_or-4.result c.unwrap_or-5.result i.start i.entries
-    ≡ draft_of (unwrap_or i.discount 0) (unwrap_or i.costs false) (unwrap_or i.states (Count 0)) (unwrap_or i.actions (Count 0)) (unwrap_or i.observations (Count 0)) i.start i.entries =
-    λ j. draft_of (c.unwrap_or.ensures j) (c.unwrap_or-2.ensures j) (c.unwrap_or-3.ensures j) (c.unwrap_or-4.ensures j) (c.unwrap_or-5.ensures j) i.start i.entries in
+    let same : draft_of c.unwrap_or.result c.unwrap_or-2.result c.unwrap_or-3.result c.unwrap_or-4.result i.observations i.start i.entries
+    ≡ draft_of (unwrap_or i.discount 0) (unwrap_or i.costs false) (unwrap_or i.states (Count 0)) (unwrap_or i.actions (Count 0)) i.observations i.start i.entries =
+    λ j. draft_of (c.unwrap_or.ensures j) (c.unwrap_or-2.ensures j) (c.unwrap_or-3.ensures j) (c.unwrap_or-4.ensures j) i.observations i.start i.entries in
     subst IsSound (said_is c.args.self i.discount i.costs i.states i.actions i.observations i.start i.entries c.self.view_is ∙ sym same) (whole_sound c.requires.0 c.args.self c.requires.1)

@@ -14,8 +14,8 @@ returns-in-Some c = λ seen read text ts tokens same clean stop.
     subst (Refuses ts) (sym c.fault.ensures)
     (whole_refused seen c.close.new.self c.in-Some.kind c.args.end (c.in_ok-close.ensures.items seen read) (sym c.preamble_fault.ensures ∙ c.in-Some.is) text ts tokens same clean stop)
 
-pub returns : goal.returns
-returns c = λ seen read. record {
+pub returns-in-None : goal.returns-in-None
+returns-in-None c = λ seen read. record {
   items = (c.in_ok-close.ensures.items seen read).items;
-  complete = sym c.preamble_fault.ensures ∙ c.in_default.is;
+  complete = sym c.preamble_fault.ensures ∙ c.in-None.is;
 }

@@ -18,5 +18,5 @@ returns-else-body-lt-MOST_PLACES c p entries are h is z l =
     (λ r among. c.if-some_begins.ensures r (subst (λ (xs : List Rule). Contains xs r) (sym c.as_slice.ensures.value) among)) in
     let fits : FitsSigned w64 c.number_at.result = search rules in
     let read = c.number_at.ensures ∙ ap (λ (rewards : RewardRules). get_or rewards.numbers (c.in-Some.body.start + 0) (pos 0)) c.self.view_is in
-    alike_some p entries c.args.self.now c.args.action c.args.start c.args.end 0 z c.in-Some.body are unnamed c.requires.end l c.if-body-lt-MOST_PLACES.false (c.in-Some.ensures p entries are)
+    alike_some p entries c.args.self.now c.args.action c.args.start c.args.end 0 z c.in-Some.body are unnamed c.requires.start c.requires.end l c.if-body-lt-MOST_PLACES.false (c.in-Some.ensures p entries are)
     ∙ sym (to_z-of_z w64 c.number_at.result fits ∙ read) ∙ same_Some _ _ is

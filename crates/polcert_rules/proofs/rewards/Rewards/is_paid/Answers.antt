@@ -5,18 +5,18 @@ use Rattle.polcert_rules.specs.declared.reward_parts.RewardShape.{RewardShape}
 use Rattle.polcert_rules.specs.Keys.{table_key, most_places}
 use Rattle.polcert_rules.specs.Rewards.{RewardRules}
 use Rattle.polcert_rules.specs.RewardSearch.{Begins, IsAnswer}
-use Rattle.polcert_rules.proofs.RewardPaid.{unpaid, paid}
+use Rattle.polcert_rules.proofs.RewardPaid.{unpaid, paid, paid_by_all}
 use Rattle.polcert_rules.proofs.rewards.Rewards.is_paid.Goals as goal
 
-pub returns-clause-unpaid : goal.returns-clause-unpaid
-returns-clause-unpaid c is_false p entries are end observation =
+pub returns-in-None-clause-unpaid : goal.returns-in-None-clause-unpaid
+returns-in-None-clause-unpaid c is_false p entries are end observation =
     let answer = subst (λ (rules : List Rule). IsAnswer rules (Begins most_places (table_key Reward) (c.args.action ∷ c.args.start ∷ []) 0) c.some_begins.result) c.as_slice.ensures.value c.some_begins.ensures in
     let of_self = subst (λ (rewards : RewardRules). IsAnswer rewards.rules (Begins most_places (table_key Reward) (c.args.action ∷ c.args.start ∷ []) 0) c.some_begins.result) c.self.view_is answer in
     let none = subst (IsAnswer c.args.self.now.rules (Begins most_places (table_key Reward) (c.args.action ∷ c.args.start ∷ []) 0)) is_false of_self in
-    unpaid p entries c.args.self.now c.args.action c.args.start end observation are none
+    unpaid p entries c.args.self.now c.args.action c.args.start end observation are (c.in-None.ensures p entries are) none
 
-pub returns-clause-paid : goal.returns-clause-paid
-returns-clause-paid c is_true p entries are =
+pub returns-in-None-clause-paid : goal.returns-in-None-clause-paid
+returns-in-None-clause-paid c is_true p entries are =
     let answer = subst (λ (rules : List Rule). IsAnswer rules (Begins most_places (table_key Reward) (c.args.action ∷ c.args.start ∷ []) 0) c.some_begins.result) c.as_slice.ensures.value c.some_begins.ensures in
     let of_self = subst (λ (rewards : RewardRules). IsAnswer rewards.rules (Begins most_places (table_key Reward) (c.args.action ∷ c.args.start ∷ []) 0) c.some_begins.result) c.self.view_is answer in
     let some = subst (IsAnswer c.args.self.now.rules (Begins most_places (table_key Reward) (c.args.action ∷ c.args.start ∷ []) 0)) is_true of_self in
@@ -25,3 +25,6 @@ returns-clause-paid c is_true p entries are =
     let states = ap (λ (shape : RewardShape). shape.states) shapes in
     let few = c.self.invariant.shape in
     paid p entries c.args.self.now c.args.action c.args.start some.0 are (omega (arith, c.requires.action, few.actions)) (omega (arith, c.requires.start, few.states)) some.1 some.2
+
+pub returns-in-Some-clause-paid : goal.returns-in-Some-clause-paid
+returns-in-Some-clause-paid c is_true p entries are = paid_by_all entries c.args.action c.args.start c.in-Some.field-0 (c.in-Some.ensures p entries are)

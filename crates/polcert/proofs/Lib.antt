@@ -1,4 +1,0 @@
-pub mod Refusing
-pub mod Denoted
-pub mod Fitting
-pub mod Answering

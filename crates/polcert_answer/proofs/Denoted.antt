@@ -1,0 +1,184 @@
+-- What three texts denote: one controller, whatever stands for it.
+use Rattle.std.proofs.Common.{◌≡◌, ℕ, ◌*◌, ◌<◌, ℤ, List, Ok, ap, ap₂, refl, subst}
+use Rattle.polcert_cells.specs.Elements.{count_of}
+use Rattle.polcert_cells.specs.Preamble.{Preamble, observed}
+use Rattle.polcert_cells.specs.Meaning.{Meaning, IsSame, states_of, actions_of, observations_of}
+use Rattle.polcert_cells.specs.Tables.{table_of}
+use Rattle.polcert_model.specs.Text.{IsModelText}
+use Rattle.polcert_model.proofs.FilledLaws.{table_rows}
+use Rattle.polcert_model.proofs.LimitLaws.{within_limits}
+use Rattle.polcert_model.proofs.TextLaws as models
+use Rattle.polcert_policy.specs.Graphs.{PolicyGraph, IsProperGraph}
+use Rattle.polcert_policy.specs.declared.fault.GraphFault.{GraphFault}
+use Rattle.polcert_policy.specs.declared.fault.VectorFault.{VectorFault}
+use Rattle.polcert_policy.specs.GraphText.{IsGraphText, IsGraphRefusal, IsNoGraphText}
+use Rattle.polcert_policy.specs.Vectors.{PolicyVectors, shifted_by}
+use Rattle.polcert_policy.specs.VectorText.{IsVectorsText, IsVectorsRefusal, IsNoVectorsText}
+use Rattle.polcert_policy.specs.FullForm.{vectors_text}
+use Rattle.polcert_policy.proofs.LimitLaws.{graph_proper}
+use Rattle.polcert_policy.proofs.OneText as texts
+use Rattle.polcert_check.specs.declared.verdict.Verdict.{Verdict}
+use Rattle.polcert_check.specs.declared.verdict.Verdict.TheVariants.{Yes, Short, NoSuccessor}
+use Rattle.polcert_check.specs.Horizon.{Controller, controller_of, Fits, MeetsHorizon, one, step_scale}
+use Rattle.polcert_check.specs.Lower.{IsLeastConstant, IsNotLowered}
+use Rattle.polcert_check.specs.declared.fault.LowerFault.{LowerFault}
+use Rattle.polcert_check.specs.StartWorth.{IsCeilQuotient}
+use Rattle.polcert_check.specs.Verdict.{IsVerdict}
+use Rattle.polcert_cells.specs.SameCells.{HasSameCells}
+use Rattle.polcert_check.proofs.EveryHorizon.{promised}
+use Rattle.polcert_check.proofs.SameAnswers as answers
+use Rattle.polcert_check.proofs.SameModels as models_same
+use Rattle.polcert_answer.specs.Headline.{Certificate, controller, IsCertified, AreRewardsCertified}
+use Rattle.polcert_answer.specs.Lines.{IsVerdictLine}
+use Rattle.polcert_answer.specs.Answer.{HasGraph, IsGraphRefused, AreVectorsRefused, IsAnswer}
+
+module _ {m n : Meaning} (same : IsSame m n) where
+  pub same_states : states_of m ≡ states_of n
+  same_states = ap (λ (p : Preamble). count_of p.states) same.preamble
+
+  pub same_actions : actions_of m ≡ actions_of n
+  same_actions = ap (λ (p : Preamble). count_of p.actions) same.preamble
+
+  pub same_observations : observations_of m ≡ observations_of n
+  same_observations = ap (λ (p : Preamble). count_of (observed p)) same.preamble
+
+-- what is said of a graph's text for the counts of the one is said of it for those of the other
+pub for_counts : {m n : Meaning} → IsSame m n → (P : ℕ → ℕ → Type 0) → P (actions_of m) (observations_of m) → P (actions_of n) (observations_of n)
+for_counts {m} {n} same P is = subst (P (actions_of n)) (same_observations same) (subst (λ a. P a (observations_of m)) (same_actions same) is)
+
+-- a graph's text that is refused for the counts of one model that the first text denotes is refused for those of each
+pub graph_refused : (model text : List ℕ) (fault : GraphFault) (m : Meaning) → IsModelText model m
+    → IsNoGraphText (actions_of m) (observations_of m) text fault → IsGraphRefusal (actions_of m) (observations_of m) text fault → IsGraphRefused model fault text
+graph_refused model text fault m is no_graph refusal = record {
+  meaning = m;
+  is_model = is;
+  no_graph = λ n other. for_counts (models.one_model model m n is other) (λ a o. IsNoGraphText a o text fault) no_graph;
+  refusal = λ n other. for_counts (models.one_model model m n is other) (λ a o. IsGraphRefusal a o text fault) refusal;
+}
+
+-- two texts are one model, as far as indices are in range, and one graph for it
+pub same_graph : {model graph : List ℕ} (m n : Meaning) (g h : PolicyGraph) → HasGraph model graph m g → HasGraph model graph n h → IsSame m n × (g ≡ h)
+same_graph {model} {graph} m n g h x y =
+    let same = models.one_model model m n x.is_model y.is_model in
+    (same, texts.one_graph (actions_of n) (observations_of n) graph g h (for_counts same (λ a o. IsGraphText a o graph g) x.is_graph) y.is_graph)
+
+-- the same of vectors, for each model and graph that two texts denote
+pub vectors_refused : (model graph text : List ℕ) (fault : VectorFault) (m : Meaning) (g : PolicyGraph) → HasGraph model graph m g
+    → IsNoVectorsText g (states_of m) text fault → IsVectorsRefusal g (states_of m) text fault → AreVectorsRefused model graph fault text
+vectors_refused model graph text fault m g has no_vectors refusal = record {
+  meaning = m;
+  policy = g;
+  has_graph = has;
+  no_vectors = λ n h other. moved n h other (λ p s. IsNoVectorsText p s text fault) no_vectors;
+  refusal = λ n h other. moved n h other (λ p s. IsVectorsRefusal p s text fault) refusal;
+}
+  where
+    moved : (n : Meaning) (h : PolicyGraph) → HasGraph model graph n h → (P : PolicyGraph → ℕ → Type 0) → P g (states_of m) → P h (states_of n)
+    moved n h other P is =
+        let same = same_graph m n g h has other in
+        subst (P h) (same_states same.0) (subst (λ (p : PolicyGraph). P p (states_of m)) same.1 is)
+
+-- and three texts are one list of vectors for them
+pub same_vectors : {model graph vectors : List ℕ} (m : Meaning) (g : PolicyGraph) (v : PolicyVectors) → HasGraph model graph m g → IsVectorsText g (states_of m) vectors v
+    → (c : Certificate model graph vectors) → IsSame m c.meaning × (g ≡ c.policy) × (v ≡ c.values)
+same_vectors {model} {graph} {vectors} m g v has are c =
+    let same = same_graph m c.meaning g c.policy has (record { is_model = c.is_model; is_graph = c.is_graph }) in
+    let moved = subst (λ (h : PolicyGraph). IsVectorsText h (states_of c.meaning) vectors v) same.1
+    (subst (λ s. IsVectorsText g s vectors v) (same_states same.0) are) in
+    (same.0, same.1, texts.one_vectors c.policy (states_of c.meaning) vectors v c.values moved c.are_vectors)
+
+-- What is said of what three texts denote, and carries to every same model, is said of whatever they denote.
+pub of_each : {model graph vectors : List ℕ} (m : Meaning) (g : PolicyGraph) (v : PolicyVectors) → HasGraph model graph m g → IsVectorsText g (states_of m) vectors v
+    → (P : Meaning → PolicyGraph → PolicyVectors → Type 0) → ((n : Meaning) → IsSame m n → P n g v)
+    → (c : Certificate model graph vectors) → P c.meaning c.policy c.values
+of_each m g v has are P carried c =
+    let same = same_vectors m g v has are c in
+    subst (λ (w : PolicyVectors). P c.meaning c.policy w) same.2 (subst (λ (h : PolicyGraph). P c.meaning h v) same.1 (carried c.meaning same.0))
+
+-- the controller of a model, a graph and vectors
+abbrev pub of_parts : Meaning → PolicyGraph → PolicyVectors → Controller
+of_parts n g v = controller_of (table_of n) g v
+
+-- the graph is within its limits
+pub proper_graph : {model graph : List ℕ} (m : Meaning) (g : PolicyGraph) → HasGraph model graph m g → IsProperGraph g
+proper_graph m g has =
+    let limits = within_limits has.is_model.lexemes m has.is_model.denotes in
+    graph_proper (actions_of m) (observations_of m) has.is_graph.0 g limits.actions.1 limits.observations.0 limits.observations.1 has.is_graph.2
+
+-- graph and vectors are for the model
+pub fits_of : {model graph : List ℕ} (vectors : List ℕ) (m : Meaning) (g : PolicyGraph) (v : PolicyVectors) → HasGraph model graph m g
+    → IsVectorsText g (states_of m) vectors v → Fits (table_of m) g v
+fits_of vectors m g v has are = record {
+  actions = has.is_graph.2.loose.actions_are;
+  observations = has.is_graph.2.loose.observations_are;
+  nodes_same = are.2.nodes_are;
+  states = are.2.states_are;
+}
+
+module _ {model graph vectors : List ℕ} (m : Meaning) (g : PolicyGraph) (v : PolicyVectors) (has : HasGraph model graph m g)
+    (are : IsVectorsText g (states_of m) vectors v) (verdict : Verdict)
+    (is : IsVerdict (controller_of (table_of m) g v) verdict) where
+  pub verdict_of_each : (c : Certificate model graph vectors) → IsVerdict (controller c) verdict
+  verdict_of_each = of_each m g v has are (λ n h w. IsVerdict (of_parts n h w) verdict)
+      (λ n same. answers.same_verdict (table_of m) (table_of n) g v (models_same.same_cells m n same) (proper_graph m g has) (fits_of vectors m g v has are) verdict is)
+
+  pub horizon_of_each : MeetsHorizon (controller_of (table_of m) g v) verdict → (c : Certificate model graph vectors) → MeetsHorizon (controller c) verdict
+  horizon_of_each meets = of_each m g v has are (λ n h w. MeetsHorizon (of_parts n h w) verdict)
+      (λ n same. answers.same_horizon (table_of m) (table_of n) g v (models_same.same_cells m n same) (proper_graph m g has) (fits_of vectors m g v has are) verdict is meets)
+
+-- the line of a verdict on one model is its line on every same one
+line_for : (m n : Meaning) → IsSame m n → (g : PolicyGraph) (v : PolicyVectors) (verdict : Verdict) (line : List ℕ)
+    → IsVerdictLine m (of_parts m g v) v verdict line → IsVerdictLine n (of_parts n g v) v verdict line
+line_for m n same g v Yes line (node, worth, best, is_worth, is) =
+    (node, worth, models_same.same_best_start m n same v node best, models_same.same_worth m n same v node worth is_worth, is)
+line_for m n same g v (Short node s amount) line (by, quotient, is) =
+    let cells = models_same.same_cells m n same in
+    let scales : step_scale (of_parts m g v) ≡ step_scale (of_parts n g v) = ap₂ (λ t o. t * o) cells.t_scale cells.o_scale in
+    (by, subst (λ q. IsCeilQuotient amount (q * one) by) scales quotient, is)
+line_for m n same g v (NoSuccessor node s z) line is = is
+
+module _ {model graph vectors : List ℕ} (m : Meaning) (g : PolicyGraph) (v : PolicyVectors) (has : HasGraph model graph m g)
+    (are : IsVectorsText g (states_of m) vectors v) where
+  pub line_of_each : (verdict : Verdict) (line : List ℕ) → IsVerdictLine m (of_parts m g v) v verdict line
+      → (c : Certificate model graph vectors) → IsVerdictLine c.meaning (controller c) c.values verdict line
+  line_of_each verdict line is = of_each m g v has are (λ n h w. IsVerdictLine n (of_parts n h w) w verdict line) (λ n same. line_for m n same g v verdict line is)
+
+  pub constant_of_each : (by : ℤ) → IsLeastConstant (of_parts m g v) v by → (c : Certificate model graph vectors) → IsLeastConstant (controller c) c.values by
+  constant_of_each by least = of_each m g v has are (λ n h w. IsLeastConstant (of_parts n h w) w by)
+      (λ n same. answers.same_least_constant (table_of m) (table_of n) g v (models_same.same_cells m n same) (proper_graph m g has) (fits_of vectors m g v has are) by least)
+
+  pub reason_of_each : (fault : LowerFault) → IsNotLowered (of_parts m g v) v fault → (c : Certificate model graph vectors) → IsNotLowered (controller c) c.values fault
+  reason_of_each fault why = of_each m g v has are (λ n h w. IsNotLowered (of_parts n h w) w fault)
+      (λ n same. answers.same_refused (table_of m) (table_of n) g v (models_same.same_cells m n same) (proper_graph m g has) (fits_of vectors m g v has are) fault why)
+
+  pub text_of_each : (by : ℤ) (c : Certificate model graph vectors) → vectors_text g (shifted_by v by) ≡ vectors_text c.policy (shifted_by c.values by)
+  text_of_each by = of_each m g v has are (λ n h w. vectors_text g (shifted_by v by) ≡ vectors_text h (shifted_by w by)) (λ n same. refl)
+
+-- what a graph and vectors denote, together with what the model denotes
+pub certificate_of : {model graph vectors : List ℕ} (m : Meaning) (g : PolicyGraph) (v : PolicyVectors) → HasGraph model graph m g
+    → IsVectorsText g (states_of m) vectors v → Certificate model graph vectors
+certificate_of m g v has are =
+    record { meaning = m; policy = g; values = v; is_model = has.is_model; is_graph = has.is_graph; are_vectors = are }
+
+-- a yes to what three texts denote certifies them
+pub certified : {model graph vectors : List ℕ} (c : Certificate model graph vectors) → ((d : Certificate model graph vectors) → MeetsHorizon (controller d) Yes) → IsCertified model graph vectors
+certified c meets = record { certificate = c; promise = λ d k n s nl sl. (meets d k n s nl sl).0 }
+
+-- and the rewards alone
+pub rewards_certified : {model graph vectors : List ℕ} → ((d : Certificate model graph vectors) → MeetsHorizon (controller d) Yes) → AreRewardsCertified model graph vectors
+rewards_certified meets = λ d k n s nl sl. (meets d k n s nl sl).1
+
+-- where every pair of whatever the texts denote passes, every horizon is promised
+horizons : {model graph vectors : List ℕ} → ((c : Certificate model graph vectors) → IsVerdict (controller c) Yes) → (c : Certificate model graph vectors) → MeetsHorizon (controller c) Yes
+horizons {model} {graph} {vectors} passes c =
+    let has : HasGraph model graph c.meaning c.policy = record { is_model = c.is_model; is_graph = c.is_graph } in
+    promised (table_of c.meaning) c.policy c.values (table_rows c.meaning c.is_model.denotes.rows) (proper_graph c.meaning c.policy has)
+    (fits_of vectors c.meaning c.policy c.values has c.are_vectors) (passes c)
+
+-- the answer yes certifies the texts
+pub yes_certified : (model graph vectors : List ℕ) → IsAnswer model graph vectors (Ok Yes) → IsCertified model graph vectors
+yes_certified model graph vectors answer = certified answer.0 (horizons answer.1)
+
+-- and the rewards alone
+pub yes_rewarded : (model graph vectors : List ℕ) → IsAnswer model graph vectors (Ok Yes) → AreRewardsCertified model graph vectors
+yes_rewarded model graph vectors answer = rewards_certified (horizons answer.1)

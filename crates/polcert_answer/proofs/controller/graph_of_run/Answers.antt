@@ -1,0 +1,23 @@
+use Rattle.std.proofs.Common.{refl}
+use Rattle.polcert_answer.proofs.controller.graph_of_run.Goals as goal
+
+pub returns-in-Err-Refused-clause-refused : goal.returns-in-Err-Refused-clause-refused
+returns-in-Err-Refused-clause-refused g c = λ fault same first is. c.in-Err-Refused.ensures.refused fault (cc) first is
+
+pub returns-in-Err-Device-clause-read : goal.returns-in-Err-Device-clause-read
+returns-in-Err-Device-clause-read g c = record {
+  failed = λ named. c.in-Err-Device.ensures.device (cc);
+  passed_over = λ unnamed. absurd (unnamed refl);
+}
+
+pub returns-in-Err-Refused-clause-read : goal.returns-in-Err-Refused-clause-read
+returns-in-Err-Refused-clause-read g c = record {
+  failed = λ named. absurd (cc);
+  passed_over = λ unnamed. c.in-Err-Refused.ensures.same_count (λ is. absurd (cc));
+}
+
+pub returns-in-Err-Refused-clause-of_a_graph : goal.returns-in-Err-Refused-clause-of_a_graph
+returns-in-Err-Refused-clause-of_a_graph g c = tt
+
+pub returns-in-Err-Device-clause-of_a_graph : goal.returns-in-Err-Device-clause-of_a_graph
+returns-in-Err-Device-clause-of_a_graph g c = tt

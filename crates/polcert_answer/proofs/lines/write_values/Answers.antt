@@ -1,0 +1,49 @@
+use Rattle.std.proofs.Common.{◌≡◌, ◌∙◌, ◌<◌, ◌^◌, ◌++◌, List, ℕ, codes, pos, ap, subst, arith, rules, to_z, w64}
+use Rattle.std.proofs.lemmas.Int.{to_z_pos}
+use Rattle.polcert_text.specs.Sink.{Takes, TakesFront}
+use Rattle.polcert_text.specs.Millionths.{scaled_text}
+use Rattle.polcert_text.proofs.Taking.{wrote_front}
+use Rattle.polcert_model.specs.Contents.{Contents, meaning}
+use Rattle.polcert_answer.specs.Lines.{gains}
+use Rattle.polcert_text.proofs.Written.{wrote, one_more, fails_at, fails_before, ends_with}
+use Rattle.polcert_answer.proofs.lines.write_values.Goals as goal
+
+-- a small number keeps its value where it is cast
+widened : (n m : ℕ) → n < 2 ^ 32 → n ≡ m → to_z w64 n ≡ pos m
+widened n m small same = to_z_pos w64 n (omega arith) ∙ ap pos same
+
+abbrev head : List ℕ
+head = codes "discount "
+
+abbrev discount : Contents → List ℕ
+discount m = scaled_text (pos (meaning m).preamble.discount)
+
+abbrev tail : Contents → List ℕ
+tail m = gains (meaning m).preamble.costs
+
+pub returns-in_err-write_all : goal.returns-in_err-write_all
+returns-in_err-write_all g c =
+    let m = c.args.model.now in
+    let e = c.from_residual.ensures.0 in
+    fails_before (head ++ discount m) (tail m) _ e
+    (fails_before head (discount m) _ e (wrote_front head _ e c.in_err-write_all.ensures.err c.in_err-write_all.ensures.count))
+
+pub returns-in_err-write_scaled : goal.returns-in_err-write_scaled
+returns-in_err-write_scaled g c =
+    let m = c.args.model.now in
+    let e = c.from_residual-in_err-write_scaled.ensures.0 in
+    let same = widened c.discount.result (meaning m).preamble.discount (search rules) c.discount.ensures in
+    fails_before (head ++ discount m) (tail m) _ e
+    (fails_at head (discount m) _ e (wrote c.in_ok-write_all.ensures.ok c.in_ok-write_all.ensures.same_count)
+    (subst (λ z. TakesFront g.W.Sink.writes c.write_all.new.sink (scaled_text z) c.write_scaled.new.out) same c.in_err-write_scaled.ensures.written.err)
+    c.in_err-write_scaled.ensures.written.count)
+
+pub returns : goal.returns
+returns g c =
+    let m = c.args.model.now in
+    let same = widened c.discount.result (meaning m).preamble.discount (search rules) c.discount.ensures in
+    ends_with (head ++ discount m) (tail m) _
+    (one_more head (discount m) (wrote c.in_ok-write_all.ensures.ok c.in_ok-write_all.ensures.same_count)
+    (wrote (subst (λ z. Takes g.W.Sink.writes c.write_all.new.sink (scaled_text z) c.write_scaled.new.out) same c.in_ok-write_scaled.ensures.written.ok)
+    c.in_ok-write_scaled.ensures.written.same_count))
+    (rw (c.gains.ensures, c.is_cost.ensures) at c.write_all-2.ensures)

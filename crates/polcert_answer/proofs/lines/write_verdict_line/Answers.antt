@@ -1,0 +1,30 @@
+use Rattle.std.proofs.Common.{◌≡◌, ℕ, ℤ, refl, sym, subst, rules, to_z, of_z, w64, to_z-of_z, FitsSigned}
+use Rattle.polcert_cells.specs.Meaning.{Meaning}
+use Rattle.polcert_cells.specs.Tables.{table_of}
+use Rattle.polcert_model.specs.Contents.{meaning}
+use Rattle.polcert_policy.specs.Vectors.{PolicyVectors}
+use Rattle.polcert_check.specs.declared.verdict.Verdict.{Verdict}
+use Rattle.polcert_check.specs.declared.verdict.Verdict.TheVariants.{Yes}
+use Rattle.polcert_check.specs.Horizon.{Controller, controller_of}
+use Rattle.polcert_check.specs.StartWorth.{IsBestStart, IsStartWorth}
+use Rattle.polcert_answer.specs.Lines.{yes_line, IsVerdictLine}
+use Rattle.polcert_answer.proofs.lines.write_verdict_line.Goals as goal
+
+-- the line of a yes
+line_of_yes : (m : Meaning) (c : Controller) (v : PolicyVectors) (verdict : Verdict) (n : ℕ) (worth : ℤ) → verdict ≡ Yes → IsBestStart m v n
+    → IsStartWorth m v n worth → IsVerdictLine m c v verdict (yes_line n worth)
+line_of_yes m c v verdict n worth same best is = subst (λ u. IsVerdictLine m c v u (yes_line n worth)) (sym same) (n, worth, best, is, refl)
+
+pub returns-in-Yes : goal.returns-in-Yes
+returns-in-Yes g c =
+    let m = meaning c.args.model.now in
+    let v = c.args.vectors.now in
+    let best = c.start_worth-node.result in
+    let fits : FitsSigned w64 best.1 = search rules in
+    let back : to_z w64 (of_z w64 best.1) ≡ best.1 = to_z-of_z fits in
+    record {
+      line = _;
+      is_line = line_of_yes m (controller_of (table_of m) c.args.graph.now v) v c.args.verdict best.0 best.1 c.in-Yes.is
+          c.start_worth-node.ensures.node c.start_worth-node.ensures.worth;
+      written = rw back at c.write_yes.ensures;
+    }

@@ -1,0 +1,64 @@
+-- The answer to three texts: a refusal of the first that is none of its kind, or else the verdict.
+use Rattle.std.specs.Prelude.{ℕ, List, Result, Ok, Err}
+use Rattle.polcert_model.specs.declared.fault.ModelFault.{ModelFault}
+use Rattle.polcert_model.specs.declared.fault.ModelFault.TheVariants as models
+use Rattle.polcert_cells.specs.Meaning.{Meaning, states_of, actions_of, observations_of}
+use Rattle.polcert_model.specs.Text.{IsModelText}
+use Rattle.polcert_model.specs.FirstWrong.{TextTokens, AreTokensOf}
+use Rattle.polcert_model.specs.Refusals.{IsRefusal, IsPlacedRight}
+use Rattle.polcert_policy.specs.declared.fault.GraphFault.{GraphFault}
+use Rattle.polcert_policy.specs.declared.fault.GraphFault.TheVariants as graphs
+use Rattle.polcert_policy.specs.declared.fault.VectorFault.{VectorFault}
+use Rattle.polcert_policy.specs.declared.fault.VectorFault.TheVariants as values
+use Rattle.polcert_policy.specs.Graphs.{PolicyGraph}
+use Rattle.polcert_policy.specs.GraphText.{IsGraphText, IsGraphRefusal, IsNoGraphText}
+use Rattle.polcert_policy.specs.VectorText.{IsVectorsRefusal, IsNoVectorsText}
+use Rattle.polcert_check.specs.declared.verdict.Verdict.{Verdict}
+use Rattle.polcert_check.specs.Verdict.{IsVerdict}
+use Rattle.polcert_answer.specs.declared.fault.Fault.{Fault}
+use Rattle.polcert_answer.specs.declared.fault.Fault.TheVariants.{Model, Graph, Vectors}
+use Rattle.polcert_answer.specs.Headline.{Certificate, controller}
+
+-- The text is no model's, and the fault is what is promised of a refusal of this text's tokens, and stands where it is
+-- promised to stand.
+pub record IsRefused (fault : ModelFault) (text : List ℕ) : Type 0 where
+  pub no_model : (m : Meaning) → IsModelText text m → ⊥
+  pub refusal : (ts : TextTokens) → AreTokensOf text ts → IsRefusal ts fault
+  pub placed : (ts : TextTokens) → AreTokensOf text ts → IsPlacedRight ts fault
+
+-- The first text is a model's; and the second is no graph for the counts of the model that it denotes, and the fault is a
+-- right refusal of it.
+pub record IsGraphRefused (model : List ℕ) (fault : GraphFault) (text : List ℕ) : Type 0 where
+  pub meaning : Meaning
+  pub is_model : IsModelText model meaning
+  pub no_graph : (m : Meaning) → IsModelText model m → IsNoGraphText (actions_of m) (observations_of m) text fault
+  pub refusal : (m : Meaning) → IsModelText model m → IsGraphRefusal (actions_of m) (observations_of m) text fault
+
+-- the first text is the text of this model, and the second that of this graph for its counts
+pub record HasGraph (model graph : List ℕ) (m : Meaning) (policy : PolicyGraph) : Type 0 where
+  pub is_model : IsModelText model m
+  pub is_graph : IsGraphText (actions_of m) (observations_of m) graph policy
+
+-- The first text is a model's and the second a graph's; and the third is no list of vectors for that graph and the model's
+-- states, and the fault is a right refusal of it.
+pub record AreVectorsRefused (model graph : List ℕ) (fault : VectorFault) (text : List ℕ) : Type 0 where
+  pub meaning : Meaning
+  pub policy : PolicyGraph
+  pub has_graph : HasGraph model graph meaning policy
+  pub no_vectors : (m : Meaning) (p : PolicyGraph) → HasGraph model graph m p → IsNoVectorsText p (states_of m) text fault
+  pub refusal : (m : Meaning) (p : PolicyGraph) → HasGraph model graph m p → IsVectorsRefusal p (states_of m) text fault
+
+-- what a refusal says of the three texts; want of memory says nothing of the text that was being read
+abbrev pub IsModelFault : List ℕ → ModelFault → Type 0
+IsModelFault model models.Memory = Unit {0}
+IsModelFault model fault = IsRefused fault model
+
+abbrev pub IsFault : List ℕ → List ℕ → List ℕ → Fault → Type 0
+IsFault model graph vectors (Model fault) = IsModelFault model fault
+IsFault model graph vectors (Graph fault) = IsGraphRefused model fault graph
+IsFault model graph vectors (Vectors fault) = AreVectorsRefused model graph fault vectors
+
+-- The answer: the verdict, where the texts denote a controller, and whatever controller they denote; else the refusal.
+abbrev pub IsAnswer : List ℕ → List ℕ → List ℕ → Result Verdict Fault → Type 0
+IsAnswer model graph vectors (Ok verdict) = Certificate model graph vectors × ((c : Certificate model graph vectors) → IsVerdict (controller c) verdict)
+IsAnswer model graph vectors (Err fault) = IsFault model graph vectors fault

@@ -1,0 +1,73 @@
+-- The lines that the program writes.
+--
+-- The line that sums a model up. It is our own: `pomdp: 2 states, 1 actions, 2 observations, discount 0.95, reward`
+-- and a line end; of an MDP, whose end states are observed, `mdp: 2 states, 1 actions, discount 0.5, reward`. The counts
+-- are decimal, and their words stay plural. The discount is written as a number of millionths is, with no trailing zeros.
+use Rattle.std.specs.Prelude.{◌≡◌, ◌++◌, ◌*◌, ℕ, ℤ, Bool, true, false, if◌then◌else◌, List, [], Option, Result, codes, decimal, pos}
+use Rattle.polcert_text.specs.Millionths.{scaled_text}
+use Rattle.polcert_text.specs.Sink.{WritesText}
+use Rattle.polcert_cells.specs.Preamble.{is_mdp}
+use Rattle.polcert_cells.specs.Meaning.{Meaning, states_of, actions_of, observations_of}
+use Rattle.polcert_policy.specs.Vectors.{PolicyVectors}
+use Rattle.polcert_check.specs.declared.verdict.Verdict.{Verdict}
+use Rattle.polcert_check.specs.declared.verdict.Verdict.TheVariants.{Yes, Short, NoSuccessor}
+use Rattle.polcert_check.specs.Horizon.{Controller, step_scale, one}
+use Rattle.polcert_check.specs.StartWorth.{IsBestStart, IsStartWorth, IsCeilQuotient}
+
+-- a count, and the words behind it
+abbrev pub counted : ℕ → List ℕ → List ℕ
+counted count words = decimal count ++ words
+
+-- the end of the line: whether the model's text gives rewards or costs
+abbrev pub gains : Bool → List ℕ
+gains false = codes ", reward\n"
+gains true = codes ", cost\n"
+
+abbrev pub kind_word : Bool → List ℕ
+kind_word mdp = if mdp then codes "mdp: " else codes "pomdp: "
+
+-- (an MDP has no observations of its own)
+abbrev pub observations_text : Meaning → List ℕ
+observations_text m = if is_mdp m.preamble then [] else counted (observations_of m) (codes " observations, ")
+
+abbrev pub counts_text : Meaning → List ℕ
+counts_text m = kind_word (is_mdp m.preamble) ++ counted (states_of m) (codes " states, ") ++ counted (actions_of m) (codes " actions, ")
+    ++ observations_text m
+
+abbrev pub values_text : Meaning → List ℕ
+values_text m = codes "discount " ++ scaled_text (pos m.preamble.discount) ++ gains m.preamble.costs
+
+abbrev pub summary_line : Meaning → List ℕ
+summary_line m = counts_text m ++ values_text m
+
+-- ---- the lines of a verdict
+--
+-- Our own too: `yes: start node 0, at least -20`, `no: node 0, state 0, short by 0.000001`, and
+-- `no: node 0, state 0, observation 1 has no successor`, each with a line end.
+
+abbrev pub yes_line : ℕ → ℤ → List ℕ
+yes_line n worth = codes "yes: start node " ++ counted n (codes ", at least ") ++ scaled_text worth ++ codes "\n"
+
+-- the beginning of a no, as far as the words behind the state
+abbrev pub pair_text : ℕ → ℕ → List ℕ → List ℕ
+pair_text n s words = codes "no: node " ++ counted n (codes ", state ") ++ counted s words
+
+abbrev pub short_line : ℕ → ℕ → ℤ → List ℕ
+short_line n s by = pair_text n s (codes ", short by ") ++ scaled_text by ++ codes "\n"
+
+abbrev pub lack_line : ℕ → ℕ → ℕ → List ℕ
+lack_line n s z = pair_text n s (codes ", observation ") ++ counted z (codes " has no successor\n")
+
+-- The line of a verdict: a yes names the node that is worth most from the model's start, the least number on ties, and its
+-- worth there, rounded down; an amount is divided by its scale and rounded up, so that it is never 0.
+abbrev pub IsVerdictLine : Meaning → Controller → PolicyVectors → Verdict → List ℕ → Type 0
+IsVerdictLine m c v Yes line = (n : ℕ) × (worth : ℤ) × IsBestStart m v n × IsStartWorth m v n worth × (line ≡ yes_line n worth)
+IsVerdictLine m c v (Short n s amount) line = (by : ℤ) × IsCeilQuotient amount (step_scale c * one) by × (line ≡ short_line n s by)
+IsVerdictLine m c v (NoSuccessor n s z) line = line ≡ lack_line n s z
+
+-- A call that writes a line: one of those lines, at `Ok` all of it, and at an `Err` a beginning.
+pub record WritesLine {S T E : Type 0} (writes : S → Option (List ℕ) → S → Type 0) (failures : S → ℕ) (old : S)
+    (IsLine : List ℕ → Type 0) (result : Result T E) (new : S) : Type 0 where
+  pub line : List ℕ
+  pub is_line : IsLine line
+  pub written : WritesText writes failures old line result new

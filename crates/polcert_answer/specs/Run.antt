@@ -1,0 +1,131 @@
+-- What runs from sources to sinks promise.
+use Rattle.std.specs.Prelude.{◌≡◌, ℕ, ℤ, neg_ℤ, List, Option, Ok}
+use Rattle.polcert_text.specs.Device.{HasFailed}
+use Rattle.polcert_text.specs.Source.{IsText}
+use Rattle.polcert_text.specs.Sink.{Takes, TakesFront}
+use Rattle.polcert_cells.specs.Meaning.{Meaning}
+use Rattle.polcert_model.specs.Text.{IsModelText}
+use Rattle.polcert_model.specs.FullForm.{full_form}
+use Rattle.polcert_policy.specs.Vectors.{PolicyVectors, shifted_by}
+use Rattle.polcert_policy.specs.FullForm.{vectors_text}
+use Rattle.polcert_check.specs.declared.fault.LowerFault.{LowerFault}
+use Rattle.polcert_check.specs.declared.fault.LowerFault.TheVariants.{Memory}
+use Rattle.polcert_check.specs.declared.verdict.Verdict.{Verdict}
+use Rattle.polcert_check.specs.declared.verdict.Verdict.TheVariants.{Yes}
+use Rattle.polcert_check.specs.Horizon.{Controller}
+use Rattle.polcert_check.specs.Lower.{HasLeastConstant, IsLeastConstant, IsNotLowered}
+use Rattle.polcert_answer.specs.declared.fault.Fault.TheVariants.{Model, Graph}
+use Rattle.polcert_answer.specs.declared.fault.RunFault.{RunFault}
+use Rattle.polcert_answer.specs.declared.fault.RunFault.TheVariants.{Text, ReadModel, ReadGraph, Write}
+use Rattle.polcert_answer.specs.Answer.{IsAnswer}
+use Rattle.polcert_answer.specs.Headline.{Certificate, controller, IsCertified, AreRewardsCertified}
+use Rattle.polcert_answer.specs.Lines.{summary_line, IsVerdictLine}
+
+-- ---- one source
+
+module _ {S W : Type 0} (reads : S → ℕ → Option (List ℕ) → S → Type 0) (writes : W → Option (List ℕ) → W → Type 0)
+    (source source' : S) (sink sink' : W) where
+  -- the text of the source is a model's, and the sink took the model's line and nothing else
+  pub record SumsUp : Type 0 where
+    pub text : List ℕ
+    pub model : Meaning
+    pub was_read : IsText reads source text source'
+    pub accepted : IsModelText text model
+    pub took : Takes writes sink (summary_line model) sink'
+
+  -- the text of the source is a model's, and the sink took a beginning of the model's line
+  pub record BeginsToSumUp : Type 0 where
+    pub text : List ℕ
+    pub model : Meaning
+    pub was_read : IsText reads source text source'
+    pub accepted : IsModelText text model
+    pub took : TakesFront writes sink (summary_line model) sink'
+
+  -- the text of the source is a model's, and the sink took the model's full form and nothing else
+  pub record Prints : Type 0 where
+    pub text : List ℕ
+    pub model : Meaning
+    pub was_read : IsText reads source text source'
+    pub accepted : IsModelText text model
+    pub took : Takes writes sink (full_form model) sink'
+
+  -- the text of the source is a model's, and the sink took a beginning of the model's full form
+  pub record BeginsToPrint : Type 0 where
+    pub text : List ℕ
+    pub model : Meaning
+    pub was_read : IsText reads source text source'
+    pub accepted : IsModelText text model
+    pub took : TakesFront writes sink (full_form model) sink'
+
+-- ---- devices
+
+-- A device is named as the one that failed only where it failed in the call, and no failure of it is passed over.
+pub record IsNamedRightly (is_named : Type 0) (before after : ℕ) : Type 0 where
+  pub failed : is_named → HasFailed before after
+  pub passed_over : (is_named → ⊥) → after ≡ before
+
+-- what a run over one model's source may answer: a refusal of the model's text, and its devices
+abbrev pub IsModelRunFault : RunFault → Type 0
+IsModelRunFault (Text (Model fault)) = Unit {0}
+IsModelRunFault ReadModel = Unit {0}
+IsModelRunFault Write = Unit {0}
+IsModelRunFault _ = ⊥
+
+-- ---- three sources
+
+-- why the vectors aren't lowered: a reason of the definition, or want of memory where there is a constant
+abbrev pub IsWhy : Controller → PolicyVectors → LowerFault → Type 0
+IsWhy c v Memory = HasLeastConstant c v
+IsWhy c v fault = IsNotLowered c v fault
+
+-- the text of a source, between two of its states
+abbrev pub text_of : {S : Type 0} → (S → ℕ → Option (List ℕ) → S → Type 0) → S → S → List ℕ → Type 0
+text_of reads before after text = IsText reads before text after
+
+-- Each source is read to its end before the next: where the model's text or source is at fault, the other two are as they
+-- were, and where the graph's is, the vectors' is.
+abbrev pub ReadsInOrder : {G V : Type 0} → RunFault → G → G → V → V → Type 0
+ReadsInOrder (Text (Model fault)) graph graph' vectors vectors' = (graph' ≡ graph) × (vectors' ≡ vectors)
+ReadsInOrder (Text (Graph fault)) graph graph' vectors vectors' = vectors' ≡ vectors
+ReadsInOrder ReadModel graph graph' vectors vectors' = (graph' ≡ graph) × (vectors' ≡ vectors)
+ReadsInOrder ReadGraph graph graph' vectors vectors' = vectors' ≡ vectors
+ReadsInOrder _ graph graph' vectors vectors' = Unit {0}
+
+module _ (of_model of_graph of_vectors : List ℕ → Type 0) where
+  -- the texts of the three sources, which denote a controller
+  pub record AreCertified : Type 0 where
+    pub model : List ℕ
+    pub graph : List ℕ
+    pub vectors : List ℕ
+    pub model_read : of_model model
+    pub graph_read : of_graph graph
+    pub vectors_read : of_vectors vectors
+    pub certificate : Certificate model graph vectors
+
+  -- the answer to the texts of the three sources is this verdict, and this is its line
+  pub record HasVerdict (verdict : Verdict) (line : List ℕ) : Type 0 where
+    pub texts : AreCertified
+    pub answer : IsAnswer texts.model texts.graph texts.vectors (Ok verdict)
+    pub is_line : (c : Certificate texts.model texts.graph texts.vectors) → IsVerdictLine c.meaning (controller c) c.values verdict line
+
+  -- The headline holds of the texts of the three sources, with the vectors at the end and for the rewards alone.
+  pub record HavePromise : Type 0 where
+    pub texts : AreCertified
+    pub promise : IsCertified texts.model texts.graph texts.vectors
+    pub rewards : AreRewardsCertified texts.model texts.graph texts.vectors
+
+  -- This is the least constant by which the vectors of the third source can be lowered to pass, and the text is the full
+  -- form of the vectors lowered by it. The answer to the first two texts and this one is yes, and the headline holds of them.
+  pub record HasLowered (by : ℤ) (text : List ℕ) : Type 0 where
+    pub texts : AreCertified
+    pub least : (c : Certificate texts.model texts.graph texts.vectors) → IsLeastConstant (controller c) c.values by
+    pub is_text : (c : Certificate texts.model texts.graph texts.vectors) → text ≡ vectors_text c.policy (shifted_by c.values (neg_ℤ by))
+    pub answer : IsAnswer texts.model texts.graph text (Ok Yes)
+    pub promise : IsCertified texts.model texts.graph text
+    pub rewards : AreRewardsCertified texts.model texts.graph text
+
+  -- The texts of the three sources denote a controller, and no constant lowers its vectors so that they pass, for this
+  -- reason; or there is such a constant, and memory was wanting.
+  pub record IsNotLowerable (fault : LowerFault) : Type 0 where
+    pub texts : AreCertified
+    pub reason : (c : Certificate texts.model texts.graph texts.vectors) → IsWhy (controller c) c.values fault

@@ -1,0 +1,32 @@
+-- The exit status for a fault: 4 for want of memory, 3 for a device, 1 where the vectors can't be lowered, 2 for a text
+-- that is refused. Of a verdict: 0 for a yes, 1 for a no.
+use Rattle.std.specs.Prelude.{ℕ}
+use Rattle.polcert_model.specs.declared.fault.ModelFault.TheVariants as models
+use Rattle.polcert_policy.specs.declared.fault.GraphFault.TheVariants as graphs
+use Rattle.polcert_policy.specs.declared.fault.VectorFault.TheVariants as values
+use Rattle.polcert_check.specs.declared.fault.LowerFault.TheVariants as lowering
+use Rattle.polcert_check.specs.declared.verdict.Verdict.{Verdict}
+use Rattle.polcert_check.specs.declared.verdict.Verdict.TheVariants.{Yes}
+use Rattle.polcert_answer.specs.declared.fault.Fault.{Fault}
+use Rattle.polcert_answer.specs.declared.fault.Fault.TheVariants.{Model, Graph, Vectors}
+use Rattle.polcert_answer.specs.declared.fault.RunFault.{RunFault}
+use Rattle.polcert_answer.specs.declared.fault.RunFault.TheVariants.{Text, ReadModel, ReadGraph, ReadVectors, Write, Lower}
+
+abbrev pub text_status : Fault → ℕ
+text_status (Model models.Memory) = 4
+text_status (Graph graphs.Memory) = 4
+text_status (Vectors values.Memory) = 4
+text_status _ = 2
+
+abbrev pub status : RunFault → ℕ
+status (Text fault) = text_status fault
+status ReadModel = 3
+status ReadGraph = 3
+status ReadVectors = 3
+status Write = 3
+status (Lower lowering.Memory) = 4
+status (Lower _) = 1
+
+abbrev pub verdict_status : Verdict → ℕ
+verdict_status Yes = 0
+verdict_status _ = 1

@@ -1,0 +1,118 @@
+//! The model, the graph and the vectors of three sources.
+ghost use Rattle.std.specs.Prelude.{◌≡◌, ◌≢◌, ℕ, ⊤, List, IfOk, IfErr, IsErrOf};
+ghost use Rattle.polcert_text.specs.Source.{IsText, EachTextThatFits};
+ghost use Rattle.polcert_model.specs.Contents.{meaning};
+ghost use Rattle.polcert_model.specs.Text.{IsModelText};
+ghost use Rattle.polcert_cells.specs.Meaning.{states_of, actions_of, observations_of};
+ghost use Rattle.polcert_policy.specs.GraphText.{IsGraphText};
+ghost use Rattle.polcert_policy.specs.VectorText.{IsVectorsText};
+ghost use Rattle.polcert_answer.specs.Answer.{HasGraph, IsModelFault, IsGraphRefused, AreVectorsRefused};
+ghost use Rattle.polcert_answer.specs.Run.{text_of, IsNamedRightly, ReadsInOrder};
+ghost use Rattle.polcert_answer.specs.Reading.{AreDenoted, IsModelReadFault, IsGraphReadFault, IsVectorsReadFault, IsReadFault};
+
+use crate::fault::{Fault, RunFault};
+use crate::sources::{graph_from, vectors_from};
+use polcert_model::{Model, read_model_from};
+use polcert_policy::{Graph, Vectors};
+use polcert_text::{Source, SourceFault};
+use std::alloc::Global;
+
+/// A model, a policy graph for it, and the graph's vectors.
+#[derive(Drop)]
+pub struct Controller {
+    pub model: Model,
+    pub graph: Graph,
+    pub vectors: Vectors,
+}
+
+/// The model whose text the source gives, with the fault of a run where there is none.
+pub fn model_of_run<S: Source>(alloc: Global, source: &mut S) -> Result<Model, RunFault>
+    ensures accepted { IfOk result (λ m. (text : List ℕ) × IsText S.reads source.old text source.new
+        × IsModelText text (meaning m)) }
+    ensures refused { (fault : _) → IsErrOf result (RunFault.Text (Fault.Model fault))
+        → EachTextThatFits S.reads source.old source.new (λ text. IsModelFault text fault) }
+    ensures read { IsNamedRightly (IsErrOf result RunFault.ReadModel) (S.failures source.old) (S.failures source.new) }
+    ensures of_a_model { IfErr result IsModelReadFault }
+{
+    match read_model_from(alloc, source) {
+        Ok(model) => Ok(model),
+        Err(SourceFault::Device) => Err(RunFault::ReadModel),
+        Err(SourceFault::Refused(fault)) => Err(RunFault::Text(Fault::Model(fault))),
+    }
+}
+
+/// The policy graph whose text the source gives, with the fault of a run where there is none.
+pub fn graph_of_run<S: Source>(
+    alloc: Global,
+    model: &Model,
+    source: &mut S,
+) -> Result<Graph, RunFault>
+    ensures accepted { IfOk result (λ g. (text : List ℕ) × IsText S.reads source.old text source.new
+        × IsGraphText (actions_of (meaning model.now)) (observations_of (meaning model.now)) text g) }
+    ensures refused { (fault : _) → IsErrOf result (RunFault.Text (Fault.Graph fault))
+        → (first : List ℕ) → IsModelText first (meaning model.now)
+        → EachTextThatFits S.reads source.old source.new (IsGraphRefused first fault) }
+    ensures read { IsNamedRightly (IsErrOf result RunFault.ReadGraph) (S.failures source.old) (S.failures source.new) }
+    ensures of_a_graph { IfErr result IsGraphReadFault }
+{
+    match graph_from(alloc, model, source) {
+        Ok(graph) => Ok(graph),
+        Err(SourceFault::Device) => Err(RunFault::ReadGraph),
+        Err(SourceFault::Refused(fault)) => Err(RunFault::Text(Fault::Graph(fault))),
+    }
+}
+
+/// The vectors of the graph whose text the source gives, with the fault of a run where there are none.
+pub fn vectors_of_run<S: Source>(
+    alloc: Global,
+    model: &Model,
+    graph: &Graph,
+    source: &mut S,
+) -> Result<Vectors, RunFault>
+    ensures accepted { IfOk result (λ v. (text : List ℕ) × IsText S.reads source.old text source.new
+        × IsVectorsText graph.now (states_of (meaning model.now)) text v) }
+    ensures refused { (fault : _) → IsErrOf result (RunFault.Text (Fault.Vectors fault))
+        → (first second : List ℕ) → HasGraph first second (meaning model.now) graph.now
+        → EachTextThatFits S.reads source.old source.new (AreVectorsRefused first second fault) }
+    ensures read { IsNamedRightly (IsErrOf result RunFault.ReadVectors) (S.failures source.old) (S.failures source.new) }
+    ensures of_vectors { IfErr result IsVectorsReadFault }
+{
+    match vectors_from(alloc, model, graph, source) {
+        Ok(vectors) => Ok(vectors),
+        Err(SourceFault::Device) => Err(RunFault::ReadVectors),
+        Err(SourceFault::Refused(fault)) => Err(RunFault::Text(Fault::Vectors(fault))),
+    }
+}
+
+/// What the texts of three sources denote. Each source is read to its end before the next.
+pub fn read_controller<M: Source, G: Source, V: Source>(
+    alloc: Global,
+    model: &mut M,
+    graph: &mut G,
+    vectors: &mut V,
+) -> Result<Controller, RunFault>
+    ensures accepted { IfOk result (λ c. AreDenoted (text_of M.reads model.old model.new) (text_of G.reads graph.old graph.new)
+        (text_of V.reads vectors.old vectors.new) (meaning c.model) c.graph c.vectors) }
+    ensures model_refused { (fault : _) → IsErrOf result (RunFault.Text (Fault.Model fault))
+        → EachTextThatFits M.reads model.old model.new (λ text. IsModelFault text fault) }
+    ensures graph_refused { (fault : _) → IsErrOf result (RunFault.Text (Fault.Graph fault))
+        → (first : List ℕ) × IsText M.reads model.old first model.new
+        × EachTextThatFits G.reads graph.old graph.new (IsGraphRefused first fault) }
+    ensures vectors_refused { (fault : _) → IsErrOf result (RunFault.Text (Fault.Vectors fault))
+        → (first second : List ℕ) × IsText M.reads model.old first model.new × IsText G.reads graph.old second graph.new
+        × EachTextThatFits V.reads vectors.old vectors.new (AreVectorsRefused first second fault) }
+    ensures model_read { IsNamedRightly (IsErrOf result RunFault.ReadModel) (M.failures model.old) (M.failures model.new) }
+    ensures graph_read { IsNamedRightly (IsErrOf result RunFault.ReadGraph) (G.failures graph.old) (G.failures graph.new) }
+    ensures vectors_read { IsNamedRightly (IsErrOf result RunFault.ReadVectors) (V.failures vectors.old) (V.failures vectors.new) }
+    ensures in_order { IfErr result (λ fault. ReadsInOrder fault graph.old graph.new vectors.old vectors.new) }
+    ensures of_reading { IfErr result IsReadFault }
+{
+    let model = model_of_run(alloc, model)?;
+    let graph = graph_of_run(alloc, &model, graph)?;
+    let vectors = vectors_of_run(alloc, &model, &graph, vectors)?;
+    Ok(Controller {
+        model,
+        graph,
+        vectors,
+    })
+}

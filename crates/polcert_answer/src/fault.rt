@@ -1,0 +1,75 @@
+//! Why a text, or a run, is refused.
+use polcert_check::LowerFault;
+use polcert_model::ModelFault;
+use polcert_policy::{GraphFault, VectorFault};
+use thiserror::Error;
+
+/// Why one of three texts is refused.
+#[derive(Clone, Copy, Debug, PartialEq, Eq, Error)]
+pub enum Fault {
+    /// The first is no model's text.
+    #[error("model: {0}")]
+    Model(ModelFault),
+    /// The second is no policy graph for the model's actions and observations.
+    #[error("graph: {0}")]
+    Graph(GraphFault),
+    /// The third is no list of vectors for the graph and the model's states.
+    #[error("vectors: {0}")]
+    Vectors(VectorFault),
+}
+
+impl From<ModelFault> for Fault {
+    ghost use Rattle.std.specs.Prelude.{◌≡◌};
+    ghost use Rattle.polcert_answer.specs.declared.fault.Fault.TheVariants.{Model};
+
+    ghost from_gives = { λ given fault. fault ≡ Model given };
+
+    fn from(fault: ModelFault) -> Self {
+        Fault::Model(fault)
+    }
+}
+
+impl From<GraphFault> for Fault {
+    ghost use Rattle.std.specs.Prelude.{◌≡◌};
+    ghost use Rattle.polcert_answer.specs.declared.fault.Fault.TheVariants.{Graph};
+
+    ghost from_gives = { λ given fault. fault ≡ Graph given };
+
+    fn from(fault: GraphFault) -> Self {
+        Fault::Graph(fault)
+    }
+}
+
+impl From<VectorFault> for Fault {
+    ghost use Rattle.std.specs.Prelude.{◌≡◌};
+    ghost use Rattle.polcert_answer.specs.declared.fault.Fault.TheVariants.{Vectors};
+
+    ghost from_gives = { λ given fault. fault ≡ Vectors given };
+
+    fn from(fault: VectorFault) -> Self {
+        Fault::Vectors(fault)
+    }
+}
+
+/// Why a run stops before its end.
+#[derive(Clone, Copy, Debug, PartialEq, Eq, Error)]
+pub enum RunFault {
+    /// A text is refused, or there is no memory for it.
+    #[error("{0}")]
+    Text(Fault),
+    /// A read of the model's source failed.
+    #[error("cannot read model")]
+    ReadModel,
+    /// A read of the graph's source failed.
+    #[error("cannot read graph")]
+    ReadGraph,
+    /// A read of the vectors' source failed.
+    #[error("cannot read vectors")]
+    ReadVectors,
+    /// A write of the answer failed.
+    #[error("cannot write")]
+    Write,
+    /// The vectors can't be lowered to pass, or there is no memory for the lowered ones.
+    #[error("lower: {0}")]
+    Lower(LowerFault),
+}

@@ -1,0 +1,177 @@
+//! The lines that the program writes where all goes well.
+ghost use Rattle.std.specs.Prelude.{◌≡◌, codes};
+ghost use Rattle.polcert_text.specs.Sink.{WritesText};
+ghost use Rattle.polcert_model.specs.Contents.{meaning};
+ghost use Rattle.polcert_cells.specs.Tables.{table_of};
+ghost use Rattle.polcert_check.specs.Horizon.{Fits, controller_of};
+ghost use Rattle.polcert_check.specs.Verdict.{IsVerdict, NamesSmallAmount};
+ghost use Rattle.polcert_answer.specs.Lines.{counted, gains, kind_word, observations_text, counts_text, values_text, summary_line, pair_text, yes_line, short_line, lack_line, IsVerdictLine, WritesLine};
+
+use itoa::Buffer;
+use polcert_check::{Verdict, millionths_short, start_worth};
+use polcert_model::Model;
+use polcert_policy::{Graph, Vectors};
+use polcert_text::{BufferedSink, Sink, SinkFailed, write_all, write_scaled};
+
+/// Writes the line that sums a model up, through a buffer, so that a sink that takes pieces whole is written to once.
+pub fn write_summary<W: Sink>(model: &Model, sink: &mut W) -> Result<(), SinkFailed>
+    ensures { WritesText W.writes W.failures sink.old (summary_line (meaning model.now)) result sink.new }
+{
+    let mut buffered = BufferedSink::new(sink);
+    write_line(model, &mut buffered)?;
+    buffered.flush()
+}
+
+fn write_line<W: Sink>(model: &Model, sink: &mut W) -> Result<(), SinkFailed>
+    ensures { WritesText W.writes W.failures sink.old (summary_line (meaning model.now)) result sink.new }
+{
+    write_counts(model, sink)?;
+    write_values(model, sink)
+}
+
+fn write_counts<W: Sink>(model: &Model, sink: &mut W) -> Result<(), SinkFailed>
+    ensures { WritesText W.writes W.failures sink.old (counts_text (meaning model.now)) result sink.new }
+{
+    write_all(sink, kind_word(model.is_mdp()))?;
+    write_count(model.states(), b" states, ", sink)?;
+    write_count(model.actions(), b" actions, ", sink)?;
+    write_observations(model, sink)
+}
+
+/// The beginning of the line: whether the model is an MDP.
+fn kind_word(is_mdp: bool) -> &'static [u8]
+    ensures { result.now ≡ kind_word is_mdp }
+{
+    if is_mdp { b"mdp: " } else { b"pomdp: " }
+}
+
+/// Writes the count of observations, which an MDP has none of its own of.
+fn write_observations<W: Sink>(model: &Model, sink: &mut W) -> Result<(), SinkFailed>
+    ensures { WritesText W.writes W.failures sink.old (observations_text (meaning model.now)) result sink.new }
+{
+    if model.is_mdp() {
+        Ok(())
+    } else {
+        write_count(model.observations(), b" observations, ", sink)
+    }
+}
+
+/// Writes a count and the words behind it.
+fn write_count<W: Sink>(count: usize, words: &[u8], sink: &mut W) -> Result<(), SinkFailed>
+    ensures { WritesText W.writes W.failures sink.old (counted count words.now) result sink.new }
+{
+    let mut buffer = Buffer::new();
+    write_all(sink, buffer.format(count).as_bytes())?;
+    write_all(sink, words)
+}
+
+fn write_values<W: Sink>(model: &Model, sink: &mut W) -> Result<(), SinkFailed>
+    ensures { WritesText W.writes W.failures sink.old (values_text (meaning model.now)) result sink.new }
+{
+    write_all(sink, b"discount ")?;
+    write_scaled(model.discount() as i64, sink)?;
+    write_all(sink, gains(model.is_cost()))
+}
+
+/// The end of the line: what the model's text gives.
+fn gains(is_cost: bool) -> &'static [u8]
+    ensures { result.now ≡ gains is_cost }
+{
+    if is_cost { b", cost\n" } else { b", reward\n" }
+}
+
+/// Writes the line of a verdict on the model, the graph and its vectors, through a buffer.
+pub fn write_verdict<W: Sink>(
+    model: &Model,
+    graph: &Graph,
+    vectors: &Vectors,
+    verdict: Verdict,
+    sink: &mut W,
+) -> Result<(), SinkFailed>
+    requires fits { Fits (table_of (meaning model.now)) graph.now vectors.now }
+    requires verdict { IsVerdict (controller_of (table_of (meaning model.now)) graph.now vectors.now) verdict }
+    requires small { NamesSmallAmount (controller_of (table_of (meaning model.now)) graph.now vectors.now) verdict }
+    ensures { WritesLine W.writes W.failures sink.old (IsVerdictLine (meaning model.now)
+        (controller_of (table_of (meaning model.now)) graph.now vectors.now) vectors.now verdict) result sink.new }
+{
+    let mut buffered = BufferedSink::new(sink);
+    write_verdict_line(model, graph, vectors, verdict, &mut buffered)?;
+    buffered.flush()
+}
+
+fn write_verdict_line<W: Sink>(
+    model: &Model,
+    graph: &Graph,
+    vectors: &Vectors,
+    verdict: Verdict,
+    sink: &mut W,
+) -> Result<(), SinkFailed>
+    requires fits { Fits (table_of (meaning model.now)) graph.now vectors.now }
+    requires verdict { IsVerdict (controller_of (table_of (meaning model.now)) graph.now vectors.now) verdict }
+    requires small { NamesSmallAmount (controller_of (table_of (meaning model.now)) graph.now vectors.now) verdict }
+    ensures { WritesLine W.writes W.failures sink.old (IsVerdictLine (meaning model.now)
+        (controller_of (table_of (meaning model.now)) graph.now vectors.now) vectors.now verdict) result sink.new }
+{
+    match verdict {
+        Verdict::Yes => {
+            let (node, worth) = start_worth(model, graph, vectors);
+            write_yes(node, worth, sink)
+        }
+        Verdict::Short {
+            node,
+            state,
+            amount,
+        } => write_short(node, state, millionths_short(model, amount), sink),
+        Verdict::NoSuccessor {
+            node,
+            state,
+            observation,
+        } => write_lack(node, state, observation, sink),
+    }
+}
+
+/// Writes a yes: the node that is worth most, and its worth in millionths.
+fn write_yes<W: Sink>(node: usize, worth: i64, sink: &mut W) -> Result<(), SinkFailed>
+    ensures { WritesText W.writes W.failures sink.old (yes_line node worth) result sink.new }
+{
+    write_all(sink, b"yes: start node ")?;
+    write_count(node, b", at least ", sink)?;
+    write_scaled(worth, sink)?;
+    write_all(sink, b"\n")
+}
+
+/// Writes a no: the pair of a node and a state, and by how much it is short, in millionths.
+fn write_short<W: Sink>(node: usize, state: usize, by: i64, sink: &mut W) -> Result<(), SinkFailed>
+    ensures { WritesText W.writes W.failures sink.old (short_line node state by) result sink.new }
+{
+    write_pair(node, state, b", short by ", sink)?;
+    write_scaled(by, sink)?;
+    write_all(sink, b"\n")
+}
+
+/// Writes a no: the pair, and the observation for which the node has no successor.
+fn write_lack<W: Sink>(
+    node: usize,
+    state: usize,
+    observation: usize,
+    sink: &mut W,
+) -> Result<(), SinkFailed>
+    ensures { WritesText W.writes W.failures sink.old (lack_line node state observation) result sink.new }
+{
+    write_pair(node, state, b", observation ", sink)?;
+    write_count(observation, b" has no successor\n", sink)
+}
+
+/// Writes the beginning of a no, and the words behind it.
+fn write_pair<W: Sink>(
+    node: usize,
+    state: usize,
+    words: &[u8],
+    sink: &mut W,
+) -> Result<(), SinkFailed>
+    ensures { WritesText W.writes W.failures sink.old (pair_text node state words.now) result sink.new }
+{
+    write_all(sink, b"no: node ")?;
+    write_count(node, b", state ", sink)?;
+    write_count(state, words, sink)
+}

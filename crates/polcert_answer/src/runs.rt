@@ -1,0 +1,257 @@
+//! Runs from sources to sinks.
+ghost use Rattle.std.specs.Prelude.{◌≡◌, ◌≢◌, ℕ, ℤ, List, Ok, OnOk, IfOk, IfErr, IsErrOf};
+ghost use Rattle.polcert_text.specs.Device.{HasFailed};
+ghost use Rattle.polcert_text.specs.Sink.{Takes, TakesFront, WritesText};
+ghost use Rattle.polcert_text.specs.Source.{IsText, EachTextThatFits};
+ghost use Rattle.polcert_model.specs.Contents.{meaning};
+ghost use Rattle.polcert_model.specs.FullForm.{full_form};
+ghost use Rattle.polcert_model.specs.Refusals.{SaysOfText};
+ghost use Rattle.polcert_policy.specs.FullForm.{vectors_text};
+ghost use Rattle.polcert_policy.specs.Graphs.{nodes};
+ghost use Rattle.polcert_policy.specs.VectorText.{IsVectorsText};
+ghost use Rattle.polcert_check.specs.declared.verdict.Verdict.{Verdict};
+ghost use Rattle.polcert_check.specs.declared.verdict.Verdict.TheVariants.{Yes};
+ghost use Rattle.polcert_answer.specs.Answer.{IsRefused, IsModelFault, IsGraphRefused, AreVectorsRefused};
+ghost use Rattle.polcert_answer.specs.Run.{SumsUp, BeginsToSumUp, Prints, BeginsToPrint, IsModelRunFault, IsNamedRightly, ReadsInOrder, text_of, HasVerdict, HavePromise, HasLowered, IsNotLowerable};
+
+use crate::controller::{model_of_run, read_controller};
+use crate::fault::{Fault, RunFault};
+use crate::lines::{write_summary, write_verdict};
+use polcert_check::{Verdict, check, lowered};
+use polcert_model::{Model, write_model};
+use polcert_policy::{Graph, Vectors, write_vectors};
+use polcert_text::{BufferedSink, Sink, SinkFailed, Source};
+use std::alloc::Global;
+
+/// Reads a model from the source, and writes the line that sums it up, and nothing else. Nothing is written before the
+/// whole text is accepted.
+///
+/// # Errors
+///
+/// `Text` where the text is refused or memory is wanting to read it, `ReadModel` where a read failed, `Write` where a write
+/// failed.
+pub fn run_model<S: Source, W: Sink>(
+    alloc: Global,
+    source: &mut S,
+    sink: &mut W,
+) -> Result<(), RunFault>
+    // The sink took exactly the line of the model that the text of the source denotes.
+    ensures summed_up { OnOk result (SumsUp S.reads W.writes source.old source.new sink.old sink.new) }
+
+    // No text that fits what was read is a model's, and the fault is a right refusal of each of them. (Want of memory
+    // says nothing of the text.)
+    ensures refused { (fault : _) → IsErrOf result (RunFault.Text (Fault.Model fault))
+        → SaysOfText fault
+        → EachTextThatFits S.reads source.old source.new (IsRefused fault) }
+
+    // A device is named only where it failed in this call.
+    ensures read { IsErrOf result RunFault.ReadModel → HasFailed (S.failures source.old) (S.failures source.new) }
+    ensures write { IsErrOf result RunFault.Write → HasFailed (W.failures sink.old) (W.failures sink.new) }
+
+    // And no failure of a device is passed over.
+    ensures no_read_failed { (result ≢ Err RunFault.ReadModel) → S.failures source.new ≡ S.failures source.old }
+    ensures no_write_failed { (result ≢ Err RunFault.Write) → W.failures sink.new ≡ W.failures sink.old }
+
+    // Where a write failed, what was written before is a beginning of the line.
+    ensures begun { IsErrOf result RunFault.Write
+        → BeginsToSumUp S.reads W.writes source.old source.new sink.old sink.new }
+
+    // With any other fault nothing was written. Nothing but these faults is answered.
+    ensures untouched { (fault : RunFault) → IsErrOf result fault → fault ≢ RunFault.Write → sink.new ≡ sink.old }
+    ensures of_a_model { IfErr result IsModelRunFault }
+{
+    let model = model_of_run(alloc, source)?;
+    match write_summary(&model, sink) {
+        Ok(()) => Ok(()),
+        Err(_) => Err(RunFault::Write),
+    }
+}
+
+/// Reads a model from the source, and writes it in full form, and nothing else. Nothing is written before the whole text is
+/// accepted.
+///
+/// # Errors
+///
+/// `Text` where the text is refused or memory is wanting to read it, `ReadModel` where a read failed, `Write` where a write
+/// failed.
+pub fn run_print<S: Source, W: Sink>(
+    alloc: Global,
+    source: &mut S,
+    sink: &mut W,
+) -> Result<(), RunFault>
+    // The sink took exactly the full form of the model that the text of the source denotes.
+    ensures printed { OnOk result (Prints S.reads W.writes source.old source.new sink.old sink.new) }
+
+    // No text that fits what was read is a model's, and the fault is a right refusal of each of them.
+    ensures refused { (fault : _) → IsErrOf result (RunFault.Text (Fault.Model fault))
+        → EachTextThatFits S.reads source.old source.new (λ text. IsModelFault text fault) }
+
+    // A device is named only where it failed in this call, and no failure of one is passed over.
+    ensures read { IsNamedRightly (IsErrOf result RunFault.ReadModel) (S.failures source.old) (S.failures source.new) }
+    ensures write { IsNamedRightly (IsErrOf result RunFault.Write) (W.failures sink.old) (W.failures sink.new) }
+
+    // Where a write failed, what was written before is a beginning of the full form.
+    ensures begun { IsErrOf result RunFault.Write
+        → BeginsToPrint S.reads W.writes source.old source.new sink.old sink.new }
+
+    // With any other fault nothing was written. Nothing but these faults is answered.
+    ensures untouched { (fault : RunFault) → IsErrOf result fault → fault ≢ RunFault.Write → sink.new ≡ sink.old }
+    ensures of_a_model { IfErr result IsModelRunFault }
+{
+    let accepted = model_of_run(alloc, source)?;
+    match write_full_form(&accepted, sink) {
+        Ok(()) => Ok(()),
+        Err(_) => Err(RunFault::Write),
+    }
+}
+
+/// Writes a model in full form, through a buffer.
+fn write_full_form<W: Sink>(model: &Model, sink: &mut W) -> Result<(), SinkFailed>
+    ensures { WritesText W.writes W.failures sink.old (full_form (meaning model.now)) result sink.new }
+{
+    let mut buffered = BufferedSink::new(sink);
+    write_model(model, &mut buffered)?;
+    buffered.flush()
+}
+
+/// Reads a model, a policy graph and the graph's vectors from three sources, checks them, writes the line of the verdict,
+/// and nothing else, and answers the verdict. Nothing is written before all three texts are accepted and the verdict is
+/// known.
+///
+/// # Errors
+///
+/// `Text` where a text is refused or memory is wanting to read it, `ReadModel`, `ReadGraph` or `ReadVectors` where a read of
+/// that source failed, `Write` where a write failed.
+pub fn run_check<M: Source, G: Source, V: Source, W: Sink>(
+    alloc: Global,
+    model: &mut M,
+    graph: &mut G,
+    vectors: &mut V,
+    sink: &mut W,
+) -> Result<Verdict, RunFault>
+    // The sink took exactly the line of the answer to the texts of the three sources.
+    ensures answered { IfOk result (λ verdict. (line : List ℕ)
+        × HasVerdict (text_of M.reads model.old model.new) (text_of G.reads graph.old graph.new)
+        (text_of V.reads vectors.old vectors.new) verdict line
+        × Takes W.writes sink.old line sink.new) }
+
+    // The headline: a yes is a certificate of the texts that were read, for every number of steps, every node and every
+    // state; and for the rewards alone, without the vectors at the end.
+    ensures promise { result ≡ Ok Yes → HavePromise (text_of M.reads model.old model.new)
+        (text_of G.reads graph.old graph.new) (text_of V.reads vectors.old vectors.new) }
+
+    // No text that fits what was read of a source is a model's; or behind the first text a graph's; or behind the first
+    // two the graph's vectors; and the fault is a right refusal of each of them.
+    ensures model_refused { (fault : _) → IsErrOf result (RunFault.Text (Fault.Model fault))
+        → EachTextThatFits M.reads model.old model.new (λ text. IsModelFault text fault) }
+    ensures graph_refused { (fault : _) → IsErrOf result (RunFault.Text (Fault.Graph fault))
+        → (first : List ℕ) × IsText M.reads model.old first model.new
+        × EachTextThatFits G.reads graph.old graph.new (IsGraphRefused first fault) }
+    ensures vectors_refused { (fault : _) → IsErrOf result (RunFault.Text (Fault.Vectors fault))
+        → (first second : List ℕ) × IsText M.reads model.old first model.new × IsText G.reads graph.old second graph.new
+        × EachTextThatFits V.reads vectors.old vectors.new (AreVectorsRefused first second fault) }
+
+    // A device is named only where it failed in this call, and no failure of one is passed over.
+    ensures model_read { IsNamedRightly (IsErrOf result RunFault.ReadModel) (M.failures model.old) (M.failures model.new) }
+    ensures graph_read { IsNamedRightly (IsErrOf result RunFault.ReadGraph) (G.failures graph.old) (G.failures graph.new) }
+    ensures vectors_read { IsNamedRightly (IsErrOf result RunFault.ReadVectors) (V.failures vectors.old) (V.failures vectors.new) }
+    ensures write { IsNamedRightly (IsErrOf result RunFault.Write) (W.failures sink.old) (W.failures sink.new) }
+
+    // Where a write failed, what was written before is a beginning of the line.
+    ensures begun { IsErrOf result RunFault.Write → (verdict : Verdict) × (line : List ℕ)
+        × HasVerdict (text_of M.reads model.old model.new) (text_of G.reads graph.old graph.new)
+        (text_of V.reads vectors.old vectors.new) verdict line
+        × TakesFront W.writes sink.old line sink.new }
+
+    // Each source is read to its end before the next.
+    ensures in_order { IfErr result (λ fault. ReadsInOrder fault graph.old graph.new vectors.old vectors.new) }
+
+    // With any other fault nothing was written; and lowering is no part of a check.
+    ensures untouched { (fault : RunFault) → IsErrOf result fault → fault ≢ RunFault.Write → sink.new ≡ sink.old }
+    ensures not_lowering { (fault : _) → IsErrOf result (RunFault.Lower fault) → ⊥ }
+{
+    let read = read_controller(alloc, model, graph, vectors)?;
+    let verdict = check(&read.model, &read.graph, &read.vectors);
+    match write_verdict(&read.model, &read.graph, &read.vectors, verdict, sink) {
+        Ok(()) => Ok(verdict),
+        Err(_) => Err(RunFault::Write),
+    }
+}
+
+/// Reads a model, a policy graph and the graph's vectors from three sources, lowers the vectors by the least constant, in
+/// millionths, by which they pass the check, writes them in full form, and nothing else, and answers the constant. Nothing
+/// is written before all three texts are accepted and the constant is known.
+///
+/// # Errors
+///
+/// `Text` where a text is refused or memory is wanting to read it, `ReadModel`, `ReadGraph` or `ReadVectors` where a read of
+/// that source failed, `Write` where a write failed, and `Lower` where the vectors can't be lowered to pass.
+pub fn run_lower<M: Source, G: Source, V: Source, W: Sink>(
+    alloc: Global,
+    model: &mut M,
+    graph: &mut G,
+    vectors: &mut V,
+    sink: &mut W,
+) -> Result<i64, RunFault>
+    // The sink took exactly the lowered vectors in full form. The answer to the model's text, the graph's text and this
+    // text is yes, and the headline holds of them.
+    ensures lowered { IfOk result (λ by. (text : List ℕ)
+        × HasLowered (text_of M.reads model.old model.new) (text_of G.reads graph.old graph.new)
+        (text_of V.reads vectors.old vectors.new) by text
+        × Takes W.writes sink.old text sink.new) }
+
+    // Lowering is refused only where all three texts are accepted, for a right reason.
+    ensures not_lowered { (fault : _) → IsErrOf result (RunFault.Lower fault)
+        → IsNotLowerable (text_of M.reads model.old model.new) (text_of G.reads graph.old graph.new)
+        (text_of V.reads vectors.old vectors.new) fault }
+
+    // No text that fits what was read of a source is a model's; or behind the first text a graph's; or behind the first
+    // two the graph's vectors; and the fault is a right refusal of each of them.
+    ensures model_refused { (fault : _) → IsErrOf result (RunFault.Text (Fault.Model fault))
+        → EachTextThatFits M.reads model.old model.new (λ text. IsModelFault text fault) }
+    ensures graph_refused { (fault : _) → IsErrOf result (RunFault.Text (Fault.Graph fault))
+        → (first : List ℕ) × IsText M.reads model.old first model.new
+        × EachTextThatFits G.reads graph.old graph.new (IsGraphRefused first fault) }
+    ensures vectors_refused { (fault : _) → IsErrOf result (RunFault.Text (Fault.Vectors fault))
+        → (first second : List ℕ) × IsText M.reads model.old first model.new × IsText G.reads graph.old second graph.new
+        × EachTextThatFits V.reads vectors.old vectors.new (AreVectorsRefused first second fault) }
+
+    // A device is named only where it failed in this call, and no failure of one is passed over.
+    ensures model_read { IsNamedRightly (IsErrOf result RunFault.ReadModel) (M.failures model.old) (M.failures model.new) }
+    ensures graph_read { IsNamedRightly (IsErrOf result RunFault.ReadGraph) (G.failures graph.old) (G.failures graph.new) }
+    ensures vectors_read { IsNamedRightly (IsErrOf result RunFault.ReadVectors) (V.failures vectors.old) (V.failures vectors.new) }
+    ensures write { IsNamedRightly (IsErrOf result RunFault.Write) (W.failures sink.old) (W.failures sink.new) }
+
+    // Where a write failed, what was written before is a beginning of the lowered vectors.
+    ensures begun { IsErrOf result RunFault.Write → (by : ℤ) × (text : List ℕ)
+        × HasLowered (text_of M.reads model.old model.new) (text_of G.reads graph.old graph.new)
+        (text_of V.reads vectors.old vectors.new) by text
+        × TakesFront W.writes sink.old text sink.new }
+
+    // Each source is read to its end before the next.
+    ensures in_order { IfErr result (λ fault. ReadsInOrder fault graph.old graph.new vectors.old vectors.new) }
+
+    // With any other fault nothing was written.
+    ensures untouched { (fault : RunFault) → IsErrOf result fault → fault ≢ RunFault.Write → sink.new ≡ sink.old }
+{
+    let read = read_controller(alloc, model, graph, vectors)?;
+    let (by, lower) = match lowered(alloc, &read.model, &read.graph, &read.vectors) {
+        Ok(found) => found,
+        Err(fault) => return Err(RunFault::Lower(fault)),
+    };
+    match write_lowered(&read.graph, &lower, sink) {
+        Ok(()) => Ok(by),
+        Err(_) => Err(RunFault::Write),
+    }
+}
+
+/// Writes the vectors of a graph in full form, through a buffer.
+fn write_lowered<W: Sink>(graph: &Graph, vectors: &Vectors, sink: &mut W) -> Result<(), SinkFailed>
+    requires { nodes graph.now ≡ vectors.now.nodes }
+    ensures written { WritesText W.writes W.failures sink.old (vectors_text graph.now vectors.now) result sink.new }
+    ensures reads_back { IsVectorsText graph.now vectors.now.states (vectors_text graph.now vectors.now) vectors.now }
+{
+    let mut buffered = BufferedSink::new(sink);
+    write_vectors(graph, vectors, &mut buffered)?;
+    buffered.flush()
+}

@@ -1,0 +1,36 @@
+//! What the second and the third of three texts denote, behind what the first denotes.
+ghost use Rattle.std.specs.Prelude.{List, ℕ, IfOk, IfErr};
+ghost use Rattle.polcert_model.specs.Contents.{meaning};
+ghost use Rattle.polcert_cells.specs.Meaning.{states_of, actions_of, observations_of};
+ghost use Rattle.polcert_model.specs.Text.{IsModelText};
+ghost use Rattle.polcert_policy.specs.GraphText.{IsGraphText};
+ghost use Rattle.polcert_policy.specs.VectorText.{IsVectorsText};
+ghost use Rattle.polcert_answer.specs.Answer.{HasGraph, IsGraphRefused, AreVectorsRefused};
+
+use polcert_model::Model;
+use polcert_policy::{Graph, GraphFault, VectorFault, Vectors, read_graph, read_vectors};
+use std::alloc::Global;
+
+/// The policy graph that the text denotes for the model's actions and observations.
+pub fn graph_of(alloc: Global, model: &Model, text: &[u8]) -> Result<Graph, GraphFault>
+    ensures accepted { IfOk result
+        (IsGraphText (actions_of (meaning model.now)) (observations_of (meaning model.now)) text.now) }
+    ensures refused { IfErr result (λ fault. (first : List ℕ) → IsModelText first (meaning model.now)
+        → IsGraphRefused first fault text.now) }
+{
+    read_graph(alloc, text, model.actions(), model.observations())
+}
+
+/// The vectors that the text denotes for the graph and the model's states.
+pub fn vectors_of(
+    alloc: Global,
+    model: &Model,
+    graph: &Graph,
+    text: &[u8],
+) -> Result<Vectors, VectorFault>
+    ensures accepted { IfOk result (IsVectorsText graph.now (states_of (meaning model.now)) text.now) }
+    ensures refused { IfErr result (λ fault. (first second : List ℕ) → HasGraph first second (meaning model.now) graph.now
+        → AreVectorsRefused first second fault text.now) }
+{
+    read_vectors(alloc, text, graph, model.states())
+}

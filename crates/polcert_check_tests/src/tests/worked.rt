@@ -1,0 +1,459 @@
+//! Worked rows, from texts to verdicts.
+use polcert_cells::Cells;
+use polcert_check::{LowerFault, Verdict, check, fits, least_constant, lowered, start_worth};
+use polcert_model::{Model, dense_of, read_model};
+use polcert_policy::{Graph, Vectors, read_graph, read_vectors};
+use std::alloc::{AllocError, Global};
+use std::test::Fail;
+
+const TIGER: &[u8] = b"discount: 0.95
+values: reward
+states: tiger-left tiger-right
+actions: listen open-left open-right
+observations: tiger-left tiger-right
+T: listen
+identity
+T: open-left
+uniform
+T: open-right
+uniform
+O: listen
+0.85 0.15
+0.15 0.85
+O: open-left
+uniform
+O: open-right
+uniform
+R: listen : * : * : * -1
+R: open-left : tiger-left : * : * -100
+R: open-left : tiger-right : * : * 10
+R: open-right : tiger-left : * : * 10
+R: open-right : tiger-right : * : * -100
+";
+
+const PLAIN: &[u8] =
+    b"discount: 1 values: reward states: 2 actions: 1 observations: 1 T: 0 identity O: 0 uniform";
+
+/// An MDP: the end state is observed.
+const MDP: &[u8] = b"discount: 0.5 values: reward states: 2 actions: 1 T: 0 0 1 1 0 R: 0 : 0 : 1 1";
+
+/// A model, a graph and vectors, read one after another.
+#[derive(Drop)]
+struct Parts {
+    model: Model,
+    graph: Graph,
+    vectors: Vectors,
+}
+
+/// The parts, where the texts are read.
+fn read_parts(alloc: Global, model: &[u8], graph: &[u8], vectors: &[u8]) -> Option<Parts> {
+    let model = read_model(alloc, model).ok()?;
+    let graph = read_graph(alloc, graph, model.actions(), model.observations()).ok()?;
+    let vectors = read_vectors(alloc, vectors, &graph, model.states()).ok()?;
+    Some(Parts {
+        model,
+        graph,
+        vectors,
+    })
+}
+
+impl Parts {
+    fn verdict(&self) -> Option<Verdict> {
+        verdict_over(&self.model, &self.graph, &self.vectors)
+    }
+
+    /// The verdict over the model's tables, filled.
+    fn dense_verdict(&self, alloc: Global) -> Option<Verdict> {
+        let dense = dense_of(alloc, &self.model).ok()?;
+        verdict_over(&dense, &self.graph, &self.vectors)
+    }
+
+    fn constant(&self) -> Option<Result<i64, LowerFault>> {
+        constant_over(&self.model, &self.graph, &self.vectors)
+    }
+
+    /// The least constant over the model's tables, filled.
+    fn dense_constant(&self, alloc: Global) -> Option<Result<i64, LowerFault>> {
+        let dense = dense_of(alloc, &self.model).ok()?;
+        constant_over(&dense, &self.graph, &self.vectors)
+    }
+
+    /// The least constant, and the first and the last value lowered by it.
+    fn lowering(&self, alloc: Global) -> Option<(i64, (i64, i64))> {
+        if !fits(&self.model, &self.graph, &self.vectors) {
+            return None;
+        }
+        let (constant, vectors) = lowered(alloc, &self.model, &self.graph, &self.vectors).ok()?;
+        Some((constant, ends(&vectors)?))
+    }
+
+    /// The best node from the start and its worth.
+    fn worth(&self) -> Option<(usize, i64)> {
+        if fits(&self.model, &self.graph, &self.vectors) {
+            Some(start_worth(&self.model, &self.graph, &self.vectors))
+        } else {
+            None
+        }
+    }
+}
+
+/// The verdict, where the parts fit.
+fn verdict_over<C: Cells>(cells: &C, graph: &Graph, vectors: &Vectors) -> Option<Verdict> {
+    if fits(cells, graph, vectors) {
+        Some(check(cells, graph, vectors))
+    } else {
+        None
+    }
+}
+
+/// The least constant, where the parts fit.
+fn constant_over<C: Cells>(
+    cells: &C,
+    graph: &Graph,
+    vectors: &Vectors,
+) -> Option<Result<i64, LowerFault>> {
+    if fits(cells, graph, vectors) {
+        Some(least_constant(cells, graph, vectors))
+    } else {
+        None
+    }
+}
+
+/// The verdict over filled tables, where the texts are read and fit.
+fn dense_verdict(alloc: Global, model: &[u8], graph: &[u8], vectors: &[u8]) -> Option<Verdict> {
+    read_parts(alloc, model, graph, vectors)?.dense_verdict(alloc)
+}
+
+/// The least constant over filled tables, where the texts are read and fit.
+fn dense_constant(
+    alloc: Global,
+    model: &[u8],
+    graph: &[u8],
+    vectors: &[u8],
+) -> Option<Result<i64, LowerFault>> {
+    read_parts(alloc, model, graph, vectors)?.dense_constant(alloc)
+}
+
+/// The verdict, where the texts are read and fit.
+fn verdict(alloc: Global, model: &[u8], graph: &[u8], vectors: &[u8]) -> Option<Verdict> {
+    read_parts(alloc, model, graph, vectors)?.verdict()
+}
+
+/// The least constant, where the texts are read and fit.
+fn constant(
+    alloc: Global,
+    model: &[u8],
+    graph: &[u8],
+    vectors: &[u8],
+) -> Option<Result<i64, LowerFault>> {
+    read_parts(alloc, model, graph, vectors)?.constant()
+}
+
+/// The texts of a model, a graph and vectors, and the verdict.
+const VERDICTS: [(&[u8], &[u8], &[u8], Verdict); 17] = [
+    (TIGER, b"0 0 0 0", b"0 -20 -20", Verdict::Yes),
+    (
+        TIGER,
+        b"0 0 0 0",
+        b"0 -19.9999999999999964 -19.9999999999999964",
+        Verdict::Yes,
+    ),
+    (PLAIN, b"0 0 0", b"0 -0.000001 -0.000002", Verdict::Yes),
+    (PLAIN, b"0 0 0 1 0 1", b"0 1 1 0 1 1", Verdict::Yes),
+    (
+        b"discount: 1 values: reward states: 1 actions: 1 observations: 1 T: 0 identity O: 0 uniform R: 0 : 0 : 0 : 0 -1",
+        b"0 0 0",
+        b"0 5",
+        Verdict::Short {
+            node: 0,
+            state: 0,
+            amount: 1_000_000_000_000_000_000_000_000,
+        },
+    ),
+    (
+        TIGER,
+        b"0 0 0 0",
+        b"0 -19.999999 -19.999999",
+        Verdict::Short {
+            node: 0,
+            state: 0,
+            amount: 200_000_000_000_000_000,
+        },
+    ),
+    (
+        b"discount: 0.5 values: cost states: 1 actions: 1 observations: 1 T: 0 identity O: 0 uniform R: 0 : 0 : 0 : 0 1",
+        b"0 0 0",
+        b"0 -2",
+        Verdict::Yes,
+    ),
+    (
+        b"discount: 0.5 values: cost states: 1 actions: 1 observations: 1 T: 0 identity O: 0 uniform R: 0 : 0 : 0 : 0 1",
+        b"0 0 0",
+        b"0 2",
+        Verdict::Short {
+            node: 0,
+            state: 0,
+            amount: 2_000_000_000_000_000_000_000_000,
+        },
+    ),
+    (
+        b"discount: 1 values: reward states: 1 actions: 1 observations: 1 T: 0 identity O: 0 uniform R: 0 : 0 : 0 : 0 0",
+        b"0 0 0",
+        b"0 5",
+        Verdict::Yes,
+    ),
+    (
+        b"discount: 0.5 values: reward states: 1 actions: 1 observations: 2 T: 0 identity O: 0 1 0",
+        b"0 0 0 -",
+        b"0 0",
+        Verdict::Yes,
+    ),
+    (
+        b"discount: 0.5 values: reward states: 1 actions: 1 observations: 2 T: 0 identity O: 0 1 0",
+        b"0 0 0 X",
+        b"0 0",
+        Verdict::Yes,
+    ),
+    (
+        b"discount: 0.5 values: reward states: 1 actions: 1 observations: 2 T: 0 identity O: 0 0.5 0.5",
+        b"0 0 0 -",
+        b"0 0",
+        Verdict::NoSuccessor {
+            node: 0,
+            state: 0,
+            observation: 1,
+        },
+    ),
+    (MDP, b"0 0 0 0", b"0 1.3333333 0.6666667", Verdict::Yes),
+    (
+        MDP,
+        b"0 0 0 0",
+        b"0 1.333334 0.666667",
+        Verdict::Short {
+            node: 0,
+            state: 0,
+            amount: 2_000_000_000_000_000_000,
+        },
+    ),
+    // each node is for one state, and the end state says which comes next
+    (
+        MDP,
+        b"0 0 0 1 1 0 0 1",
+        b"0 1.333333 -1000 0 -1000 0.666666",
+        Verdict::Yes,
+    ),
+    (
+        MDP,
+        b"0 0 0 - 1 0 0 -",
+        b"0 1.333333 -1000 0 -1000 0.666666",
+        Verdict::NoSuccessor {
+            node: 0,
+            state: 0,
+            observation: 1,
+        },
+    ),
+    // short too, but the missing successor comes first
+    (
+        b"discount: 0.5 values: reward states: 1 actions: 1 observations: 2 T: 0 identity O: 0 0.5 0.5",
+        b"0 0 0 -",
+        b"0 5",
+        Verdict::NoSuccessor {
+            node: 0,
+            state: 0,
+            observation: 1,
+        },
+    ),
+];
+
+#[test]
+fn verdicts(rt: HostRuntime) {
+    let alloc = rt.alloc();
+    for (model, graph, vectors, answer) in VERDICTS {
+        assert_eq!(rt; verdict(alloc, model, graph, vectors), Some(answer));
+        assert_eq!(rt; dense_verdict(alloc, model, graph, vectors), Some(answer));
+    }
+}
+
+/// The texts of a model, a graph and vectors, and the least constant.
+const LEAST_CONSTANTS: [(&[u8], &[u8], &[u8], Result<i64, LowerFault>); 7] = [
+    (TIGER, b"0 0 0 0", b"0 -19.999999 -19.999999", Ok(1)),
+    (TIGER, b"0 0 0 0", b"0 -20 -20", Ok(0)),
+    (MDP, b"0 0 0 0", b"0 1.333334 0.666667", Ok(1)),
+    (
+        b"discount: 0.5 values: cost states: 1 actions: 1 observations: 1 T: 0 identity O: 0 uniform R: 0 : 0 : 0 : 0 1",
+        b"0 0 0",
+        b"0 2",
+        Ok(4_000_000),
+    ),
+    (
+        b"discount: 1 values: reward states: 1 actions: 1 observations: 1 T: 0 identity O: 0 uniform R: 0 : 0 : 0 : 0 -1",
+        b"0 0 0",
+        b"0 5",
+        Err(LowerFault::NoConstant {
+            node: 0,
+            state: 0,
+            amount: 1_000_000_000_000_000_000_000_000,
+        }),
+    ),
+    (
+        b"discount: 0.999999 values: reward states: 1 actions: 1 observations: 1 T: 0 identity O: 0 uniform R: 0 : 0 : 0 : 0 -10000000",
+        b"0 0 0",
+        b"0 0",
+        Err(LowerFault::OutOfRange),
+    ),
+    (
+        b"discount: 0.5 values: reward states: 1 actions: 1 observations: 2 T: 0 identity O: 0 0.5 0.5",
+        b"0 0 0 -",
+        b"0 0",
+        Err(LowerFault::NoSuccessor {
+            node: 0,
+            state: 0,
+            observation: 1,
+        }),
+    ),
+];
+
+#[test]
+fn least_constants(rt: HostRuntime) {
+    let alloc = rt.alloc();
+    for (model, graph, vectors, answer) in LEAST_CONSTANTS {
+        assert_eq!(rt; constant(alloc, model, graph, vectors), Some(answer));
+        assert_eq!(rt; dense_constant(alloc, model, graph, vectors), Some(answer));
+    }
+}
+
+/// The first and the last value.
+fn ends(vectors: &Vectors) -> Option<(i64, i64)> {
+    let node = vectors.nodes().checked_sub(1)?;
+    let state = vectors.states().checked_sub(1)?;
+    Some((vectors.at(0, 0), vectors.at(node, state)))
+}
+
+/// The least constant, and the first and the last value lowered by it, where the texts are read and fit.
+fn lowering(
+    alloc: Global,
+    model: &[u8],
+    graph: &[u8],
+    vectors: &[u8],
+) -> Option<(i64, (i64, i64))> {
+    read_parts(alloc, model, graph, vectors)?.lowering(alloc)
+}
+
+#[test]
+fn lowered_vectors(rt: HostRuntime) {
+    let alloc = rt.alloc();
+    let rows = [
+        (
+            TIGER,
+            b"0 0 0 0".as_slice(),
+            b"0 -19.999999 -19.999999".as_slice(),
+            (1, (-20_000_000, -20_000_000)),
+        ),
+        (
+            TIGER,
+            b"0 0 0 0",
+            b"0 -20 -20",
+            (0, (-20_000_000, -20_000_000)),
+        ),
+        (
+            TIGER,
+            b"0 0 0 0 1 1 0 0",
+            b"0 -19.999999 -20 1 -20 -20",
+            (1_979_999_991, (-1_999_999_990, -1_999_999_991)),
+        ),
+        (
+            b"discount: 0.5 values: cost states: 1 actions: 1 observations: 1 T: 0 identity O: 0 uniform R: 0 : 0 : 0 : 0 1",
+            b"0 0 0",
+            b"0 2",
+            (4_000_000, (-2_000_000, -2_000_000)),
+        ),
+    ];
+    for (model, graph, vectors, answer) in rows {
+        assert_eq!(rt; lowering(alloc, model, graph, vectors), Some(answer));
+    }
+}
+
+const LARGEST: &[u8] =
+    b"discount: 1 values: reward states: 256 actions: 1 observations: 256 T: 0 uniform O: 0 uniform R: * : * : * : * -10000000";
+
+/// Adds the part to the text 256 times.
+fn push_256(text: &mut Vec<u8>, part: &[u8]) -> Result<(), AllocError> {
+    for _ in 0..256 {
+        text.extend_from_slice(part)?;
+    }
+    Ok(())
+}
+
+/// The greatest shortfall that there is, also over filled tables, whose rewards take 134 MB.
+#[test]
+fn the_largest_amount(rt: HostRuntime) -> Result<(), Fail> {
+    let alloc = rt.alloc();
+    let mut graph = Vec::with_capacity(alloc, 4_000)?;
+    graph.extend_from_slice(b"0 0")?;
+    push_256(&mut graph, b" 1")?;
+    graph.extend_from_slice(b" 1 0")?;
+    push_256(&mut graph, b" 1")?;
+    let mut vectors = Vec::with_capacity(alloc, 4_000)?;
+    vectors.extend_from_slice(b"0")?;
+    push_256(&mut vectors, b" 10000000")?;
+    vectors.extend_from_slice(b" 0")?;
+    push_256(&mut vectors, b" -10000000")?;
+    let answer = Some(Verdict::Short {
+        node: 0,
+        state: 0,
+        amount: 1_966_080_000_000_000_000_000_000_000_000_000_000,
+    });
+    assert_eq!(rt; verdict(alloc, LARGEST, &graph, &vectors), answer);
+    assert_eq!(rt; dense_verdict(alloc, LARGEST, &graph, &vectors), answer);
+    Ok(())
+}
+
+/// The best node from the start and its worth, where the texts are read and fit.
+fn worth(alloc: Global, model: &[u8], graph: &[u8], vectors: &[u8]) -> Option<(usize, i64)> {
+    read_parts(alloc, model, graph, vectors)?.worth()
+}
+
+/// The texts of a model, a graph and vectors; the best node from the start, and its worth there.
+const WORTHS: [(&[u8], &[u8], &[u8], (usize, i64)); 8] = [
+    (TIGER, b"0 0 0 0", b"0 -20 -20", (0, -20_000_000)),
+    (
+        TIGER,
+        b"0 0 0 0 1 0 1 1",
+        b"0 -20 -20 0 -20 -20",
+        (0, -20_000_000),
+    ),
+    (
+        TIGER,
+        b"0 0 0 0 1 0 1 1",
+        b"0 -20 -20 0 -19 -20",
+        (1, -19_500_000),
+    ),
+    (PLAIN, b"0 0 0", b"0 -0.000001 -0.000002", (0, -2)),
+    (PLAIN, b"0 0 0 1 0 1", b"0 1 1 0 1 1", (0, 1_000_000)),
+    (
+        b"discount: 0.5 values: cost states: 1 actions: 1 observations: 1 T: 0 identity O: 0 uniform R: 0 : 0 : 0 : 0 1",
+        b"0 0 0",
+        b"0 -2",
+        (0, -2_000_000),
+    ),
+    (
+        b"discount: 1 values: reward states: 1 actions: 1 observations: 1 T: 0 identity O: 0 uniform R: 0 : 0 : 0 : 0 0",
+        b"0 0 0",
+        b"0 5",
+        (0, 5_000_000),
+    ),
+    (
+        b"discount: 1 values: reward states: 3 actions: 1 observations: 1 start: 0.25 0 0.75 T: 0 identity O: 0 uniform",
+        b"0 0 0 1 0 1",
+        b"0 4 9 0 0 1 -9 2",
+        (1, 1_750_000),
+    ),
+];
+
+#[test]
+fn worths_from_the_start(rt: HostRuntime) {
+    let alloc = rt.alloc();
+    for (model, graph, vectors, answer) in WORTHS {
+        assert_eq!(rt; worth(alloc, model, graph, vectors), Some(answer));
+    }
+}

@@ -1,0 +1,62 @@
+//! Makes one call of polcert behind some other allocations: so each allocation of the call can be refused in turn, by one
+//! number of `rt try --fail-alloc` and one build. The words are the call's name and how many allocations come before it; the
+//! line that is printed is `done`, `memory` or `wrong`.
+#![tactic(auto)]
+
+mod answers;
+mod ended;
+mod reading;
+
+use ended::Ended;
+use std::alloc::{AllocError, Global};
+use std::env;
+use std::process::ExitCode;
+use std::rt::Env;
+
+/// Allocates so many times, and gives it all back.
+fn allocate(alloc: Global, times: usize) -> Result<(), AllocError> {
+    for _ in 0..times {
+        Box::new(alloc, 0u8)?;
+    }
+    Ok(())
+}
+
+/// How the call of this name ends; none has another name.
+fn call(alloc: Global, name: &str) -> Option<Ended> {
+    match name {
+        "reading_a_source" => Some(reading::source(alloc)),
+        "reading_a_model" => Some(reading::model(alloc)),
+        "filling_tables" => Some(reading::tables(alloc)),
+        "reading_a_graph" => Some(reading::graph(alloc)),
+        "reading_vectors" => Some(reading::vectors(alloc)),
+        "lowering_vectors" => Some(reading::lowering(alloc)),
+        "answering_three_texts" => Some(answers::three_texts(alloc)),
+        "summing_up" => Some(answers::summing_up(alloc)),
+        "printing" => Some(answers::printing(alloc)),
+        "checking" => Some(answers::checking(alloc)),
+        "lowering" => Some(answers::lowering(alloc)),
+        _ => None,
+    }
+}
+
+/// Makes the call that the words of the command line name; none where they name none.
+fn run<R: Env + AllocGlobal>(rt: &R) -> Option<Ended> {
+    let words = env::args(rt).ok()?.collect::<Vec<String>>(rt.alloc()).ok()?;
+    let name = words.get(1)?;
+    let before = words.get(2)?.parse::<usize>().ok()?;
+    allocate(rt.alloc(), before).ok()?;
+    call(rt.alloc(), name)
+}
+
+fn main(rt: HostRuntime) -> ExitCode {
+    let line = match run(&rt) {
+        Some(Ended::Done) => "done",
+        Some(Ended::Memory) => "memory",
+        Some(Ended::Wrong) => "wrong",
+        None => "no call",
+    };
+    match println!(rt; "{line}") {
+        Ok(()) => ExitCode::SUCCESS,
+        Err(_) => ExitCode::FAILURE,
+    }
+}

@@ -1,0 +1,108 @@
+-- A model's text that comes from a source.
+use Rattle.std.proofs.Common.{◌≡◌, ◌+◌, ◌∙◌, ℕ, Bool, true, false, cond, Option, Some, None, Result, Ok, Err, IfOk, IfErr, MatchResult, List, [], ◌∷◌, length, drop, nat_lt, refl, sym, ap, subst, arith}
+use Rattle.polcert_text.specs.Cut.{Lexeme, Rest, IsCut, EndsAt, text_rest, end_place, text_limit}
+use Rattle.polcert_text.specs.Source.{IsText, EachTextThatFits}
+use Rattle.polcert_text.specs.Stream.{Ahead, Stream, GivesEnd}
+use Rattle.polcert_text.specs.StreamTaken.{TakenFrom}
+use Rattle.polcert_text.specs.declared.tokens.TokenFault.{TokenFault}
+use Rattle.polcert_text.proofs.StreamTaken.{each_taken, each_cut, text_taken, each_whole}
+use Rattle.polcert_cells.specs.declared.entry.Table.{Table}
+use Rattle.polcert_cells.specs.Rows.{IsFirstWrongRow}
+use Rattle.polcert_model.specs.declared.fault.ModelFault.{ModelFault}
+use Rattle.polcert_model.specs.declared.fault.ModelFault.TheVariants.{RowSum}
+use Rattle.polcert_model.specs.declared.reader.TextReader.{TextReader}
+use Rattle.polcert_model.specs.Text.{Known}
+use Rattle.polcert_model.specs.FirstWrong.{TextTokens, AreTokensOf}
+use Rattle.polcert_model.specs.Kept.{Kept, IsKeptOf, meaning}
+use Rattle.polcert_model.specs.Refusals.{IsRefusal, IsPlacedRight, IsNoModel}
+use Rattle.polcert_model.specs.RefusedTexts.{IsRefusedModelText}
+use Rattle.polcert_model.specs.TextSteps.{IsTextRead, IsWholeRead, IsTextOf, IsRefusedBehind, IsRefusedWhole, Refuses, tokens_end, pending_at, said}
+use Rattle.polcert_model.proofs.FrontLaws.{tokens_begin, these_tokens, too_long, whole_text}
+use Rattle.polcert_model.proofs.RefusalLaws.{no_model}
+use Rattle.polcert_model.proofs.RefusingEnds.{fault_refused}
+use Rattle.polcert_model.proofs.WholeTexts.{row_refused}
+
+-- what is refused of a text's tokens is refused of the text
+refused_text : (fault : ModelFault) (text : List ℕ) → ((ts : TextTokens) → AreTokensOf text ts → Refuses ts fault) → IsRefusedModelText fault text
+refused_text fault text h = record {
+  no_model = no_model text fault (λ ts tokens. (h ts tokens).refusal);
+  refusal = λ ts tokens. (h ts tokens).refusal;
+  placed = λ ts tokens. (h ts tokens).placed;
+}
+
+-- what is said of an answer to a text, from what its last step says of it
+module _ (text : List ℕ) {V : Type 0} (P : V → Type 0) where
+  pub said_exactly : (r : Result V ModelFault) → MatchResult r P (λ fault. IsRefusedModelText fault text) → MatchResult r P (IsNoModel text)
+  said_exactly (Ok v) is = is
+  said_exactly (Err fault) refused = refused.no_model
+
+  pub said_accepted : (r : Result V ModelFault) → MatchResult r P (λ fault. IsRefusedModelText fault text) → IfOk r P
+  said_accepted (Ok v) is = is
+  said_accepted (Err fault) refused = tt
+
+  pub said_refused : (r : Result V ModelFault) → MatchResult r P (λ fault. IsRefusedModelText fault text) → IfErr r (λ fault. (ts : TextTokens) → AreTokensOf text ts → IsRefusal ts fault)
+  said_refused (Ok v) is = tt
+  said_refused (Err fault) refused = refused.refusal
+
+  pub said_placed : (r : Result V ModelFault) → MatchResult r P (λ fault. IsRefusedModelText fault text) → IfErr r (λ fault. (ts : TextTokens) → AreTokensOf text ts → IsPlacedRight ts fault)
+  said_placed (Ok v) is = tt
+  said_placed (Err fault) refused = refused.placed
+
+-- where the items are right, the first row that is wrong is refused
+pub row_sum_refused : (seen : List Lexeme) (k : Known) → IsWholeRead seen k → (m : Kept) → IsKeptOf (said k) m → (text : List ℕ) (table : Table) (a s : ℕ)
+    → IsCut (text_rest text text_limit) seen None → IsFirstWrongRow (meaning m) table a s → IsRefusedModelText (RowSum table a s) text
+row_sum_refused seen k read m kept text table a s cut wrong =
+    refused_text (RowSum table a s) text (λ ts tokens. record { refusal = row_refused seen k read m kept text table a s cut wrong ts tokens; placed = tt })
+
+ends_as : (place : ℕ) (bs : List ℕ) (ending : Option TokenFault) → EndsAt place bs ending None → ending ≡ None
+ends_as place [] ending e = sym e
+ends_as place (b ∷ bs) ending e = absurd e
+
+-- a cut that ends cleanly is one of bytes that do
+ends_cleanly : (rest : Rest) (ls : List Lexeme) → IsCut rest ls None → rest.ending ≡ None
+ends_cleanly rest [] cut = ends_as (rest.place + cut.gap) (drop cut.gap rest.bytes) rest.ending cut.ends_at
+ends_cleanly rest (l ∷ ls) cut = ap (λ (r : Rest). r.ending) (sym cut.1.rest) ∙ ends_cleanly cut.0 ls cut.2
+
+some≢none : {A : Type 0} {x : A} → Some x ≡ None → ⊥
+some≢none e = cc
+
+-- a text whose tokens end cleanly ends where they do
+clean_end : (text : List ℕ) (ls : List Lexeme) → IsCut (text_rest text text_limit) ls None → end_place (text_rest text text_limit) ≡ length text
+clean_end text ls cut = at (nat_lt text_limit (length text)) (ends_cleanly (text_rest text text_limit) ls cut)
+  where
+    at : (long : Bool) → (cond long (too_long text) (whole_text text)).ending ≡ None → end_place (cond long (too_long text) (whole_text text)) ≡ length text
+    at true e = absurd (some≢none e)
+    at false e = omega arith
+
+module _ {S : Type 0} (reads : S → ℕ → Option (List ℕ) → S → Type 0) (failures : S → ℕ) (first : S) where
+  -- no text whose tokens begin with these is right
+  pub refused_at_token : (ts : List Lexeme) (stream : Stream) (s : S) (fault : ModelFault) → TakenFrom reads failures text_limit first ts stream s → IsRefusedBehind ts fault
+      → EachTextThatFits reads first s (IsRefusedModelText fault)
+  refused_at_token ts stream s fault taken h =
+      each_taken reads failures text_limit first ts stream s (IsRefusedModelText fault) taken
+      (λ text rest t. refused_text fault text (λ tokens are. let front = tokens_begin text rest ts tokens t are in h text tokens front.0 are front.1))
+
+  -- the tokens stop
+  pub refused_tokens : (ts : List Lexeme) (r : TextReader) (old : Stream) (s : S) (fault : TokenFault) (new : Ahead) (u : S) → IsTextRead ts r
+      → TakenFrom reads failures text_limit first ts old s → GivesEnd reads failures old.ahead s (Some fault) new u
+      → EachTextThatFits reads first u (IsRefusedModelText (tokens_end r.number (pending_at r.item) fault))
+  refused_tokens ts r old s fault new u read taken g =
+      let named = tokens_end r.number (pending_at r.item) fault in
+      each_cut reads failures text_limit first ts old s (Some fault) new u (IsRefusedModelText named) taken g
+      (λ text cut. refused_text named text (λ tokens are. let these = these_tokens text ts (Some fault) tokens cut are in fault_refused ts r fault read text tokens are these.0 these.1))
+
+  -- the text ends cleanly
+  pub read_at_end : (ts : List Lexeme) (old : Stream) (s : S) (new : Ahead) (u : S) (k : Known) → TakenFrom reads failures text_limit first ts old s
+      → GivesEnd reads failures old.ahead s None new u → IsWholeRead ts k → (text : List ℕ) × IsText reads first text u × IsTextOf text k
+  read_at_end ts old s new u k taken g read =
+      let t = text_taken reads failures text_limit first ts old s new u taken g in
+      (t.0, t.1, (ts, t.2, read))
+
+  pub refused_at_end : (ts : List Lexeme) (old : Stream) (s : S) (new : Ahead) (u : S) (fault : ModelFault) (end : ℕ) → TakenFrom reads failures text_limit first ts old s
+      → GivesEnd reads failures old.ahead s None new u → end ≡ new.place → IsRefusedWhole ts end fault → EachTextThatFits reads first u (IsRefusedModelText fault)
+  refused_at_end ts old s new u fault end taken g place h =
+      let t = text_taken reads failures text_limit first ts old s new u taken g in
+      each_whole reads first t.0 u (IsRefusedModelText fault) t.1
+      (refused_text fault t.0 (λ tokens are.
+      let these = these_tokens t.0 ts None tokens t.2 are in
+      h t.0 tokens are these.0 these.1 (are.end_is ∙ clean_end t.0 ts t.2 ∙ sym t.3 ∙ sym place)))

@@ -1,0 +1,110 @@
+use Rattle.std.proofs.Common.{◌≡◌, ◌∙◌, ◌++◌, ◌∷◌, ◌≤◌, ◌<◌, [], refl, sym, ap, subst, arith, Ok, Err}
+use Rattle.polcert_text.specs.Cut.{text_limit}
+use Rattle.polcert_text.specs.Reading.{lexeme_of}
+use Rattle.polcert_text.specs.Source.{EachTextThatFits}
+use Rattle.polcert_text.proofs.StreamTaken.{none_taken, token_taken, place_grows, place_within, failed_since}
+use Rattle.polcert_model.specs.RefusedTexts.{IsRefusedModelText}
+use Rattle.polcert_model.proofs.TokenTexts.{token_is_text}
+use Rattle.polcert_model.proofs.ModelStreams.{refused_at_token, refused_tokens, read_at_end, refused_at_end}
+use Rattle.polcert_model.proofs.reader.read_items_from.Goals as goal
+
+pub loop-token-init : goal.loop-token-init
+loop-token-init g c =
+    let none = c.requires.first in
+    record {
+      seen = ([], none_taken _ _ _ _ c.new-tokens.result c.new-tokens.ensures.fresh c.new-tokens.ensures.text, c.requires.none);
+      few = omega (arith, none);
+    }
+
+pub take-requires-clause-few : goal.take-requires-clause-few
+take-requires-clause-few g c =
+    let was = c.loop-token.invariant.seen in
+    let few = c.loop-token.invariant.few in
+    let within : c.loop-token.tokens.ahead.place ≤ text_limit = place_within _ _ _ _ _ c.loop-token.tokens c.loop-token.source was.1 in
+    omega (arith, few, within)
+
+pub finish-requires-clause-few : goal.finish-requires-clause-few
+finish-requires-clause-few g c =
+    let was = c.loop-token.invariant.seen in
+    let few = c.loop-token.invariant.few in
+    let within : c.loop-token.tokens.ahead.place ≤ text_limit = place_within _ _ _ _ _ c.loop-token.tokens c.loop-token.source was.1 in
+    omega (arith, few, within)
+
+pub take-requires-clause-text : goal.take-requires-clause-text
+take-requires-clause-text g c =
+    let gives = rw (c.in-Ok-Some.is ∙ ap Ok c.in-Ok-Some.field-0-is) at c.next_token.follows.holds-at-none.answers in
+    token_is_text _ (lexeme_of c.in-Ok-Some.token) _ (gives.0.next [] (λ _. refl))
+
+pub loop-token-preserved : goal.loop-token-preserved
+loop-token-preserved g c =
+    let was = c.loop-token.invariant.seen in
+    let new = c.next_token.follows.lender-at-none in
+    let gives = rw (c.in-Ok-Some.is ∙ ap Ok c.in-Ok-Some.field-0-is) at c.next_token.follows.holds-at-none.answers in
+    let grows : c.loop-token.tokens.ahead.place < new.ahead.place = place_grows c.loop-token.tokens.ahead new.ahead gives.0.given (lexeme_of c.in-Ok-Some.token) gives.0.next in
+    let more = c.in_default.ensures.number in
+    let few = c.loop-token.invariant.few in
+    record {
+      seen = (was.0 ++ lexeme_of c.in-Ok-Some.token ∷ [], token_taken _ _ _ _ was.0 _ _ _ _ _ was.1 gives.0 gives.2, c.in_default.ensures.read was.0 was.2);
+      few = omega (arith, grows, more, few);
+    }
+
+pub loop-token-smaller : goal.loop-token-smaller
+loop-token-smaller g c =
+    let was = c.loop-token.invariant.seen in
+    let new = c.next_token.follows.lender-at-none in
+    let gives = rw (c.in-Ok-Some.is ∙ ap Ok c.in-Ok-Some.field-0-is) at c.next_token.follows.holds-at-none.answers in
+    let grows : c.loop-token.tokens.ahead.place < new.ahead.place = place_grows c.loop-token.tokens.ahead new.ahead gives.0.given (lexeme_of c.in-Ok-Some.token) gives.0.next in
+    let taken = token_taken _ _ _ _ was.0 c.loop-token.tokens c.loop-token.source (lexeme_of c.in-Ok-Some.token) new c.next_token.new.source was.1 gives.0 gives.2 in
+    let within : new.ahead.place ≤ text_limit = place_within _ _ _ _ _ new c.next_token.new.source taken in
+    omega (arith, grows, within)
+
+pub returns-in-Err-clause-refused : goal.returns-in-Err-clause-refused
+returns-in-Err-clause-refused g c = λ fault is.
+    let same : c.in-Err.fault ≡ fault = cc in
+    let was = c.loop-token.invariant.seen in
+    let new = c.next_token.follows.lender-at-none in
+    let gives = rw (c.in-Ok-Some.is ∙ ap Ok c.in-Ok-Some.field-0-is) at c.next_token.follows.holds-at-none.answers in
+    let taken = token_taken _ _ _ _ was.0 c.loop-token.tokens c.loop-token.source (lexeme_of c.in-Ok-Some.token) new c.next_token.new.source was.1 gives.0 gives.2 in
+    subst (λ f. EachTextThatFits g.S.Source.reads c.args.source.now c.next_token.new.source (IsRefusedModelText f)) same
+    (refused_at_token _ _ _ _ new c.next_token.new.source c.in-Err.fault taken (c.in-Err.ensures.read was.0 was.2))
+
+pub returns-in-Ok-clause-read : goal.returns-in-Ok-clause-read
+returns-in-Ok-clause-read g c =
+    let was = c.loop-token.invariant.seen in
+    let gives = rw (c.in-Ok-None.is ∙ ap Ok c.in-Ok-None.field-0-is) at c.next_token.follows.holds-at-none.answers in
+    read_at_end _ _ _ was.0 _ _ _ _ c.finish.new.self.known was.1 gives.0 (c.in-Ok.ensures was.0 was.2)
+
+pub returns-in-Err-finish-clause-refused : goal.returns-in-Err-finish-clause-refused
+returns-in-Err-finish-clause-refused g c = λ fault is.
+    let same : c.in-Err-finish.fault ≡ fault = cc in
+    let was = c.loop-token.invariant.seen in
+    let gives = rw (c.in-Ok-None.is ∙ ap Ok c.in-Ok-None.field-0-is) at c.next_token.follows.holds-at-none.answers in
+    subst (λ f. EachTextThatFits g.S.Source.reads c.args.source.now c.next_token.new.source (IsRefusedModelText f)) same
+    (refused_at_end _ _ _ was.0 _ _ _ _ c.in-Err-finish.fault c.place.result was.1 gives.0 c.place.ensures (c.in-Err-finish.ensures was.0 was.2))
+
+pub returns-in-Err-Token-clause-refused : goal.returns-in-Err-Token-clause-refused
+returns-in-Err-Token-clause-refused g c = λ fault is.
+    let same : c.token_fault.result ≡ fault = cc in
+    let named = rw c.in-Err-Token.field-0-is at c.token_fault.ensures in
+    let was = c.loop-token.invariant.seen in
+    let new = c.next_token.follows.lender-at-none in
+    let gives = rw (c.in-Err-Token.is ∙ ap Err c.in-Err-Token.field-0-is) at c.next_token.follows.holds-at-none.answers in
+    subst (λ f. EachTextThatFits g.S.Source.reads c.args.source.now c.next_token.new.source (IsRefusedModelText f)) (sym named ∙ same)
+    (refused_tokens _ _ _ was.0 c.loop-token.reader c.loop-token.tokens c.loop-token.source c.in-Err-Token.fault new.ahead c.next_token.new.source was.2 was.1 gives.0)
+
+pub returns-in-Err-Device-clause-device : goal.returns-in-Err-Device-clause-device
+returns-in-Err-Device-clause-device g c = λ is.
+    let was = c.loop-token.invariant.seen in
+    let gives = rw (c.in-Err-Device.is ∙ ap Err c.in-Err-Device.field-0-is) at c.next_token.follows.holds-at-none.answers in
+    failed_since _ _ _ _ was.0 c.loop-token.tokens c.loop-token.source c.next_token.new.source was.1 (gives.0 was.1.goes_on)
+
+-- answers of one word: so a wrong body is refused at once
+
+pub returns-in-Err-Device-clause-read : goal.returns-in-Err-Device-clause-read
+returns-in-Err-Device-clause-read g c = tt
+
+pub returns-in-Err-Device-clause-same_count : goal.returns-in-Err-Device-clause-same_count
+returns-in-Err-Device-clause-same_count g c = λ differs. absurd (differs refl)
+
+pub returns-in-Err-clause-device : goal.returns-in-Err-clause-device
+returns-in-Err-clause-device g c = λ is. absurd (cc)

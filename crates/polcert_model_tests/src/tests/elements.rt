@@ -1,0 +1,90 @@
+//! The lines that name elements, or count them.
+use crate::tests::numbers::{Number, first_wrong, refusal};
+use polcert_model::{ItemFault, ModelFault};
+use std::alloc::Global;
+use std::test::Fail;
+
+fn refused(kind: ItemFault, place: u64) -> Option<ModelFault> {
+    Some(ModelFault::Item {
+        kind,
+        item: 1,
+        place,
+    })
+}
+
+#[test]
+fn refused_tokens(rt: HostRuntime) {
+    for (text, kind, place) in [
+        (b"states a".as_slice(), ItemFault::BadShape, 7),
+        (b"states: 0".as_slice(), ItemFault::BadCount, 8),
+        (b"states: 1001".as_slice(), ItemFault::BadCount, 8),
+        (b"states: 2.5".as_slice(), ItemFault::BadCount, 8),
+        (b"states: 2 a".as_slice(), ItemFault::BadShape, 10),
+        (b"states: 2 reset".as_slice(), ItemFault::Reset, 10),
+        (b"states: +2".as_slice(), ItemFault::BadShape, 8),
+        (b"states: *".as_slice(), ItemFault::BadShape, 8),
+        (b"states: reset".as_slice(), ItemFault::Reset, 8),
+        (b"states: uniform".as_slice(), ItemFault::BadShape, 8),
+        (b"states: a a".as_slice(), ItemFault::DuplicateName, 10),
+        (b"states: a b a".as_slice(), ItemFault::DuplicateName, 12),
+        (b"states: a 2.5".as_slice(), ItemFault::BadShape, 10),
+        (b"states: a reset".as_slice(), ItemFault::Reset, 10),
+        (b"states: a uniform".as_slice(), ItemFault::BadShape, 10),
+        (b"states: a :".as_slice(), ItemFault::BadShape, 10),
+        (b"states".as_slice(), ItemFault::BadShape, 6),
+        (b"states:".as_slice(), ItemFault::BadCount, 7),
+    ] {
+        assert_eq!(rt; refusal(rt.alloc(), text), refused(kind, place));
+    }
+}
+
+#[test]
+fn counts(rt: HostRuntime) {
+    for (text, count) in [
+        (
+            b"discount: 1 values: reward actions: 1 states: 1 T: * identity".as_slice(),
+            1,
+        ),
+        (
+            b"discount: 1 values: reward actions: 1 states: 01000 T: * identity".as_slice(),
+            1000,
+        ),
+        (
+            b"discount: 1 values: reward actions: 1 states: a T: * identity".as_slice(),
+            1,
+        ),
+        (
+            b"discount: 1 values: reward actions: 1 states: a A tiger-left T: * identity".as_slice(),
+            3,
+        ),
+    ] {
+        assert_eq!(rt;
+            first_wrong(rt.alloc(), text, &[(Number::States, count)]),
+            None
+        );
+    }
+}
+
+/// A line of a thousand names, and the offset of the next name.
+fn thousand_names(alloc: Global) -> Result<(String, u64), Fail> {
+    let mut text = String::from_str(alloc, "states:")?;
+    for number in 0..1000u32 {
+        text.push_str(&format!(in alloc; " n{number}")?)?;
+    }
+    let place = text.len() as u64 + 1;
+    Ok((text, place))
+}
+
+#[test]
+fn a_name_too_many(rt: HostRuntime) -> Result<(), Fail> {
+    let alloc = rt.alloc();
+    let (names, place) = thousand_names(alloc)?;
+    for name in ["n1000", "n7"] {
+        let text = format!(in alloc; "{names} {name}")?;
+        assert_eq!(rt;
+            refusal(alloc, text.as_bytes()),
+            refused(ItemFault::BadCount, place)
+        );
+    }
+    Ok(())
+}

@@ -1,0 +1,203 @@
+//! Texts without a line of observations: the end state is observed.
+use crate::tests::numbers::{Number, first_wrong, is_named, read_is_mdp, refusal};
+use polcert_model::{ItemFault, Kind, ModelFault, Table};
+use polcert_text::TokenFault;
+
+/// The same model of two states, by each form of its one reward.
+const TEXTS: [&[u8]; 4] = [
+    b"discount: 0.5 values: reward states: 2 actions: 1 T: 0 0 1 1 0 R: 0 : 0 : 1 1",
+    b"discount: 0.5 values: reward states: 2 actions: 1 T: 0 0 1 1 0 R: 0 : 0 : 1 : * 1",
+    b"discount: 0.5 values: reward states: 2 actions: 1 T: 0 0 1 1 0 R: 0 : 0 0 1",
+    b"discount: 0.5 values: reward states: 2 actions: 1 T: 0 0 1 1 0 R: 0 0 1 0 0",
+];
+
+#[test]
+fn a_reward_in_four_forms(rt: HostRuntime) {
+    let numbers = [
+        (Number::States, 2),
+        (Number::Actions, 1),
+        (Number::Observations, 2),
+        (Number::Discount, 500_000),
+        (Number::TScale, 2_000_000),
+        (Number::OScale, 2_000_000),
+        (Number::T(0, 0, 0), 0),
+        (Number::T(0, 0, 1), 2_000_000),
+        (Number::T(0, 1, 0), 2_000_000),
+        (Number::O(0, 0, 0), 2_000_000),
+        (Number::O(0, 0, 1), 0),
+        (Number::O(0, 1, 0), 0),
+        (Number::O(0, 1, 1), 2_000_000),
+        (Number::R(0, 0, 0, 0), 0),
+        (Number::R(0, 0, 0, 1), 0),
+        (Number::R(0, 0, 1, 0), 1_000_000),
+        (Number::R(0, 0, 1, 1), 1_000_000),
+        (Number::R(0, 1, 0, 0), 0),
+        (Number::R(0, 1, 1, 1), 0),
+    ];
+    for text in TEXTS {
+        assert_eq!(rt; first_wrong(rt.alloc(), text, &numbers), None);
+        assert_eq!(rt; read_is_mdp(rt.alloc(), text), Some(true));
+    }
+}
+
+const COST: &[u8] = b"discount: 0.5 values: cost states: 2 actions: 1 T: 0 0 1 1 0 R: 0 : 0 : 1 1";
+
+const POMDP: &[u8] =
+    b"discount: 0.5 values: reward states: 2 actions: 1 observations: 2 T: 0 identity O: 0 uniform";
+
+const NAMED: &[u8] =
+    b"discount: 0.5 values: reward states: up down actions: 1 T: 0 0 1 1 0 R: 0 : up : down 1";
+
+/// What is observed of an MDP is the end state: the observations have the states' names.
+#[test]
+fn observations_named_as_states(rt: HostRuntime) {
+    let counts = [(Number::States, 2), (Number::Observations, 2)];
+    assert_eq!(rt; first_wrong(rt.alloc(), NAMED, &counts), None);
+    for kind in [Kind::State, Kind::Observation] {
+        assert!(rt; is_named(rt.alloc(), NAMED, kind, 0, Some("up")));
+        assert!(rt; is_named(rt.alloc(), NAMED, kind, 1, Some("down")));
+    }
+}
+
+#[test]
+fn a_cost_and_a_pomdp(rt: HostRuntime) {
+    let paid = [
+        (Number::R(0, 0, 1, 0), -1_000_000),
+        (Number::R(0, 0, 1, 1), -1_000_000),
+    ];
+    assert_eq!(rt; first_wrong(rt.alloc(), COST, &paid), None);
+    assert_eq!(rt; read_is_mdp(rt.alloc(), COST), Some(true));
+    assert_eq!(rt; read_is_mdp(rt.alloc(), POMDP), Some(false));
+    let seen = [(Number::O(0, 1, 0), 1_000_000)];
+    assert_eq!(rt; first_wrong(rt.alloc(), POMDP, &seen), None);
+}
+
+/// Texts, why each is refused, the item, and the place.
+const REFUSED_ITEMS: [(&[u8], ItemFault, u64, u64); 17] = [
+    (
+        b"discount: 0.5 values: reward states: 2 actions: 1 T: 0 0 1 1 0 R: 0 : 0 : 1 : 0 1",
+        ItemFault::BadShape,
+        6,
+        78,
+    ),
+    (
+        b"discount: 0.5 values: reward states: 2 actions: 1 T: 0 0 1 1 0 R: 0 : 0 : 1 :",
+        ItemFault::BadShape,
+        6,
+        77,
+    ),
+    (
+        b"discount: 0.5 values: reward states: 2 actions: 1 T: 0 0 1 1 0 R: 0 : 0 : 1 : 9 1",
+        ItemFault::BadShape,
+        6,
+        78,
+    ),
+    (
+        b"discount: 0.5 values: reward states: 2 actions: 1 T: 0 0 1 1 0 R: 0 : 0 : 1 : a 1",
+        ItemFault::BadShape,
+        6,
+        78,
+    ),
+    (
+        b"discount: 0.5 values: reward states: 2 actions: 1 T: 0 0 1 1 0 R: 0 : 0 : 1 : reset 1",
+        ItemFault::Reset,
+        6,
+        78,
+    ),
+    (
+        b"discount: 0.5 values: reward states: 2 actions: 1 T: 0 0 1 1 0 R: 0 : 0 : 1 : 1.5.2",
+        ItemFault::Token(TokenFault::Glued(78)),
+        6,
+        78,
+    ),
+    (
+        b"discount: 0.5 values: reward states: 2 actions: 1 T: 0 0 1 1 0 R: 0 : 0 : 1 : * : 1",
+        ItemFault::BadShape,
+        6,
+        80,
+    ),
+    (
+        b"discount: 0.5 values: reward states: 2 actions: 1 T: 0 0 1 1 0 R: 0",
+        ItemFault::WrongNumberCount,
+        6,
+        67,
+    ),
+    (
+        b"discount: 0.5 values: reward states: 2 actions: 1 T: 0 0 1 1 0 R: 0 0 1 0",
+        ItemFault::WrongNumberCount,
+        6,
+        73,
+    ),
+    (
+        b"discount: 0.5 values: reward states: 2 actions: 1 T: 0 0 1 1 0 R: 0 0 1 0 0 0",
+        ItemFault::WrongNumberCount,
+        6,
+        76,
+    ),
+    (
+        b"discount: 0.5 values: reward states: 2 actions: 1 T: 0 0 1 1 0 R: 0 : 0 : 1 1 O: 0 uniform",
+        ItemFault::BadShape,
+        7,
+        78,
+    ),
+    (b"discount: 0.5 O: 0 uniform", ItemFault::MissingLine, 2, 14),
+    (
+        b"discount: 0.5 values: reward states: 257 actions: 256 T: 0 uniform",
+        ItemFault::TooManyCells,
+        5,
+        54,
+    ),
+    (
+        b"discount: 0.5 values: reward states: 257 actions: 256 O: 0 uniform",
+        ItemFault::TooManyCells,
+        5,
+        54,
+    ),
+    (
+        b"discount: 0.5 values: reward states: 2 actions: 1 T: 0 0 1 1 0 observations: 2",
+        ItemFault::LateLine,
+        6,
+        63,
+    ),
+    (
+        b"discount: 0.5 values: reward states: 2 actions: 1 observations: 2 R: 0",
+        ItemFault::BadShape,
+        6,
+        70,
+    ),
+    (
+        b"discount: 0.5 values: reward states: 2 actions: 1 observations: 2 R: 0 0",
+        ItemFault::BadShape,
+        6,
+        71,
+    ),
+];
+
+#[test]
+fn refused_items(rt: HostRuntime) {
+    for (text, kind, item, place) in REFUSED_ITEMS {
+        let fault = ModelFault::Item { kind, item, place };
+        assert_eq!(rt;
+            refusal(rt.alloc(), text),
+            Some(fault),
+            "item {item} at {place}"
+        );
+    }
+}
+
+/// No line of observations is missing here: the first row of T is all 0.
+#[test]
+fn no_line_is_missing(rt: HostRuntime) {
+    let fault = ModelFault::RowSum {
+        table: Table::Transition,
+        action: 0,
+        row: 0,
+    };
+    assert_eq!(rt;
+        refusal(
+            rt.alloc(),
+            b"discount: 0.5 values: reward states: 2 actions: 1"
+        ),
+        Some(fault)
+    );
+}

@@ -1,0 +1,193 @@
+//! Texts that are accepted, and their cells.
+use crate::tests::numbers::{Number, first_wrong, read_is_cost, refusal};
+use crate::tests::texts::{FIRST, GENERAL_FIRST, GENERAL_LAST, SINGLE};
+use polcert_model::{ModelFault, Table};
+
+#[test]
+fn the_first_text(rt: HostRuntime) {
+    let numbers = [
+        (Number::States, 2),
+        (Number::Actions, 1),
+        (Number::Observations, 2),
+        (Number::Discount, 950_000),
+        (Number::O(0, 0, 1), 300_000),
+        (Number::R(0, 0, 0, 0), -1_000_000),
+        (Number::R(0, 0, 1, 0), 0),
+    ];
+    assert_eq!(rt; first_wrong(rt.alloc(), FIRST, &numbers), None);
+    assert_eq!(rt; read_is_cost(rt.alloc(), FIRST), Some(false));
+}
+
+const UNIFORM: &[u8] =
+    b"discount: 1 values: reward states: 3 actions: 1 observations: 1 T: 0 identity O: 0 uniform T: 0 uniform";
+
+#[test]
+fn a_uniform_table(rt: HostRuntime) {
+    let numbers = [
+        (Number::States, 3),
+        (Number::Actions, 1),
+        (Number::TScale, 3_000_000),
+    ];
+    assert_eq!(rt; first_wrong(rt.alloc(), UNIFORM, &numbers), None);
+    for s in 0..3 {
+        for e in 0..3 {
+            let cell = [(Number::T(0, s, e), 1_000_000)];
+            assert_eq!(rt; first_wrong(rt.alloc(), UNIFORM, &cell), None);
+        }
+    }
+}
+
+#[test]
+fn single_cells_behind_a_uniform_row(rt: HostRuntime) {
+    let numbers = [
+        (Number::States, 6),
+        (Number::Actions, 1),
+        (Number::TScale, 6_000_000),
+        (Number::T(0, 0, 0), 3_000_000),
+        (Number::T(0, 0, 1), 0),
+        (Number::T(0, 0, 2), 0),
+        (Number::T(0, 0, 3), 1_000_000),
+        (Number::T(0, 0, 4), 1_000_000),
+        (Number::T(0, 0, 5), 1_000_000),
+        (Number::T(0, 5, 5), 6_000_000),
+        (Number::T(0, 5, 4), 0),
+    ];
+    assert_eq!(rt; first_wrong(rt.alloc(), SINGLE, &numbers), None);
+}
+
+#[test]
+fn the_last_of_two_rewards(rt: HostRuntime) {
+    for (text, first) in [(GENERAL_FIRST, 5_000_000), (GENERAL_LAST, -1_000_000)] {
+        let numbers = [
+            (Number::States, 2),
+            (Number::Actions, 1),
+            (Number::Observations, 1),
+            (Number::R(0, 0, 0, 0), first),
+            (Number::R(0, 0, 1, 0), -1_000_000),
+            (Number::R(0, 1, 0, 0), -1_000_000),
+            (Number::R(0, 1, 1, 0), -1_000_000),
+        ];
+        assert_eq!(rt; first_wrong(rt.alloc(), text, &numbers), None);
+    }
+}
+
+const PATTERNS: &[u8] =
+    b"discount: 1 values: reward states: 2 actions: 1 observations: 2 T: 0 identity O: 0 uniform R: 0 : 0 1 2 3 4 R: * : * : 1 5 6 R: 0 : * : * : 0 7 R: 0 : 0 : 1 : 1 8";
+
+#[test]
+fn rewards_by_four_patterns(rt: HostRuntime) {
+    let numbers = [
+        (Number::States, 2),
+        (Number::Actions, 1),
+        (Number::Observations, 2),
+        (Number::R(0, 0, 0, 0), 7_000_000),
+        (Number::R(0, 0, 0, 1), 2_000_000),
+        (Number::R(0, 0, 1, 0), 7_000_000),
+        (Number::R(0, 0, 1, 1), 8_000_000),
+        (Number::R(0, 1, 0, 0), 7_000_000),
+        (Number::R(0, 1, 0, 1), 0),
+        (Number::R(0, 1, 1, 0), 7_000_000),
+        (Number::R(0, 1, 1, 1), 6_000_000),
+    ];
+    assert_eq!(rt; first_wrong(rt.alloc(), PATTERNS, &numbers), None);
+}
+
+const COST: &[u8] = b"discount: 0.95
+values: cost
+states: 2
+actions: 1
+observations: 2
+T: 0
+1 0
+0 1
+O: 0
+0.85 0.15
+0.15 0.85
+R: 0 : 0 : 0 : 0 -1
+";
+
+#[test]
+fn a_cost_is_a_reward_below_zero(rt: HostRuntime) {
+    let numbers = [
+        (Number::States, 2),
+        (Number::Actions, 1),
+        (Number::Observations, 2),
+        (Number::R(0, 0, 0, 0), 1_000_000),
+        (Number::R(0, 0, 0, 1), 0),
+    ];
+    assert_eq!(rt; first_wrong(rt.alloc(), COST, &numbers), None);
+    assert_eq!(rt; read_is_cost(rt.alloc(), COST), Some(true));
+}
+
+#[test]
+fn all_states_alike_without_a_start(rt: HostRuntime) {
+    let numbers = [
+        (Number::States, 2),
+        (Number::StartWeight(0), 1),
+        (Number::StartWeight(1), 1),
+        (Number::StartTotal, 2),
+    ];
+    assert_eq!(rt; first_wrong(rt.alloc(), FIRST, &numbers), None);
+}
+
+const MATRICES: &[u8] =
+    b"discount: 1 values: reward states: 2 actions: 2 observations: 1 T: 0 0.25 0.75 1 0 T: 1 identity O: * uniform";
+
+/// A matrix is read row by row, and `identity` is 1 where both states are the same.
+#[test]
+fn matrices_and_identity(rt: HostRuntime) {
+    let numbers = [
+        (Number::States, 2),
+        (Number::Actions, 2),
+        (Number::Observations, 1),
+        (Number::T(0, 0, 0), 500_000),
+        (Number::T(0, 0, 1), 1_500_000),
+        (Number::T(0, 1, 0), 2_000_000),
+        (Number::T(0, 1, 1), 0),
+        (Number::T(1, 0, 0), 2_000_000),
+        (Number::T(1, 0, 1), 0),
+        (Number::T(1, 1, 1), 2_000_000),
+        (Number::O(1, 1, 0), 1_000_000),
+        (Number::OScale, 1_000_000),
+    ];
+    assert_eq!(rt; first_wrong(rt.alloc(), MATRICES, &numbers), None);
+}
+
+/// The rows of T are tested before those of O, by action and then by state.
+#[test]
+fn the_first_wrong_row(rt: HostRuntime) {
+    let rows = [
+        (
+            b"discount: 1 values: reward states: 2 actions: 2 observations: 2 T: * identity O: * uniform T: 1 : 0 1 1 T: 1 : 1 : 0 1 O: 0 : 0 0 0".as_slice(),
+            Table::Transition,
+            1,
+            0,
+        ),
+        (
+            b"discount: 1 values: reward states: 2 actions: 2 observations: 2 T: * identity O: * uniform O: 1 : 0 1 1 O: 0 : 1 : 1 0".as_slice(),
+            Table::Observation,
+            0,
+            1,
+        ),
+        (
+            b"discount: 1 values: reward states: 2 actions: 2 observations: 2 T: 0 identity O: * uniform".as_slice(),
+            Table::Transition,
+            1,
+            0,
+        ),
+    ];
+    for (text, table, action, row) in rows {
+        let fault = ModelFault::RowSum { table, action, row };
+        assert_eq!(rt; refusal(rt.alloc(), text), Some(fault));
+    }
+}
+
+const TEN: &[u8] =
+    b"discount: 0.5 values: reward states: 1 actions: 1 observations: 1 T: 0 identity O: 0 uniform R: 0 : 0 : 0 : 0 -10";
+
+/// A text that could go on, at a clean end.
+#[test]
+fn a_number_at_the_end(rt: HostRuntime) {
+    let paid = [(Number::R(0, 0, 0, 0), -10_000_000)];
+    assert_eq!(rt; first_wrong(rt.alloc(), TEN, &paid), None);
+}

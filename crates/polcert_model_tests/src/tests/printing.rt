@@ -1,0 +1,378 @@
+//! Full forms, typed from the format's description.
+use crate::tests::texts::{FIRST, TIGER};
+use polcert_model::{Model, read_model, write_model};
+use polcert_text::{BufferedSink, Sink, SinkFailed, SliceSink};
+use std::alloc::Global;
+
+const TIGER_FORM: &[u8] = b"discount: 0.95
+values: reward
+states: tiger-left tiger-right
+actions: listen open-left open-right
+observations: tiger-left tiger-right
+start: uniform
+T: 0 : 0
+1 0
+T: 0 : 1
+0 1
+T: 1 : 0
+uniform
+T: 1 : 1
+uniform
+T: 2 : 0
+uniform
+T: 2 : 1
+uniform
+O: 0 : 0
+0.85 0.15
+O: 0 : 1
+0.15 0.85
+O: 1 : 0
+uniform
+O: 1 : 1
+uniform
+O: 2 : 0
+uniform
+O: 2 : 1
+uniform
+R: 0 : 0 : 0
+-1 -1
+R: 0 : 0 : 1
+-1 -1
+R: 0 : 1 : 0
+-1 -1
+R: 0 : 1 : 1
+-1 -1
+R: 1 : 0 : 0
+-100 -100
+R: 1 : 0 : 1
+-100 -100
+R: 1 : 1 : 0
+10 10
+R: 1 : 1 : 1
+10 10
+R: 2 : 0 : 0
+10 10
+R: 2 : 0 : 1
+10 10
+R: 2 : 1 : 0
+-100 -100
+R: 2 : 1 : 1
+-100 -100
+";
+
+const FIRST_FORM: &[u8] = b"discount: 0.95
+values: reward
+states: 2
+actions: 1
+observations: 2
+start: uniform
+T: 0 : 0
+1 0
+T: 0 : 1
+0 1
+O: 0 : 0
+0.85 0.15
+O: 0 : 1
+0.15 0.85
+R: 0 : 0 : 0
+-1 0
+";
+
+const FULL3: &[u8] = b"discount: 1
+values: reward
+states: 3
+actions: 1
+observations: 1
+start: uniform
+T: 0 : 0
+uniform
+T: 0 : 1
+uniform
+T: 0 : 2
+uniform
+O: 0 : 0
+uniform
+O: 0 : 1
+uniform
+O: 0 : 2
+uniform
+";
+
+const SIX: &[u8] =
+    b"discount: 1 values: reward states: 6 actions: 1 observations: 1 T: 0 identity O: 0 uniform T: 0 : 0 uniform T: 0 : 0 : 0 0.5 T: 0 : 0 : 1 0 T: 0 : 0 : 2 0";
+
+const SIX_FORM: &[u8] = b"discount: 1
+values: reward
+states: 6
+actions: 1
+observations: 1
+start: uniform
+T: 0 : 0
+uniform
+T: 0 : 0 : 0 0.5
+T: 0 : 0 : 1 0
+T: 0 : 0 : 2 0
+T: 0 : 1
+0 1 0 0 0 0
+T: 0 : 2
+0 0 1 0 0 0
+T: 0 : 3
+0 0 0 1 0 0
+T: 0 : 4
+0 0 0 0 1 0
+T: 0 : 5
+0 0 0 0 0 1
+O: 0 : 0
+uniform
+O: 0 : 1
+uniform
+O: 0 : 2
+uniform
+O: 0 : 3
+uniform
+O: 0 : 4
+uniform
+O: 0 : 5
+uniform
+";
+
+const HALVES: &[u8] =
+    b"discount: 1 values: reward states: 3 actions: 1 observations: 1 start: 0.5 0.5 0 T: 0 identity O: 0 uniform";
+
+const HALVES_FORM: &[u8] = b"discount: 1
+values: reward
+states: 3
+actions: 1
+observations: 1
+start include: 0 1
+T: 0 : 0
+1 0 0
+T: 0 : 1
+0 1 0
+T: 0 : 2
+0 0 1
+O: 0 : 0
+uniform
+O: 0 : 1
+uniform
+O: 0 : 2
+uniform
+";
+
+const QUARTERS: &[u8] =
+    b"discount: 1 values: reward states: 3 actions: 1 observations: 1 start: 0.25 0.75 0 T: 0 identity O: 0 uniform";
+
+const QUARTERS_FORM: &[u8] = b"discount: 1
+values: reward
+states: 3
+actions: 1
+observations: 1
+start: 0.25 0.75 0
+T: 0 : 0
+1 0 0
+T: 0 : 1
+0 1 0
+T: 0 : 2
+0 0 1
+O: 0 : 0
+uniform
+O: 0 : 1
+uniform
+O: 0 : 2
+uniform
+";
+
+const THIRDS: &[u8] =
+    b"discount: 1 values: reward states: 3 actions: 1 observations: 1 start: 0.333333 0.333333 0.333334 T: 0 identity O: 0 uniform";
+
+const THIRDS_FORM: &[u8] = b"discount: 1
+values: reward
+states: 3
+actions: 1
+observations: 1
+start: 0.333333 0.333333 0.333334
+T: 0 : 0
+1 0 0
+T: 0 : 1
+0 1 0
+T: 0 : 2
+0 0 1
+O: 0 : 0
+uniform
+O: 0 : 1
+uniform
+O: 0 : 2
+uniform
+";
+
+const COST: &[u8] =
+    b"discount: 0.5 values: cost states: 1 actions: 1 observations: 1 T: 0 identity O: 0 uniform R: 0 : 0 : 0 : 0 1.5";
+
+const COST_FORM: &[u8] = b"discount: 0.5
+values: cost
+states: 1
+actions: 1
+observations: 1
+start: uniform
+T: 0 : 0
+uniform
+O: 0 : 0
+uniform
+R: 0 : 0 : 0
+1.5
+";
+
+const MDP: &[u8] = b"discount: 0.5 values: reward states: 2 actions: 1 T: 0 0 1 1 0 R: 0 : 0 : 1 1";
+
+const MDP_FORM: &[u8] = b"discount: 0.5
+values: reward
+states: 2
+actions: 1
+start: uniform
+T: 0 : 0
+0 1
+T: 0 : 1
+1 0
+R: 0 : 0
+0 1
+";
+
+const MDP_COST: &[u8] =
+    b"discount: 0.5 values: cost states: 2 actions: 1 T: 0 0 1 1 0 R: 0 : 0 : 1 1";
+
+const MDP_COST_FORM: &[u8] = b"discount: 0.5
+values: cost
+states: 2
+actions: 1
+start: uniform
+T: 0 : 0
+0 1
+T: 0 : 1
+1 0
+R: 0 : 0
+0 1
+";
+
+/// Whether the text is read, and printed as the form.
+fn prints(alloc: Global, text: &[u8], form: &[u8]) -> Option<bool> {
+    let model = read_model(alloc, text).ok()?;
+    Some(is_printed(&model, form))
+}
+
+fn is_printed(model: &Model, form: &[u8]) -> bool {
+    let mut bytes = [0u8; 2048];
+    let mut sink = SliceSink::new(&mut bytes);
+    write_model(model, &mut sink).is_ok() && sink.written() == form
+}
+
+/// Each form, read and printed again, gives the same bytes.
+#[test]
+fn full_forms(rt: HostRuntime) {
+    for (text, form) in [
+        (TIGER, TIGER_FORM),
+        (FIRST, FIRST_FORM),
+        (FULL3, FULL3),
+        (SIX, SIX_FORM),
+        (HALVES, HALVES_FORM),
+        (QUARTERS, QUARTERS_FORM),
+        (THIRDS, THIRDS_FORM),
+        (COST, COST_FORM),
+        (MDP, MDP_FORM),
+        (MDP_COST, MDP_COST_FORM),
+    ] {
+        assert_eq!(rt; prints(rt.alloc(), text, form), Some(true), "{text:?}");
+        assert_eq!(rt; prints(rt.alloc(), form, form), Some(true), "{form:?}");
+    }
+}
+
+/// Takes a byte at a time, and fails at the write of number `failing`, from 0 on.
+#[derive(Drop)]
+struct OneByte {
+    taken: [u8; 2048],
+    len: usize,
+    failing: usize,
+    failures: u64,
+}
+
+impl OneByte {
+    fn new(failing: usize) -> OneByte {
+        OneByte {
+            taken: [0; 2048],
+            len: 0,
+            failing,
+            failures: 0,
+        }
+    }
+
+    /// Whether it took just these bytes, and failed so many times.
+    fn holds(&self, bytes: &[u8], failures: u64) -> bool {
+        &self.taken[..self.len.min(2048)] == bytes && self.failures == failures
+    }
+}
+
+impl Sink for OneByte {
+    ghost failures = { λ s. s.failures };
+
+    ghost writes = { λ s answer t. Unit {0} };
+
+    fn write(&mut self, piece: &[u8]) -> Result<usize, SinkFailed> {
+        let Some(byte) = piece.first() else {
+            return Ok(0);
+        };
+        if self.len >= self.failing || self.len >= 2048 {
+            self.failures = self.failures.saturating_add(1);
+            return Err(SinkFailed);
+        }
+        self.taken[self.len] = *byte;
+        self.len += 1;
+        Ok(1)
+    }
+}
+
+/// The number of the first write whose failure is not answered, or does not leave the bytes before it in the sink, if
+/// there is one. The last write is the first that does not fail.
+fn fails_wrongly(alloc: Global, form: &[u8]) -> Option<Option<usize>> {
+    let model = read_model(alloc, form).ok()?;
+    Some(first_wrong_failure(&model, form))
+}
+
+fn first_wrong_failure(model: &Model, form: &[u8]) -> Option<usize> {
+    for failing in 0..form.len() {
+        let mut sink = OneByte::new(failing);
+        let failed = write_model(model, &mut sink).is_err();
+        if !failed
+            || !sink.holds(&form[..failing], 1)
+            || !fails_behind_a_buffer(model, form, failing)
+        {
+            return Some(failing);
+        }
+    }
+    let mut sink = OneByte::new(form.len());
+    let written = write_model(model, &mut sink).is_ok();
+    if written && sink.holds(form, 0) {
+        None
+    } else {
+        Some(form.len())
+    }
+}
+
+/// The same through a buffer.
+fn fails_behind_a_buffer(model: &Model, form: &[u8], failing: usize) -> bool {
+    let mut sink = OneByte::new(failing);
+    let failed = writes_through(model, &mut sink).is_err();
+    failed && failing <= form.len() && sink.holds(&form[..failing.min(form.len())], 1)
+}
+
+fn writes_through(model: &Model, sink: &mut OneByte) -> Result<(), SinkFailed> {
+    let mut buffered = BufferedSink::new(sink);
+    write_model(model, &mut buffered)?;
+    buffered.flush()
+}
+
+/// A failed write leaves a beginning of the form, through a buffer too.
+#[test]
+fn fails_at_each_write(rt: HostRuntime) {
+    for form in [TIGER_FORM, FULL3, SIX_FORM, THIRDS_FORM, COST_FORM] {
+        assert_eq!(rt; fails_wrongly(rt.alloc(), form), Some(None), "{form:?}");
+    }
+}

@@ -1,0 +1,102 @@
+//! Sources that give a text in pieces, fail or never end.
+use polcert_text::{ReadFault, ReaderSource, SliceSource, Source, SourceFailed, read_all};
+use std::io;
+use std::io::Read;
+use std::test::Fail;
+
+/// A reader of std that gives at most `most` bytes at a read, and counts its reads. The read of number `failing`, from 0
+/// on, fails with an error that some programs try again; the next read would succeed.
+#[derive(Drop)]
+struct Pieces<'a> {
+    rest: &'a [u8],
+    most: usize,
+    failing: Option<u64>,
+    reads: u64,
+}
+
+impl<'a> Pieces<'a> {
+    fn new(rest: &'a [u8], most: usize, failing: Option<u64>) -> Pieces<'a> {
+        Pieces {
+            rest,
+            most,
+            failing,
+            reads: 0,
+        }
+    }
+}
+
+impl Read for Pieces<'_> {
+    fn read(&mut self, piece: &mut [u8]) -> io::Result<usize> {
+        let number = self.reads;
+        self.reads = self.reads.saturating_add(1);
+        if self.failing == Some(number) {
+            return Err(io::Error::from(io::ErrorKind::Interrupted));
+        }
+        let most = piece.len().min(self.most);
+        self.rest.read(&mut piece[..most])
+    }
+}
+
+/// Never ends.
+#[derive(Drop)]
+struct Endless;
+
+impl Source for Endless {
+    ghost failures = { λ _. 0 };
+
+    ghost reads = { λ s room answer t. Unit {0} };
+
+    fn read(&mut self, piece: &mut [u8]) -> Result<usize, SourceFailed> {
+        for byte in piece.iter_mut() {
+            *byte = b'1';
+        }
+        Ok(piece.len())
+    }
+}
+
+#[test]
+fn reads_in_pieces(rt: HostRuntime) -> Result<(), Fail> {
+    for (most, reads) in [(1usize, 12u64), (2, 7), (4, 4), (100, 2)] {
+        let mut source = ReaderSource::new(Pieces::new(b"discount: 1", most, None));
+        let bytes = read_all(rt.alloc(), &mut source, 100)?;
+        assert_eq!(rt; bytes.as_slice(), b"discount: 1".as_slice());
+        assert_eq!(rt; source.failures, 0);
+        assert_eq!(rt; source.reader.reads, reads);
+    }
+    Ok(())
+}
+
+/// A source that fails at any of its reads was not read whole. The failure was counted once, and the read is not tried
+/// again, though it would succeed then.
+#[test]
+fn fails_at_each_read(rt: HostRuntime) {
+    for failing in 0..12u64 {
+        let mut source = ReaderSource::new(Pieces::new(b"discount: 1", 1, Some(failing)));
+        match read_all(rt.alloc(), &mut source, 100) {
+            Err(fault) => assert_eq!(rt; fault, ReadFault::Device),
+            Ok(_) => panic!(rt; "read {failing} failed"),
+        }
+        assert_eq!(rt; source.failures, 1);
+        assert_eq!(rt; source.reader.reads, failing + 1);
+    }
+}
+
+#[test]
+fn stops_past_the_limit(rt: HostRuntime) -> Result<(), Fail> {
+    let bytes = read_all(rt.alloc(), &mut Endless, 10_000)?;
+    assert_eq!(rt; bytes.len(), 10_001);
+    let whole = read_all(rt.alloc(), &mut SliceSource::new(b"abc"), 3)?;
+    assert_eq!(rt; whole.as_slice(), b"abc".as_slice());
+    let front = read_all(rt.alloc(), &mut SliceSource::new(b"abcde"), 3)?;
+    assert_eq!(rt; front.as_slice(), b"abcd".as_slice());
+    Ok(())
+}
+
+#[test]
+fn reads_a_reader_of_std(rt: HostRuntime) -> Result<(), Fail> {
+    let mut source = ReaderSource::new(b"a text".as_slice());
+    let bytes = read_all(rt.alloc(), &mut source, 100)?;
+    assert_eq!(rt; bytes.as_slice(), b"a text".as_slice());
+    assert_eq!(rt; source.failures, 0);
+    Ok(())
+}

@@ -1,0 +1,180 @@
+//! The cuts of small texts.
+use polcert_text::{TEXT_LIMIT, TokenFault, TokenKind, Tokens};
+use std::process::Abort;
+
+/// The tokens of the text are these, with their places, and then comes this end, again at each further call.
+fn assert_cut(
+    rt: &impl Abort,
+    text: &[u8],
+    limit: u64,
+    tokens: &[(TokenKind, u64, &[u8])],
+    end: Option<TokenFault>,
+) {
+    let mut found = Tokens::new(text, limit);
+    for (kind, place, bytes) in tokens {
+        match found.next_token() {
+            Some(Ok(token)) => {
+                assert_eq!(rt; token.kind, *kind);
+                assert_eq!(rt; token.place, *place);
+                assert_eq!(rt; token.bytes, *bytes);
+                assert_eq!(rt; token.stop.saturating_sub(token.place), bytes.len() as u64);
+            }
+            _ => panic!(rt; "a token at {place}"),
+        }
+    }
+    for _ in 0..3 {
+        match found.next_token() {
+            None => assert_eq!(rt; None, end),
+            Some(Err(fault)) => assert_eq!(rt; Some(fault), end),
+            Some(Ok(token)) => panic!(rt; "the end, and no token at {}", token.place),
+        }
+    }
+}
+
+#[test]
+fn tokens(rt: HostRuntime) {
+    use TokenKind::{Colon, Minus, Name, Numeral, Plus, Star};
+    assert_cut(&rt, b"", TEXT_LIMIT, &[], None);
+    assert_cut(
+        &rt,
+        b"12-3",
+        TEXT_LIMIT,
+        &[(Numeral, 0, b"12"), (Minus, 2, b"-"), (Numeral, 3, b"3")],
+        None,
+    );
+    assert_cut(&rt, b"ab-#c", TEXT_LIMIT, &[(Name, 0, b"ab-")], None);
+    assert_cut(
+        &rt,
+        b"T: *+1.5e-3\t:x_9\r\n",
+        TEXT_LIMIT,
+        &[
+            (Name, 0, b"T"),
+            (Colon, 1, b":"),
+            (Star, 3, b"*"),
+            (Plus, 4, b"+"),
+            (Numeral, 5, b"1.5e-3"),
+            (Colon, 12, b":"),
+            (Name, 13, b"x_9"),
+        ],
+        None,
+    );
+    assert_cut(&rt, b"5.e1", TEXT_LIMIT, &[(Numeral, 0, b"5.e1")], None);
+    assert_cut(&rt, b"# T\n a#b\n#", TEXT_LIMIT, &[(Name, 5, b"a")], None);
+}
+
+#[test]
+fn refusals(rt: HostRuntime) {
+    use TokenKind::{Name, Numeral};
+    let rows = [
+        (b"1e".as_slice(), TokenFault::Glued(0)),
+        (b"1e5x".as_slice(), TokenFault::Glued(0)),
+        (b"5e+".as_slice(), TokenFault::Glued(0)),
+        (b"1.2.3".as_slice(), TokenFault::Glued(0)),
+        (b"2_".as_slice(), TokenFault::Glued(0)),
+        (b".".as_slice(), TokenFault::BadByte(0)),
+        (b" ;".as_slice(), TokenFault::BadByte(1)),
+        (b"_a".as_slice(), TokenFault::BadByte(0)),
+    ];
+    for (text, fault) in rows {
+        assert_cut(&rt, text, TEXT_LIMIT, &[], Some(fault));
+    }
+    assert_cut(
+        &rt,
+        b"ab cd",
+        2,
+        &[(Name, 0, b"ab")],
+        Some(TokenFault::TextTooLong(2)),
+    );
+    assert_cut(&rt, b"ab", 2, &[(Name, 0, b"ab")], None);
+    assert_cut(
+        &rt,
+        b"ab.",
+        TEXT_LIMIT,
+        &[(Name, 0, b"ab")],
+        Some(TokenFault::BadByte(2)),
+    );
+    assert_cut(
+        &rt,
+        b"12 3a",
+        TEXT_LIMIT,
+        &[(Numeral, 0, b"12")],
+        Some(TokenFault::Glued(3)),
+    );
+}
+
+/// 400 bytes are a token, 401 are too long, and that comes before what follows them.
+#[test]
+fn longest_tokens(rt: HostRuntime) {
+    let mut text = [b'1'; 402];
+    let digits = [b'1'; 400];
+    assert_cut(
+        &rt,
+        &digits,
+        TEXT_LIMIT,
+        &[(TokenKind::Numeral, 0, &digits)],
+        None,
+    );
+    text[401] = b'x';
+    assert_cut(
+        &rt,
+        &text,
+        TEXT_LIMIT,
+        &[],
+        Some(TokenFault::TokenTooLong(0)),
+    );
+}
+
+/// Each byte alone: a token, a part of a gap, or refused.
+#[test]
+fn single_bytes(rt: HostRuntime) {
+    for byte in 0..=255u8 {
+        let kind = match byte {
+            b'a'..=b'z' | b'A'..=b'Z' => Some(TokenKind::Name),
+            b'0'..=b'9' => Some(TokenKind::Numeral),
+            b':' => Some(TokenKind::Colon),
+            b'*' => Some(TokenKind::Star),
+            b'+' => Some(TokenKind::Plus),
+            b'-' => Some(TokenKind::Minus),
+            _ => None,
+        };
+        let gap = matches!(byte, 9 | 10 | 13 | 32 | b'#');
+        let text = [byte];
+        match kind {
+            Some(kind) => assert_cut(&rt, &text, TEXT_LIMIT, &[(kind, 0, &text)], None),
+            None if gap => assert_cut(&rt, &text, TEXT_LIMIT, &[], None),
+            None => assert_cut(&rt, &text, TEXT_LIMIT, &[], Some(TokenFault::BadByte(0))),
+        }
+    }
+}
+
+/// Bytes beyond ASCII may stand in a comment, and nowhere else.
+#[test]
+fn bytes_beyond_ascii(rt: HostRuntime) {
+    for byte in 128..=255u8 {
+        assert_cut(
+            &rt,
+            &[b'#', byte, b'\n', b'a'],
+            TEXT_LIMIT,
+            &[(TokenKind::Name, 3, b"a")],
+            None,
+        );
+        assert_cut(
+            &rt,
+            &[b'a', byte],
+            TEXT_LIMIT,
+            &[(TokenKind::Name, 0, b"a")],
+            Some(TokenFault::BadByte(1)),
+        );
+    }
+}
+
+#[test]
+fn ends(rt: HostRuntime) {
+    assert_eq!(rt; Tokens::new(b"ab cd", 5).end(), 5);
+    assert_eq!(rt; Tokens::new(b"ab cd", 2).end(), 2);
+    let mut tokens = Tokens::new(b"ab ", 5);
+    let _ = tokens.next_token();
+    let _ = tokens.next_token();
+    assert_eq!(rt; tokens.end(), 3);
+    assert_eq!(rt; TokenFault::Glued(7).place(), 7);
+}
