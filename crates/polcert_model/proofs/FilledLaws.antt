@@ -1,7 +1,7 @@
 -- Cells by their places in filled tables.
 use Rattle.std.proofs.Common.{◌≡◌, ◌∙◌, ℕ, zero, suc, ◌+◌, ◌*◌, ◌/◌, ◌%◌, ◌<◌, ◌≤◌, ℤ, pos, List, ◌++◌, ◌∷◌, [], length, get_or, sym, ap, subst, refl, arith, unsigned_abs}
-use Rattle.std.proofs.lemmas.Nat.{div-mul-add, mod-mul-add, div_below, mul-add-lt}
-use Rattle.std.proofs.lemmas.List.{get_or_push, get_or_append_left}
+use Rattle.std.proofs.lemmas.Nat.{div-mul-add, mod-mul-add, mul-add-lt}
+use Rattle.std.proofs.lemmas.List.{get_or_push, get_or_append_left, length_push}
 use Rattle.std.proofs.Math.Nat.{mul-le-mul_left, mul-le-mul_right}
 use borrow.Author.Count.{below_more}
 use Rattle.polcert_cells.specs.Elements.{most_states, most_actions, most_observations}
@@ -11,7 +11,7 @@ use Rattle.polcert_cells.specs.Meaning.{Meaning, sum_below, IsCount, HasProperRo
 use Rattle.polcert_cells.specs.Tables.{Table, IsProper, IsWithinLimits, table_of}
 use Rattle.polcert_text.specs.Numbers.{largest}
 use Rattle.polcert_cells.specs.SameCells.{HasSameCells}
-use Rattle.polcert_model.specs.Filled.{Lists, Filled, filled_table, AreTransitions, AreObservations, AreRewards}
+use Rattle.polcert_model.specs.Filled.{Lists, Filled, filled_table, AreTransitions, AreObservations, AreRewards, AddsCells}
 
 -- the place of this row and column, where so many rows have so many columns
 pub place_below : (row column rows columns : ℕ) → row < rows → column < columns → row * columns + column < rows * columns
@@ -54,6 +54,38 @@ filled_next xs f place x d size before here =
     (λ k l. get_or_append_left xs (x ∷ []) d k (omega (arith, l, size)) ∙ before k l)
     (get_or_push xs x d place size ∙ here)
 
+-- no cell more, and one more
+pub adds_none : (f : ℕ → ℤ) (cells : List ℤ) → AddsCells f 0 cells cells
+adds_none f cells =
+    record {
+      size = omega arith;
+      kept = λ k l. refl;
+      cells = λ k l. absurd (omega (arith, l));
+    }
+
+pub adds_next : (f : ℕ → ℤ) (count : ℕ) (old new : List ℤ) (x : ℤ) → AddsCells f count old new → x ≡ f count → AddsCells f (count + 1) old (new ++ x ∷ [])
+adds_next f count old new x adds is =
+    record {
+      size = omega (arith, length_push new x, adds.size);
+      kept = λ k l. get_or_append_left new (x ∷ []) (pos 0) k (omega (arith, l, adds.size)) ∙ adds.kept k l;
+      cells = below_more (λ k. get_or (new ++ x ∷ []) (length old + k) (pos 0) ≡ f k) count
+          (λ k l. get_or_append_left new (x ∷ []) (pos 0) (length old + k) (omega (arith, l, adds.size)) ∙ adds.cells k l)
+          (get_or_push new x (pos 0) (length old + count) adds.size ∙ is);
+    }
+
+-- what holds of the first m numbers and of the next n
+below_sum : (P : ℕ → Type 0) (m n : ℕ) → ((k : ℕ) → k < m → P k) → ((i : ℕ) → i < n → P (m + i)) → (k : ℕ) → k < m + n → P k
+below_sum P m zero first next k l = first k (omega (arith, l))
+below_sum P m (suc n) first next k l = below_more P (m + n) (below_sum P m n first (λ i h. next i (omega (arith, h)))) (next n (omega arith)) k (omega (arith, l))
+
+-- one row more is filled
+pub row_added : (f : ℕ → ℕ → ℤ) (row columns : ℕ) (old new : List ℤ) → length old ≡ row * columns → ((k : ℕ) → k < row * columns → get_or old k (pos 0) ≡ f (k / columns) (k % columns)) → AddsCells (f row) columns old new → (k : ℕ) → k < (row + 1) * columns → get_or new k (pos 0) ≡ f (k / columns) (k % columns)
+row_added f row columns old new size before adds k l =
+    below_sum (λ k. get_or new k (pos 0) ≡ f (k / columns) (k % columns)) (row * columns) columns
+    (λ k l. adds.kept k (omega (arith, l, size)) ∙ before k l)
+    (λ z l. ap (λ n. get_or new (n + z) (pos 0)) (sym size) ∙ adds.cells z l ∙ sym (ap (λ a. f a ((row * columns + z) % columns)) (div-mul-add row columns z l) ∙ ap (λ n. f row n) (mod-mul-add row columns z l)))
+    k (omega (arith, l))
+
 -- cells that are known by place are known by row and column
 pub by_row : {X : Type 0} (cell : ℕ → X) (f : ℕ → ℕ → X) (rows columns : ℕ) → ((k : ℕ) → k < rows * columns → cell k ≡ f (k / columns) (k % columns)) → (row column : ℕ) → row < rows → column < columns → cell (row * columns + column) ≡ f row column
 by_row cell f rows columns h row column r c =
@@ -70,11 +102,6 @@ pub by_four : {X : Type 0} (cell : ℕ → X) (f : ℕ → ℕ → ℕ → ℕ �
 by_four cell f actions starts ends seen h a s e z al sl el zl =
     by_row cell (λ row column. f (row / ends / starts) (row / ends % starts) (row % ends) column) (actions * starts * ends) seen h ((a * starts + s) * ends + e) z (place_of_three a s e actions starts ends al sl el) zl
     ∙ by_three (λ row. f (row / ends / starts) (row / ends % starts) (row % ends) z) (λ action start end. f action start end z) actions starts ends (λ k l. refl) a s e al sl el
-
--- the action of a place in R
-pub action_below : (k actions starts ends seen : ℕ) → 0 < starts → 0 < ends → 0 < seen → k < actions * starts * ends * seen → k / seen / ends / starts < actions
-action_below k actions starts ends seen s e z l =
-    div_below (k / seen / ends) starts actions s (div_below (k / seen) ends (actions * starts) e (div_below k seen (actions * starts * ends) z l))
 
 pub transitions_are : (m : Table) (actions states place : ℕ) (ts : List ℕ) → actions ≡ m.actions → states ≡ m.states → place ≡ actions * states * states → length ts ≡ place → ((k : ℕ) → k < place → get_or ts k 0 ≡ m.t (k / states / states) (k / states % states) (k % states)) → AreTransitions m ts
 transitions_are m actions states place ts ea es ep size each =

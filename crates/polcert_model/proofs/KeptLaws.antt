@@ -1,15 +1,15 @@
 -- What a model keeps has the meaning of the items of its text.
-use Rattle.std.proofs.Common.{◌≡◌, ◌∙◌, ℕ, zero, suc, ◌+◌, ◌*◌, ◌<◌, ◌≤◌, ◌==◌, ◌⊎◌, ⊎_elim, Bool, false, cond, List, [], ◌∷◌, ℤ, pos, true, Option, Some, None, is_none, unwrap_or, refl, sym, ap, subst, arith}
+use Rattle.std.proofs.Common.{◌≡◌, ◌∙◌, ℕ, zero, suc, ◌*◌, ◌<◌, ◌≤◌, ◌==◌, ◌⊎◌, ⊎_elim, false, cond, List, [], ◌∷◌, ℤ, pos, true, Option, Some, None, is_none, unwrap_or, refl, sym, ap, subst, arith}
 use Rattle.std.specs.Option.{ForSome}
 use Rattle.std.proofs.lemmas.Bool.Decides.{nat_tests}
 use Rattle.polcert_cells.specs.declared.entry.Entry.{Entry}
 use Rattle.polcert_cells.specs.declared.entry.Table.{Table}
-use Rattle.polcert_cells.specs.declared.entry.Table.TheVariants.{Transition, Observation, Reward}
+use Rattle.polcert_cells.specs.declared.entry.Table.TheVariants.{Transition, Observation}
 use Rattle.polcert_cells.specs.Elements.{count_of, most_states, most_actions, most_observations}
 use Rattle.polcert_cells.specs.Preamble.{Preamble, is_mdp, observed, rewarded, columns}
 use Rattle.polcert_cells.specs.Start.{all_states}
 use Rattle.polcert_cells.specs.Cells.{weight, reward}
-use Rattle.polcert_cells.specs.Meaning.{Meaning, observation_weight, reward_index, IsSame, actions_of, states_of, observations_of, o_scale, sum_below}
+use Rattle.polcert_cells.specs.Meaning.{observation_weight, reward_index, IsSame, observations_of, o_scale, sum_below}
 use Rattle.polcert_cells.specs.Drafts as drafts
 use Rattle.polcert_rules.specs.Sparse.{weight_at}
 use Rattle.polcert_rules.specs.RowTables.{RowTable, row_at, AreRowsOf}

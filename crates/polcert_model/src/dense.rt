@@ -1,8 +1,9 @@
 //! A model with filled tables: each cell stands at its place, and entries are gone.
-ghost use Rattle.std.specs.Prelude.{◌≡◌, ◌*◌, length, IfOk};
+ghost use Rattle.std.specs.Prelude.{◌≡◌, ◌*◌, ◌<◌, length, IfOk, OnOk};
+ghost use Rattle.polcert_cells.specs.Meaning.{states_of, actions_of, observations_of};
 ghost use Rattle.polcert_cells.specs.Tables.{IsProper, IsWithinLimits, table_of};
 ghost use Rattle.polcert_model.specs.Contents.{meaning};
-ghost use Rattle.polcert_model.specs.Filled.{AreTransitions, AreObservations, AreRewards, filled_table, lists_of};
+ghost use Rattle.polcert_model.specs.Filled.{AreTransitions, AreObservations, AreRewards, filled_table, lists_of, AddsCells};
 ghost use Rattle.polcert_cells.specs.SameCells.{HasSameCells};
 
 use crate::Model;
@@ -136,18 +137,42 @@ fn rewards_of(alloc: Global, model: &Model) -> Result<Vec<i64>, AllocError>
     ensures { IfOk result (λ cells. AreRewards (table_of (meaning model.now)) cells.items) }
 {
     let states = model.states();
-    let observations = model.observations();
-    let count = model.actions() * states * states * observations;
-    let mut cells = Vec::with_capacity(alloc, count)?;
-    for place in 0..count {
-        let row = place / observations;
+    let rows = model.actions() * states * states;
+    let mut cells = Vec::with_capacity(alloc, rows * model.observations())?;
+    for row in 0..rows {
         let start = row / states;
-        cells.push(model.r(
+        push_rewards(
+            &mut cells,
+            model,
             start / states,
             start % states,
             row % states,
-            place % observations,
-        ))?;
+        )?;
     }
     Ok(cells)
+}
+
+/// Adds the rewards of an action, a start state and an end state: one for each observation.
+fn push_rewards(
+    cells: &mut Vec<i64>,
+    model: &Model,
+    a: usize,
+    s: usize,
+    e: usize,
+) -> Result<(), AllocError>
+    requires action { a < actions_of (meaning model.now) }
+    requires start { s < states_of (meaning model.now) }
+    requires end { e < states_of (meaning model.now) }
+    ensures { OnOk result (AddsCells ((meaning model.now).r a s e) (observations_of (meaning model.now)) cells.old.items cells.new.items) }
+{
+    let observations = model.observations();
+    match model.r_alike(a, s, e) {
+        Some(reward) => for _ in 0..observations {
+            cells.push(reward)?;
+        },
+        None => for z in 0..observations {
+            cells.push(model.r(a, s, e, z))?;
+        },
+    }
+    Ok(())
 }

@@ -1,29 +1,30 @@
-use Rattle.std.proofs.Common.{◌∙◌, ℕ, ℤ, ◌+◌, ◌/◌, ◌%◌, pos, ap, rules, arith, FitsSigned}
-use Rattle.std.proofs.lemmas.Int.{to_z-of_z}
-use Rattle.std.proofs.lemmas.List.{length_push}
-use mir.Syntax.{w64}
+use Rattle.std.proofs.Common.{ℕ, ℤ, ◌/◌, ◌%◌, ◌*◌, ap, refl, arith}
+use Rattle.std.proofs.lemmas.Nat.{div_below}
+use Rattle.polcert_cells.specs.Meaning.{observations_of}
 use Rattle.polcert_cells.specs.Tables.{table_of}
 use Rattle.polcert_model.specs.Contents.{meaning}
-use Rattle.polcert_model.proofs.FilledLaws as filled
+use Rattle.polcert_model.proofs.FilledLaws.{row_added, rewards_are}
 use Rattle.polcert_model.proofs.dense.rewards_of.Goals as goal
 
-pub r-requires-clause-action : goal.r-requires-clause-action
-r-requires-clause-action c =
-    let below = filled.action_below c.loop-place.place c.actions.result c.states-states.result c.states-states.result c.observations-observations.result (omega (arith, c.states-states.ensures.count)) (omega (arith, c.states-states.ensures.count)) (omega (arith, c.observations-observations.ensures.count)) c.loop-place-test.true in
+pub push_rewards-requires-clause-action : goal.push_rewards-requires-clause-action
+push_rewards-requires-clause-action c =
+    let states = c.states-states.result in
+    let some = c.states-states.ensures.count in
+    let below = div_below (c.loop-row.row / states) states c.actions.result (omega (arith, some)) (div_below c.loop-row.row states (c.actions.result * states) (omega (arith, some)) c.loop-row-test.true) in
     omega (arith, below, c.actions.ensures.elements)
 
-pub loop-place-preserved : goal.loop-place-preserved
-loop-place-preserved c =
-    let fits : FitsSigned w64 c.r.result = search rules in
+pub loop-row-preserved : goal.loop-row-preserved
+loop-row-preserved c =
     let cell = (meaning c.args.model.now).r in
     let states = c.states-states.result in
-    let observations = c.observations-observations.result in
-    let f : ℕ → ℤ = λ k. cell (k / observations / states / states) (k / observations / states % states) (k / observations % states) (k % observations) in
+    let columns = observations_of (meaning c.args.model.now) in
+    let f : ℕ → ℕ → ℤ = λ row z. cell (row / states / states) (row / states % states) (row % states) z in
+    let adds = c.in_ok-push_rewards.ensures in
     record {
-      size = rw c.in_ok-push.ensures.items (length_push c.loop-place.cells.items _ ∙ ap (λ n. n + 1) c.loop-place.invariant.size);
-      each = rw c.in_ok-push.ensures.items (filled.filled_next c.loop-place.cells.items f c.loop-place.place _ (pos 0) c.loop-place.invariant.size c.loop-place.invariant.each (to_z-of_z w64 c.r.result fits ∙ c.r.ensures));
+      size = omega (arith, adds.size, c.loop-row.invariant.size);
+      each = row_added f c.loop-row.row columns c.loop-row.cells.items c.push_rewards.new.cells.items c.loop-row.invariant.size c.loop-row.invariant.each adds;
     }
 
 pub returns : goal.returns
 returns c =
-    filled.rewards_are (table_of (meaning c.args.model.now)) c.actions.result c.states-states.result c.observations-observations.result c.loop-place.place c.loop-place.cells.items c.actions.ensures.elements c.states-states.ensures.elements c.observations-observations.ensures.elements (omega arith) c.loop-place.invariant.size c.loop-place.invariant.each
+    rewards_are (table_of (meaning c.args.model.now)) c.actions.result c.states-states.result (observations_of (meaning c.args.model.now)) (c.loop-row.row * observations_of (meaning c.args.model.now)) c.loop-row.cells.items c.actions.ensures.elements c.states-states.ensures.elements refl (ap (λ n. n * observations_of (meaning c.args.model.now)) (omega (arith, c.loop-row-test.false, c.loop-row.auto.row-end))) c.loop-row.invariant.size c.loop-row.invariant.each
