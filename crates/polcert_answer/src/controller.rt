@@ -18,11 +18,21 @@ use polcert_text::{Source, SourceFault};
 use std::alloc::Global;
 
 /// A model, a policy graph for it, and the graph's vectors.
-#[derive(Drop)]
 pub struct Controller {
     pub model: Model,
     pub graph: Graph,
     pub vectors: Vectors,
+}
+
+// (Written and not derived, so that whoever lets one go proves one call, and not each part.)
+impl Drop for Controller {
+    fn drop(self) {
+        let Controller {
+            model: _,
+            graph: _,
+            vectors: _,
+        } = self;
+    }
 }
 
 /// The model whose text the source gives, with the fault of a run where there is none.
