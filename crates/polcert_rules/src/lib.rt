@@ -12,16 +12,12 @@ mod part;
 mod reward_bodies;
 mod reward_parts;
 mod reward_search;
-#[cfg(test)]
-mod reward_tests;
 mod rewards;
 mod row;
 mod rows;
 mod rule;
 mod shape;
 mod single;
-#[cfg(test)]
-mod tests;
 
 pub use cell::Cell;
 pub use index::Index;

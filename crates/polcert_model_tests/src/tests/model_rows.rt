@@ -55,6 +55,25 @@ fn single_cells_behind_a_uniform_row(rt: HostRuntime) {
     assert_eq!(rt; first_wrong(rt.alloc(), SINGLE, &numbers), None);
 }
 
+/// A row of six weights, and behind it newer cells: one before all others, one over a cell, one of weight 0 beside them, and one
+/// of weight 0 over a cell.
+const NEWER: &[u8] =
+    b"discount: 1 values: reward states: 1 actions: 1 observations: 6 T: 0 identity O: 0 : 0 0 0.2 0 0.3 0 0.5 O: 0 : 0 : 0 0.1 O: 0 : 0 : 3 0.7 O: 0 : 0 : 4 0 O: 0 : 0 : 5 0";
+
+#[test]
+fn newer_cells_hide_those_below(rt: HostRuntime) {
+    let numbers = [
+        (Number::OScale, 6_000_000),
+        (Number::O(0, 0, 0), 600_000),
+        (Number::O(0, 0, 1), 1_200_000),
+        (Number::O(0, 0, 2), 0),
+        (Number::O(0, 0, 3), 4_200_000),
+        (Number::O(0, 0, 4), 0),
+        (Number::O(0, 0, 5), 0),
+    ];
+    assert_eq!(rt; first_wrong(rt.alloc(), NEWER, &numbers), None);
+}
+
 #[test]
 fn the_last_of_two_rewards(rt: HostRuntime) {
     for (text, first) in [(GENERAL_FIRST, 5_000_000), (GENERAL_LAST, -1_000_000)] {

@@ -1,5 +1,5 @@
 use Rattle.polcert_rules.specs.Keys.{AreDigits, most_places}
-use Rattle.polcert_rules.proofs.reward_tests.places.Given as goal
+use Rattle.polcert_rules_tests.proofs.tests.places.Given as goal
 
 abbrev pub invariant-loop-element : goal.invariant-loop-element
 invariant-loop-element l = AreDigits most_places l.places

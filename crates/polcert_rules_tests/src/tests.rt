@@ -2,8 +2,8 @@
 ghost use Rattle.std.specs.Prelude.{◌≡◌, ◌<◌, IfOk};
 ghost use Rattle.polcert_rules.specs.Keys.{AreDigits, digit, most_places};
 
-use crate::{Index, RewardShape, Rewards};
 use polcert_cells::{Body, Entries, Entry, Place, Sequence, Table};
+use polcert_rules::{Index, RewardShape, Rewards};
 use std::alloc::{AllocError, Global};
 
 const SHAPE: RewardShape = RewardShape {

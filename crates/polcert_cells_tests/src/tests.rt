@@ -1,0 +1,110 @@
+//! Entries, what they are made of, and the letters of the tables.
+use polcert_cells::{Body, BodyRef, Entries, Entry, Place, Sequence, Table};
+use std::alloc::{AllocError, Global};
+use std::test::Fail;
+
+#[test]
+fn tables_print_their_letter(rt: HostRuntime) -> Result<(), Fail> {
+    let alloc = rt.alloc();
+    for (table, letter) in [
+        (Table::Transition, "T"),
+        (Table::Observation, "O"),
+        (Table::Reward, "R"),
+    ] {
+        assert_eq!(rt; format!(in alloc; "{table}")?.as_str(), letter);
+    }
+    Ok(())
+}
+
+#[test]
+fn sequence_keeps_its_items(rt: HostRuntime) -> Result<(), Fail> {
+    let mut places = Sequence::new(rt.alloc());
+    places.push(Place::Every)?;
+    places.push(Place::Only(7))?;
+    assert!(rt; places.len() == 2);
+    assert_eq!(rt; places.at(1), Place::Only(7));
+    assert_eq!(rt;
+        places.as_slice(),
+        [Place::Every, Place::Only(7)].as_slice()
+    );
+    places.set(0, Place::Only(1));
+    assert_eq!(rt;
+        places.as_slice(),
+        [Place::Only(1), Place::Only(7)].as_slice()
+    );
+    Ok(())
+}
+
+/// A list of these items.
+fn sequence<T: Copy + Drop>(alloc: Global, items: &[T]) -> Result<Sequence<T>, AllocError> {
+    let mut sequence = Sequence::new(alloc);
+    for item in items {
+        sequence.push(*item)?;
+    }
+    Ok(sequence)
+}
+
+fn entry(alloc: Global, table: Table, places: &[Place], body: Body) -> Result<Entry, AllocError> {
+    Ok(Entry {
+        table,
+        places: sequence(alloc, places)?,
+        body,
+    })
+}
+
+/// One entry of each body.
+fn entries(alloc: Global) -> Result<Entries, AllocError> {
+    let one = [Place::Only(1)];
+    let two = [Place::Every, Place::Only(2)];
+    let four = [Place::Only(0), Place::Every, Place::Every, Place::Only(999)];
+    let mut entries = Entries::new(alloc);
+    entries.push(entry(alloc, Table::Transition, &one, Body::Identity)?)?;
+    let numbers = Body::Probabilities(sequence(alloc, &[1_000_000, 0])?);
+    entries.push(entry(alloc, Table::Observation, &two, numbers)?)?;
+    let numbers = Body::Rewards(sequence(alloc, &[-5])?);
+    entries.push(entry(alloc, Table::Reward, &four, numbers)?)?;
+    entries.push(entry(alloc, Table::Transition, &one, Body::Uniform)?)?;
+    let numbers = Body::Probabilities(sequence(alloc, &[7])?);
+    entries.push(entry(alloc, Table::Transition, &two, numbers)?)?;
+    Ok(entries)
+}
+
+fn probabilities(body: BodyRef<'_>) -> Option<&[u32]> {
+    match body {
+        BodyRef::Probabilities(numbers) => Some(numbers),
+        _ => None,
+    }
+}
+
+fn rewards(body: BodyRef<'_>) -> Option<&[i64]> {
+    match body {
+        BodyRef::Rewards(numbers) => Some(numbers),
+        _ => None,
+    }
+}
+
+#[test]
+fn entries_are_lent_as_they_were_put(rt: HostRuntime) -> Result<(), Fail> {
+    let entries = entries(rt.alloc())?;
+    assert!(rt; entries.len() == 5);
+    let lent = entries.at(0);
+    assert_eq!(rt; lent.table, Table::Transition);
+    assert_eq!(rt; lent.places, [Place::Only(1)].as_slice());
+    assert!(rt; matches!(lent.body, BodyRef::Identity));
+    let lent = entries.at(1);
+    assert_eq!(rt; lent.table, Table::Observation);
+    assert_eq!(rt; lent.places, [Place::Every, Place::Only(2)].as_slice());
+    assert_eq!(rt; probabilities(lent.body), Some([1_000_000, 0].as_slice()));
+    let lent = entries.at(2);
+    assert_eq!(rt; lent.table, Table::Reward);
+    assert_eq!(rt;
+        lent.places,
+        [Place::Only(0), Place::Every, Place::Every, Place::Only(999)].as_slice()
+    );
+    assert_eq!(rt; rewards(lent.body), Some([-5].as_slice()));
+    assert!(rt; matches!(entries.at(3).body, BodyRef::Uniform));
+    let lent = entries.at(4);
+    assert_eq!(rt; lent.places, [Place::Every, Place::Only(2)].as_slice());
+    assert_eq!(rt; probabilities(lent.body), Some([7].as_slice()));
+    Ok(())
+}
