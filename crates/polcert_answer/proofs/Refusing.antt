@@ -2,8 +2,8 @@
 use Rattle.std.proofs.Common.{◌≡◌, ℕ, List, Option, Result, Ok, Err, IfErr, subst, sym}
 use Rattle.std.specs.Result.{IsErrAnd, IsErrOf}
 use Rattle.polcert_text.specs.Source.{EachTextThatFits}
-use Rattle.polcert_model.specs.declared.fault.ModelFault.{ModelFault}
-use Rattle.polcert_model.specs.declared.fault.ModelFault.TheVariants as faults
+use Rattle.polcert_format.specs.declared.fault.ModelFault.{ModelFault}
+use Rattle.polcert_format.specs.declared.fault.ModelFault.TheVariants as faults
 use Rattle.polcert_model.specs.FirstWrong.{TextTokens, AreTokensOf}
 use Rattle.polcert_model.specs.RefusedTexts.{IsRefusedModelText}
 use Rattle.polcert_model.specs.Refusals.{IsRefusal, IsPlacedRight, SaysOfText}

@@ -1,7 +1,7 @@
 -- The exit status for a fault: 4 for want of memory, 3 for a device, 1 where the vectors can't be lowered, 2 for a text
 -- that is refused. Of a verdict: 0 for a yes, 1 for a no.
 use Rattle.std.specs.Prelude.{ℕ}
-use Rattle.polcert_model.specs.declared.fault.ModelFault.TheVariants as models
+use Rattle.polcert_format.specs.declared.fault.ModelFault.TheVariants as models
 use Rattle.polcert_policy.specs.declared.fault.GraphFault.TheVariants as graphs
 use Rattle.polcert_policy.specs.declared.fault.VectorFault.TheVariants as values
 use Rattle.polcert_check.specs.declared.fault.LowerFault.TheVariants as lowering

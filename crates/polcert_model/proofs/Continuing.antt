@@ -9,30 +9,32 @@ use Rattle.polcert_cells.specs.declared.entry.Place.{Place}
 use Rattle.polcert_cells.specs.declared.entry.Place.TheVariants.{Every}
 use Rattle.polcert_cells.specs.declared.entry.Table.{Table}
 use Rattle.polcert_cells.specs.declared.entry.Table.TheVariants.{Transition, Observation, Reward}
-use Rattle.polcert_model.specs.declared.entry_reader.EntryState.{EntryState}
-use Rattle.polcert_model.specs.declared.entry_reader.EntryState.TheVariants as states
-use Rattle.polcert_model.specs.declared.entry_reader.Numbers.{Numbers}
-use Rattle.polcert_model.specs.declared.item.ItemReader.{ItemReader}
-use Rattle.polcert_model.specs.declared.item.ItemReader.TheVariants as items
-use Rattle.polcert_model.specs.declared.item.Said.TheVariants as said
-use Rattle.polcert_model.specs.declared.lines.DiscountReader.TheVariants as discount
-use Rattle.polcert_model.specs.declared.lines.ValuesReader.TheVariants as values
-use Rattle.polcert_model.specs.declared.number.Sign.{Sign}
+use Rattle.polcert_items.specs.declared.entry_reader.EntryState.{EntryState}
+use Rattle.polcert_items.specs.declared.entry_reader.EntryState.TheVariants as states
+use Rattle.polcert_items.specs.declared.entry_reader.Numbers.{Numbers}
+use Rattle.polcert_items.specs.declared.item.ItemReader.{ItemReader}
+use Rattle.polcert_items.specs.declared.item.ItemReader.TheVariants as items
+use Rattle.polcert_items.specs.declared.item.Said.TheVariants as said
+use Rattle.polcert_items.specs.declared.lines.DiscountReader.TheVariants as discount
+use Rattle.polcert_items.specs.declared.lines.ValuesReader.TheVariants as values
+use Rattle.polcert_items.specs.declared.number.Sign.{Sign}
 use Rattle.polcert_cells.specs.declared.words.Topic.TheVariants.{Start}
 use Rattle.polcert_cells.specs.declared.elements.Elements.{Elements}
 use Rattle.polcert_cells.specs.Elements.{most_states, most_actions, most_observations}
 use Rattle.polcert_cells.specs.Entry as entries
 use Rattle.polcert_cells.specs.Entry.{forms, cells_in}
 use Rattle.polcert_cells.specs.Numbers as numbers
-use Rattle.polcert_model.specs.Text.{Known}
-use Rattle.polcert_model.specs.NumberSteps.{AreNumbersBehind}
-use Rattle.polcert_model.specs.EntrySteps.{preamble_in, indices_in, IsFirstPlace, entry_with, ProbabilitiesGo, RewardsGo, StateGoes, HasRoom, awaited, IsStateWithin}
-use Rattle.polcert_model.specs.ItemSteps.{ItemGoes, IsItemWithin, topic_in}
+use Rattle.polcert_format.specs.Text.{Known}
+use Rattle.polcert_items.specs.NumberSteps.{AreNumbersBehind}
+use Rattle.polcert_format.specs.KnownPreamble.{preamble_in, indices_in}
+use Rattle.polcert_items.specs.EntrySteps.{IsFirstPlace, entry_with, ProbabilitiesGo, RewardsGo, StateGoes, HasRoom, awaited, IsStateWithin}
+use Rattle.polcert_items.specs.ItemSteps.{ItemGoes, IsItemWithin, topic_in}
 use Rattle.polcert_cells.specs.Preamble.{Preamble, is_mdp, dimensions, named}
-use Rattle.polcert_model.specs.KnownView.{learned, least_written}
-use Rattle.polcert_model.proofs.PatternLaws.{colon_takes, one_to_three, rewards_may_stand, same_length}
-use Rattle.polcert_model.proofs.ElementLaws.{elements_can_end}
-use Rattle.polcert_model.proofs.Possible.{a_zero, a_star, a_colon, zero_is, zeros, nothings, zeros_are, nothings_count, nothings_in_range, length-pos, same_form_of_probabilities}
+use Rattle.polcert_format.specs.Wants.{least_written}
+use Rattle.polcert_items.specs.KnownView.{learned}
+use Rattle.polcert_items.proofs.PatternLaws.{colon_takes, one_to_three, rewards_may_stand, same_length}
+use Rattle.polcert_items.proofs.ElementLaws.{elements_can_end}
+use Rattle.polcert_format.proofs.Possible.{a_zero, a_star, a_colon, zero_is, zeros, nothings, zeros_are, nothings_count, nothings_in_range, length-pos, same_form_of_probabilities}
 
 abbrev a_word : List ℕ → Lexeme
 a_word bytes = record { kind = Name; place = 0; bytes = bytes }

@@ -1,5 +1,5 @@
 -- A model's text that comes from a source.
-use Rattle.std.proofs.Common.{◌≡◌, ◌+◌, ◌∙◌, ℕ, Bool, true, false, cond, Option, Some, None, Result, Ok, Err, IfOk, IfErr, MatchResult, List, [], ◌∷◌, length, drop, nat_lt, refl, sym, ap, subst, arith}
+use Rattle.std.proofs.Common.{◌≡◌, ◌+◌, ◌∙◌, ℕ, Bool, true, false, cond, Option, Some, None, Result, Ok, Err, IfOk, IfErr, MatchResult, List, [], ◌∷◌, length, drop, nat_lt, sym, ap, arith}
 use Rattle.polcert_text.specs.Cut.{Lexeme, Rest, IsCut, EndsAt, text_rest, end_place, text_limit}
 use Rattle.polcert_text.specs.Source.{IsText, EachTextThatFits}
 use Rattle.polcert_text.specs.Stream.{Ahead, Stream, GivesEnd}
@@ -8,17 +8,18 @@ use Rattle.polcert_text.specs.declared.tokens.TokenFault.{TokenFault}
 use Rattle.polcert_text.proofs.StreamTaken.{each_taken, each_cut, text_taken, each_whole}
 use Rattle.polcert_cells.specs.declared.entry.Table.{Table}
 use Rattle.polcert_cells.specs.Rows.{IsFirstWrongRow}
-use Rattle.polcert_model.specs.declared.fault.ModelFault.{ModelFault}
-use Rattle.polcert_model.specs.declared.fault.ModelFault.TheVariants.{RowSum}
+use Rattle.polcert_format.specs.declared.fault.ModelFault.{ModelFault}
+use Rattle.polcert_format.specs.declared.fault.ModelFault.TheVariants.{RowSum}
 use Rattle.polcert_model.specs.declared.reader.TextReader.{TextReader}
-use Rattle.polcert_model.specs.Text.{Known}
-use Rattle.polcert_model.specs.FirstWrong.{TextTokens, AreTokensOf}
-use Rattle.polcert_model.specs.Kept.{Kept, IsKeptOf, meaning}
-use Rattle.polcert_model.specs.Refusals.{IsRefusal, IsPlacedRight, IsNoModel}
-use Rattle.polcert_model.specs.RefusedTexts.{IsRefusedModelText}
-use Rattle.polcert_model.specs.TextSteps.{IsTextRead, IsWholeRead, IsTextOf, IsRefusedBehind, IsRefusedWhole, Refuses, tokens_end, pending_at, said}
-use Rattle.polcert_model.proofs.FrontLaws.{tokens_begin, these_tokens, too_long, whole_text}
-use Rattle.polcert_model.proofs.RefusalLaws.{no_model}
+use Rattle.polcert_format.specs.Text.{Known}
+use Rattle.polcert_format.specs.FirstWrong.{TextTokens, AreTokensOf}
+use Rattle.polcert_tables.specs.Kept.{Kept, IsKeptOf, meaning}
+use Rattle.polcert_format.specs.Refusals.{IsRefusal, IsPlacedRight, IsNoModel}
+use Rattle.polcert_format.specs.RefusedTexts.{IsRefusedModelText}
+use Rattle.polcert_items.specs.KnownView.{IsWholeRead, said}
+use Rattle.polcert_model.specs.TextSteps.{IsTextRead, IsTextOf, IsRefusedBehind, IsRefusedWhole, Refuses, tokens_end, pending_at}
+use Rattle.polcert_format.proofs.FrontLaws.{tokens_begin, these_tokens, too_long, whole_text}
+use Rattle.polcert_format.proofs.RefusalLaws.{no_model}
 use Rattle.polcert_model.proofs.RefusingEnds.{fault_refused}
 use Rattle.polcert_model.proofs.WholeTexts.{row_refused}
 

@@ -5,47 +5,47 @@ use Rattle.std.proofs.lemmas.List.{append_assoc, append-nil}
 use Rattle.polcert_text.specs.Cut.{Lexeme}
 use Rattle.polcert_text.specs.declared.lexeme.TokenKind.TheVariants.{Numeral}
 use Rattle.polcert_text.specs.declared.tokens.TokenFault.{TokenFault}
-use Rattle.polcert_model.specs.declared.fault.ItemFault.{ItemFault}
-use Rattle.polcert_model.specs.declared.fault.ItemFault.TheVariants.{Number, BadShape, BadCount, DuplicateName, UnknownName, IndexOutOfRange, WrongNumberCount, ProbabilityRange, DiscountRange, Reset, StartSum, StartEmpty}
-use Rattle.polcert_model.specs.declared.fault.ModelFault.TheVariants as model_faults
-use Rattle.polcert_model.specs.declared.item.ItemReader.{ItemReader}
-use Rattle.polcert_model.specs.declared.item.ItemReader.TheVariants as items
-use Rattle.polcert_model.specs.declared.number.Refusal.{Refusal}
-use Rattle.polcert_model.specs.declared.number.Sign.{Sign}
+use Rattle.polcert_format.specs.declared.fault.ItemFault.{ItemFault}
+use Rattle.polcert_format.specs.declared.fault.ItemFault.TheVariants.{Number, BadShape, BadCount, DuplicateName, UnknownName, IndexOutOfRange, WrongNumberCount, ProbabilityRange, DiscountRange, Reset, StartSum, StartEmpty}
+use Rattle.polcert_format.specs.declared.fault.ModelFault.TheVariants as model_faults
+use Rattle.polcert_items.specs.declared.item.ItemReader.{ItemReader}
+use Rattle.polcert_items.specs.declared.item.ItemReader.TheVariants as items
+use Rattle.polcert_items.specs.declared.number.Refusal.{Refusal}
+use Rattle.polcert_items.specs.declared.number.Sign.{Sign}
 use Rattle.polcert_model.specs.declared.reader.TextReader.{TextReader}
 use Rattle.polcert_cells.specs.declared.words.Topic.{Topic}
 use Rattle.polcert_cells.specs.declared.words.Topic.TheVariants.{Discount, Values, States, Actions, Observations, Start, Cells}
 use Rattle.polcert_cells.specs.Words.{topic, begins_item}
-use Rattle.polcert_model.specs.Items.{Item, IsDivided}
-use Rattle.polcert_model.specs.Text.{Known, nothing_known, IsRight, AreRight}
-use Rattle.polcert_model.specs.Order.{word_fault}
-use Rattle.polcert_model.specs.Reading.{IsWithinItem, IsWrong, CannotGoOn, IsPossible}
-use Rattle.polcert_model.specs.FirstWrong.{TextTokens, AreTokensOf, IsFirstWrong, LiesIn, IsDecided, word_place, wrong_item, wrong_last}
-use Rattle.polcert_model.specs.Reasons.{IsReason, InItem, StandsIn, NumberStandsIn, IsRepeated, is_sign}
-use Rattle.polcert_model.specs.Reasons as reasons
-use Rattle.polcert_model.specs.Refusals.{place_or, IsTaken, Stops, StopsInBody, in_body}
-use Rattle.polcert_model.specs.Refusals as refusals
-use Rattle.polcert_model.specs.NumberSteps.{is_negative, number_place, IsSignAt, SignEnds}
-use Rattle.polcert_model.specs.NumberSteps as steps
-use Rattle.polcert_model.specs.LineSteps.{CannotTake, CannotEnd}
-use Rattle.polcert_model.specs.StartSteps.{IsReasonIn, IsStartReason}
-use Rattle.polcert_model.specs.ItemSteps.{ItemGoes, topic_in, sign_in, pending_in, IsSeen, IsTokenReason, IsItemReason, IsEndReason}
-use Rattle.polcert_model.specs.ItemSteps as steps_of
-use Rattle.polcert_model.specs.Misfits.{misfit, IsOfValue, IsMisfit}
-use Rattle.polcert_model.specs.Wants.{wanted}
-use Rattle.polcert_model.specs.WantSteps.{item_wants, IfNotStart, IfStart, IsStartMisfit}
-use Rattle.polcert_model.specs.WantSteps as want_steps
+use Rattle.polcert_format.specs.Items.{Item, IsDivided}
+use Rattle.polcert_format.specs.Text.{Known, nothing_known, IsRight, AreRight}
+use Rattle.polcert_format.specs.Order.{word_fault}
+use Rattle.polcert_format.specs.Reading.{IsWithinItem, IsWrong, CannotGoOn, IsPossible}
+use Rattle.polcert_format.specs.FirstWrong.{TextTokens, AreTokensOf, IsFirstWrong, LiesIn, IsDecided, word_place, wrong_item, wrong_last}
+use Rattle.polcert_format.specs.Reasons.{IsReason, InItem, StandsIn, NumberStandsIn, IsRepeated, is_sign}
+use Rattle.polcert_format.specs.Reasons as reasons
+use Rattle.polcert_format.specs.Refusals.{place_or, IsTaken, Stops, StopsInBody, in_body}
+use Rattle.polcert_format.specs.Refusals as refusals
+use Rattle.polcert_items.specs.NumberSteps.{is_negative, number_place, IsSignAt, SignEnds}
+use Rattle.polcert_items.specs.NumberSteps as steps
+use Rattle.polcert_items.specs.LineSteps.{CannotTake, CannotEnd}
+use Rattle.polcert_items.specs.StartSteps.{IsReasonIn, IsStartReason}
+use Rattle.polcert_items.specs.ItemSteps.{ItemGoes, topic_in, sign_in, pending_in, IsSeen, IsTokenReason, IsItemReason, IsEndReason}
+use Rattle.polcert_items.specs.ItemSteps as steps_of
+use Rattle.polcert_format.specs.Misfits.{misfit, IsOfValue, IsMisfit}
+use Rattle.polcert_format.specs.Wants.{wanted}
+use Rattle.polcert_items.specs.WantSteps.{item_wants, IfNotStart, IfStart, IsStartMisfit}
+use Rattle.polcert_items.specs.WantSteps as want_steps
 use Rattle.polcert_model.specs.TextSteps.{IsItemRead, EndsItem, IsRefusedBehind, IsRefusedAt, Refuses}
 use Rattle.polcert_model.specs.TextSteps as texts
 use Rattle.polcert_cells.proofs.Basics.{one_some, cons≢nil}
-use Rattle.polcert_model.proofs.ItemLaws.{has_division}
-use Rattle.polcert_model.proofs.Dividing.{next_division, empty_division}
-use Rattle.polcert_model.proofs.ReadLaws.{within_division}
-use Rattle.polcert_model.proofs.PlaceLaws.{Rises, tokens_rise, lies_in_item}
-use Rattle.polcert_model.proofs.DecidedLaws.{nothing_decided}
-use Rattle.polcert_model.proofs.Possible.{possible_front}
-use Rattle.polcert_model.proofs.Within.{within_goes_on}
-use Rattle.polcert_model.proofs.StartSeen.{pending_reason, pending_value}
+use Rattle.polcert_format.proofs.ItemLaws.{has_division}
+use Rattle.polcert_format.proofs.Dividing.{next_division, empty_division}
+use Rattle.polcert_format.proofs.ReadLaws.{within_division}
+use Rattle.polcert_format.proofs.PlaceLaws.{Rises, tokens_rise, lies_in_item}
+use Rattle.polcert_format.proofs.DecidedLaws.{nothing_decided}
+use Rattle.polcert_format.proofs.Possible.{possible_front}
+use Rattle.polcert_format.proofs.Within.{within_goes_on}
+use Rattle.polcert_items.proofs.StartSeen.{pending_reason, pending_value}
 
 none≢some : {A : Type 0} {x : A} → None ≡ Some x → ⊥
 none≢some e = cc

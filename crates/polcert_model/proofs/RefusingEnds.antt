@@ -6,30 +6,30 @@ use Rattle.polcert_text.specs.Cut.{Lexeme}
 use Rattle.polcert_text.specs.Reading.{fault_place}
 use Rattle.polcert_text.specs.declared.tokens.TokenFault.{TokenFault}
 use Rattle.polcert_text.specs.declared.tokens.TokenFault.TheVariants as token_faults
-use Rattle.polcert_model.specs.declared.fault.ItemFault.{ItemFault}
-use Rattle.polcert_model.specs.declared.fault.ItemFault.TheVariants.{BadShape, BeforeFirstItem, DuplicateLine, LateLine, MissingLine, TooManyCells}
-use Rattle.polcert_model.specs.declared.fault.ModelFault.TheVariants as model_faults
-use Rattle.polcert_model.specs.declared.number.Refusal.{Refusal}
+use Rattle.polcert_format.specs.declared.fault.ItemFault.{ItemFault}
+use Rattle.polcert_format.specs.declared.fault.ItemFault.TheVariants.{BadShape, BeforeFirstItem, DuplicateLine, LateLine, MissingLine, TooManyCells}
+use Rattle.polcert_format.specs.declared.fault.ModelFault.TheVariants as model_faults
+use Rattle.polcert_items.specs.declared.number.Refusal.{Refusal}
 use Rattle.polcert_model.specs.declared.reader.TextReader.{TextReader}
-use Rattle.polcert_model.specs.ItemSteps.{pending_in}
+use Rattle.polcert_items.specs.ItemSteps.{pending_in}
 use Rattle.polcert_cells.specs.declared.words.Topic.{Topic}
 use Rattle.polcert_cells.specs.Words.{topic, begins_item}
-use Rattle.polcert_model.specs.Items.{Item, IsDivided}
-use Rattle.polcert_model.specs.Text.{Known}
-use Rattle.polcert_model.specs.Order.{is_late, came_before, ends_preamble, has_all_lines, preamble_fault, is_unobserved, fault_behind, word_fault}
-use Rattle.polcert_model.specs.FirstWrong.{TextTokens, AreTokensOf, LiesIn, IsDecided, wrong_front, wrong_fault, wrong_last, wrong_end, before_items, at_word, at_end}
-use Rattle.polcert_model.specs.Reasons.{IsReason}
-use Rattle.polcert_model.specs.Refusals.{IsItemRefusal, IsOfTokens, IsTaken, IsLastTaken, before_body, of_tokens}
-use Rattle.polcert_model.specs.Refusals as refusals
+use Rattle.polcert_format.specs.Items.{Item, IsDivided}
+use Rattle.polcert_format.specs.Text.{Known}
+use Rattle.polcert_format.specs.Order.{is_late, came_before, ends_preamble, has_all_lines, preamble_fault, is_unobserved, fault_behind, word_fault}
+use Rattle.polcert_format.specs.FirstWrong.{TextTokens, AreTokensOf, LiesIn, IsDecided, wrong_front, wrong_fault, wrong_last, wrong_end, before_items, at_word, at_end}
+use Rattle.polcert_format.specs.Reasons.{IsReason}
+use Rattle.polcert_format.specs.Refusals.{IsItemRefusal, IsOfTokens, IsTaken, IsLastTaken, before_body, of_tokens}
+use Rattle.polcert_format.specs.Refusals as refusals
 use Rattle.polcert_model.specs.TextSteps.{IsNothingRead, IsItemRead, IsTextRead, AreItemsRead, IsRefusedBehind, Refuses, fault_kind, pending_at, tokens_end}
 use Rattle.polcert_model.specs.TextSteps as texts
 use Rattle.polcert_cells.proofs.Basics.{or_false_from, cons≢nil, some≢none}
-use Rattle.polcert_model.proofs.ItemLaws.{has_division, one_division}
-use Rattle.polcert_model.proofs.Dividing.{append_division, empty_division}
-use Rattle.polcert_model.proofs.OrderLaws.{wrong_at_word, not_complete, are_too_many, fault_at}
-use Rattle.polcert_model.proofs.PlaceLaws.{tokens_rise, fault_rises, lies_at_word, lies_before_items, lies_at_end, lies_at_fault, lies_at_once}
-use Rattle.polcert_model.proofs.DecidedLaws.{one_decided}
-use Rattle.polcert_model.proofs.Within.{item_begins}
+use Rattle.polcert_format.proofs.ItemLaws.{has_division, one_division}
+use Rattle.polcert_format.proofs.Dividing.{append_division, empty_division}
+use Rattle.polcert_format.proofs.OrderLaws.{wrong_at_word, not_complete, are_too_many, fault_at}
+use Rattle.polcert_format.proofs.PlaceLaws.{tokens_rise, fault_rises, lies_at_word, lies_before_items, lies_at_end, lies_at_fault, lies_at_once}
+use Rattle.polcert_format.proofs.DecidedLaws.{one_decided}
+use Rattle.polcert_format.proofs.Within.{item_begins}
 use Rattle.polcert_model.proofs.Refusing.{Here, item_here, here, first_here, free_here, pending_refused, is_taken}
 
 -- ---- before the first item

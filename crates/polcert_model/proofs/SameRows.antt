@@ -4,8 +4,8 @@ use Rattle.polcert_cells.specs.declared.entry.Table.{Table}
 use Rattle.polcert_cells.specs.declared.entry.Table.TheVariants.{Transition, Observation, Reward}
 use Rattle.polcert_cells.specs.Preamble.{Preamble, observed}
 use Rattle.polcert_cells.specs.Elements.{count_of}
-use Rattle.polcert_cells.specs.Meaning.{Meaning, IsSame, actions_of, states_of, observations_of, t_scale, o_scale, sum_below}
-use Rattle.polcert_cells.specs.Rows.{IsProperRow, AreProperBefore, IsBehindTransitions, IsFirstWrongRow}
+use Rattle.polcert_cells.specs.Meaning.{Meaning, IsSame, actions_of, states_of, observations_of, sum_below}
+use Rattle.polcert_cells.specs.Rows.{IsProperRow, IsBehindTransitions, IsFirstWrongRow}
 
 same_sum : (n : ℕ) (f g : ℕ → ℕ) → ((c : ℕ) → c < n → f c ≡ g c) → sum_below f n ≡ sum_below g n
 same_sum zero f g e = refl

@@ -5,11 +5,11 @@ use Rattle.polcert_text.specs.Cut.{Lexeme}
 use Rattle.polcert_cells.specs.declared.entry.Entry.{Entry}
 use Rattle.polcert_cells.specs.declared.entry.Table.{Table}
 use Rattle.polcert_cells.specs.declared.entry.Table.TheVariants.{Transition, Observation, Reward}
-use Rattle.polcert_model.specs.declared.item.ItemReader.{ItemReader}
-use Rattle.polcert_model.specs.declared.item.ItemReader.TheVariants as items
-use Rattle.polcert_model.specs.declared.lines.DiscountReader.TheVariants as discount
-use Rattle.polcert_model.specs.declared.lines.ValuesReader.TheVariants as values
-use Rattle.polcert_model.specs.declared.elements_reader.ElementsReader.TheVariants as elements
+use Rattle.polcert_items.specs.declared.item.ItemReader.{ItemReader}
+use Rattle.polcert_items.specs.declared.item.ItemReader.TheVariants as items
+use Rattle.polcert_items.specs.declared.lines.DiscountReader.TheVariants as discount
+use Rattle.polcert_items.specs.declared.lines.ValuesReader.TheVariants as values
+use Rattle.polcert_items.specs.declared.elements_reader.ElementsReader.TheVariants as elements
 use Rattle.polcert_cells.specs.declared.words.Topic.{Topic}
 use Rattle.polcert_cells.specs.declared.words.Topic.TheVariants.{Discount, Values, States, Actions, Observations, Start, Cells}
 use Rattle.polcert_cells.specs.declared.elements.Elements.{Elements}
@@ -17,40 +17,26 @@ use Rattle.polcert_cells.specs.declared.elements.Elements.TheVariants.{Count}
 use Rattle.polcert_cells.specs.Elements.{count_of, most_states, most_actions, most_observations}
 use Rattle.polcert_cells.specs.Preamble.{Preamble, observed, rewarded, dimensions, named}
 use Rattle.polcert_cells.specs.Entry.{IsEntry, ArePlaces}
-use Rattle.polcert_model.specs.Items.{Item}
-use Rattle.polcert_model.specs.Text as texts
-use Rattle.polcert_model.specs.Text.{Known, nothing_known, HasLines, IsComplete, AreRight, IsRight}
-use Rattle.polcert_model.specs.Order.{word_fault}
-use Rattle.polcert_model.specs.LineSteps.{Takes}
-use Rattle.polcert_model.specs.EntrySteps.{preamble_in, indices_in, IsEntryBehind, EntryGoes, AreSome}
+use Rattle.polcert_format.specs.Items.{Item}
+use Rattle.polcert_format.specs.Text as texts
+use Rattle.polcert_format.specs.Text.{Known, nothing_known, HasLines, IsComplete, AreRight, IsRight}
+use Rattle.polcert_format.specs.Order.{word_fault}
+use Rattle.polcert_items.specs.LineSteps.{Takes}
+use Rattle.polcert_format.specs.KnownPreamble.{preamble_in}
+use Rattle.polcert_items.specs.EntrySteps.{IsEntryBehind, EntryGoes, AreSome}
 use Rattle.polcert_cells.specs.Start.{IsStart}
-use Rattle.polcert_model.specs.StartSteps.{new_start}
-use Rattle.polcert_model.specs.ItemSteps.{ItemGoes, IsItemWithin, topic_in, IsSeen, new_item, new_entry, HasElements}
-use Rattle.polcert_model.specs.Wants.{wanted}
-use Rattle.polcert_model.specs.WantSteps.{Leads, item_wants}
+use Rattle.polcert_items.specs.StartSteps.{new_start}
+use Rattle.polcert_items.specs.ItemSteps.{ItemGoes, IsItemWithin, topic_in, IsSeen, new_item, new_entry, HasElements}
+use Rattle.polcert_format.specs.Wants.{wanted}
+use Rattle.polcert_items.specs.WantSteps.{Leads, item_wants}
 use Rattle.polcert_model.specs.TextSteps.{IsBodyRead}
-use Rattle.polcert_model.proofs.FirstPlaces.{entry_begins}
+use Rattle.polcert_format.proofs.FirstPlaces.{entry_begins}
+use Rattle.polcert_format.proofs.KnownLaws.{same_preamble, same_indices, same_states}
 use Rattle.polcert_model.proofs.Continuing.{can_end}
-use Rattle.polcert_model.proofs.StartReading.{new_start_on, new_start_back, new_start_within, new_start_seen}
-use Rattle.polcert_model.proofs.LimitLaws.{CountWithin, counts_within}
-use Rattle.polcert_model.proofs.OrderLaws.{discount_may_stand, values_may_stand, states_may_stand, actions_may_stand, observations_may_stand, start_may_stand, entry_may_stand}
-use Rattle.polcert_model.proofs.PatternLaws.{colon_takes}
-
--- the preamble that is known is the complete one
-pub same_preamble : (k : Known) (p : Preamble) → HasLines k p → preamble_in k ≡ p
-same_preamble k p h = λ i. record {
-  discount = unwrap_or (h.discount i) 0;
-  costs = unwrap_or (h.costs i) false;
-  states = unwrap_or (h.states i) (Count 0);
-  actions = unwrap_or (h.actions i) (Count 0);
-  observations = h.observations i;
-}
-
-same_indices : (k : Known) (p : Preamble) (table : Table) → IsComplete k p → indices_in k table ≡ dimensions p table
-same_indices k p table c = ap (λ q. dimensions q table) (same_preamble k p c.lines)
-
-same_states : (k : Known) (p : Preamble) → IsComplete k p → (preamble_in k).states ≡ p.states
-same_states k p c = ap (λ (q : Preamble). q.states) (same_preamble k p c.lines)
+use Rattle.polcert_items.proofs.StartReading.{new_start_on, new_start_back, new_start_within, new_start_seen}
+use Rattle.polcert_format.proofs.LimitLaws.{CountWithin, counts_within}
+use Rattle.polcert_format.proofs.OrderLaws.{discount_may_stand, values_may_stand, states_may_stand, actions_may_stand, observations_may_stand, start_may_stand, entry_may_stand}
+use Rattle.polcert_items.proofs.PatternLaws.{colon_takes}
 
 -- ---- what is right goes on
 

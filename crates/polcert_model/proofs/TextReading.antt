@@ -2,32 +2,32 @@
 use Rattle.std.proofs.Common.{◌≡◌, ◌∙◌, ℕ, ◌+◌, false, Option, Some, None, List, [], ◌∷◌, ◌++◌, refl, sym, ap, subst, append_assoc, length-append}
 use Rattle.std.proofs.lemmas.List.{append-nil}
 use Rattle.polcert_text.specs.Cut.{Lexeme}
-use Rattle.polcert_model.specs.declared.fault.ItemFault.{ItemFault}
-use Rattle.polcert_model.specs.declared.fault.ItemFault.TheVariants.{BeforeFirstItem, IndexOutOfRange}
-use Rattle.polcert_model.specs.declared.fault.ModelFault.{ModelFault}
-use Rattle.polcert_model.specs.declared.fault.ModelFault.TheVariants as model_faults
-use Rattle.polcert_model.specs.declared.item.ItemReader.{ItemReader}
-use Rattle.polcert_model.specs.declared.item.Said.{Said}
+use Rattle.polcert_format.specs.declared.fault.ItemFault.{ItemFault}
+use Rattle.polcert_format.specs.declared.fault.ItemFault.TheVariants.{BeforeFirstItem, IndexOutOfRange}
+use Rattle.polcert_format.specs.declared.fault.ModelFault.{ModelFault}
+use Rattle.polcert_format.specs.declared.fault.ModelFault.TheVariants as model_faults
+use Rattle.polcert_items.specs.declared.item.ItemReader.{ItemReader}
+use Rattle.polcert_items.specs.declared.item.Said.{Said}
 use Rattle.polcert_model.specs.declared.reader.TextReader.{TextReader}
 use Rattle.polcert_cells.specs.declared.words.Topic.{Topic}
 use Rattle.polcert_cells.specs.declared.words.Topic.TheVariants.{Start}
 use Rattle.polcert_cells.specs.Words.{topic, begins_item}
-use Rattle.polcert_model.specs.Items.{IsDivided}
-use Rattle.polcert_model.specs.Text.{Known, nothing_known, IsRight, AreRight}
-use Rattle.polcert_model.specs.Text as texts
-use Rattle.polcert_model.specs.Order.{word_fault, preamble_fault}
-use Rattle.polcert_model.specs.LineSteps.{Takes, CannotTake, CannotEnd}
-use Rattle.polcert_model.specs.StartSteps.{IsStartReason}
-use Rattle.polcert_model.specs.ItemSteps.{ItemGoes, IsItemWithin, IsItemReason, IsEndReason, IsSeen, topic_in, new_item, HasElements}
-use Rattle.polcert_model.specs.KnownView.{learned}
-use Rattle.polcert_model.specs.Misfits.{misfit, IsMisfit}
-use Rattle.polcert_model.specs.WantSteps.{Leads, item_wants, IfNotStart, IfStart, IsStartMisfit}
+use Rattle.polcert_format.specs.Items.{IsDivided}
+use Rattle.polcert_format.specs.Text.{Known, nothing_known, IsRight, AreRight}
+use Rattle.polcert_format.specs.Text as texts
+use Rattle.polcert_format.specs.Order.{word_fault, preamble_fault}
+use Rattle.polcert_items.specs.LineSteps.{Takes, CannotTake, CannotEnd}
+use Rattle.polcert_items.specs.StartSteps.{IsStartReason}
+use Rattle.polcert_items.specs.ItemSteps.{ItemGoes, IsItemWithin, IsItemReason, IsEndReason, IsSeen, topic_in, new_item, HasElements}
+use Rattle.polcert_items.specs.KnownView.{learned}
+use Rattle.polcert_format.specs.Misfits.{misfit, IsMisfit}
+use Rattle.polcert_items.specs.WantSteps.{Leads, item_wants, IfNotStart, IfStart, IsStartMisfit}
 use Rattle.polcert_model.specs.TextSteps.{Refuses, IsTextRead, IsItemRead, IsBodyRead, AreItemsRead, IsRefusedBehind, IsRefusedAt, IsRefusedWhole, at_word, at_end, nothing, item}
 use Rattle.polcert_cells.proofs.Basics.{one_some}
-use Rattle.polcert_model.proofs.Dividing.{begins, empty_division}
-use Rattle.polcert_model.proofs.ReadLaws.{item_ends}
+use Rattle.polcert_format.proofs.Dividing.{begins, empty_division}
+use Rattle.polcert_format.proofs.ReadLaws.{item_ends}
 use Rattle.polcert_model.proofs.TakenItems.{item_begun, item_goes_on, has_elements}
-use Rattle.polcert_model.proofs.Within.{within_goes_on, item_begins}
+use Rattle.polcert_format.proofs.Within.{within_goes_on, item_begins}
 use Rattle.polcert_model.proofs.Refusing.{feed_refused, end_refused, end_refused_before}
 use Rattle.polcert_model.proofs.RefusingEnds.{before_refused, word_refused, text_end_refused}
 

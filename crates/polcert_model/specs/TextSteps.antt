@@ -5,26 +5,25 @@ use Rattle.polcert_text.specs.Cut.{Lexeme, IsCut, text_rest, text_limit}
 use Rattle.polcert_text.specs.Reading.{fault_place}
 use Rattle.polcert_text.specs.declared.tokens.TokenFault.{TokenFault}
 use Rattle.polcert_text.specs.declared.tokens.TokenFault.TheVariants as token_faults
-use Rattle.polcert_model.specs.declared.fault.ItemFault.{ItemFault}
-use Rattle.polcert_model.specs.declared.fault.ItemFault.TheVariants.{Token, TextTooLong}
-use Rattle.polcert_model.specs.declared.fault.ModelFault.{ModelFault}
-use Rattle.polcert_model.specs.declared.fault.ModelFault.TheVariants as model_faults
-use Rattle.polcert_model.specs.declared.item.ItemReader.{ItemReader}
-use Rattle.polcert_model.specs.declared.number.Refusal.{Refusal}
+use Rattle.polcert_format.specs.declared.fault.ItemFault.{ItemFault}
+use Rattle.polcert_format.specs.declared.fault.ItemFault.TheVariants.{Token, TextTooLong}
+use Rattle.polcert_format.specs.declared.fault.ModelFault.{ModelFault}
+use Rattle.polcert_format.specs.declared.fault.ModelFault.TheVariants as model_faults
+use Rattle.polcert_items.specs.declared.item.ItemReader.{ItemReader}
+use Rattle.polcert_items.specs.declared.number.Refusal.{Refusal}
 use Rattle.polcert_model.specs.declared.reader.TextReader.{TextReader}
 use Rattle.polcert_cells.specs.declared.words.Topic.{Topic}
 use Rattle.polcert_cells.specs.declared.words.Topic.TheVariants.{Start}
 use Rattle.polcert_cells.specs.Words.{begins_item}
-use Rattle.polcert_model.specs.Text.{Known, nothing_known, IsRight}
-use Rattle.polcert_model.specs.Order.{preamble_fault, word_fault}
-use Rattle.polcert_model.specs.Reading.{AreRightItems, IsWithinItem, IsPossible}
-use Rattle.polcert_model.specs.FirstWrong.{TextTokens, AreTokensOf}
-use Rattle.polcert_model.specs.Refusals.{IsRefusal, IsPlacedRight}
-use Rattle.polcert_cells.specs.Drafts.{Draft}
-use Rattle.polcert_model.specs.EntrySteps.{preamble_in}
-use Rattle.polcert_model.specs.Wants.{wanted}
-use Rattle.polcert_model.specs.WantSteps.{item_wants}
-use Rattle.polcert_model.specs.ItemSteps.{ItemGoes, IsItemWithin, IsSeen, topic_in, pending_in}
+use Rattle.polcert_format.specs.Text.{Known, nothing_known, IsRight}
+use Rattle.polcert_format.specs.Order.{word_fault}
+use Rattle.polcert_format.specs.Reading.{AreRightItems, IsWithinItem, IsPossible}
+use Rattle.polcert_format.specs.FirstWrong.{TextTokens, AreTokensOf}
+use Rattle.polcert_format.specs.Refusals.{IsRefusal, IsPlacedRight}
+use Rattle.polcert_format.specs.Wants.{wanted}
+use Rattle.polcert_items.specs.WantSteps.{item_wants}
+use Rattle.polcert_items.specs.ItemSteps.{ItemGoes, IsItemWithin, IsSeen, topic_in, pending_in}
+use Rattle.polcert_items.specs.KnownView.{IsWholeRead}
 
 -- the item's body so far, and what its reader makes of what is still to come of it
 pub record IsBodyRead (k : Known) (t : Topic) (body : List Lexeme) (item : ItemReader) : Type 0 where
@@ -97,11 +96,6 @@ abbrev pub tokens_end : ℕ → Option Refusal → TokenFault → ModelFault
 tokens_end number None fault = model_faults.Item (fault_kind fault) number (fault_place fault)
 tokens_end number (Some r) fault = model_faults.Item r.kind number r.place
 
--- the whole text was read: its items are right, and its preamble is complete
-pub record IsWholeRead (seen : List Lexeme) (k : Known) : Type 0 where
-  pub items : AreRightItems seen k
-  pub complete : preamble_fault k ≡ None
-
 -- the whole text was read, and this is known of it
 abbrev pub IsTextOf : List ℕ → Known → Type 0
 IsTextOf text k = (seen : List Lexeme) × IsCut (text_rest text text_limit) seen None × IsWholeRead seen k
@@ -109,7 +103,3 @@ IsTextOf text k = (seen : List Lexeme) × IsCut (text_rest text text_limit) seen
 -- a refusal where the text ends cleanly here
 abbrev pub IsRefusedWhole : List Lexeme → ℕ → ModelFault → Type 0
 IsRefusedWhole seen place fault = (text : List ℕ) (ts : TextTokens) → AreTokensOf text ts → ts.lexemes ≡ seen → ts.ending ≡ None → ts.end ≡ place → Refuses ts fault
-
--- what its items say
-abbrev pub said : Known → Draft
-said k = record { preamble = preamble_in k; start = k.start; entries = k.entries }

@@ -5,21 +5,19 @@ ghost use Rattle.polcert_text.specs.Source.{IsText, EachTextThatFits};
 ghost use Rattle.polcert_text.specs.Cut.{Lexeme};
 ghost use Rattle.polcert_text.specs.Reading.{lexeme_of};
 ghost use Rattle.polcert_cells.specs.Words.{topic, begins_item};
-ghost use Rattle.polcert_model.specs.ElementSteps.{IsText as IsTextToken};
-ghost use Rattle.polcert_model.specs.Text.{IsModelText};
-ghost use Rattle.polcert_model.specs.FirstWrong.{TextTokens, AreTokensOf};
-ghost use Rattle.polcert_model.specs.Refusals.{IsRefusal, IsPlacedRight, IsNoModel};
-ghost use Rattle.polcert_model.specs.RefusedTexts.{IsRefusedModelText};
-ghost use Rattle.polcert_model.specs.Contents.{meaning};
-ghost use Rattle.polcert_model.specs.TextSteps.{IsTextRead, AreItemsRead, IsWholeRead, IsTextOf, IsRefusedBehind, IsRefusedAt, IsRefusedWhole, Refuses, tokens_end, pending_at};
+ghost use Rattle.polcert_items.specs.ElementSteps.{IsText as IsTextToken};
+ghost use Rattle.polcert_format.specs.Text.{IsModelText};
+ghost use Rattle.polcert_format.specs.FirstWrong.{TextTokens, AreTokensOf};
+ghost use Rattle.polcert_format.specs.Refusals.{IsRefusal, IsPlacedRight, IsNoModel};
+ghost use Rattle.polcert_format.specs.RefusedTexts.{IsRefusedModelText};
+ghost use Rattle.polcert_tables.specs.Contents.{meaning};
+ghost use Rattle.polcert_items.specs.KnownView.{IsWholeRead};
+ghost use Rattle.polcert_model.specs.TextSteps.{IsTextRead, AreItemsRead, IsTextOf, IsRefusedBehind, IsRefusedAt, IsRefusedWhole, Refuses, tokens_end, pending_at};
 
-use crate::item::ItemReader;
-use crate::known::Known;
-use crate::model::Model;
-use crate::rows::{WrongRow, first_wrong_row};
-use crate::stop::{ItemEnd, Stop};
-use crate::{ItemFault, ModelFault};
 use polcert_cells::{Topic, begun_topic};
+use polcert_format::{ItemFault, ModelFault};
+use polcert_items::{ItemEnd, ItemReader, Known, Stop};
+use polcert_tables::{Model, WrongRow, first_wrong_row};
 use polcert_text::{
     Source, SourceFault, StreamFault, StreamTokens, TEXT_LIMIT, Token, TokenFault, Tokens,
 };

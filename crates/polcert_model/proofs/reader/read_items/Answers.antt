@@ -5,8 +5,8 @@ use Rattle.polcert_text.specs.Reading.{lexeme_of}
 use Rattle.polcert_text.specs.TakenTokens.{Taken, nothing, token}
 use Rattle.polcert_text.proofs.TakenTokens.{all_taken}
 use Rattle.polcert_model.specs.TextSteps.{Refuses}
-use Rattle.polcert_model.proofs.FrontLaws.{taken_end, shorter, tokens_begin, these_tokens, text_is_short}
-use Rattle.polcert_model.proofs.TokenTexts.{token_is_text}
+use Rattle.polcert_format.proofs.FrontLaws.{taken_end, shorter, tokens_begin, these_tokens, text_is_short}
+use Rattle.polcert_items.proofs.TokenTexts.{token_is_text}
 use Rattle.polcert_model.proofs.RefusingEnds.{fault_refused}
 use Rattle.polcert_model.proofs.WholeTexts.{read_to_end, refused_at_text_end}
 use Rattle.polcert_model.proofs.reader.read_items.Goals as goal

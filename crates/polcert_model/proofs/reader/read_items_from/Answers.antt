@@ -3,8 +3,8 @@ use Rattle.polcert_text.specs.Cut.{text_limit}
 use Rattle.polcert_text.specs.Reading.{lexeme_of}
 use Rattle.polcert_text.specs.Source.{EachTextThatFits}
 use Rattle.polcert_text.proofs.StreamTaken.{none_taken, token_taken, place_grows, place_within, failed_since}
-use Rattle.polcert_model.specs.RefusedTexts.{IsRefusedModelText}
-use Rattle.polcert_model.proofs.TokenTexts.{token_is_text}
+use Rattle.polcert_format.specs.RefusedTexts.{IsRefusedModelText}
+use Rattle.polcert_items.proofs.TokenTexts.{token_is_text}
 use Rattle.polcert_model.proofs.ModelStreams.{refused_at_token, refused_tokens, read_at_end, refused_at_end}
 use Rattle.polcert_model.proofs.reader.read_items_from.Goals as goal
 

@@ -1,8 +1,8 @@
 use Rattle.std.proofs.lemmas.Result.{err_from_is_err_and}
-use Rattle.polcert_model.specs.Contents.{meaning}
-use Rattle.polcert_model.specs.Text.{IsModelText}
+use Rattle.polcert_tables.specs.Contents.{meaning}
+use Rattle.polcert_format.specs.Text.{IsModelText}
 use Rattle.polcert_model.proofs.ModelStreams.{said_exactly, said_accepted, said_refused, said_placed}
-use Rattle.polcert_model.proofs.RefusalLaws.{no_model}
+use Rattle.polcert_format.proofs.RefusalLaws.{no_model}
 use Rattle.polcert_model.proofs.reader.read_model.Goals as goal
 
 pub returns-clause-exactly : goal.returns-clause-exactly

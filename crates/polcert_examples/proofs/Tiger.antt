@@ -1,0 +1,320 @@
+-- The lexemes of the tiger problem are right, and denote its model.
+use Rattle.std.proofs.Common.{◌≡◌, ◌∙◌, ◌≢◌, ◌==◌, ℕ, length, take, drop, bytes_eq, ap, zero, suc, ◌<◌, ◌≤◌, Bool, true, false, Some, None, List, [], ◌∷◌, ◌++◌, AllPairs, ℤ, pos, codes, refl, arith, lit≤}
+use Rattle.std.proofs.lemmas.List.Elements.{All-from_recursion, All-nil}
+use Rattle.std.proofs.lemmas.List.Kept.{AllPairs-cons}
+use Rattle.std.specs.List.{list_any}
+use Rattle.polcert_text.specs.Bytes.{class_of}
+use Rattle.polcert_text.specs.Numbers.{IsExact, number_of, exponent_size, power_of, size_of, millionth}
+use Rattle.polcert_text.specs.Cut.{Lexeme}
+use Rattle.polcert_cells.specs.declared.entry.Table.{Table}
+use Rattle.polcert_cells.specs.declared.entry.Table.TheVariants.{Transition, Observation, Reward}
+use Rattle.polcert_cells.specs.declared.entry.Place.{Place}
+use Rattle.polcert_cells.specs.declared.entry.Place.TheVariants.{Every, Only}
+use Rattle.polcert_cells.specs.declared.entry.Body.{Body}
+use Rattle.polcert_cells.specs.declared.entry.Body.TheVariants.{Probabilities, Uniform, Identity}
+use Rattle.polcert_cells.specs.declared.entry.Entry.{Entry}
+use Rattle.polcert_cells.specs.declared.words.Topic.TheVariants.{Discount, Values, States, Actions, Observations, Cells}
+use Rattle.polcert_cells.specs.Words.{topic, topic_of, is_reserved, begins_item, IsWord, IsName}
+use Rattle.polcert_cells.specs.Numbers.{IsMillionths, AreNumbers}
+use Rattle.polcert_cells.specs.Numbers as numbers
+use Rattle.polcert_cells.specs.declared.elements.Elements.TheVariants.{Names}
+use Rattle.polcert_cells.specs.Elements.{StandsFor, AreElements, named, by_name, most_states, most_actions}
+use Rattle.polcert_format.specs.Items.{Item, IsItem, IsDivided}
+use Rattle.polcert_cells.specs.Entry as entries
+use Rattle.polcert_cells.specs.Entry.{ArePlaces, IsEntry, IsBody}
+use Rattle.polcert_cells.specs.Preamble.{dimensions, named as named_by}
+use Rattle.polcert_cells.proofs.Basics.{true≢false}
+use Rattle.polcert_format.proofs.RightItems.{append_right}
+use Rattle.polcert_cells.specs.Meaning.{HasProperRows, sum_below}
+use Rattle.polcert_format.specs.Text as texts
+use Rattle.polcert_format.specs.Text.{Known, nothing_known, IsInPreamble, IsComplete, IsRight, AreRight, Denotes}
+use Rattle.polcert_examples.specs.Examples.{name, numeral, colon, observation, rewards, whole}
+use Rattle.polcert_examples.specs.Tiger.{star, minus, tiger, tiger_states, tiger_actions, tiger_preamble, tiger_entries, tiger_known, tiger_model, minus_whole}
+
+-- ---- items
+
+abbrev an_item : List ℕ → List Lexeme → Item
+an_item word body = record { word = name word; body = body }
+
+abbrev tiger_items : List Item
+tiger_items =
+    an_item (codes "discount") (colon ∷ numeral (codes "0.95") ∷ [])
+    ∷ an_item (codes "values") (colon ∷ name (codes "reward") ∷ [])
+    ∷ an_item (codes "states") (colon ∷ name (codes "tiger-left") ∷ name (codes "tiger-right") ∷ [])
+    ∷ an_item (codes "actions") (colon ∷ name (codes "listen") ∷ name (codes "open-left") ∷ name (codes "open-right") ∷ [])
+    ∷ an_item (codes "observations") (colon ∷ name (codes "tiger-left") ∷ name (codes "tiger-right") ∷ [])
+    ∷ an_item (codes "T") (colon ∷ name (codes "listen") ∷ name (codes "identity") ∷ [])
+    ∷ an_item (codes "T") (colon ∷ name (codes "open-left") ∷ name (codes "uniform") ∷ [])
+    ∷ an_item (codes "T") (colon ∷ name (codes "open-right") ∷ name (codes "uniform") ∷ [])
+    ∷ an_item (codes "O") (colon ∷ name (codes "listen") ∷ numeral (codes "0.85") ∷ numeral (codes "0.15") ∷ numeral (codes "0.15") ∷ numeral (codes "0.85") ∷ [])
+    ∷ an_item (codes "O") (colon ∷ name (codes "open-left") ∷ name (codes "uniform") ∷ [])
+    ∷ an_item (codes "O") (colon ∷ name (codes "open-right") ∷ name (codes "uniform") ∷ [])
+    ∷ an_item (codes "R") (colon ∷ name (codes "listen") ∷ colon ∷ star ∷ colon ∷ star ∷ colon ∷ star ∷ minus ∷ numeral (codes "1") ∷ [])
+    ∷ an_item (codes "R") (colon ∷ name (codes "open-left") ∷ colon ∷ name (codes "tiger-left") ∷ colon ∷ star ∷ colon ∷ star ∷ minus ∷ numeral (codes "100") ∷ [])
+    ∷ an_item (codes "R") (colon ∷ name (codes "open-left") ∷ colon ∷ name (codes "tiger-right") ∷ colon ∷ star ∷ colon ∷ star ∷ numeral (codes "10") ∷ [])
+    ∷ an_item (codes "R") (colon ∷ name (codes "open-right") ∷ colon ∷ name (codes "tiger-left") ∷ colon ∷ star ∷ colon ∷ star ∷ numeral (codes "10") ∷ [])
+    ∷ an_item (codes "R") (colon ∷ name (codes "open-right") ∷ colon ∷ name (codes "tiger-right") ∷ colon ∷ star ∷ colon ∷ star ∷ minus ∷ numeral (codes "100") ∷ []) ∷ []
+
+plain_item : (x : Item) → begins_item x.word ≡ true → list_any begins_item x.body ≡ false → IsItem x
+plain_item x w b = record { word = w; body = b }
+
+divided : IsDivided tiger [] tiger_items
+unfolding topic_of
+divided = record {
+  whole = refl;
+  no_word = refl;
+  each = All-from_recursion IsItem tiger_items
+      (plain_item _ refl refl, (plain_item _ refl refl, (plain_item _ refl refl, (plain_item _ refl refl, (plain_item _ refl refl, (plain_item _ refl refl, (plain_item _ refl refl, (plain_item _ refl refl, (plain_item _ refl refl, (plain_item _ refl refl, (plain_item _ refl refl, (plain_item _ refl refl, (plain_item _ refl refl, (plain_item _ refl refl, (plain_item _ refl refl, ((plain_item _ refl refl, tt)))))))))))))))));
+}
+
+-- ---- names and numbers
+
+a_word : (w : List ℕ) → IsWord w (name w)
+a_word w = record { kind = refl; bytes = refl }
+
+tiger_left_name : IsName (name (codes "tiger-left"))
+unfolding is_reserved topic_of
+tiger_left_name = record { kind = refl; free = refl }
+
+tiger_right_name : IsName (name (codes "tiger-right"))
+unfolding is_reserved topic_of
+tiger_right_name = record { kind = refl; free = refl }
+
+listen_name : IsName (name (codes "listen"))
+unfolding is_reserved topic_of
+listen_name = record { kind = refl; free = refl }
+
+open_left_name : IsName (name (codes "open-left"))
+unfolding is_reserved topic_of
+open_left_name = record { kind = refl; free = refl }
+
+open_right_name : IsName (name (codes "open-right"))
+unfolding is_reserved topic_of
+open_right_name = record { kind = refl; free = refl }
+
+stands_tiger_left : StandsFor (Names tiger_states) (name (codes "tiger-left")) 0
+stands_tiger_left = by_name tiger_left_name refl
+
+stands_tiger_right : StandsFor (Names tiger_states) (name (codes "tiger-right")) 1
+stands_tiger_right = by_name tiger_right_name refl
+
+stands_listen : StandsFor (Names tiger_actions) (name (codes "listen")) 0
+stands_listen = by_name listen_name refl
+
+stands_open_left : StandsFor (Names tiger_actions) (name (codes "open-left")) 1
+stands_open_left = by_name open_left_name refl
+
+stands_open_right : StandsFor (Names tiger_actions) (name (codes "open-right")) 2
+stands_open_right = by_name open_right_name refl
+
+n_0_95 : (negative : Bool) (h : ℤ) → IsExact negative (codes "0.95") h → IsMillionths negative (numeral (codes "0.95")) h
+unfolding class_of number_of exponent_size power_of size_of millionth
+n_0_95 negative h e = record { kind = refl; readable = record { numeral = refl; short = lit≤ tt; exponent = lit≤ tt; size = lit≤ tt }; exact = e }
+
+n_0_85 : (negative : Bool) (h : ℤ) → IsExact negative (codes "0.85") h → IsMillionths negative (numeral (codes "0.85")) h
+unfolding class_of number_of exponent_size power_of size_of millionth
+n_0_85 negative h e = record { kind = refl; readable = record { numeral = refl; short = lit≤ tt; exponent = lit≤ tt; size = lit≤ tt }; exact = e }
+
+n_0_15 : (negative : Bool) (h : ℤ) → IsExact negative (codes "0.15") h → IsMillionths negative (numeral (codes "0.15")) h
+unfolding class_of number_of exponent_size power_of size_of millionth
+n_0_15 negative h e = record { kind = refl; readable = record { numeral = refl; short = lit≤ tt; exponent = lit≤ tt; size = lit≤ tt }; exact = e }
+
+n_1 : (negative : Bool) (h : ℤ) → IsExact negative (codes "1") h → IsMillionths negative (numeral (codes "1")) h
+unfolding class_of number_of exponent_size power_of size_of millionth
+n_1 negative h e = record { kind = refl; readable = record { numeral = refl; short = lit≤ tt; exponent = lit≤ tt; size = lit≤ tt }; exact = e }
+
+n_10 : (negative : Bool) (h : ℤ) → IsExact negative (codes "10") h → IsMillionths negative (numeral (codes "10")) h
+unfolding class_of number_of exponent_size power_of size_of millionth
+n_10 negative h e = record { kind = refl; readable = record { numeral = refl; short = lit≤ tt; exponent = lit≤ tt; size = lit≤ tt }; exact = e }
+
+n_100 : (negative : Bool) (h : ℤ) → IsExact negative (codes "100") h → IsMillionths negative (numeral (codes "100")) h
+unfolding class_of number_of exponent_size power_of size_of millionth
+n_100 negative h e = record { kind = refl; readable = record { numeral = refl; short = lit≤ tt; exponent = lit≤ tt; size = lit≤ tt }; exact = e }
+
+e_95 : IsExact false (codes "0.95") (pos 950_000)
+unfolding number_of exponent_size power_of size_of millionth class_of
+e_95 = refl
+
+e_85 : IsExact false (codes "0.85") (pos 850_000)
+unfolding number_of exponent_size power_of size_of millionth class_of
+e_85 = refl
+
+e_15 : IsExact false (codes "0.15") (pos 150_000)
+unfolding number_of exponent_size power_of size_of millionth class_of
+e_15 = refl
+
+e_10 : IsExact false (codes "10") (whole 10)
+unfolding number_of exponent_size power_of size_of millionth class_of
+e_10 = refl
+
+e_minus_1 : IsExact true (codes "1") (minus_whole 1)
+unfolding number_of exponent_size power_of size_of millionth class_of
+e_minus_1 = refl
+
+e_minus_100 : IsExact true (codes "100") (minus_whole 100)
+unfolding number_of exponent_size power_of size_of millionth class_of
+e_minus_100 = refl
+
+-- ---- elements
+
+differ : (x y : List ℕ) → bytes_eq x x ≡ true → bytes_eq x y ≡ false → x ≢ y
+differ x y same other = λ e. true≢false same (ap (bytes_eq x) e ∙ other)
+
+abbrev Apart : List (List ℕ) → Type 0
+Apart xs = AllPairs (λ (x y : List ℕ). x ≢ y) xs
+
+none_apart : Apart []
+none_apart = λ i j d l m. absurd (omega (arith, l, m))
+
+one_apart : (x : List ℕ) → Apart (x ∷ [])
+one_apart x = AllPairs-cons (λ a b. a ≢ b) x [] (All-nil (λ b. x ≢ b)) none_apart
+
+two_apart : (x y : List ℕ) → x ≢ y → Apart (x ∷ y ∷ [])
+two_apart x y xy = AllPairs-cons (λ a b. a ≢ b) x (y ∷ []) (All-from_recursion (λ b. x ≢ b) (y ∷ []) (xy, tt)) (one_apart y)
+
+three_apart : (x y z : List ℕ) → x ≢ y → x ≢ z → y ≢ z → Apart (x ∷ y ∷ z ∷ [])
+three_apart x y z xy xz yz = AllPairs-cons (λ a b. a ≢ b) x (y ∷ z ∷ []) (All-from_recursion (λ b. x ≢ b) (y ∷ z ∷ []) (xy, (xz, tt))) (two_apart y z yz)
+
+the_states : AreElements most_states (name (codes "tiger-left") ∷ name (codes "tiger-right") ∷ []) (Names tiger_states)
+the_states = named
+    (All-from_recursion IsName (name (codes "tiger-left") ∷ name (codes "tiger-right") ∷ []) (tiger_left_name, (tiger_right_name, tt)))
+    (lit≤ tt) (lit≤ tt) (two_apart _ _ (differ _ _ refl refl))
+
+the_actions : AreElements most_actions (name (codes "listen") ∷ name (codes "open-left") ∷ name (codes "open-right") ∷ []) (Names tiger_actions)
+the_actions = named
+    (All-from_recursion IsName (name (codes "listen") ∷ name (codes "open-left") ∷ name (codes "open-right") ∷ []) (listen_name, (open_left_name, (open_right_name, tt))))
+    (lit≤ tt) (lit≤ tt) (three_apart _ _ _ (differ _ _ refl refl) (differ _ _ refl refl) (differ _ _ refl refl))
+
+-- ---- entries
+
+an_entry : (table : Table) (entry : Entry) (pattern rest : List Lexeme) → entry.table ≡ table → list_any (λ n. n == length entry.places) (entries.forms false table entry.body) ≡ true
+    → ArePlaces (named_by tiger_preamble table) pattern entry.places → IsBody (entries.cells_in (drop (length entry.places) (dimensions tiger_preamble table))) rest entry.body
+    → IsEntry tiger_preamble table (pattern ++ rest) entry
+an_entry table entry pattern rest t f p b = record { pattern = pattern; rest = rest; whole = refl; table_is = t; form = f; places = p; body = b }
+
+-- a word for one action
+word_entry : (table : Table) (action : List ℕ) (n : ℕ) (w : List ℕ) (body : Body) → StandsFor (Names tiger_actions) (name action) n → list_any (λ k. k == 1) (entries.forms false table body) ≡ true
+    → IsBody (entries.cells_in (drop 1 (dimensions tiger_preamble table))) (name w ∷ []) body
+    → ArePlaces (named_by tiger_preamble table) (colon ∷ name action ∷ []) (Only n ∷ [])
+    → IsEntry tiger_preamble table (colon ∷ name action ∷ name w ∷ []) (record { table = table; places = Only n ∷ []; body = body })
+word_entry table action n w body a f b p = an_entry table (record { table = table; places = Only n ∷ []; body = body }) (colon ∷ name action ∷ []) (name w ∷ []) refl f p b
+
+hear : IsEntry tiger_preamble Observation (colon ∷ name (codes "listen") ∷ numeral (codes "0.85") ∷ numeral (codes "0.15") ∷ numeral (codes "0.15") ∷ numeral (codes "0.85") ∷ [])
+    (observation (Only 0 ∷ []) (Probabilities (850_000 ∷ 150_000 ∷ 150_000 ∷ 850_000 ∷ [])))
+hear = an_entry Observation (observation (Only 0 ∷ []) (Probabilities (850_000 ∷ 150_000 ∷ 150_000 ∷ 850_000 ∷ []))) (colon ∷ name (codes "listen") ∷ []) _ refl refl
+    (entries.more refl stands_listen entries.none)
+    (entries.probabilities
+    (numbers.unsigned (n_0_85 false (pos 850_000) e_85) (numbers.unsigned (n_0_15 false (pos 150_000) e_15)
+    (numbers.unsigned (n_0_15 false (pos 150_000) e_15) (numbers.unsigned (n_0_85 false (pos 850_000) e_85) numbers.none))))
+    refl
+    (All-from_recursion (λ p. p ≤ 1_000_000) (850_000 ∷ 150_000 ∷ 150_000 ∷ 850_000 ∷ []) (lit≤ tt, (lit≤ tt, (lit≤ tt, (lit≤ tt, tt))))))
+
+-- a reward by action and start state
+reward_entry : (ls behind : List Lexeme) (action state : Lexeme) (p q : Place) (h : ℤ) → entries.IsPlace (Names tiger_actions) action p → entries.IsPlace (Names tiger_states) state q
+    → AreNumbers behind (h ∷ []) → ls ≡ (colon ∷ action ∷ colon ∷ state ∷ colon ∷ star ∷ colon ∷ star ∷ []) ++ behind
+    → IsEntry tiger_preamble Reward ls (rewards (p ∷ q ∷ Every ∷ Every ∷ []) (h ∷ []))
+reward_entry ls behind action state p q h a s n e = record {
+  pattern = colon ∷ action ∷ colon ∷ state ∷ colon ∷ star ∷ colon ∷ star ∷ [];
+  rest = behind;
+  whole = e;
+  table_is = refl;
+  form = refl;
+  places = entries.more refl a (entries.more refl s (entries.more refl refl (entries.more refl refl entries.none)));
+  body = entries.rewards n refl;
+}
+
+ten : AreNumbers (numeral (codes "10") ∷ []) (whole 10 ∷ [])
+ten = numbers.unsigned (n_10 false (whole 10) e_10) numbers.none
+
+minus_one : AreNumbers (minus ∷ numeral (codes "1") ∷ []) (minus_whole 1 ∷ [])
+minus_one = numbers.minus refl (n_1 true (minus_whole 1) e_minus_1) numbers.none
+
+minus_hundred : AreNumbers (minus ∷ numeral (codes "100") ∷ []) (minus_whole 100 ∷ [])
+minus_hundred = numbers.minus refl (n_100 true (minus_whole 100) e_minus_100) numbers.none
+
+-- ---- the whole
+
+complete : (es : List Entry) → IsComplete (tiger_known es) tiger_preamble
+complete es = record {
+  lines = record { discount = refl; costs = refl; states = refl; actions = refl; observations = refl };
+  cells = record { transitions = lit≤ tt; observations = lit≤ tt; rewards = lit≤ tt };
+}
+
+fresh : (k : Known) → k.start ≡ None → k.entries ≡ [] → IsInPreamble k
+fresh k s e = record { no_start = s; no_entry = e }
+
+one_entry : (es : List Entry) (items : List Item) (table : Table) (body : List Lexeme) (word : List ℕ) (e : Entry) (last : Known) → topic (name word) ≡ Some (Cells table)
+    → IsEntry tiger_preamble table body e → AreRight (tiger_known (es ++ e ∷ [])) items last → AreRight (tiger_known es) (an_item word body ∷ items) last
+one_entry es items table body word e last t a rest = texts.more (Cells table) t (texts.entry (complete es) (given table) a) rest
+  where
+    given : (table : Table) → entries.MayBeGiven tiger_preamble table
+    given Transition = tt
+    given Observation = refl
+    given Reward = tt
+
+right_rewards : AreRight (tiger_known (take 6 tiger_entries)) (drop 11 tiger_items) (tiger_known tiger_entries)
+unfolding topic_of
+right_rewards =
+    one_entry (take 6 tiger_entries) _ Reward _ (codes "R") _ _ refl (reward_entry _ _ (name (codes "listen")) star (Only 0) Every (minus_whole 1) stands_listen refl minus_one refl)
+    (one_entry (take 7 tiger_entries) _ Reward _ (codes "R") _ _ refl (reward_entry _ _ (name (codes "open-left")) (name (codes "tiger-left")) (Only 1) (Only 0) (minus_whole 100) stands_open_left stands_tiger_left minus_hundred refl)
+    (one_entry (take 8 tiger_entries) _ Reward _ (codes "R") _ _ refl (reward_entry _ _ (name (codes "open-left")) (name (codes "tiger-right")) (Only 1) (Only 1) (whole 10) stands_open_left stands_tiger_right ten refl)
+    (one_entry (take 9 tiger_entries) _ Reward _ (codes "R") _ _ refl (reward_entry _ _ (name (codes "open-right")) (name (codes "tiger-left")) (Only 2) (Only 0) (whole 10) stands_open_right stands_tiger_left ten refl)
+    (one_entry (take 10 tiger_entries) _ Reward _ (codes "R") _ _ refl (reward_entry _ _ (name (codes "open-right")) (name (codes "tiger-right")) (Only 2) (Only 1) (minus_whole 100) stands_open_right stands_tiger_right minus_hundred refl)
+    texts.none))))
+
+right_weights : AreRight (tiger_known []) (take 6 (drop 5 tiger_items)) (tiger_known (take 6 tiger_entries))
+unfolding topic_of
+right_weights =
+    one_entry [] _ Transition _ (codes "T") _ _ refl (word_entry Transition _ 0 _ Identity stands_listen refl (entries.identity (a_word _)) (entries.more refl stands_listen entries.none))
+    (one_entry (take 1 tiger_entries) _ Transition _ (codes "T") _ _ refl (word_entry Transition _ 1 _ Uniform stands_open_left refl (entries.uniform (a_word _)) (entries.more refl stands_open_left entries.none))
+    (one_entry (take 2 tiger_entries) _ Transition _ (codes "T") _ _ refl (word_entry Transition _ 2 _ Uniform stands_open_right refl (entries.uniform (a_word _)) (entries.more refl stands_open_right entries.none))
+    (one_entry (take 3 tiger_entries) _ Observation _ (codes "O") _ _ refl hear
+    (one_entry (take 4 tiger_entries) _ Observation _ (codes "O") _ _ refl (word_entry Observation _ 1 _ Uniform stands_open_left refl (entries.uniform (a_word _)) (entries.more refl stands_open_left entries.none))
+    (one_entry (take 5 tiger_entries) _ Observation _ (codes "O") _ _ refl (word_entry Observation _ 2 _ Uniform stands_open_right refl (entries.uniform (a_word _)) (entries.more refl stands_open_right entries.none))
+    texts.none)))))
+
+right_preamble : AreRight nothing_known (take 5 tiger_items) (tiger_known [])
+unfolding topic_of
+right_preamble =
+    texts.more Discount refl (texts.discount (fresh _ refl refl) refl refl (numbers.unsigned (n_0_95 false (pos 950_000) e_95) numbers.none) (lit≤ tt))
+    (texts.more Values refl (texts.rewards (fresh _ refl refl) refl refl (a_word _))
+    (texts.more States refl (texts.states (fresh _ refl refl) refl refl the_states)
+    (texts.more Actions refl (texts.actions (fresh _ refl refl) refl refl the_actions)
+    (texts.more Observations refl (texts.observations (fresh _ refl refl) refl refl the_states)
+    texts.none))))
+
+right : AreRight nothing_known tiger_items (tiger_known tiger_entries)
+right = append_right nothing_known (tiger_known []) (tiger_known tiger_entries) (take 5 tiger_items) (drop 5 tiger_items) right_preamble
+    (append_right (tiger_known []) (tiger_known (take 6 tiger_entries)) (tiger_known tiger_entries) (take 6 (drop 5 tiger_items)) (drop 11 tiger_items) right_weights right_rewards)
+
+below_two : (P : ℕ → Type 0) → P 0 → P 1 → (n : ℕ) → n < 2 → P n
+below_two P p q zero l = p
+below_two P p q (suc zero) l = q
+below_two P p q (suc (suc n)) l = absurd (omega (arith, l))
+
+below_three : (P : ℕ → Type 0) → P 0 → P 1 → P 2 → (n : ℕ) → n < 3 → P n
+below_three P p q r zero l = p
+below_three P p q r (suc zero) l = q
+below_three P p q r (suc (suc zero)) l = r
+below_three P p q r (suc (suc (suc n))) l = absurd (omega (arith, l))
+
+abbrev t_row : ℕ → ℕ → Type 0
+t_row a s = sum_below (tiger_model.t a s) 2 ≡ 2_000_000
+
+abbrev o_row : ℕ → ℕ → Type 0
+o_row a e = sum_below (tiger_model.o a e) 2 ≡ 2_000_000
+
+proper : HasProperRows tiger_model
+proper = record {
+  transitions = λ a s p q. below_three (λ x. t_row x s) (below_two (t_row 0) refl refl s q) (below_two (t_row 1) refl refl s q) (below_two (t_row 2) refl refl s q) a p;
+  observations = λ a e p q. below_three (λ x. o_row x e) (below_two (o_row 0) refl refl e q) (below_two (o_row 1) refl refl e q) (below_two (o_row 2) refl refl e q) a p;
+}
+
+pub tiger_denotes : Denotes tiger tiger_model
+tiger_denotes = record {
+  preamble = tiger_preamble;
+  known = tiger_known tiger_entries;
+  right = record { items = tiger_items; divided = divided; right = right; complete = complete tiger_entries };
+  same = record { preamble = refl; start = refl; t = λ a s e p q r. refl; o = λ a s e p q r. refl; r = λ a s e z p q r v. refl };
+  rows = proper;
+}

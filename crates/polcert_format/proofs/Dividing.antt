@@ -1,0 +1,46 @@
+-- Lexemes divided into items, put together.
+use Rattle.std.proofs.Common.{◌≡◌, ◌∙◌, true, false, Option, Some, is_some, List, [], ◌∷◌, ◌++◌, flat_map, refl, sym, ap}
+use Rattle.std.proofs.lemmas.List.{append_assoc}
+use Rattle.std.proofs.lemmas.List.Elements.{All-cons, All-nil, All-append}
+use Rattle.std.specs.List.{list_any}
+use Rattle.polcert_text.specs.Cut.{Lexeme}
+use Rattle.polcert_cells.specs.declared.words.Topic.{Topic}
+use Rattle.polcert_cells.specs.Words.{topic, begins_item}
+use Rattle.polcert_format.specs.Items.{Item, lexemes_of, IsItem, IsDivided}
+use Rattle.polcert_cells.proofs.Basics.{or_false, or_false_from}
+
+pub all_append : (xs ys : List Item) → flat_map lexemes_of (xs ++ ys) ≡ flat_map lexemes_of xs ++ flat_map lexemes_of ys
+all_append [] ys = refl
+all_append (x ∷ xs) ys = ap (λ (l : List Lexeme). lexemes_of x ++ l) (all_append xs ys) ∙ sym (append_assoc (lexemes_of x) (flat_map lexemes_of xs) (flat_map lexemes_of ys))
+
+pub no_word_append : (xs ys : List Lexeme) → list_any begins_item xs ≡ false → list_any begins_item ys ≡ false → list_any begins_item (xs ++ ys) ≡ false
+no_word_append [] ys p q = q
+no_word_append (x ∷ xs) ys p q =
+    let both = or_false (begins_item x) (list_any begins_item xs) p in
+    or_false_from (begins_item x) (list_any begins_item (xs ++ ys)) both.0 (no_word_append xs ys both.1 q)
+
+pub begins : (l : Lexeme) (t : Topic) → topic l ≡ Some t → begins_item l ≡ true
+begins l t e = ap (λ (o : Option Topic). is_some o) e
+
+-- lexemes before what is divided
+pub append_division : (xs ls f : List Lexeme) (ys : List Item) → list_any begins_item xs ≡ false → IsDivided ls f ys → IsDivided (xs ++ ls) (xs ++ f) ys
+append_division xs ls f ys p d = record {
+  whole = ap (λ (l : List Lexeme). xs ++ l) d.whole ∙ sym (append_assoc xs f (flat_map lexemes_of ys));
+  no_word = no_word_append xs f p d.no_word;
+  each = d.each;
+}
+
+-- an item after items
+pub next_division : (seen tail f : List Lexeme) (word : Lexeme) (items ys : List Item) → begins_item word ≡ true → IsDivided seen [] items → IsDivided tail f ys
+    → IsDivided (seen ++ word ∷ tail) [] (items ++ (record { word = word; body = f }) ∷ ys)
+next_division seen tail f word items ys w a d =
+    let item : Item = record { word = word; body = f } in
+    let behind : word ∷ tail ≡ flat_map lexemes_of (item ∷ ys) = ap (λ (l : List Lexeme). word ∷ l) d.whole in
+    record {
+      whole = (λ i. a.whole i ++ behind i) ∙ sym (all_append items (item ∷ ys));
+      no_word = refl;
+      each = All-append IsItem items (item ∷ ys) a.each (All-cons IsItem item ys (record { word = w; body = d.no_word }) d.each);
+    }
+
+pub empty_division : IsDivided [] [] []
+empty_division = record { whole = refl; no_word = refl; each = All-nil IsItem }

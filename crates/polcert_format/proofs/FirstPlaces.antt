@@ -1,0 +1,49 @@
+-- An entry begins with a colon and a place.
+use Rattle.std.proofs.Common.{◌≡◌, ◌==◌, Bool, true, false, List, ◌∷◌, ◌++◌, length, refl, sym, subst}
+use Rattle.std.specs.List.{list_any}
+use Rattle.polcert_text.specs.Cut.{Lexeme}
+use Rattle.polcert_text.specs.declared.lexeme.TokenKind.TheVariants.{Colon}
+use Rattle.polcert_cells.specs.declared.entry.Table.{Table}
+use Rattle.polcert_cells.specs.declared.entry.Table.TheVariants.{Transition, Observation, Reward}
+use Rattle.polcert_cells.specs.declared.entry.Place.{Place}
+use Rattle.polcert_cells.specs.declared.entry.Body.{Body}
+use Rattle.polcert_cells.specs.declared.entry.Body.TheVariants.{Probabilities, Rewards, Uniform, Identity}
+use Rattle.polcert_cells.specs.declared.words.Topic.TheVariants.{Cells}
+use Rattle.polcert_cells.specs.declared.elements.Elements.{Elements}
+use Rattle.polcert_cells.specs.Entry as entries
+use Rattle.polcert_cells.specs.Entry.{ArePlaces, IsEntry, forms}
+use Rattle.polcert_format.specs.Text as texts
+use Rattle.polcert_format.specs.Text.{Known, IsRight}
+
+-- each form has places
+no_form_without_places : (mdp : Bool) (table : Table) (body : Body) → list_any (λ n. n == 0) (forms mdp table body) ≡ true → ⊥
+no_form_without_places mdp Transition (Probabilities ps) e = cc
+no_form_without_places mdp Transition (Rewards hs) e = cc
+no_form_without_places mdp Transition Uniform e = cc
+no_form_without_places mdp Transition Identity e = cc
+no_form_without_places mdp Observation (Probabilities ps) e = cc
+no_form_without_places mdp Observation (Rewards hs) e = cc
+no_form_without_places mdp Observation Uniform e = cc
+no_form_without_places mdp Observation Identity e = cc
+no_form_without_places mdp Reward (Probabilities ps) e = cc
+no_form_without_places true Reward (Rewards hs) e = cc
+no_form_without_places false Reward (Rewards hs) e = cc
+no_form_without_places mdp Reward Uniform e = cc
+no_form_without_places mdp Reward Identity e = cc
+
+-- a colon and a place at the front
+pub record BeginsWithPlace (body : List Lexeme) : Type 0 where
+  pub colon : Lexeme
+  pub place : Lexeme
+  pub rest : List Lexeme
+  pub whole : body ≡ colon ∷ place ∷ rest
+  pub colon_is : colon.kind ≡ Colon
+
+first_colon : (mdp : Bool) (table : Table) (body : Body) {ds : List Elements} {xs : List Lexeme} {ps : List Place} (us : List Lexeme) → ArePlaces ds xs ps
+    → list_any (λ n. n == length ps) (forms mdp table body) ≡ true → BeginsWithPlace (xs ++ us)
+first_colon mdp table body us entries.none form = absurd (no_form_without_places mdp table body form)
+first_colon mdp table body us (entries.more {colon = colon} {l = l} {ls = ls} c a rest) form = record { colon = colon; place = l; rest = ls ++ us; whole = refl; colon_is = c }
+
+pub entry_begins : (k after : Known) (table : Table) (body : List Lexeme) → IsRight k (Cells table) body after → BeginsWithPlace body
+entry_begins k after table body (texts.entry {e = e} complete given a) =
+    subst BeginsWithPlace (sym a.whole) (first_colon _ table e.body a.rest a.places a.form)

@@ -1,0 +1,69 @@
+-- What is still possible: an entry with some places and numbers goes on with `: *` and zeros.
+use Rattle.std.proofs.Common.{◌≡◌, ℕ, zero, suc, ◌≤◌, Bool, true, false, List, [], ◌∷◌, ◌++◌, length, map, All, pos, codes, refl, ap, subst, arith, lit≤}
+use Rattle.std.proofs.lemmas.List.{append_assoc}
+use Rattle.std.proofs.lemmas.List.Elements.{All-cons, All-nil}
+use Rattle.polcert_text.specs.Bytes.{class_of}
+use Rattle.polcert_text.specs.Numbers.{number_of, exponent_size, power_of, size_of, millionth}
+use Rattle.polcert_text.specs.Cut.{Lexeme}
+use Rattle.polcert_text.specs.declared.lexeme.TokenKind.TheVariants.{Numeral, Star, Colon}
+use Rattle.polcert_cells.specs.declared.entry.Table.{Table}
+use Rattle.polcert_cells.specs.declared.entry.Table.TheVariants.{Transition, Observation, Reward}
+use Rattle.polcert_cells.specs.declared.entry.Body.TheVariants.{Probabilities}
+use Rattle.polcert_cells.specs.declared.words.Topic.{Topic}
+use Rattle.polcert_cells.specs.Numbers.{IsMillionths, AreNumbers, none, unsigned, one}
+use Rattle.polcert_cells.specs.Entry.{forms}
+use Rattle.polcert_format.specs.Text.{Known, IsRight}
+use Rattle.polcert_format.specs.Reading.{IsPossible}
+
+-- ---- lexemes to go on with
+
+abbrev pub a_zero : Lexeme
+a_zero = record { kind = Numeral; place = 0; bytes = codes "0" }
+
+abbrev pub a_star : Lexeme
+a_star = record { kind = Star; place = 0; bytes = codes "*" }
+
+abbrev pub a_colon : Lexeme
+a_colon = record { kind = Colon; place = 0; bytes = codes ":" }
+
+pub zero_is : (negative : Bool) → IsMillionths negative a_zero (pos 0)
+unfolding class_of number_of exponent_size power_of size_of millionth
+zero_is true = record { kind = refl; readable = record { numeral = refl; short = lit≤ tt; exponent = lit≤ tt; size = lit≤ tt }; exact = refl }
+zero_is false = record { kind = refl; readable = record { numeral = refl; short = lit≤ tt; exponent = lit≤ tt; size = lit≤ tt }; exact = refl }
+
+abbrev pub zeros : ℕ → List Lexeme
+zeros zero = []
+zeros (suc n) = a_zero ∷ zeros n
+
+abbrev pub nothings : ℕ → List ℕ
+nothings zero = []
+nothings (suc n) = 0 ∷ nothings n
+
+pub zeros_are : (n : ℕ) → AreNumbers (zeros n) (map pos (nothings n))
+zeros_are zero = none
+zeros_are (suc n) = unsigned (zero_is false) (zeros_are n)
+
+pub nothings_count : (n : ℕ) → length (nothings n) ≡ n
+nothings_count zero = refl
+nothings_count (suc n) = let e = nothings_count n in omega (arith, e)
+
+pub nothings_in_range : (n : ℕ) → All (λ q. q ≤ one) (nothings n)
+nothings_in_range zero = All-nil (λ q. q ≤ one)
+nothings_in_range (suc n) = All-cons (λ q. q ≤ one) 0 (nothings n) (omega arith) (nothings_in_range n)
+
+pub length-pos : (qs : List ℕ) → length (map pos qs) ≡ length qs
+length-pos [] = refl
+length-pos (q ∷ qs) = ap suc (length-pos qs)
+
+-- ---- what is possible
+
+-- what begins something possible is possible
+pub possible_front : (k : Known) (t : Topic) (taken further : List Lexeme) → IsPossible k t (taken ++ further) → IsPossible k t taken
+possible_front k t taken further p =
+    record { more = further ++ p.more; after = p.after; taken = subst (λ l. IsRight k t l p.after) (append_assoc taken further p.more) p.taken }
+
+-- the forms of numbers don't depend on the numbers
+pub same_form_of_probabilities : (mdp : Bool) (table : Table) (qs rs : List ℕ) → forms mdp table (Probabilities qs) ≡ forms mdp table (Probabilities rs)
+same_form_of_probabilities mdp Transition qs rs = refl
+same_form_of_probabilities mdp Observation qs rs = refl
+same_form_of_probabilities mdp Reward qs rs = refl

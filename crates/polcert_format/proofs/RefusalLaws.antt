@@ -1,0 +1,74 @@
+-- What is refused isn't accepted.
+use Rattle.std.proofs.Common.{◌≡◌, ◌∙◌, ℕ, zero, suc, ◌<◌, None, List, refl, sym, subst, arith}
+use Rattle.polcert_text.specs.Cut.{text_rest, end_place, text_limit}
+use Rattle.polcert_text.proofs.TextLaws.{one_cut}
+use Rattle.polcert_cells.specs.declared.entry.Table.{Table}
+use Rattle.polcert_cells.specs.declared.entry.Table.TheVariants.{Transition, Observation, Reward}
+use Rattle.polcert_format.specs.declared.fault.ModelFault.{ModelFault}
+use Rattle.polcert_format.specs.declared.fault.ModelFault.TheVariants.{Item, RowSum, Memory}
+use Rattle.polcert_cells.specs.Preamble.{Preamble}
+use Rattle.polcert_cells.specs.Meaning.{Meaning, meaning_of, sum_below, states_of, actions_of, observations_of, t_scale, o_scale, IsSame, HasProperRows}
+use Rattle.polcert_cells.specs.Rows.{IsProperRow, IsFirstWrongRow}
+use Rattle.polcert_format.specs.Text.{IsRightText, IsModelText}
+use Rattle.polcert_format.specs.FirstWrong.{TextTokens, tokens_of, AreTokensOf}
+use Rattle.polcert_format.specs.Refusals.{IsRefusal, SaysOfText, IsNoModel}
+use Rattle.polcert_format.proofs.TextLaws.{one_right_text}
+use Rattle.polcert_format.proofs.ReadLaws.{not_taken}
+
+same_sums : (f g : ℕ → ℕ) (n : ℕ) → ((i : ℕ) → i < n → f i ≡ g i) → sum_below f n ≡ sum_below g n
+same_sums f g zero h = refl
+same_sums f g (suc n) h =
+    let before = same_sums f g n (λ i l. h i (omega arith)) in
+    let here : f n ≡ g n = h n (omega arith) in
+    omega (arith, before, here)
+
+-- where all rows of a model are proper, so are those of one that is the same
+proper_row : (m n : Meaning) (table : Table) (a s : ℕ) → IsSame m n → HasProperRows m → (table ≡ Reward → ⊥) → a < actions_of m → s < states_of m → IsProperRow n table a s
+proper_row m n Transition a s same rows no_reward p q =
+    let sums : sum_below (m.t a s) (states_of m) ≡ sum_below (n.t a s) (states_of m) = same_sums (m.t a s) (n.t a s) (states_of m) (λ e l. same.t a s e p q l) in
+    subst (λ (r : Preamble). sum_below (n.t a s) (states_of (record m { preamble = r })) ≡ t_scale (record m { preamble = r })) same.preamble (sym sums ∙ rows.transitions a s p q)
+proper_row m n Observation a s same rows no_reward p q =
+    let sums : sum_below (m.o a s) (observations_of m) ≡ sum_below (n.o a s) (observations_of m) = same_sums (m.o a s) (n.o a s) (observations_of m) (λ z l. same.o a s z p q l) in
+    subst (λ (r : Preamble). sum_below (n.o a s) (observations_of (record m { preamble = r })) ≡ o_scale (record m { preamble = r })) same.preamble (sym sums ∙ rows.observations a s p q)
+proper_row m n Reward a s same rows no_reward p q = absurd (no_reward refl)
+
+no_reward_row : (m : Meaning) (a s : ℕ) → IsFirstWrongRow m Reward a s → ⊥
+no_reward_row m a s w = w.behind_transitions
+
+-- a proper model has no first wrong row
+no_wrong_row : (m n : Meaning) (table : Table) (a s : ℕ) → IsSame m n → HasProperRows m → IsFirstWrongRow n table a s → ⊥
+no_wrong_row m n Reward a s same rows w = no_reward_row n a s w
+no_wrong_row m n Transition a s same rows w =
+    w.wrong (proper_row m n Transition a s same rows (λ e. cc)
+    (subst (λ (r : Preamble). a < actions_of (record m { preamble = r })) (sym same.preamble) w.action)
+    (subst (λ (r : Preamble). s < states_of (record m { preamble = r })) (sym same.preamble) w.state))
+no_wrong_row m n Observation a s same rows w =
+    w.wrong (proper_row m n Observation a s same rows (λ e. cc)
+    (subst (λ (r : Preamble). a < actions_of (record m { preamble = r })) (sym same.preamble) w.action)
+    (subst (λ (r : Preamble). s < states_of (record m { preamble = r })) (sym same.preamble) w.state))
+
+pub not_accepted : (text : List ℕ) (ts : TextTokens) (fault : ModelFault) (m : Meaning) → AreTokensOf text ts → IsRefusal ts fault → SaysOfText fault → IsModelText text m → ⊥
+not_accepted text ts (Item kind number place) m tokens refusal says accepted =
+    let cut = one_cut (text_rest text text_limit) ts.lexemes accepted.lexemes ts.ending None tokens.cut accepted.cut in
+    let d = accepted.denotes in
+    not_taken ts number d.preamble d.known refusal.first_wrong cut.1
+    (subst (λ ls. IsRightText ls d.preamble d.known) (sym cut.0) d.right)
+not_accepted text ts (RowSum table action row) m tokens refusal says accepted =
+    let cut = one_cut (text_rest text text_limit) ts.lexemes accepted.lexemes ts.ending None tokens.cut accepted.cut in
+    let d = accepted.denotes in
+    let same = one_right_text accepted.lexemes d.preamble refusal.1.0 d.known refusal.1.1 d.right (subst (λ ls. IsRightText ls refusal.1.0 refusal.1.1) cut.0 refusal.1.2) in
+    let known : meaning_of d.preamble d.known.start d.known.entries ≡ meaning_of refusal.1.0 refusal.1.1.start refusal.1.1.entries =
+    λ i. meaning_of (same.0 i) ((same.1 i).start) ((same.1 i).entries) in
+    no_wrong_row m (meaning_of refusal.1.0 refusal.1.1.start refusal.1.1.entries) table action row (subst (IsSame m) known d.same) d.rows refusal.1.3
+not_accepted text ts Memory m tokens refusal says accepted = absurd says
+
+pub no_model : (text : List ℕ) (fault : ModelFault) → ((ts : TextTokens) → AreTokensOf text ts → IsRefusal ts fault) → IsNoModel text fault
+no_model text (Item kind number place) refused = λ m accepted.
+    let ts : TextTokens = tokens_of accepted.lexemes None (end_place (text_rest text text_limit)) in
+    let tokens : AreTokensOf text ts = record { cut = accepted.cut; end_is = refl } in
+    not_accepted text ts (Item kind number place) m tokens (refused ts tokens) tt accepted
+no_model text (RowSum table action row) refused = λ m accepted.
+    let ts : TextTokens = tokens_of accepted.lexemes None (end_place (text_rest text text_limit)) in
+    let tokens : AreTokensOf text ts = record { cut = accepted.cut; end_is = refl } in
+    not_accepted text ts (RowSum table action row) m tokens (refused ts tokens) tt accepted
+no_model text Memory refused = tt

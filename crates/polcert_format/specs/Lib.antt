@@ -1,0 +1,14 @@
+pub mod FirstWrong
+pub mod FullForm
+pub mod Items
+pub mod KnownPreamble
+pub mod Laws
+pub mod Misfits
+pub mod Order
+pub mod Reading
+pub mod Reasons
+pub mod Refusals
+pub mod RefusedTexts
+pub mod Text
+pub mod Wants
+pub mod Writable

@@ -1,0 +1,102 @@
+-- The kind of a refusal inside a body, by what its place is for and what is found there in place of it. What a number
+-- is worth is another matter: `Reasons` says when its value is refused.
+use Rattle.std.specs.Prelude.{◌≡◌, ℕ, ◌==◌, Bool, true, false, Option, Some, None, List, length, codes, bytes_eq, if◌then◌else◌}
+use Rattle.polcert_text.specs.Cut.{Lexeme}
+use Rattle.polcert_text.specs.Lexemes.{are_digits}
+use Rattle.polcert_text.specs.declared.lexeme.TokenKind.{TokenKind}
+use Rattle.polcert_text.specs.declared.lexeme.TokenKind.TheVariants.{Name, Numeral}
+use Rattle.polcert_format.specs.declared.fault.ItemFault.{ItemFault}
+use Rattle.polcert_format.specs.declared.fault.ItemFault.TheVariants.{BadShape, BadCount, DuplicateName, UnknownName, IndexOutOfRange, WrongNumberCount, Reset, StartSum, StartEmpty, ProbabilityRange, DiscountRange}
+use Rattle.polcert_format.specs.declared.fault.ItemFault.TheVariants as faults
+use Rattle.polcert_cells.specs.Words.{is_reserved}
+use Rattle.polcert_format.specs.Reasons.{is_sign}
+
+-- what a place of a body is for
+pub data Wanted : Type 0 where
+  -- a colon, the word of `values:`, `include` or `exclude`, or `*` where nothing has a name or a number
+  Mark : Wanted
+  -- an action, a state or an observation
+  Index : Wanted
+  -- a further state of a list
+  Listed : Wanted
+  -- a count, or the first name
+  CountOrName : Wanted
+  -- a further name, behind these, where there may be so many
+  FurtherName : ℕ → List (List ℕ) → Wanted
+  -- `uniform`, a state's name or the first number, behind `start:`
+  StartBody : Wanted
+  -- a further number, behind digits that are a state's number where nothing follows them
+  NumberOrEnd : Wanted
+  -- the first lexeme of a number
+  Number : Wanted
+  -- the numeral behind a sign
+  Digits : Wanted
+  -- nothing more, behind as many numbers as there may be
+  EndOfNumbers : Wanted
+  -- nothing more, behind a word or a count
+  EndOfWord : Wanted
+
+-- an index that no element has: a number, a name, or something else
+abbrev pub no_index : TokenKind → List ℕ → ItemFault
+no_index Numeral bytes = if are_digits bytes then IndexOutOfRange else BadShape
+no_index Name bytes = if is_reserved bytes then BadShape else UnknownName
+no_index _ bytes = BadShape
+
+-- what cannot stand behind these names: a name too many, one that stands there already, or something else
+abbrev pub no_name : ℕ → List (List ℕ) → TokenKind → List ℕ → ItemFault
+no_name most names Name bytes = if is_reserved bytes then BadShape else (if length names == most then BadCount else DuplicateName)
+no_name most names _ bytes = BadShape
+
+-- a numeral that is no count, or something else
+abbrev pub no_count : TokenKind → ItemFault
+no_count Numeral = BadCount
+no_count _ = BadShape
+
+abbrev pub begins_number : TokenKind → Bool
+begins_number Numeral = true
+begins_number kind = is_sign kind
+
+-- the lexeme found there isn't what is wanted
+abbrev pub misfit_at : Wanted → Lexeme → ItemFault
+misfit_at Index l = no_index l.kind l.bytes
+misfit_at Listed l = no_index l.kind l.bytes
+misfit_at StartBody l = no_index l.kind l.bytes
+misfit_at CountOrName l = no_count l.kind
+misfit_at (FurtherName most names) l = no_name most names l.kind l.bytes
+misfit_at EndOfNumbers l = if begins_number l.kind then WrongNumberCount else BadShape
+misfit_at _ l = BadShape
+
+abbrev pub is_reset : TokenKind → List ℕ → Bool
+is_reset Name bytes = bytes_eq bytes (codes "reset")
+is_reset _ bytes = false
+
+-- The kind, of what is found: a lexeme of the body, or its end. The word `reset` has a kind of its own everywhere. Where
+-- all numbers are there only a start item can be refused, for their sum.
+abbrev pub misfit : Wanted → Option Lexeme → ItemFault
+misfit wanted (Some l) = if is_reset l.kind l.bytes then Reset else misfit_at wanted l
+misfit Number None = WrongNumberCount
+misfit StartBody None = WrongNumberCount
+misfit CountOrName None = BadCount
+misfit NumberOrEnd None = IndexOutOfRange
+misfit Listed None = StartEmpty
+misfit EndOfNumbers None = StartSum
+misfit _ None = BadShape
+
+-- a numeral where a number may stand is refused for its value
+abbrev pub tests_value : Wanted → TokenKind → Bool
+tests_value Number Numeral = true
+tests_value Digits Numeral = true
+tests_value StartBody Numeral = true
+tests_value NumberOrEnd Numeral = true
+tests_value _ _ = false
+
+abbrev pub IsOfValue : ItemFault → Type 0
+IsOfValue (faults.Number reason) = Unit {0}
+IsOfValue ProbabilityRange = Unit {0}
+IsOfValue DiscountRange = Unit {0}
+IsOfValue _ = ⊥
+
+-- The lexeme is refused, for this reason, where something else is wanted: for its value, or as the table says.
+pub data IsMisfit (wanted : Wanted) (l : Lexeme) (kind : ItemFault) : Type 0 where
+  of_value : tests_value wanted l.kind ≡ true → IsOfValue kind → IsMisfit wanted l kind
+  of_place : tests_value wanted l.kind ≡ false → kind ≡ misfit wanted (Some l) → IsMisfit wanted l kind

@@ -1,0 +1,125 @@
+-- Refusals: what is promised of each, and where those inside an item's body stand.
+use Rattle.std.specs.Prelude.{◌≡◌, ℕ, ◌+◌, true, List, [], ◌∷◌, ◌++◌, length, Some, None}
+use Rattle.polcert_text.specs.Cut.{Lexeme}
+use Rattle.polcert_text.specs.declared.lexeme.TokenKind.TheVariants.{Numeral}
+use Rattle.polcert_format.specs.declared.fault.ItemFault.{ItemFault}
+use Rattle.polcert_format.specs.declared.fault.ItemFault.TheVariants.{Token, TextTooLong, IndexOutOfRange}
+use Rattle.polcert_format.specs.declared.fault.ModelFault.{ModelFault}
+use Rattle.polcert_format.specs.declared.fault.ModelFault.TheVariants.{RowSum, Memory}
+use Rattle.polcert_format.specs.declared.fault.ModelFault.TheVariants as model_faults
+use Rattle.polcert_cells.specs.declared.words.Topic.{Topic}
+use Rattle.polcert_cells.specs.declared.words.Topic.TheVariants.{Start}
+use Rattle.polcert_cells.specs.Words.{topic}
+use Rattle.polcert_format.specs.Items.{Item, IsDivided}
+use Rattle.polcert_cells.specs.Preamble.{Preamble}
+use Rattle.polcert_cells.specs.Meaning.{Meaning, meaning_of}
+use Rattle.polcert_cells.specs.Rows.{IsFirstWrongRow}
+use Rattle.polcert_format.specs.Text.{Known, nothing_known, AreRight, IsRightText, IsModelText}
+use Rattle.polcert_format.specs.Reading.{IsWrong, CannotGoOn, IsPossible}
+use Rattle.polcert_format.specs.FirstWrong.{TextTokens, IsFirstWrong, LiesIn, IsDecided, word_place}
+use Rattle.polcert_format.specs.Reasons.{IsReason, is_sign}
+use Rattle.polcert_format.specs.Misfits.{misfit, IsOfValue, IsMisfit}
+use Rattle.polcert_format.specs.Wants.{wanted}
+
+pub record IsItemRefusal (ts : TextTokens) (kind : ItemFault) (number place : ℕ) : Type 0 where
+  pub first_wrong : IsFirstWrong ts number
+  pub lies : LiesIn ts number place
+  pub reason : IsReason ts number place kind
+  -- what is decided before the body comes before anything in it
+  pub decided : (fault : ItemFault) (at : ℕ) → IsDecided ts number fault at → (kind ≡ fault) × (place ≡ at)
+
+-- A row is refused only where all items are right, and is then the first that doesn't sum to its scale. Want of memory
+-- says nothing of the text.
+abbrev pub IsRefusal : TextTokens → ModelFault → Type 0
+IsRefusal ts (model_faults.Item kind item place) = IsItemRefusal ts kind item place
+IsRefusal ts (RowSum table action row) =
+    (ts.ending ≡ None) × ((p : Preamble) × (k : Known) × IsRightText ts.lexemes p k × IsFirstWrongRow (meaning_of p k.start k.entries) table action row)
+IsRefusal ts Memory = Unit {0}
+
+-- want of memory says nothing of the text, and every other refusal that it is wrong
+abbrev pub SaysOfText : ModelFault → Type 0
+SaysOfText Memory = ⊥
+SaysOfText _ = Unit {0}
+
+-- the text is no model's, or memory was wanting
+abbrev pub IsNoModel : List ℕ → ModelFault → Type 0
+IsNoModel text Memory = Unit {0}
+IsNoModel text _ = (m : Meaning) → IsModelText text m → ⊥
+
+-- where the first of the lexemes stands, or what is behind them
+abbrev pub place_or : List Lexeme → ℕ → ℕ
+place_or [] behind = behind
+place_or (l ∷ ls) behind = l.place
+
+-- What was taken of an item is still possible. (Of a start item this isn't said: its numbers are tested only once it has
+-- more than one, and their sum and the states that are left only at its end.)
+pub data IsTaken (k : Known) (t : Topic) (taken : List Lexeme) : Type 0 where
+  possible : IsPossible k t taken → IsTaken k t taken
+  in_start : t ≡ Start → IsTaken k t taken
+
+-- Behind the lexemes taken the item is no longer possible: with the next lexeme, with the next two as a sign and a
+-- numeral, or, where nothing is left of it, as it is. The kind is so of what this place is for and of what stands there.
+-- (Of a start item it isn't said at which of its numbers one is refused for its value or as no state's: the first is tested
+-- late, only where more follow or the item ends.)
+pub data Stops (k : Known) (t : Topic) (kind : ItemFault) (taken : List Lexeme) : List Lexeme → Type 0 where
+  at_lexeme : {l : Lexeme} {behind : List Lexeme} → CannotGoOn k t (taken ++ l ∷ []) → IsMisfit (wanted k t taken) l kind → Stops k t kind taken (l ∷ behind)
+  at_number : {sign l : Lexeme} {behind : List Lexeme} → is_sign sign.kind ≡ true → l.kind ≡ Numeral → IsPossible k t (taken ++ sign ∷ [])
+      → CannotGoOn k t (taken ++ sign ∷ l ∷ []) → IsOfValue kind → IsMisfit (wanted k t (taken ++ sign ∷ [])) l kind → Stops k t kind taken (sign ∷ l ∷ behind)
+  at_end : IsWrong k t taken → kind ≡ misfit (wanted k t taken) None → Stops k t kind taken []
+  in_start_item : {l : Lexeme} {behind : List Lexeme} → t ≡ Start → CannotGoOn k t (taken ++ l ∷ []) → kind ≡ misfit (wanted k t taken) (Some l) → Stops k t kind taken (l ∷ behind)
+  late_number : {l : Lexeme} {behind : List Lexeme} → t ≡ Start → IsOfValue kind → Stops k t kind taken (l ∷ behind)
+  late_state : {l : Lexeme} {behind : List Lexeme} → t ≡ Start → kind ≡ IndexOutOfRange → Stops k t kind taken (l ∷ behind)
+
+-- The place stands in the item where its lexemes so far are still possible, and with what stands there they aren't.
+-- Where nothing is left of the item and of the text, the tokens end cleanly.
+pub record StopsInBody (ts : TextTokens) (kind : ItemFault) (number place : ℕ) : Type 0 where
+  pub before : List Item
+  pub item : Item
+  pub after : List Item
+  pub divided : IsDivided ts.lexemes [] (before ++ item ∷ after)
+  pub number_is : number ≡ length before + 1
+  pub k : Known
+  pub t : Topic
+  pub known : AreRight nothing_known before k
+  pub topic_is : topic item.word ≡ Some t
+  pub taken : List Lexeme
+  pub rest : List Lexeme
+  pub whole : item.body ≡ taken ++ rest
+  pub is_taken : IsTaken k t taken
+  pub stops : Stops k t kind taken rest
+  pub place_is : place ≡ place_or rest (word_place after ts.end 0)
+  pub clean : rest ≡ [] → after ≡ [] → ts.ending ≡ None
+
+-- the reasons that the tokens give, and not the item
+abbrev pub IsOfTokens : ItemFault → Type 0
+IsOfTokens (Token fault) = Unit {0}
+IsOfTokens TextTooLong = Unit {0}
+IsOfTokens _ = ⊥
+
+-- what was taken of the last item is still possible
+pub record IsLastTaken (ts : TextTokens) (number : ℕ) : Type 0 where
+  pub before : List Item
+  pub item : Item
+  pub divided : IsDivided ts.lexemes [] (before ++ item ∷ [])
+  pub number_is : number ≡ length before + 1
+  pub k : Known
+  pub t : Topic
+  pub known : AreRight nothing_known before k
+  pub topic_is : topic item.word ≡ Some t
+  pub is_taken : IsTaken k t item.body
+
+-- The tokens end before the first lexeme, or behind what is still possible.
+pub data EndsPossible (ts : TextTokens) (number : ℕ) : Type 0 where
+  at_once : ts.lexemes ≡ [] → EndsPossible ts number
+  in_item : IsLastTaken ts number → EndsPossible ts number
+
+-- Where the refusal of an item stands: it is decided before the item's body, or stands in the body as far as that is
+-- possible, or is a fault of the tokens behind what is possible.
+pub data StandsRight (ts : TextTokens) (kind : ItemFault) (number place : ℕ) : Type 0 where
+  before_body : IsDecided ts number kind place → StandsRight ts kind number place
+  in_body : StopsInBody ts kind number place → StandsRight ts kind number place
+  of_tokens : IsOfTokens kind → EndsPossible ts number → StandsRight ts kind number place
+
+abbrev pub IsPlacedRight : TextTokens → ModelFault → Type 0
+IsPlacedRight ts (model_faults.Item kind number place) = StandsRight ts kind number place
+IsPlacedRight ts _ = Unit {0}

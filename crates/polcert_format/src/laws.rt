@@ -1,0 +1,191 @@
+//! Laws of the definitions: each function has an empty body, and its contract is the law.
+ghost use Rattle.std.specs.Prelude.{◌≡◌, ◌<◌, ℕ, List, ℤ, pos, Option, Some, None, ◌+◌, ◌++◌, ◌∷◌, [], true, false, length};
+ghost use Rattle.std.specs.List.{list_any};
+ghost use Rattle.polcert_text.specs.Cut.{Lexeme};
+ghost use Rattle.polcert_text.specs.declared.tokens.TokenFault.{TokenFault};
+ghost use Rattle.polcert_cells.specs.declared.entry.Table.{Table};
+ghost use Rattle.polcert_cells.specs.Numbers.{AreNumbers};
+ghost use Rattle.polcert_cells.specs.declared.elements.Elements.{Elements};
+ghost use Rattle.polcert_cells.specs.Elements.{StandsFor};
+ghost use Rattle.polcert_cells.specs.Preamble.{Preamble};
+ghost use Rattle.polcert_cells.specs.Entry.{IsEntry};
+ghost use Rattle.polcert_cells.specs.declared.entry.Entry.{Entry};
+ghost use Rattle.polcert_cells.specs.declared.shares.Shares.{Shares};
+ghost use Rattle.polcert_cells.specs.Start.{IsStart};
+ghost use Rattle.polcert_cells.specs.Meaning.{Meaning, IsSame, IsWithinLimits};
+ghost use Rattle.polcert_format.specs.Text.{Denotes, IsModelText, Known, nothing_known, IsComplete, IsRight, AreRight, IsRightText};
+ghost use Rattle.polcert_cells.specs.declared.entry.Table.TheVariants.{Reward};
+ghost use Rattle.polcert_cells.specs.Cells.{covers, weight, reward};
+ghost use Rattle.polcert_format.specs.Laws.{HasDivision, HasOneDivision};
+ghost use Rattle.polcert_cells.specs.Laws.{GivesLastCovering, OneMoreWeight, OneMoreReward, UniformRowSums};
+ghost use Rattle.polcert_cells.specs.declared.words.Topic.{Topic};
+ghost use Rattle.polcert_cells.specs.Words.{topic, begins_item};
+ghost use Rattle.polcert_format.specs.Reading.{AreRightItems, IsWithinItem, CannotGoOn, IsWrong};
+ghost use Rattle.polcert_format.specs.FirstWrong.{TextTokens, tokens_of, IsFirstWrong, IsDecided, AreTokensOf, HasTokens, word_place, LiesIn};
+ghost use Rattle.polcert_format.specs.declared.fault.ItemFault.{ItemFault};
+ghost use Rattle.polcert_format.specs.Order.{preamble_fault, word_fault};
+ghost use Rattle.polcert_format.specs.declared.fault.ModelFault.{ModelFault};
+ghost use Rattle.polcert_format.specs.Refusals.{IsRefusal, SaysOfText, place_or};
+ghost use Rattle.polcert_format.specs.Items.{Item, IsDivided};
+
+/// Each list of lexemes is divided into items in just one way.
+pub fn one_division()
+    ensures some { (lexemes : List Lexeme) → HasDivision lexemes }
+    ensures one { (lexemes : List Lexeme) → HasOneDivision lexemes }
+{}
+
+/// A lexeme stands for at most one element.
+pub fn one_element()
+    ensures { (elements : Elements) (l : Lexeme) (i j : ℕ) → StandsFor elements l i → StandsFor elements l j → i ≡ j }
+{}
+
+/// Lexemes are at most one list of numbers.
+pub fn one_list_of_numbers()
+    ensures { (lexemes : List Lexeme) (x y : List ℤ) → AreNumbers lexemes x → AreNumbers lexemes y → x ≡ y }
+{}
+
+/// The lexemes behind the word of a table are at most one entry.
+pub fn one_entry()
+    ensures { (p : Preamble) (table : Table) (lexemes : List Lexeme) (x y : Entry) →
+        IsEntry p table lexemes x → IsEntry p table lexemes y → x ≡ y }
+{}
+
+/// The lexemes behind `start` give at most one start.
+pub fn one_start()
+    ensures { (states : Elements) (lexemes : List Lexeme) (x y : Shares) →
+        IsStart states lexemes x → IsStart states lexemes y → x ≡ y }
+{}
+
+/// A cell has one value: that of the last entry that covers it.
+pub fn one_value()
+    ensures { (entries : List Entry) (table : Table) (indices : List ℕ) → GivesLastCovering entries table indices }
+{}
+
+/// A cell that no entry covers is 0.
+pub fn uncovered_is_zero()
+    ensures weight { (p : Preamble) (entries : List Entry) (table : Table) (indices : List ℕ) →
+        list_any (covers table indices) entries ≡ false → weight p entries table indices ≡ 0 }
+    ensures reward { (p : Preamble) (entries : List Entry) (indices : List ℕ) →
+        list_any (covers Reward indices) entries ≡ false → reward p entries indices ≡ pos 0 }
+{}
+
+/// A further entry gives its value to the cells that it covers, and the others keep theirs.
+pub fn one_more_entry()
+    ensures weight { (p : Preamble) (entries : List Entry) (entry : Entry) (table : Table) (indices : List ℕ) →
+        OneMoreWeight p entries entry table indices }
+    ensures reward { (p : Preamble) (entries : List Entry) (entry : Entry) (indices : List ℕ) →
+        OneMoreReward p entries entry indices }
+{}
+
+/// A row that one `uniform` covers sums to its scale.
+pub fn uniform_sums_to_scale()
+    ensures { (p : Preamble) (entries : List Entry) (entry : Entry) (table : Table) (row : List ℕ) → UniformRowSums p entries entry table row }
+{}
+
+/// Lexemes denote at most one model, and so does a text.
+pub fn one_model()
+    ensures lexemes { (lexemes : List Lexeme) (m n : Meaning) → Denotes lexemes m → Denotes lexemes n → IsSame m n }
+    ensures text { (text : List ℕ) (m n : Meaning) → IsModelText text m → IsModelText text n → IsSame m n }
+{}
+
+/// Each text has tokens, and they end in one way.
+pub fn one_list_of_tokens()
+    ensures some { (text : List ℕ) → HasTokens text }
+    ensures one { (text : List ℕ) (ts us : TextTokens) → AreTokensOf text ts → AreTokensOf text us → ts ≡ us }
+{}
+
+/// A right text is read in one way: one preamble, one start and one list of entries.
+pub fn one_right_text()
+    ensures { (lexemes : List Lexeme) (p q : Preamble) (x y : Known) →
+        IsRightText lexemes p x → IsRightText lexemes q y → (p ≡ q) × (x ≡ y) }
+{}
+
+/// What lexemes denote is within its limits.
+pub fn within_limits()
+    ensures { (lexemes : List Lexeme) (m : Meaning) → Denotes lexemes m → IsWithinLimits m }
+{}
+
+/// An item that is right with its lexemes so far makes them right items.
+pub fn right_item_ends()
+    ensures { (seen body : List Lexeme) (k after : Known) (t : Topic) →
+        IsWithinItem seen k t body → IsRight k t body after → AreRightItems seen after }
+{}
+
+/// Behind right items, the item that is the first wrong one is settled by the lexemes taken so far, however the text
+/// goes on: an item that cannot go on, one that isn't right where the next begins or the text ends, and one in which
+/// the tokens end in a fault.
+pub fn first_wrong_stays()
+    ensures within { (seen body : List Lexeme) (k : Known) (t : Topic) (w : IsWithinItem seen k t body) →
+        CannotGoOn k t body → (more : List Lexeme) (ending : Option TokenFault) (stop : ℕ) →
+        IsFirstWrong (tokens_of (seen ++ more) ending stop) (length w.items.items + 1) }
+    ensures at_word { (seen body : List Lexeme) (k : Known) (t : Topic) (next : Lexeme) (w : IsWithinItem seen k t body) →
+        IsWrong k t body → begins_item next ≡ true → (more : List Lexeme) (ending : Option TokenFault) (stop : ℕ) →
+        IsFirstWrong (tokens_of (seen ++ next ∷ more) ending stop) (length w.items.items + 1) }
+    ensures at_end { (seen body : List Lexeme) (k : Known) (t : Topic) (w : IsWithinItem seen k t body) →
+        IsWrong k t body → (ending : Option TokenFault) (stop : ℕ) →
+        IsFirstWrong (tokens_of seen ending stop) (length w.items.items + 1) }
+    ensures at_fault { (seen body : List Lexeme) (k : Known) (t : Topic) (w : IsWithinItem seen k t body)
+        (fault : TokenFault) (stop : ℕ) →
+        IsFirstWrong (tokens_of seen (Some fault) stop) (length w.items.items + 1) }
+{}
+
+/// What stands before the first item word is item 0, and the end is one more than the last item.
+pub fn first_wrong_outside_items()
+    ensures before { (l : Lexeme) → begins_item l ≡ false →
+        (more : List Lexeme) (ending : Option TokenFault) (stop : ℕ) → IsFirstWrong (tokens_of (l ∷ more) ending stop) 0 }
+    ensures at_once { (fault : TokenFault) (stop : ℕ) → IsFirstWrong (tokens_of [] (Some fault) stop) 0 }
+    ensures behind { (seen : List Lexeme) (k : Known) (r : AreRightItems seen k) →
+        ((p : Preamble) → IsComplete k p → ⊥) → (stop : ℕ) →
+        IsFirstWrong (tokens_of seen None stop) (length r.items + 1) }
+{}
+
+/// A text with a first wrong item isn't right.
+pub fn first_wrong_is_not_right()
+    ensures { (ts : TextTokens) (n : ℕ) (p : Preamble) (k : Known) →
+        IsFirstWrong ts n → ts.ending ≡ None → IsRightText ts.lexemes p k → ⊥ }
+{}
+
+/// At most one item is the first that isn't right.
+pub fn one_first_wrong()
+    ensures { (ts : TextTokens) (m n : ℕ) → IsFirstWrong ts m → IsFirstWrong ts n → m ≡ n }
+{}
+
+/// What is decided at an item's word is so: with such a fault no body makes the item right, and at the end the
+/// preamble isn't complete; without one the preamble is complete.
+pub fn order_is_decided()
+    ensures at_word { (k : Known) (t : Topic) (fault : ItemFault) (body : List Lexeme) →
+        word_fault k t ≡ Some fault → IsWrong k t body }
+    ensures incomplete { (k : Known) (p : Preamble) (fault : ItemFault) → preamble_fault k ≡ Some fault → IsComplete k p → ⊥ }
+    ensures complete { (k : Known) → preamble_fault k ≡ None → ((p : Preamble) × IsComplete k p) }
+{}
+
+/// What is decided before an item's body is read is one kind and one place, and nothing is decided where the item's
+/// word may stand.
+pub fn one_decision()
+    ensures one { (ts : TextTokens) (n : ℕ) (f g : ItemFault) (p q : ℕ) →
+        IsDecided ts n f p → IsDecided ts n g q → (f ≡ g) × (p ≡ q) }
+    ensures nothing { (ts : TextTokens) (before : List Item) (item : Item) (after : List Item) (k : Known) (t : Topic)
+        (f : ItemFault) (p : ℕ) → IsDivided ts.lexemes [] (before ++ item ∷ after) → AreRight nothing_known before k →
+        topic item.word ≡ Some t → word_fault k t ≡ None → IsDecided ts (length before + 1) f p → ⊥ }
+{}
+
+/// A text that is refused, but for want of memory, isn't the text of a model.
+pub fn refused_is_not_accepted()
+    ensures { (text : List ℕ) (ts : TextTokens) (fault : ModelFault) (m : Meaning) →
+        AreTokensOf text ts → IsRefusal ts fault → SaysOfText fault → IsModelText text m → ⊥ }
+{}
+
+/// The places of a text's tokens rise. So the place where a part of an item's body was taken lies in the item, and so
+/// does that of its word, of what stands before all items, and of the end.
+pub fn places_lie_in_items()
+    ensures in_body { (text : List ℕ) (ts : TextTokens) (before : List Item) (item : Item) (after : List Item)
+        (taken rest : List Lexeme) → AreTokensOf text ts → IsDivided ts.lexemes [] (before ++ item ∷ after) →
+        item.body ≡ taken ++ rest → LiesIn ts (length before + 1) (place_or rest (word_place after ts.end 0)) }
+    ensures at_word { (text : List ℕ) (ts : TextTokens) (before : List Item) (item : Item) (after : List Item) →
+        AreTokensOf text ts → IsDivided ts.lexemes [] (before ++ item ∷ after) →
+        LiesIn ts (length before + 1) item.word.place }
+    ensures before_items { (text : List ℕ) (ts : TextTokens) (l : Lexeme) (ls : List Lexeme) (items : List Item) →
+        AreTokensOf text ts → IsDivided ts.lexemes (l ∷ ls) items → LiesIn ts 0 l.place }
+    ensures at_end { (ts : TextTokens) (items : List Item) →
+        IsDivided ts.lexemes [] items → LiesIn ts (length items + 1) ts.end }
+{}

@@ -1,0 +1,47 @@
+-- Lines and rows as a printer's loop makes them: part by part, each behind those so far.
+use Rattle.std.proofs.Common.{◌≡◌, ◌∙◌, ℕ, zero, suc, ◌+◌, List, [], ◌∷◌, ◌++◌, flat_map, map, codes, refl, sym, ap, arith, append_assoc, append-nil, decimal}
+use Rattle.std.specs.List.{range_with_len}
+use Rattle.std.proofs.lemmas.List.FromFn.{map-range_with_len_more}
+use Rattle.polcert_text.specs.Lines.{line}
+use Rattle.polcert_cells.specs.declared.entry.Table.{Table}
+use Rattle.polcert_cells.specs.declared.entry.Table.TheVariants.{Reward}
+use Rattle.polcert_format.specs.FullForm.{for_each, values, millionths_text, table_word, row_words}
+
+abbrev behind_blank : List ℕ → List ℕ
+behind_blank w = codes " " ++ w
+
+-- the first word, each further one behind a blank, and a line end
+pub line_is : (w : List ℕ) (ws : List (List ℕ)) → line (w ∷ ws) ≡ w ++ flat_map behind_blank ws ++ codes "\n"
+line_is w [] = ap (λ bs. bs ++ codes "\n") (sym (append-nil w))
+line_is w (v ∷ ws) =
+    ap (λ bs. w ++ codes " " ++ bs) (line_is v ws)
+    ∙ sym (append_assoc (w ++ codes " ") (v ++ flat_map behind_blank ws) (codes "\n"))
+    ∙ ap (λ bs. bs ++ codes "\n") (append_assoc w (codes " ") (v ++ flat_map behind_blank ws))
+
+flat-append : (xs ys : List (List ℕ)) → flat_map behind_blank (xs ++ ys) ≡ flat_map behind_blank xs ++ flat_map behind_blank ys
+flat-append [] ys = refl
+flat-append (x ∷ xs) ys = ap (λ bs. behind_blank x ++ bs) (flat-append xs ys) ∙ sym (append_assoc (behind_blank x) (flat_map behind_blank xs) (flat_map behind_blank ys))
+
+further_words : (n : ℕ) (f : ℕ → List ℕ) → flat_map behind_blank (map f (range_with_len 1 n)) ≡ for_each n (λ i. codes " " ++ f (i + 1))
+further_words zero f = refl
+further_words (suc n) f =
+    let one_more : suc n ≡ n + 1 = omega arith in
+    ap (λ k. flat_map behind_blank (map f (range_with_len 1 k))) one_more
+    ∙ ap (flat_map behind_blank) (map-range_with_len_more f 1 n (n + 1) (omega arith))
+    ∙ flat-append (map f (range_with_len 1 n)) (f (n + 1) ∷ [])
+    ∙ (λ i. further_words n f i ++ append-nil (behind_blank (f (n + 1))) i)
+
+-- a line of values, value by value
+pub values_line : (n : ℕ) (f : ℕ → List ℕ) → line (values (suc n) f) ≡ f 0 ++ for_each n (λ i. codes " " ++ f (i + 1)) ++ codes "\n"
+values_line n f = line_is (f 0) (map f (range_with_len 1 n)) ∙ ap (λ bs. f 0 ++ bs ++ codes "\n") (further_words n f)
+
+-- ---- the lines that begin an entry, part behind part
+pub row_line_is : (table : Table) (a s : ℕ) → line (row_words table a s) ≡ table_word table ++ codes " " ++ decimal a ++ codes " : " ++ decimal s ++ codes "\n"
+row_line_is table a s = simp append_assoc
+
+pub cell_line_is : (table : Table) (a s c q : ℕ) → line (row_words table a s ++ codes ":" ∷ decimal c ∷ millionths_text q ∷ [])
+    ≡ table_word table ++ codes " " ++ decimal a ++ codes " : " ++ decimal s ++ codes " : " ++ decimal c ++ codes " " ++ millionths_text q ++ codes "\n"
+cell_line_is table a s c q = simp append_assoc
+
+pub reward_line_is : (a s e : ℕ) → line (row_words Reward a s ++ codes ":" ∷ decimal e ∷ []) ≡ codes "R: " ++ decimal a ++ codes " : " ++ decimal s ++ codes " : " ++ decimal e ++ codes "\n"
+reward_line_is a s e = simp append_assoc

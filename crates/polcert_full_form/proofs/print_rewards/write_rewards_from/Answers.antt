@@ -1,0 +1,20 @@
+use Rattle.std.proofs.Common.{◌≡◌, ◌∙◌, ◌<◌, ℕ, pos, sym}
+use Rattle.polcert_text.proofs.Written.{as_text}
+use Rattle.polcert_cells.specs.Preamble.{is_mdp}
+use Rattle.polcert_tables.specs.Contents.{meaning}
+use Rattle.polcert_cells.specs.Meaning.{states_of, observations_of}
+use Rattle.polcert_full_form.proofs.Parts.{wrote_nothing}
+use Rattle.polcert_full_form.proofs.PrintedParts as texts
+use Rattle.polcert_full_form.proofs.print_rewards.write_rewards_from.Goals as goal
+
+pub returns-then-not-is_paid : goal.returns-then-not-is_paid
+returns-then-not-is_paid g c =
+    let m = meaning c.args.model.now in
+    let none : (e z : ℕ) → e < states_of m → z < observations_of m → m.r c.args.action c.args.start e z ≡ pos 0 = rw c.draft.ensures at c.is_paid.ensures c.if-not-is_paid.true in
+    wrote_nothing (texts.none_paid (is_mdp m.preamble) m.preamble.costs c.args.action c.args.start (observations_of m) (states_of m) (m.r c.args.action c.args.start) c.args.model.now.limits.observations.0 none)
+
+pub returns-then-is_mdp : goal.returns-then-is_mdp
+returns-then-is_mdp g c = as_text (texts.end_rewards_are (meaning c.args.model.now) c.args.action c.args.start (sym c.is_mdp.ensures ∙ c.if-is_mdp.true)) c.write_end_rewards.ensures
+
+pub returns-else-is_mdp : goal.returns-else-is_mdp
+returns-else-is_mdp g c = as_text (texts.reward_rows_are (meaning c.args.model.now) c.args.action c.args.start (sym c.is_mdp.ensures ∙ c.if-is_mdp.false)) c.write_reward_rows.ensures

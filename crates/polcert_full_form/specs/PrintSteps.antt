@@ -1,0 +1,96 @@
+-- The full form as its printer writes it: part behind part.
+-- Nobody has to believe this file: only private functions cite it.
+use Rattle.std.specs.Prelude.{ℕ, ◌/◌, ◌==◌, Bool, true, false, if◌then◌else◌, List, [], ◌∷◌, ◌++◌, length, slice_index_or, get_or, ℤ, pos, decimal, codes}
+use Rattle.polcert_text.specs.Millionths.{scaled_text}
+use Rattle.polcert_cells.specs.declared.entry.Table.{Table}
+use Rattle.polcert_cells.specs.declared.elements.Elements.{Elements}
+use Rattle.polcert_cells.specs.declared.elements.Elements.TheVariants.{Count, Names}
+use Rattle.polcert_cells.specs.declared.shares.Shares.{Shares}
+use Rattle.polcert_cells.specs.Preamble.{columns}
+use Rattle.polcert_cells.specs.Meaning.{Meaning, states_of, actions_of, observations_of}
+use Rattle.polcert_tables.specs.Kept.{Kept, meaning}
+use Rattle.polcert_tables.specs.RowSums.{row_of}
+use Rattle.polcert_text.specs.Lines.{line}
+use Rattle.polcert_format.specs.FullForm.{for_each, values, is_uniform, is_decimal, millionths_text, table_word, cell_text, row_text, written, reward_words, rewards_row, rewards_from}
+
+-- ---- lines of words
+abbrev pub behind_blank : List ℕ → List ℕ
+behind_blank word = codes " " ++ word
+
+abbrev pub values_line : Bool → List ℕ
+values_line false = codes "\nvalues: reward\n"
+values_line true = codes "\nvalues: cost\n"
+
+-- the lines of the discount and of the kind of values
+abbrev pub settings_text : Meaning → List ℕ
+settings_text m = codes "discount: " ++ scaled_text (pos m.preamble.discount) ++ values_line m.preamble.costs
+
+abbrev pub name_text : List (List ℕ) → ℕ → List ℕ
+name_text names i = behind_blank (slice_index_or names i [])
+
+-- the count, or the names
+abbrev pub elements_text : Elements → List ℕ
+elements_text (Count n) = behind_blank (decimal n)
+elements_text (Names names) = for_each (length names) (name_text names)
+
+abbrev pub elements_line : List ℕ → Elements → List ℕ
+elements_line word elements = word ++ elements_text elements ++ codes "\n"
+
+-- ---- the start
+abbrev pub share_of : Shares → ℕ → ℕ
+share_of start s = slice_index_or start.weights s 0
+
+abbrev pub chosen_text : Shares → ℕ → List ℕ
+chosen_text start s = if share_of start s == 1 then behind_blank (decimal s) else []
+
+abbrev pub share_text : Shares → ℕ → List ℕ
+share_text start s = behind_blank (millionths_text (share_of start s))
+
+-- ---- the indices of a row or a cell
+abbrev pub mark_before : ℕ → List ℕ
+mark_before i = if i == 0 then codes " " else codes " : "
+
+abbrev pub index_text : List ℕ → ℕ → List ℕ
+index_text indices i = mark_before i ++ decimal (slice_index_or indices i 0)
+
+-- `T: a : s`
+abbrev pub pattern_text : Table → List ℕ → List ℕ
+pattern_text table indices = table_word table ++ for_each (length indices) (index_text indices)
+
+-- ---- a line of numbers
+abbrev pub blank_before : ℕ → List ℕ
+blank_before i = if i == 0 then [] else codes " "
+
+-- the number in this place of a line
+abbrev pub number_text : ℕ → ℤ → List ℕ
+number_text i h = blank_before i ++ scaled_text h
+
+-- ---- the rows of T and O
+-- the probability in this column
+abbrev pub decimal_text : List ℕ → ℕ → List ℕ
+decimal_text weights c = number_text c (pos (slice_index_or weights c 0 / length weights))
+
+-- what stands behind the line of a row's indices
+abbrev pub body_text : Table → ℕ → ℕ → ℕ → (ℕ → ℕ) → List ℕ
+body_text table a s n w =
+    if is_uniform n w then line (codes "uniform" ∷ [])
+    else (if is_decimal n w then line (values n (λ c. millionths_text (w c / n)))
+    else line (codes "uniform" ∷ []) ++ for_each n (cell_text table a s n w))
+
+abbrev pub rows_at : Kept → Table → ℕ → List ℕ
+rows_at d table a = for_each (states_of (meaning d)) (λ s. row_text table a s (columns d.preamble table) (row_of d table a s))
+
+abbrev pub rows_text : Kept → Table → List ℕ
+rows_text d table = for_each (actions_of (meaning d)) (rows_at d table)
+
+-- ---- the rewards
+-- the reward in this place of a row, as the text gives it
+abbrev pub reward_text : Bool → List ℤ → ℕ → List ℕ
+reward_text costs rewards z = number_text z (written costs (get_or rewards z (pos 0)))
+
+-- the rows of an action in a state, where observations are made
+abbrev pub reward_rows : Meaning → ℕ → ℕ → List ℕ
+reward_rows m a s = for_each (states_of m) (λ e. rewards_row m.preamble.costs (reward_words a s e) (observations_of m) (m.r a s e))
+
+abbrev pub rewards_at : Meaning → ℕ → List ℕ
+rewards_at m a = for_each (states_of m) (rewards_from m a)

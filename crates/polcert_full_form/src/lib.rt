@@ -1,0 +1,12 @@
+//! The full form of a model: how it is written, and that it reads back as an equal model.
+#![tactic(auto)]
+
+mod laws;
+mod print;
+mod print_rewards;
+mod print_rows;
+mod print_words;
+mod row_cells;
+
+pub use laws::{full_form_reads_back, one_full_form};
+pub use print::write_model;

@@ -1,0 +1,93 @@
+//! Writes the words that lines are made of.
+ghost use Rattle.std.specs.Prelude.{◌≡◌, ◌++◌, length, decimal, codes};
+ghost use Rattle.polcert_text.specs.Sink.{WritesText};
+ghost use Rattle.polcert_format.specs.FullForm.{for_each, table_word};
+ghost use Rattle.polcert_full_form.specs.PrintSteps.{mark_before, index_text, pattern_text, blank_before, number_text};
+
+use itoa::Buffer;
+use polcert_cells::Table;
+use polcert_text::{Sink, SinkFailed, write_all, write_scaled};
+
+/// Writes a number in decimal.
+pub(crate) fn write_number<W: Sink>(number: usize, out: &mut W) -> Result<(), SinkFailed>
+    ensures { WritesText W.writes W.failures out.old (decimal number) result out.new }
+{
+    let mut buffer = Buffer::new();
+    write_all(out, buffer.format(number).as_bytes())
+}
+
+/// Writes the word of a table and the indices of an entry, as `T: 0 : 1`.
+pub(crate) fn write_pattern<W: Sink>(
+    table: Table,
+    indices: &[usize],
+    out: &mut W,
+) -> Result<(), SinkFailed>
+    ensures { WritesText W.writes W.failures out.old (pattern_text table indices.now) result out.new }
+{
+    write_all(out, table_word(table))?;
+    write_indices(indices, out)
+}
+
+/// Writes the line of the indices of an entry.
+pub(crate) fn write_head<W: Sink>(
+    table: Table,
+    indices: &[usize],
+    out: &mut W,
+) -> Result<(), SinkFailed>
+    ensures { WritesText W.writes W.failures out.old (pattern_text table indices.now ++ codes "\n") result out.new }
+{
+    write_pattern(table, indices, out)?;
+    write_all(out, b"\n")
+}
+
+fn table_word(table: Table) -> &'static [u8]
+    ensures { result.now ≡ table_word table }
+{
+    match table {
+        Table::Transition => b"T:",
+        Table::Observation => b"O:",
+        Table::Reward => b"R:",
+    }
+}
+
+fn write_indices<W: Sink>(indices: &[usize], out: &mut W) -> Result<(), SinkFailed>
+    ensures { WritesText W.writes W.failures out.old (for_each (length indices.now) (index_text indices.now)) result out.new }
+{
+    for number in 0..indices.len() {
+        write_index(number, indices[number], out)?;
+    }
+    Ok(())
+}
+
+fn write_index<W: Sink>(number: usize, index: usize, out: &mut W) -> Result<(), SinkFailed>
+    ensures { WritesText W.writes W.failures out.old (mark_before number ++ decimal index) result out.new }
+{
+    write_all(out, mark_before(number))?;
+    write_number(index, out)
+}
+
+/// What stands before the index of this number: a colon before all but the first.
+fn mark_before(number: usize) -> &'static [u8]
+    ensures { result.now ≡ mark_before number }
+{
+    if number == 0 { b" " } else { b" : " }
+}
+
+/// Writes the number in this place of a line, in millionths.
+pub(crate) fn write_number_at<W: Sink>(
+    place: usize,
+    scaled: i64,
+    out: &mut W,
+) -> Result<(), SinkFailed>
+    ensures { WritesText W.writes W.failures out.old (number_text place scaled) result out.new }
+{
+    write_all(out, blank_before(place))?;
+    write_scaled(scaled, out)
+}
+
+/// A blank before all but the first.
+fn blank_before(place: usize) -> &'static [u8]
+    ensures { result.now ≡ blank_before place }
+{
+    if place == 0 { b"" } else { b" " }
+}

@@ -1,0 +1,135 @@
+-- An item's reader, token by token: what it keeps of the body, and why a token is refused.
+use Rattle.std.proofs.Common.{◌≡◌, ◌∙◌, ℕ, false, Option, Some, None, List, [], ◌∷◌, ◌++◌, Result, Ok, Err, OnOk, IfErr, unwrap_or, refl, sym, ap, subst}
+use Rattle.polcert_text.specs.Cut.{Lexeme}
+use Rattle.polcert_items.specs.declared.elements_reader.ElementsReader.{ElementsReader}
+use Rattle.polcert_format.specs.declared.fault.ItemFault.{ItemFault}
+use Rattle.polcert_format.specs.declared.fault.ItemFault.TheVariants.{BadShape, BadCount, DuplicateName, Reset, WrongNumberCount, StartSum, StartEmpty}
+use Rattle.polcert_items.specs.declared.item.ItemReader.{ItemReader}
+use Rattle.polcert_items.specs.declared.item.ItemReader.TheVariants as items
+use Rattle.polcert_items.specs.declared.number.Sign.{Sign}
+use Rattle.polcert_items.specs.declared.stop.ItemEnd.{ItemEnd}
+use Rattle.polcert_items.specs.declared.stop.ItemEnd.TheVariants as ends
+use Rattle.polcert_items.specs.declared.start_reader.StartReader.{StartReader}
+use Rattle.polcert_cells.specs.declared.words.Topic.TheVariants.{Start}
+use Rattle.polcert_cells.specs.declared.elements.Elements.{Elements}
+use Rattle.polcert_cells.specs.declared.elements.Elements.TheVariants.{Count}
+use Rattle.polcert_cells.specs.Elements.{count_of}
+use Rattle.polcert_format.specs.Misfits.{misfit}
+use Rattle.polcert_items.specs.WantSteps.{Leads, start_wants, item_wants, IfAtEnd, IfStart, IsValueOr, IsAtToken, IsStartMisfit}
+use Rattle.polcert_items.specs.declared.stop.Stop.{Stop}
+use Rattle.polcert_items.specs.declared.stop.Stop.TheVariants as stops
+use Rattle.polcert_items.proofs.StartSeen.{start_misfit}
+use Rattle.polcert_format.specs.Text.{Known}
+use Rattle.polcert_items.specs.LineSteps.{Takes, CannotTake}
+use Rattle.polcert_format.specs.KnownPreamble.{preamble_in}
+use Rattle.polcert_items.specs.EntrySteps.{IfRefused}
+use Rattle.polcert_format.specs.Reasons.{is_sign, ends_in_sign, IsOfElements}
+use Rattle.polcert_items.specs.NumberSteps.{SignIs, SignEnds}
+use Rattle.polcert_items.specs.ElementSteps.{ElementsReason, AreElementsSeen}
+use Rattle.polcert_items.specs.StartSteps.{StartGoes, IsStartReason, IsStartEndReason}
+use Rattle.polcert_items.specs.ItemSteps.{ItemGoes, IsSeen, topic_in, IsItemReason, of_token, of_start, IsItemEndReason}
+use Rattle.polcert_items.proofs.ElementLaws.{repeated_name}
+
+-- ---- what is seen of the body
+
+last_sign : (body : List Lexeme) (l : Lexeme) → ends_in_sign (body ++ l ∷ []) ≡ is_sign l.kind
+last_sign [] l = refl
+last_sign (x ∷ []) l = refl
+last_sign (x ∷ y ∷ ys) l = last_sign (y ∷ ys) l
+
+pub sign_ends : (sign : Option Sign) (body : List Lexeme) (l : Lexeme) → SignIs sign l → SignEnds sign (body ++ l ∷ [])
+sign_ends None body l s = last_sign body l ∙ s
+sign_ends (Some sign) body l s = (body, (l, (refl, s)))
+
+pub elements_seen : {T E : Type 0} (result : Result T E) (body : List Lexeme) (l : Lexeme) (new : ElementsReader) → OnOk result (is_sign l.kind ≡ false)
+    → OnOk result (AreElementsSeen (body ++ l ∷ []) new) → OnOk result ((ends_in_sign (body ++ l ∷ []) ≡ false) × AreElementsSeen (body ++ l ∷ []) new)
+elements_seen (Ok x) body l new s seen = (last_sign body l ∙ s, seen)
+elements_seen (Err x) body l new s seen = tt
+
+-- ---- why a token is refused
+
+elements_reason : (item : ItemReader) (r : ElementsReader) (body : List Lexeme) (l : Lexeme) (kind : ItemFault) (place : ℕ) → (topic_in item ≡ Start → ⊥) → IsOfElements (topic_in item)
+    → AreElementsSeen body r → ElementsReason r l kind place → IsItemReason item body l kind place
+elements_reason item r body l DuplicateName place other of seen m = of_token other (m.0, of, λ behind. repeated_name body r l behind place seen m)
+elements_reason item r body l BadCount place other of seen m = of_token other (m, of)
+elements_reason item r body l Reset place other of seen m = of_token other m
+elements_reason item r body l BadShape place other of seen m = of_token other m
+elements_reason item r body l _ place other of seen m = absurd m
+
+module _ (item : ItemReader) (r : ElementsReader) (body : List Lexeme) (l : Lexeme) (kind : ItemFault) (place : ℕ) (s : IsSeen body item) (m : ElementsReason r l kind place) where
+  pub states_reason : item ≡ items.States r → IsItemReason item body l kind place
+  states_reason e = subst (λ i. IsItemReason i body l kind place) (sym e) (elements_reason (items.States r) r body l kind place (λ x. cc) tt (subst (IsSeen body) e s).1 m)
+
+  pub actions_reason : item ≡ items.Actions r → IsItemReason item body l kind place
+  actions_reason e = subst (λ i. IsItemReason i body l kind place) (sym e) (elements_reason (items.Actions r) r body l kind place (λ x. cc) tt (subst (IsSeen body) e s).1 m)
+
+  pub observations_reason : item ≡ items.Observations r → IsItemReason item body l kind place
+  observations_reason e = subst (λ i. IsItemReason i body l kind place) (sym e) (elements_reason (items.Observations r) r body l kind place (λ x. cc) tt (subst (IsSeen body) e s).1 m)
+
+pub start_reason : (item : ItemReader) (r : StartReader) (body : List Lexeme) (l : Lexeme) (kind : ItemFault) (place : ℕ) → item ≡ items.Start r → IsStartReason (body ++ l ∷ []) kind place
+    → IsItemReason item body l kind place
+start_reason item r body l kind place e m = subst (λ i. IsItemReason i body l kind place) (sym e) (of_start refl m)
+
+-- ---- a start item, of the states that are known
+
+known_states : (k : Known) (states : Elements) → k.states ≡ Some states → (preamble_in k).states ≡ states
+known_states k states e = ap (λ o. unwrap_or o (Count 0)) e
+
+pub start_takes : (k : Known) (states : Elements) (item : ItemReader) (old new : StartReader) (l : Lexeme) → k.states ≡ Some states → item ≡ items.Start old → Takes (StartGoes states) old l new
+    → Takes (ItemGoes k) item l (items.Start new)
+start_takes k states item old new l known is takes =
+    let t : Takes (StartGoes (preamble_in k).states) old l new = subst (λ s. Takes (StartGoes s) old l new) (sym (known_states k states known)) takes in
+    let go : Takes (ItemGoes k) (items.Start old) l (items.Start new) =
+    record { back = λ ls next g. (g.0, (t.back ls g.0 g.1.0, g.1.1)); on = λ ls next g. (g.0, (t.on ls g.0 g.1.0, g.1.1)) } in
+    subst (λ i. Takes (ItemGoes k) i l (items.Start new)) (sym is) go
+
+pub start_stuck : (k : Known) (states : Elements) (item : ItemReader) (old : StartReader) (l : Lexeme) → k.states ≡ Some states → item ≡ items.Start old → CannotTake (StartGoes states) old l
+    → CannotTake (ItemGoes k) item l
+start_stuck k states item old l known is stuck =
+    let none : CannotTake (StartGoes (preamble_in k).states) old l = subst (λ s. CannotTake (StartGoes s) old l) (sym (known_states k states known)) stuck in
+    let go : CannotTake (ItemGoes k) (items.Start old) l = λ ls next g. none ls g.0 g.1.0 in
+    subst (λ i. CannotTake (ItemGoes k) i l) (sym is) go
+
+pub start_leads : (k : Known) (states : Elements) (item : ItemReader) (old new : StartReader) (l : Lexeme) → k.states ≡ Some states → item ≡ items.Start old
+    → Leads (start_wants (count_of states) old) l (start_wants (count_of states) new) → Leads (item_wants k item) l (item_wants k (items.Start new))
+start_leads k states item old new l known is leads =
+    let go : Leads (item_wants k (items.Start old)) l (item_wants k (items.Start new)) =
+    subst (λ s. Leads (start_wants (count_of s) old) l (start_wants (count_of s) new)) (sym (known_states k states known)) leads in
+    subst (λ i. Leads (item_wants k i) l (item_wants k (items.Start new))) (sym is) go
+
+pub start_named : (k : Known) (states : Elements) (item : ItemReader) (old : StartReader) (l : Lexeme) (stop : Stop) → k.states ≡ Some states → item ≡ items.Start old
+    → IfRefused stop (λ r. IsValueOr (start_wants (count_of states) old []) l r.kind) → IfRefused stop (λ r. IsAtToken l r.kind r.place)
+    → IfRefused stop (λ r. IfStart (topic_in item) (IsStartMisfit (item_wants k item []) l r.kind r.place))
+start_named k states item old l (stops.Refused r) known is named at =
+    let go : IsStartMisfit (item_wants k (items.Start old) []) l r.kind r.place =
+    subst (λ s. IsStartMisfit (start_wants (count_of s) old []) l r.kind r.place) (sym (known_states k states known)) (start_misfit (start_wants (count_of states) old []) l r.kind r.place named at) in
+    subst (λ i. IfStart (topic_in i) (IsStartMisfit (item_wants k i []) l r.kind r.place)) (sym is) go
+start_named k states item old l stops.Memory known is named at = tt
+
+pub if_err_both : {T E : Type 0} (r : Result T E) (P Q R : E → Type 0) → ((e : E) → P e → Q e → R e) → IfErr r P → IfErr r Q → IfErr r R
+if_err_both (Ok v) P Q R f x y = tt
+if_err_both (Err e) P Q R f x y = f e x y
+
+pub start_ends : (k : Known) (states : Elements) (item : ItemReader) (r : StartReader) (e : ItemEnd) → k.states ≡ Some states → item ≡ items.Start r
+    → IfAtEnd e (λ kind. kind ≡ misfit (start_wants (count_of states) r []) None) → IfAtEnd e (λ kind. kind ≡ misfit (item_wants k item []) None)
+start_ends k states item r e known is named =
+    let go : IfAtEnd e (λ kind. kind ≡ misfit (item_wants k (items.Start r) []) None) =
+    subst (λ s. IfAtEnd e (λ kind. kind ≡ misfit (start_wants (count_of s) r []) None)) (sym (known_states k states known)) named in
+    subst (λ i. IfAtEnd e (λ kind. kind ≡ misfit (item_wants k i []) None)) (sym is) go
+
+-- ---- why an item cannot end
+
+pub start_end_reason : (item : ItemReader) (r : StartReader) (body : List Lexeme) (end : ItemEnd) → item ≡ items.Start r → IsStartEndReason body end → IsItemEndReason (topic_in item) body end
+start_end_reason item r body end e m = subst (λ i. IsItemEndReason (topic_in i) body end) (sym e) (at end m)
+  where
+    at : (end : ItemEnd) → IsStartEndReason body end → IsItemEndReason Start body end
+    at (ends.AtEnd kind) m = at_end kind m
+      where
+        at_end : (kind : ItemFault) → IsStartEndReason body (ends.AtEnd kind) → IsItemEndReason Start body (ends.AtEnd kind)
+        at_end BadShape m = tt
+        at_end WrongNumberCount m = tt
+        at_end StartSum m = refl
+        at_end StartEmpty m = refl
+        at_end _ m = absurd m
+    at (ends.At r) m = (refl, m.0, m.1)
+    at ends.Memory m = tt

@@ -1,0 +1,15 @@
+pub mod ElementLaws
+pub mod ItemReading
+pub mod LineLaws
+pub mod ListLaws
+pub mod MisfitLaws
+pub mod PatternLaws
+pub mod StartForms
+pub mod StartNumbers
+pub mod StartReading
+pub mod StartSeen
+pub mod StartShares
+pub mod StepLaws
+pub mod TokenTexts
+pub mod WantLaws
+pub mod WholeItems

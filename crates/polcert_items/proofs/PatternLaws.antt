@@ -1,0 +1,530 @@
+-- The places and the body of an entry, token by token.
+use Rattle.std.proofs.Common.{◌≡◌, ◌∙◌, ℕ, suc, ◌+◌, ◌≤◌, Bool, true, false, Option, Some, None, List, [], ◌∷◌, ◌++◌, length, drop, map, ℤ, pos, refl, sym, ap, subst, arith, append_assoc, append-nil, length-append, ◌⊎◌, inl, inr, Result, Ok, Err, IfErr, OnOk, zero}
+use Rattle.std.specs.Prelude.{◌==◌}
+use Rattle.std.specs.List.{list_any}
+use Rattle.std.proofs.lemmas.Bool.Decides.{nat_tests}
+use Rattle.std.proofs.lemmas.List.{drop-drop, drop_all}
+use Rattle.std.proofs.lemmas.List.Elements.{All-tail}
+use Rattle.std.proofs.Math.Nat.{mul-pos}
+use Rattle.polcert_text.specs.Cut.{Lexeme}
+use Rattle.polcert_text.specs.declared.lexeme.TokenKind.{TokenKind}
+use Rattle.polcert_text.specs.declared.lexeme.TokenKind.TheVariants.{Name, Numeral, Colon, Plus, Minus, Star}
+use Rattle.polcert_cells.specs.declared.entry.Table.{Table}
+use Rattle.polcert_cells.specs.declared.entry.Table.TheVariants.{Transition, Observation, Reward}
+use Rattle.polcert_cells.specs.declared.entry.Place.{Place}
+use Rattle.polcert_cells.specs.declared.entry.Place.TheVariants.{Every, Only}
+use Rattle.polcert_cells.specs.declared.entry.Body.{Body}
+use Rattle.polcert_cells.specs.declared.entry.Body.TheVariants as bodies
+use Rattle.polcert_cells.specs.declared.entry.Entry.{Entry}
+use Rattle.polcert_items.specs.declared.entry_reader.Word.{Word}
+use Rattle.polcert_items.specs.declared.entry_reader.Word.TheVariants as words
+use Rattle.polcert_items.specs.declared.entry_reader.EntryState.{EntryState}
+use Rattle.polcert_items.specs.declared.entry_reader.EntryState.TheVariants as states
+use Rattle.polcert_items.specs.declared.entry_reader.Numbers.{Numbers}
+use Rattle.polcert_items.specs.declared.entry_reader.EntryReader.{EntryReader}
+use Rattle.polcert_format.specs.declared.fault.ItemFault.{ItemFault}
+use Rattle.polcert_items.specs.declared.number.Refusal.{Refusal}
+use Rattle.polcert_items.specs.declared.number.Sign.{Sign}
+use Rattle.polcert_items.specs.declared.number.Range.TheVariants.{Probability}
+use Rattle.polcert_items.specs.declared.stop.Stop.{Stop}
+use Rattle.polcert_items.specs.declared.stop.Stop.TheVariants.{Refused, Memory}
+use Rattle.polcert_cells.specs.Words.{IsWord}
+use Rattle.polcert_cells.specs.Numbers.{AreNumbers, one}
+use Rattle.polcert_cells.specs.Numbers as numbers
+use Rattle.polcert_cells.specs.declared.elements.Elements.{Elements}
+use Rattle.polcert_cells.specs.Elements.{count_of, StandsFor}
+use Rattle.polcert_cells.specs.Entry.{cells_in, IsPlace, ArePlaces, IsBody}
+use Rattle.polcert_cells.specs.Entry as entries
+use Rattle.polcert_format.specs.Text.{Known}
+use Rattle.polcert_format.specs.Wants.{least_written}
+use Rattle.polcert_items.specs.LineSteps.{Takes, CannotTake, CannotEnd}
+use Rattle.polcert_items.specs.NumberSteps.{AreNumbersBehind}
+use Rattle.polcert_items.specs.EntrySteps as reasons
+use Rattle.polcert_items.proofs.ListLaws.{all_none}
+use Rattle.polcert_cells.specs.Preamble.{Preamble, is_mdp, dimensions, named}
+use Rattle.polcert_format.specs.KnownPreamble.{preamble_in, indices_in}
+use Rattle.polcert_items.specs.EntrySteps.{IsEntryBehind, IsFirstPlace, PlaceRest, entry_with, ProbabilitiesGo, RewardsGo, StateGoes, EntryGoes, IfRefused, body_of, word_text, MayStand, IsWordBehind, no_numbers, AreBegun, CannotBegin, IsFull, IsListReason, IsEntryReason, entry_sign, AreSome}
+use Rattle.polcert_cells.proofs.Basics.{cons≢nil, same_head, same_tail}
+use Rattle.polcert_cells.proofs.EntryLaws.{NoColonFirst, body_no_colon, uniform_not_identity}
+use Rattle.polcert_format.proofs.GoOnLaws.{begins_no_number}
+
+module _ (preamble : Preamble) (table : Table) (before : List Place) where
+  -- behind a colon
+  one_more : (d : Elements) (es : List Elements) (p : Place) → drop (length before) (named preamble table) ≡ d ∷ es → drop (length (before ++ p ∷ [])) (named preamble table) ≡ es
+  one_more d es p e =
+      let len : length (before ++ p ∷ []) ≡ length before + 1 = length-append before (p ∷ []) in
+      ap (λ n. drop n (named preamble table)) len ∙ drop_more (length before) (named preamble table) e
+    where
+      drop_more : (n : ℕ) (xs : List Elements) → drop n xs ≡ d ∷ es → drop (n + 1) xs ≡ es
+      drop_more n xs f = sym (drop-drop 1 n xs) ∙ ap (drop 1) f
+
+  module _ (l : Lexeme) (colon : l.kind ≡ Colon) where
+    place_then : (ls : List Lexeme) (e : Entry) (further : List Place) (pattern rest : List Lexeme) (es : List Elements) → drop (length before) (named preamble table) ≡ es → ArePlaces es pattern further
+        → l ∷ ls ≡ pattern ++ rest → NoColonFirst rest → e.places ≡ before ++ further → e.table ≡ table → MayStand (is_mdp preamble) table e.body (length e.places)
+        → IsBody (cells_in (drop (length e.places) (dimensions preamble table))) rest e.body → PlaceRest preamble table before ls e
+    place_then ls e further pattern rest es same entries.none whole free places_are table_is form body = absurd (subst NoColonFirst (sym whole) free colon)
+    place_then ls e further pattern rest es same (entries.more {d} {ds = fs} {colon = c} {l = m} {ls = more} {p} {ps} at place behind) whole free places_are table_is form body =
+        let tail : ls ≡ m ∷ (more ++ rest) = same_tail whole in
+        let next : drop (length (before ++ p ∷ [])) (named preamble table) ≡ fs = one_more d fs p same in
+        let rest_of : IsEntryBehind preamble table (before ++ p ∷ []) (more ++ rest) e = record {
+          further = ps;
+          pattern = more;
+          rest = rest;
+          whole = refl;
+          places_are = places_are ∙ sym (append_assoc before (p ∷ []) ps);
+          table_is = table_is;
+          form = form;
+          places = subst (λ es. ArePlaces es more ps) (sym next) behind;
+          body = body;
+        } in
+        let found : PlaceRest preamble table before (m ∷ (more ++ rest)) e = (p, (subst (λ es. IsFirstPlace es m p) (sym same) place, rest_of)) in
+        subst (λ xs. PlaceRest preamble table before xs e) (sym tail) found
+
+    pub colon_on : (ls : List Lexeme) (e : Entry) → IsEntryBehind preamble table before (l ∷ ls) e → PlaceRest preamble table before ls e
+    colon_on ls e b = place_then ls e b.further b.pattern b.rest _ refl b.places b.whole (body_no_colon b.body) b.places_are b.table_is b.form b.body
+
+    pub colon_back : (ls : List Lexeme) (e : Entry) → PlaceRest preamble table before ls e → IsEntryBehind preamble table before (l ∷ ls) e
+    colon_back [] e r = absurd r
+    colon_back (m ∷ ls) e r = at (drop (length before) (named preamble table)) refl r.1.0
+      where
+        at : (es : List Elements) → drop (length before) (named preamble table) ≡ es → IsFirstPlace es m r.0 → IsEntryBehind preamble table before (l ∷ m ∷ ls) e
+        at [] same place = absurd place
+        at (d ∷ es) same place =
+            let b = r.1.1 in
+            let next : drop (length (before ++ r.0 ∷ [])) (named preamble table) ≡ es = one_more d es r.0 same in
+            record {
+              further = r.0 ∷ b.further;
+              pattern = l ∷ m ∷ b.pattern;
+              rest = b.rest;
+              whole = ap (λ xs. l ∷ m ∷ xs) b.whole;
+              places_are = b.places_are ∙ append_assoc before (r.0 ∷ []) b.further;
+              table_is = b.table_is;
+              form = b.form;
+              places = subst (λ es. ArePlaces es (l ∷ m ∷ b.pattern) (r.0 ∷ b.further)) (sym same) (entries.more colon place (subst (λ es. ArePlaces es b.pattern b.further) next b.places));
+              body = b.body;
+            }
+
+    pub colon_takes : Takes (StateGoes preamble table before) states.Body l states.Place
+    colon_takes = record { back = λ ls e r. colon_back ls e r; on = λ ls e b. colon_on ls e b }
+
+  -- behind a lexeme that is no colon: the body itself
+  record BodyHere (ls : List Lexeme) (e : Entry) : Type 0 where
+    places_are : e.places ≡ before
+    table_is : e.table ≡ table
+    form : MayStand (is_mdp preamble) table e.body (length before)
+    body : IsBody (cells_in (drop (length before) (dimensions preamble table))) ls e.body
+
+  here : (l : Lexeme) (ls : List Lexeme) (e : Entry) → (l.kind ≡ Colon → ⊥) → IsEntryBehind preamble table before (l ∷ ls) e → BodyHere (l ∷ ls) e
+  here l ls e no_colon b = at b.further b.pattern _ refl b.places b.whole b.places_are
+    where
+      at : (further : List Place) (pattern : List Lexeme) (es : List Elements) → drop (length before) (named preamble table) ≡ es → ArePlaces es pattern further → l ∷ ls ≡ pattern ++ b.rest → e.places ≡ before ++ further → BodyHere (l ∷ ls) e
+      at further pattern es same entries.none whole places_are =
+          let all : e.places ≡ before = places_are ∙ append-nil before in
+          let count : length e.places ≡ length before = ap length all in
+          record {
+            places_are = all;
+            table_is = b.table_is;
+            form = subst (MayStand (is_mdp preamble) table e.body) count b.form;
+            body = subst (λ xs. IsBody (cells_in (drop (length before) (dimensions preamble table))) xs e.body) (sym whole) (subst (λ n. IsBody (cells_in (drop n (dimensions preamble table))) b.rest e.body) count b.body);
+          }
+      at further pattern es same (entries.more {colon = c} colon place behind) whole places_are = absurd (no_colon (subst (λ (m : Lexeme). m.kind ≡ Colon) (sym (same_head whole)) colon))
+
+  -- the body itself behind the places
+  there : (ls : List Lexeme) (e : Entry) → BodyHere ls e → IsEntryBehind preamble table before ls e
+  there ls e h =
+      let count : length before ≡ length e.places = ap length (sym h.places_are) in
+      record {
+        further = [];
+        pattern = [];
+        rest = ls;
+        whole = refl;
+        places_are = h.places_are ∙ sym (append-nil before);
+        table_is = h.table_is;
+        form = subst (MayStand (is_mdp preamble) table e.body) count h.form;
+        places = entries.none;
+        body = subst (λ n. IsBody (cells_in (drop n (dimensions preamble table))) ls e.body) count h.body;
+      }
+
+  entry_eta : (e : Entry) → e.places ≡ before → e.table ≡ table → (b : Body) → e.body ≡ b → e ≡ entry_with table before b
+  entry_eta e p t b s = λ i. record { table = t i; places = p i; body = s i }
+
+no_form : (b : Bool) → b ≡ false → b ≡ true → ⊥
+no_form b e f = cc
+
+-- a body that begins with a numeral or a sign is numbers
+probabilities_of : (mdp : Bool) (cells n : ℕ) (l : Lexeme) (ls : List Lexeme) (table : Table) (b : Body) → IsBody cells (l ∷ ls) b → MayStand mdp table b n → (l.kind ≡ Name → ⊥) → ((hs : List ℤ) → MayStand mdp table (bodies.Rewards hs) n → ⊥)
+    → ProbabilitiesGo (no_numbers cells) (l ∷ ls) b
+probabilities_of mdp cells n l ls table b (entries.probabilities {ps} a count all) form no_name no_rewards = record { further = ps; numbers = a; small = all; enough = count; body_is = refl }
+probabilities_of mdp cells n l ls table b (entries.rewards {hs} a count) form no_name no_rewards = absurd (no_rewards hs form)
+probabilities_of mdp cells n l ls table b (entries.uniform w) form no_name no_rewards = absurd (no_name w.kind)
+probabilities_of mdp cells n l ls table b (entries.identity w) form no_name no_rewards = absurd (no_name w.kind)
+
+rewards_of : (mdp : Bool) (cells n : ℕ) (l : Lexeme) (ls : List Lexeme) (b : Body) → IsBody cells (l ∷ ls) b → MayStand mdp Reward b n → RewardsGo (no_numbers cells) (l ∷ ls) b
+rewards_of mdp cells n l ls b (entries.probabilities {ps} a count all) form = absurd (no_form _ refl form)
+rewards_of mdp cells n l ls b (entries.rewards {hs} a count) form = record { further = hs; numbers = a; enough = count; body_is = refl }
+rewards_of mdp cells n l ls b (entries.uniform w) form = absurd (no_form _ refl form)
+rewards_of mdp cells n l ls b (entries.identity w) form = absurd (no_form _ refl form)
+
+module _ (preamble : Preamble) (before : List Place) (l : Lexeme) (no_colon : l.kind ≡ Colon → ⊥) (needed : ℕ) where
+  module _ (table : Table) (cells : needed ≡ cells_in (drop (length before) (dimensions preamble table))) (no_name : l.kind ≡ Name → ⊥) (no_rewards : (hs : List ℤ) → MayStand (is_mdp preamble) table (bodies.Rewards hs) (length before) → ⊥)
+      (may : (ps : List ℕ) → MayStand (is_mdp preamble) table (bodies.Probabilities ps) (length before)) (n : Numbers ℕ) (t : Takes ProbabilitiesGo (no_numbers needed) l n) where
+    probabilities_begin : Takes (StateGoes preamble table before) states.Body l (states.Probabilities n)
+    probabilities_begin = record {
+      back = λ ls e r.
+          let g = t.back ls r.0 r.1.0 in
+          let body_is : e.body ≡ bodies.Probabilities g.further = ap (λ (x : Entry). x.body) r.1.1 ∙ g.body_is in
+          let body : IsBody (cells_in (drop (length before) (dimensions preamble table))) (l ∷ ls) (bodies.Probabilities g.further) = entries.probabilities g.numbers (g.enough ∙ cells) g.small in
+          there preamble table before (l ∷ ls) e (record {
+            places_are = ap (λ (x : Entry). x.places) r.1.1;
+            table_is = ap (λ (x : Entry). x.table) r.1.1;
+            form = subst (λ b. MayStand (is_mdp preamble) table b (length before)) (sym body_is) (may g.further);
+            body = subst (IsBody (cells_in (drop (length before) (dimensions preamble table))) (l ∷ ls)) (sym body_is) body;
+          });
+      on = λ ls e b.
+          let h = here preamble table before l ls e no_colon b in
+          let go = probabilities_of (is_mdp preamble) needed (length before) l ls table e.body (subst (λ c. IsBody c (l ∷ ls) e.body) (sym cells) h.body) h.form no_name no_rewards in
+          (e.body, (t.on ls e.body go, entry_eta preamble table before e h.places_are h.table_is e.body refl));
+    }
+
+  module _ (cells : needed ≡ cells_in (drop (length before) (dimensions preamble Reward))) (may : (hs : List ℤ) → MayStand (is_mdp preamble) Reward (bodies.Rewards hs) (length before)) (n : Numbers ℤ) (t : Takes RewardsGo (no_numbers needed) l n) where
+    rewards_begin : Takes (StateGoes preamble Reward before) states.Body l (states.Rewards n)
+    rewards_begin = record {
+      back = λ ls e r.
+          let g = t.back ls r.0 r.1.0 in
+          let body_is : e.body ≡ bodies.Rewards g.further = ap (λ (x : Entry). x.body) r.1.1 ∙ g.body_is in
+          let body : IsBody (cells_in (drop (length before) (dimensions preamble Reward))) (l ∷ ls) (bodies.Rewards g.further) = entries.rewards g.numbers (g.enough ∙ cells) in
+          there preamble Reward before (l ∷ ls) e (record {
+            places_are = ap (λ (x : Entry). x.places) r.1.1;
+            table_is = ap (λ (x : Entry). x.table) r.1.1;
+            form = subst (λ b. MayStand (is_mdp preamble) Reward b (length before)) (sym body_is) (may g.further);
+            body = subst (IsBody (cells_in (drop (length before) (dimensions preamble Reward))) (l ∷ ls)) (sym body_is) body;
+          });
+      on = λ ls e b.
+          let h = here preamble Reward before l ls e no_colon b in
+          let go = rewards_of (is_mdp preamble) needed (length before) l ls e.body (subst (λ c. IsBody c (l ∷ ls) e.body) (sym cells) h.body) h.form in
+          (e.body, (t.on ls e.body go, entry_eta preamble Reward before e h.places_are h.table_is e.body refl));
+    }
+
+pub one_to_three : (n : ℕ) → 1 ≤ n → n ≤ 3 → list_any (λ k. k == n) (1 ∷ 2 ∷ 3 ∷ []) ≡ true
+one_to_three n low high = grind (arith, nat_tests)
+
+pub one_to_four : (n : ℕ) → 1 ≤ n → n ≤ 4 → list_any (λ k. k == n) (1 ∷ 2 ∷ 3 ∷ 4 ∷ []) ≡ true
+one_to_four n low high = grind (arith, nat_tests)
+
+pub two_to_four : (n : ℕ) → 2 ≤ n → n ≤ 4 → list_any (λ k. k == n) (2 ∷ 3 ∷ 4 ∷ []) ≡ true
+two_to_four n low high = grind (arith, nat_tests)
+
+-- rewards may stand behind enough places
+pub rewards_may_stand : (mdp : Bool) (n : ℕ) (hs : List ℤ) → least_written mdp Reward ≤ n → n ≤ 4 → MayStand mdp Reward (bodies.Rewards hs) n
+rewards_may_stand true n hs low high = one_to_four n low high
+rewards_may_stand false n hs low high = two_to_four n low high
+
+-- the body's numbers were begun
+pub numbers_begin : (k : Known) (table : Table) (before : List Place) (l : Lexeme) (new : EntryState) (needed : ℕ) → (l.kind ≡ Colon → ⊥) → (l.kind ≡ Name → ⊥)
+    → needed ≡ cells_in (drop (length before) (indices_in k table)) → least_written (is_mdp (preamble_in k)) table ≤ length before → length before ≤ length (indices_in k table)
+    → AreBegun table needed l new → Takes (StateGoes (preamble_in k) table before) states.Body l new
+numbers_begin k Transition before l (states.Probabilities n) needed no_colon no_name cells low high t =
+    probabilities_begin (preamble_in k) before l no_colon needed Transition cells no_name (λ hs form. no_form _ refl form) (λ ps. one_to_three (length before) low high) n t
+numbers_begin k Observation before l (states.Probabilities n) needed no_colon no_name cells low high t =
+    probabilities_begin (preamble_in k) before l no_colon needed Observation cells no_name (λ hs form. no_form _ refl form) (λ ps. one_to_three (length before) low high) n t
+numbers_begin k Reward before l (states.Rewards n) needed no_colon no_name cells low high t =
+    rewards_begin (preamble_in k) before l no_colon needed cells (λ hs. rewards_may_stand (is_mdp (preamble_in k)) (length before) hs low high) n t
+numbers_begin k Transition before l states.Colon needed no_colon no_name cells low high t = absurd t
+numbers_begin k Transition before l states.Place needed no_colon no_name cells low high t = absurd t
+numbers_begin k Transition before l states.Body needed no_colon no_name cells low high t = absurd t
+numbers_begin k Transition before l (states.Rewards n) needed no_colon no_name cells low high t = absurd t
+numbers_begin k Transition before l (states.Word w) needed no_colon no_name cells low high t = absurd t
+numbers_begin k Observation before l states.Colon needed no_colon no_name cells low high t = absurd t
+numbers_begin k Observation before l states.Place needed no_colon no_name cells low high t = absurd t
+numbers_begin k Observation before l states.Body needed no_colon no_name cells low high t = absurd t
+numbers_begin k Observation before l (states.Rewards n) needed no_colon no_name cells low high t = absurd t
+numbers_begin k Observation before l (states.Word w) needed no_colon no_name cells low high t = absurd t
+numbers_begin k Reward before l states.Colon needed no_colon no_name cells low high t = absurd t
+numbers_begin k Reward before l states.Place needed no_colon no_name cells low high t = absurd t
+numbers_begin k Reward before l states.Body needed no_colon no_name cells low high t = absurd t
+numbers_begin k Reward before l (states.Probabilities n) needed no_colon no_name cells low high t = absurd t
+numbers_begin k Reward before l (states.Word w) needed no_colon no_name cells low high t = absurd t
+
+-- numbers that cannot begin with a lexeme
+pub numbers_stuck : (k : Known) (table : Table) (before : List Place) (l : Lexeme) (needed : ℕ) → (l.kind ≡ Colon → ⊥) → (l.kind ≡ Name → ⊥)
+    → needed ≡ cells_in (drop (length before) (indices_in k table)) → CannotBegin table needed l → CannotTake (StateGoes (preamble_in k) table before) states.Body l
+numbers_stuck k Transition before l needed no_colon no_name cells stuck = λ ls e b.
+    let h = here (preamble_in k) Transition before l ls e no_colon b in
+    stuck ls e.body (probabilities_of (is_mdp (preamble_in k)) needed (length before) l ls Transition e.body (subst (λ c. IsBody c (l ∷ ls) e.body) (sym cells) h.body) h.form no_name (λ hs form. no_form _ refl form))
+numbers_stuck k Observation before l needed no_colon no_name cells stuck = λ ls e b.
+    let h = here (preamble_in k) Observation before l ls e no_colon b in
+    stuck ls e.body (probabilities_of (is_mdp (preamble_in k)) needed (length before) l ls Observation e.body (subst (λ c. IsBody c (l ∷ ls) e.body) (sym cells) h.body) h.form no_name (λ hs form. no_form _ refl form))
+numbers_stuck k Reward before l needed no_colon no_name cells stuck = λ ls e b.
+    let h = here (preamble_in k) Reward before l ls e no_colon b in
+    stuck ls e.body (rewards_of (is_mdp (preamble_in k)) needed (length before) l ls e.body (subst (λ c. IsBody c (l ∷ ls) e.body) (sym cells) h.body) h.form)
+
+name_not_numeral : (l : Lexeme) → l.kind ≡ Name → l.kind ≡ Numeral → ⊥
+name_not_numeral l a b = cc
+
+name_not_plus : (l : Lexeme) → l.kind ≡ Name → l.kind ≡ Plus → ⊥
+name_not_plus l a b = cc
+
+name_not_minus : (l : Lexeme) → l.kind ≡ Name → l.kind ≡ Minus → ⊥
+name_not_minus l a b = cc
+
+pub name_not_colon : (l : Lexeme) → l.kind ≡ Name → l.kind ≡ Colon → ⊥
+name_not_colon l a b = cc
+
+-- what a name begins as a body: a word
+record WordHere (l : Lexeme) (ls : List Lexeme) (b : Body) : Type 0 where
+  word : Word
+  is_word : IsWord (word_text word) l
+  body_is : b ≡ body_of word
+  none_left : ls ≡ []
+
+no_numbers_at : (l : Lexeme) (ls : List Lexeme) (hs : List ℤ) → l.kind ≡ Name → AreNumbers (l ∷ ls) hs → ⊥
+no_numbers_at l ls hs name a = begins_no_number (name_not_numeral l name) (name_not_plus l name) (name_not_minus l name) a
+
+word_here : (cells : ℕ) (l : Lexeme) (ls : List Lexeme) (b : Body) → ((hs : List ℤ) → AreNumbers (l ∷ ls) hs → ⊥) → IsBody cells (l ∷ ls) b → WordHere l ls b
+word_here cells l ls b none (entries.probabilities {ps} a count all) = absurd (none (map pos ps) a)
+word_here cells l ls b none (entries.rewards {hs} a count) = absurd (none hs a)
+word_here cells l ls b none (entries.uniform w) = record { word = words.Uniform; is_word = w; body_is = refl; none_left = refl }
+word_here cells l ls b none (entries.identity w) = record { word = words.Identity; is_word = w; body_is = refl; none_left = refl }
+
+word_body : (cells : ℕ) (l : Lexeme) (w : Word) → IsWord (word_text w) l → IsBody cells (l ∷ []) (body_of w)
+word_body cells l words.Uniform w = entries.uniform w
+word_body cells l words.Identity w = entries.identity w
+
+one_word : (l : Lexeme) (v w : Word) → IsWord (word_text v) l → IsWord (word_text w) l → v ≡ w
+one_word l words.Uniform words.Uniform a b = refl
+one_word l words.Identity words.Identity a b = refl
+one_word l words.Uniform words.Identity a b = absurd (uniform_not_identity l a b)
+one_word l words.Identity words.Uniform a b = absurd (uniform_not_identity l b a)
+
+word_kind : (l : Lexeme) (w : Word) → IsWord (word_text w) l → l.kind ≡ Name
+word_kind l words.Uniform w = w.kind
+word_kind l words.Identity w = w.kind
+
+pub word_takes : (preamble : Preamble) (table : Table) (before : List Place) (l : Lexeme) (w : Word) → IsWordBehind (is_mdp preamble) table (length before) l w → Takes (StateGoes preamble table before) states.Body l (states.Word w)
+word_takes preamble table before l w is = record {
+  back = λ ls e r.
+      let body_is : e.body ≡ body_of w = ap (λ (x : Entry). x.body) r.1 in
+      let h : BodyHere preamble table before (l ∷ []) e = record {
+        places_are = ap (λ (x : Entry). x.places) r.1;
+        table_is = ap (λ (x : Entry). x.table) r.1;
+        form = subst (λ b. MayStand (is_mdp preamble) table b (length before)) (sym body_is) is.1;
+        body = subst (IsBody (cells_in (drop (length before) (dimensions preamble table))) (l ∷ [])) (sym body_is) (word_body _ l w is.0);
+      } in
+      subst (λ xs. IsEntryBehind preamble table before (l ∷ xs) e) (sym r.0) (there preamble table before (l ∷ []) e h);
+  on = λ ls e b.
+      let name = word_kind l w is.0 in
+      let h = here preamble table before l ls e (name_not_colon l name) b in
+      let x = word_here _ l ls e.body (λ hs a. no_numbers_at l ls hs name a) h.body in
+      let same : e.body ≡ body_of w = x.body_is ∙ ap body_of (one_word l x.word w x.is_word is.0) in
+      (x.none_left, entry_eta preamble table before e h.places_are h.table_is (body_of w) same);
+}
+
+-- a lexeme that is no colon, no word that may stand here and begins no numbers
+pub nothing_takes : (preamble : Preamble) (table : Table) (before : List Place) (l : Lexeme) → (l.kind ≡ Colon → ⊥) → ((ls : List Lexeme) (hs : List ℤ) → AreNumbers (l ∷ ls) hs → ⊥)
+    → ((w : Word) → IsWordBehind (is_mdp preamble) table (length before) l w → ⊥) → CannotTake (StateGoes preamble table before) states.Body l
+nothing_takes preamble table before l no_colon none no_word = λ ls e b.
+    let h = here preamble table before l ls e no_colon b in
+    let x = word_here _ l ls e.body (none ls) h.body in
+    no_word x.word (x.is_word, subst (λ b. MayStand (is_mdp preamble) table b (length before)) x.body_is h.form)
+
+-- the kind of a token that begins a number
+abbrev pub BeginsNumber : TokenKind → Type 0
+BeginsNumber kind = (kind ≡ Numeral) ⊎ ((kind ≡ Plus) ⊎ (kind ≡ Minus))
+
+pub number_not_colon : (kind : TokenKind) → BeginsNumber kind → kind ≡ Colon → ⊥
+number_not_colon kind (inl e) f = cc
+number_not_colon kind (inr (inl e)) f = cc
+number_not_colon kind (inr (inr e)) f = cc
+
+pub number_not_name : (kind : TokenKind) → BeginsNumber kind → kind ≡ Name → ⊥
+number_not_name kind (inl e) f = cc
+number_not_name kind (inr (inl e)) f = cc
+number_not_name kind (inr (inr e)) f = cc
+
+-- as many places as indices
+pub same_length : (preamble : Preamble) (table : Table) → length (named preamble table) ≡ length (dimensions preamble table)
+same_length preamble Transition = refl
+same_length preamble Observation = refl
+same_length preamble Reward = refl
+
+-- no colon is taken where all indices have their place
+pub colon_stuck : (preamble : Preamble) (table : Table) (before : List Place) (l : Lexeme) → l.kind ≡ Colon → length (dimensions preamble table) ≤ length before → CannotTake (StateGoes preamble table before) states.Body l
+colon_stuck preamble table before l colon full = λ ls e b. at ls e (colon_on preamble table before l colon ls e b)
+  where
+    none : drop (length before) (named preamble table) ≡ []
+    none = drop_all (length before) (named preamble table) (subst (λ n. n ≤ length before) (sym (same_length preamble table)) full)
+
+    at : (ls : List Lexeme) (e : Entry) → PlaceRest preamble table before ls e → ⊥
+    at [] e r = r
+    at (m ∷ ls) e r = subst (λ es. IsFirstPlace es m r.0) none r.1.0
+
+few_probabilities : (mdp : Bool) (table : Table) (ps : List ℕ) (n : ℕ) → (least_written mdp table ≤ n → ⊥) → MayStand mdp table (bodies.Probabilities ps) n → ⊥
+few_probabilities mdp Transition ps n few form = few (at_least n form)
+  where
+    at_least : (n : ℕ) → list_any (λ k. k == n) (1 ∷ 2 ∷ 3 ∷ []) ≡ true → 1 ≤ n
+    at_least n e = grind (arith, nat_tests)
+few_probabilities mdp Observation ps n few form = few (at_least n form)
+  where
+    at_least : (n : ℕ) → list_any (λ k. k == n) (1 ∷ 2 ∷ 3 ∷ []) ≡ true → 1 ≤ n
+    at_least n e = grind (arith, nat_tests)
+few_probabilities mdp Reward ps n few form = no_form _ refl form
+
+few_rewards : (mdp : Bool) (table : Table) (hs : List ℤ) (n : ℕ) → (least_written mdp table ≤ n → ⊥) → MayStand mdp table (bodies.Rewards hs) n → ⊥
+few_rewards mdp Transition hs n few form = no_form _ refl form
+few_rewards mdp Observation hs n few form = no_form _ refl form
+few_rewards true Reward hs n few form = few (at_least n form)
+  where
+    at_least : (n : ℕ) → list_any (λ k. k == n) (1 ∷ 2 ∷ 3 ∷ 4 ∷ []) ≡ true → 1 ≤ n
+    at_least n e = grind (arith, nat_tests)
+few_rewards false Reward hs n few form = few (at_least n form)
+  where
+    at_least : (n : ℕ) → list_any (λ k. k == n) (2 ∷ 3 ∷ 4 ∷ []) ≡ true → 2 ≤ n
+    at_least n e = grind (arith, nat_tests)
+
+few_stuck_at : (mdp : Bool) (cells n : ℕ) (l : Lexeme) (ls : List Lexeme) (table : Table) (b : Body) → (least_written mdp table ≤ n → ⊥) → (l.kind ≡ Name → ⊥) → IsBody cells (l ∷ ls) b → MayStand mdp table b n → ⊥
+few_stuck_at mdp cells n l ls table b few no_name (entries.probabilities {ps} a count all) form = few_probabilities mdp table ps n few form
+few_stuck_at mdp cells n l ls table b few no_name (entries.rewards {hs} a count) form = few_rewards mdp table hs n few form
+few_stuck_at mdp cells n l ls table b few no_name (entries.uniform w) form = no_name w.kind
+few_stuck_at mdp cells n l ls table b few no_name (entries.identity w) form = no_name w.kind
+
+-- no number is taken behind too few places
+pub few_stuck : (preamble : Preamble) (table : Table) (before : List Place) (l : Lexeme) → BeginsNumber l.kind → (least_written (is_mdp preamble) table ≤ length before → ⊥) → CannotTake (StateGoes preamble table before) states.Body l
+few_stuck preamble table before l begins few = λ ls e b.
+    let h = here preamble table before l ls e (number_not_colon l.kind begins) b in
+    few_stuck_at (is_mdp preamble) _ (length before) l ls table e.body few (number_not_name l.kind begins) h.body h.form
+
+-- a reader whose state is known
+pub in_state : (preamble : Preamble) (r : EntryReader) (old new : EntryState) (l : Lexeme) → r.state ≡ old → Takes (StateGoes preamble r.table r.places) old l new → Takes (EntryGoes preamble) r l (record r { state = new })
+in_state preamble r old new l is t = record {
+  back = λ ls e goes. subst (λ s. StateGoes preamble r.table r.places s (l ∷ ls) e) (sym is) (t.back ls e goes);
+  on = λ ls e goes. t.on ls e (subst (λ s. StateGoes preamble r.table r.places s (l ∷ ls) e) is goes);
+}
+
+pub stuck_in_state : (preamble : Preamble) (r : EntryReader) (old : EntryState) (l : Lexeme) → r.state ≡ old → CannotTake (StateGoes preamble r.table r.places) old l → CannotTake (EntryGoes preamble) r l
+stuck_in_state preamble r old l is stuck = λ ls e goes. stuck ls e (subst (λ s. StateGoes preamble r.table r.places s (l ∷ ls) e) is goes)
+
+pub if_err_map : {T E : Type 0} (r : Result T E) (P Q : E → Type 0) → ((e : E) → P e → Q e) → IfErr r P → IfErr r Q
+if_err_map (Ok v) P Q each p = tt
+if_err_map (Err e) P Q each p = each e p
+
+pub if_err_both : {T E : Type 0} (r : Result T E) (P Q R : E → Type 0) → ((e : E) → P e → Q e → R e) → IfErr r P → IfErr r Q → IfErr r R
+if_err_both (Ok v) P Q R both p q = tt
+if_err_both (Err e) P Q R both p q = both e p q
+
+pub refused_map : {P Q : Type 0} (stop : Stop) → (P → Q) → IfRefused stop (λ r. P) → IfRefused stop (λ r. Q)
+refused_map (Refused r) f p = f p
+refused_map Memory f p = tt
+
+pub each_refused_map : {P Q : Refusal → Type 0} (stop : Stop) → ((r : Refusal) → P r → Q r) → IfRefused stop P → IfRefused stop Q
+each_refused_map (Refused r) f p = f r p
+each_refused_map Memory f p = tt
+
+pub each_refused_both : {P Q R : Refusal → Type 0} (stop : Stop) → ((r : Refusal) → P r → Q r → R r) → IfRefused stop P → IfRefused stop Q → IfRefused stop R
+each_refused_both (Refused r) both p q = both r p q
+each_refused_both Memory both p q = tt
+
+pub on_ok_map : {T E : Type 0} (r : Result T E) {P Q : Type 0} → (P → Q) → OnOk r P → OnOk r Q
+on_ok_map (Ok v) f p = f p
+on_ok_map (Err e) f p = tt
+
+pub probability_reason : (r : EntryReader) (n : Numbers ℕ) (l : Lexeme) (kind : ItemFault) (place : ℕ) → r.state ≡ states.Probabilities n → (r.table ≡ Reward → ⊥) → IsListReason Probability n.sign l kind place → IsEntryReason r l kind place
+probability_reason r n l kind place is not_reward reason = reasons.no_probability not_reward (subst (λ s. IsListReason Probability (entry_sign s) l kind place) (sym is) reason)
+
+-- a list that is full goes on with nothing
+pub full_probabilities : (n : Numbers ℕ) → IsFull n → ProbabilitiesGo n [] (bodies.Probabilities n.read)
+full_probabilities n full = record {
+  further = [];
+  numbers = subst (λ s. AreNumbersBehind s [] []) (sym full.sign) numbers.none;
+  small = all_none (λ p. p ≤ one);
+  enough = ap length (append-nil n.read) ∙ full.count;
+  body_is = ap bodies.Probabilities (sym (append-nil n.read));
+}
+
+pub full_rewards : (n : Numbers ℤ) → IsFull n → RewardsGo n [] (bodies.Rewards n.read)
+full_rewards n full = record {
+  further = [];
+  numbers = subst (λ s. AreNumbersBehind s [] []) (sym full.sign) numbers.none;
+  enough = ap length (append-nil n.read) ∙ full.count;
+  body_is = ap bodies.Rewards (sym (append-nil n.read));
+}
+
+record NoMore (sign : Option Sign) (hs : List ℤ) : Type 0 where
+  no_sign : sign ≡ None
+  none : hs ≡ []
+
+none_behind : (sign : Option Sign) (hs : List ℤ) → AreNumbersBehind sign [] hs → NoMore sign hs
+none_behind None [] a = record { no_sign = refl; none = refl }
+none_behind None (h ∷ hs) a = elim a [ ]
+none_behind (Some s) hs a = absurd a
+
+none_mapped : (ps : List ℕ) → map pos ps ≡ [] → ps ≡ []
+none_mapped [] e = refl
+none_mapped (p ∷ ps) e = cc
+
+-- a list that goes on with nothing is full
+pub probabilities_full : (n : Numbers ℕ) (body : Body) → ProbabilitiesGo n [] body → IsFull n
+probabilities_full n body g =
+    let m = none_behind n.sign (map pos g.further) g.numbers in
+    let none = none_mapped g.further m.none in
+    record { sign = m.no_sign; count = ap length (sym (append-nil n.read)) ∙ ap (λ f. length (n.read ++ f)) (sym none) ∙ g.enough }
+
+pub cells_some : (ds : List Elements) → AreSome ds → 1 ≤ cells_in ds
+cells_some [] some = omega arith
+cells_some (d ∷ ds) some =
+    let first : 1 ≤ count_of d = some 0 d (omega arith) in
+    let rest = cells_some ds (All-tail (λ d. 1 ≤ count_of d) d ds some) in
+    mul-pos first rest
+
+pub some_dropped : (n : ℕ) (ds : List Elements) → AreSome ds → AreSome (drop n ds)
+some_dropped zero ds some = some
+some_dropped (suc n) [] some = some
+some_dropped (suc n) (d ∷ ds) some = some_dropped n ds (All-tail (λ d. 1 ≤ count_of d) d ds some)
+
+no_body : (cells : ℕ) (b : Body) → 1 ≤ cells → IsBody cells [] b → ⊥
+no_body cells b some (entries.probabilities {ps} a count all) =
+    let none = none_mapped ps (none_behind None (map pos ps) a).none in
+    let zero_long : length ps ≡ 0 = ap length none in
+    omega arith
+no_body cells b some (entries.rewards {hs} a count) =
+    let zero_long : length hs ≡ 0 = ap length (none_behind None hs a).none in
+    omega arith
+
+both_empty : {X : Type 0} (xs ys : List X) → [] ≡ xs ++ ys → ys ≡ []
+both_empty [] ys e = sym e
+both_empty (x ∷ xs) ys e = absurd (cons≢nil (sym e))
+
+-- an entry doesn't end behind a place
+pub no_end : (preamble : Preamble) (table : Table) (before : List Place) (e : Entry) → AreSome (dimensions preamble table) → IsEntryBehind preamble table before [] e → ⊥
+no_end preamble table before e some b =
+    let none : b.rest ≡ [] = both_empty b.pattern b.rest b.whole in
+    no_body _ e.body (cells_some (drop (length e.places) (dimensions preamble table)) (some_dropped (length e.places) (dimensions preamble table) some)) (subst (λ xs. IsBody (cells_in (drop (length e.places) (dimensions preamble table))) xs e.body) none b.body)
+
+pub cannot_end_in : (preamble : Preamble) (r : EntryReader) (old : EntryState) → r.state ≡ old → ((e : Entry) → StateGoes preamble r.table r.places old [] e → ⊥) → CannotEnd (EntryGoes preamble) r
+cannot_end_in preamble r old is none = λ e goes. none e (subst (λ s. StateGoes preamble r.table r.places s [] e) is goes)
+
+pub ends_in : (preamble : Preamble) (r : EntryReader) (old : EntryState) (e : Entry) → r.state ≡ old → StateGoes preamble r.table r.places old [] e → EntryGoes preamble r [] e
+ends_in preamble r old e is goes = subst (λ s. StateGoes preamble r.table r.places s [] e) (sym is) goes
+
+-- the numbers of an entry go on
+pub probabilities_in : (preamble : Preamble) (r : EntryReader) (old new : Numbers ℕ) (l : Lexeme) → r.state ≡ states.Probabilities old → Takes ProbabilitiesGo old l new → Takes (EntryGoes preamble) r l (record r { state = states.Probabilities new })
+probabilities_in preamble r old new l is t = in_state preamble r (states.Probabilities old) (states.Probabilities new) l is (record {
+  back = λ ls e g. (g.0, (t.back ls g.0 g.1.0, g.1.1));
+  on = λ ls e g. (g.0, (t.on ls g.0 g.1.0, g.1.1));
+})
+
+pub rewards_in : (preamble : Preamble) (r : EntryReader) (old new : Numbers ℤ) (l : Lexeme) → r.state ≡ states.Rewards old → Takes RewardsGo old l new → Takes (EntryGoes preamble) r l (record r { state = states.Rewards new })
+rewards_in preamble r old new l is t = in_state preamble r (states.Rewards old) (states.Rewards new) l is (record {
+  back = λ ls e g. (g.0, (t.back ls g.0 g.1.0, g.1.1));
+  on = λ ls e g. (g.0, (t.on ls g.0 g.1.0, g.1.1));
+})
+
+pub probabilities_stuck : (preamble : Preamble) (r : EntryReader) (old : Numbers ℕ) (l : Lexeme) → r.state ≡ states.Probabilities old → CannotTake ProbabilitiesGo old l → CannotTake (EntryGoes preamble) r l
+probabilities_stuck preamble r old l is stuck = stuck_in_state preamble r (states.Probabilities old) l is (λ ls e g. stuck ls g.0 g.1.0)
+
+pub rewards_stuck : (preamble : Preamble) (r : EntryReader) (old : Numbers ℤ) (l : Lexeme) → r.state ≡ states.Rewards old → CannotTake RewardsGo old l → CannotTake (EntryGoes preamble) r l
+rewards_stuck preamble r old l is stuck = stuck_in_state preamble r (states.Rewards old) l is (λ ls e g. stuck ls g.0 g.1.0)
+
+-- what is no `*` and stands for no element is no place
+pub no_place : (d : Elements) (l : Lexeme) → (l.kind ≡ Star → ⊥) → ((index : ℕ) → StandsFor d l index → ⊥) → (p : Place) → IsPlace d l p → ⊥
+no_place d l star none Every h = star h
+no_place d l star none (Only index) h = none index h

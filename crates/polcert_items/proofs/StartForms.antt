@@ -1,0 +1,322 @@
+-- The forms of a start item, token by token.
+use Rattle.std.proofs.Common.{◌≡◌, ◌∙◌, ℕ, ◌<◌, ◌==◌, ◌||◌, ◌⊎◌, inl, inr, Bool, false, true, Option, Some, None, Result, Ok, Err, List, [], ◌∷◌, length, map, slice_set, bytes_eq, codes, ℤ, pos, refl, sym, ap, subst, arith}
+use Rattle.std.proofs.Math.Bool.{or_assoc}
+use Rattle.std.proofs.lemmas.List.{get_or-set_same, get_or-set_other}
+use Rattle.std.proofs.lemmas.List.Quantifiers.{position-Some}
+use Rattle.std.proofs.lemmas.Bool.Decides.{nat_tests}
+use Rattle.std.specs.List.{AllZip}
+use Rattle.polcert_text.specs.Cut.{Lexeme}
+use Rattle.polcert_text.specs.Lexemes.{are_digits}
+use Rattle.polcert_text.specs.declared.lexeme.TokenKind.{TokenKind}
+use Rattle.polcert_text.specs.declared.lexeme.TokenKind.TheVariants.{Name, Numeral, Colon, Plus, Minus}
+use Rattle.polcert_items.specs.declared.start_reader.Choice.{Choice}
+use Rattle.polcert_items.specs.declared.start_reader.Choice.TheVariants.{Include, Exclude}
+use Rattle.polcert_items.specs.declared.start_reader.Chosen.{Chosen}
+use Rattle.polcert_items.specs.declared.start_reader.Digits.{Digits}
+use Rattle.polcert_items.specs.declared.start_reader.StartReader.{StartReader}
+use Rattle.polcert_items.specs.declared.start_reader.StartReader.TheVariants as reader
+use Rattle.polcert_cells.specs.Words.{IsWord, is_reserved}
+use Rattle.polcert_cells.specs.Numbers.{IsWhole, IsMillionths, AreNumbers, one}
+use Rattle.polcert_cells.specs.declared.elements.Elements.{Elements}
+use Rattle.polcert_cells.specs.declared.elements.Elements.TheVariants.{Count, Names}
+use Rattle.polcert_cells.specs.Elements.{count_of, number_of, StandsFor, by_number, by_name}
+use Rattle.polcert_cells.specs.declared.shares.Shares.{Shares}
+use Rattle.polcert_cells.specs.Start.{all_states, single, included, IsStartBody, IsStart, plain, include, exclude}
+use Rattle.polcert_cells.specs.Start as forms
+use Rattle.polcert_items.specs.LineSteps.{Takes, CannotTake, BehindColon}
+use Rattle.polcert_items.specs.StartSteps.{marked, chosen_with, listed, ListGoes, AreShares, NumbersGo, DigitsGo, state_number, first_of_more, StartGoes, Begins, AreDigits, IsState, IsValue}
+use Rattle.polcert_items.specs.StartSteps as steps
+use Rattle.polcert_cells.proofs.Basics.{true≢false}
+use Rattle.polcert_cells.proofs.EntryLaws.{one_element}
+use Rattle.polcert_format.proofs.GoOnLaws.{begins_no_number}
+use Rattle.polcert_cells.proofs.NumberLaws.{one_whole, one_millionths}
+use Rattle.polcert_cells.proofs.StartLaws.{name_not_colon, include_not_exclude, uniform_is_reserved}
+use Rattle.polcert_items.proofs.StepLaws.{first_number}
+use Rattle.polcert_items.proofs.StartNumbers.{value_begins}
+use Rattle.polcert_text.proofs.TextLaws.{exact_not_refused}
+use Rattle.polcert_text.specs.declared.number.NumberFault.{NumberFault}
+
+-- ---- the first token
+
+pub colon_begins : (states : Elements) (l : Lexeme) → l.kind ≡ Colon → Takes (StartGoes states) reader.Form l reader.Body
+colon_begins states l colon = record { back = λ ls v g. plain colon g; on = λ ls v g. on ls v g }
+  where
+    on : (ls : List Lexeme) (v : Shares) → IsStart states (l ∷ ls) v → IsStartBody states ls v
+    on ls v (plain c a) = a
+    on ls v (include ms w d z p) = absurd (name_not_colon _ w.kind colon)
+    on ls v (exclude ms w d z p) = absurd (name_not_colon _ w.kind colon)
+
+pub include_begins : (states : Elements) (l : Lexeme) → IsWord (codes "include") l → Takes (StartGoes states) reader.Form l (reader.Colon Include)
+include_begins states l word = record { back = λ ls v g. back ls v g; on = λ ls v g. on ls v g }
+  where
+    back : (ls : List Lexeme) (v : Shares) → BehindColon (ListGoes states Include (λ s. false)) ls v → IsStart states (l ∷ ls) v
+    back [] v g = absurd g
+    back (c ∷ ls) v g = subst (IsStart states (l ∷ c ∷ ls)) (sym g.1.shares_are) (include g.1.further word g.0 g.1.stand g.1.left)
+
+    on : (ls : List Lexeme) (v : Shares) → IsStart states (l ∷ ls) v → BehindColon (ListGoes states Include (λ s. false)) ls v
+    on ls v (plain c a) = absurd (name_not_colon _ word.kind c)
+    on ls v (include ms w d z p) = (d, record { further = ms; stand = z; shares_are = refl; left = p })
+    on ls v (exclude ms w d z p) = absurd (include_not_exclude _ word w)
+
+pub exclude_begins : (states : Elements) (l : Lexeme) → IsWord (codes "exclude") l → Takes (StartGoes states) reader.Form l (reader.Colon Exclude)
+exclude_begins states l word = record { back = λ ls v g. back ls v g; on = λ ls v g. on ls v g }
+  where
+    back : (ls : List Lexeme) (v : Shares) → BehindColon (ListGoes states Exclude (λ s. false)) ls v → IsStart states (l ∷ ls) v
+    back [] v g = absurd g
+    back (c ∷ ls) v g = subst (IsStart states (l ∷ c ∷ ls)) (sym g.1.shares_are) (exclude g.1.further word g.0 g.1.stand g.1.left)
+
+    on : (ls : List Lexeme) (v : Shares) → IsStart states (l ∷ ls) v → BehindColon (ListGoes states Exclude (λ s. false)) ls v
+    on ls v (plain c a) = absurd (name_not_colon _ word.kind c)
+    on ls v (include ms w d z p) = absurd (include_not_exclude _ w word)
+    on ls v (exclude ms w d z p) = (d, record { further = ms; stand = z; shares_are = refl; left = p })
+
+-- ---- lists of states
+
+pub list_same : (states : Elements) (choice : Choice) (p q : ℕ → Bool) (ls : List Lexeme) (v : Shares) → ((s : ℕ) → p s ≡ q s) → ListGoes states choice p ls v → ListGoes states choice q ls v
+list_same states choice p q ls v e g =
+    let same : p ≡ q = λ i s. e s i in
+    subst (λ r. ListGoes states choice r ls v) same g
+
+equal_or_not : (a b : ℕ) → (a ≡ b) ⊎ (a ≡ b → ⊥)
+equal_or_not a b = grind arith
+
+test_equal : (a b : ℕ) → a ≡ b → (a == b) ≡ true
+test_equal a b e = grind (arith, nat_tests)
+
+test_different : (a b : ℕ) → (a ≡ b → ⊥) → (a == b) ≡ false
+test_different a b e = grind (arith, nat_tests)
+
+pub marked_more : (marks : List Bool) (s : ℕ) → s < length marks → (k : ℕ) → marked (slice_set marks s true) k ≡ (marked marks k || (s == k))
+marked_more marks s l k = at (equal_or_not s k)
+  where
+    or_true : (b c : Bool) → c ≡ true → (b || c) ≡ true
+    or_true true c e = refl
+    or_true false c e = e
+
+    or_false : (b c : Bool) → c ≡ false → b ≡ (b || c)
+    or_false true c e = refl
+    or_false false c e = sym e
+
+    at : (s ≡ k) ⊎ (s ≡ k → ⊥) → marked (slice_set marks s true) k ≡ (marked marks k || (s == k))
+    at (inl e) =
+        let here : marked (slice_set marks s true) s ≡ true = get_or-set_same marks s true false l in
+        subst (λ n. marked (slice_set marks s true) n ≡ true) e here ∙ sym (or_true (marked marks k) (s == k) (test_equal s k e))
+    at (inr d) =
+        let other : marked (slice_set marks s true) k ≡ marked marks k = get_or-set_other marks s k true false (λ e. d (sym e)) in
+        other ∙ or_false (marked marks k) (s == k) (test_different s k d)
+
+module _ (states : Elements) (choice : Choice) (old : ℕ → Bool) (l : Lexeme) (s : ℕ) (is : StandsFor states l s) where
+  more : (further : List ℕ) → chosen_with (λ k. old k || (s == k)) further ≡ chosen_with old (s ∷ further)
+  more further = λ i k. or_assoc (old k) (s == k) (included further k) i
+
+  state_back : (ls : List Lexeme) (v : Shares) → ListGoes states choice (λ k. old k || (s == k)) ls v → ListGoes states choice old (l ∷ ls) v
+  state_back ls v g = record {
+    further = s ∷ g.further;
+    stand = (is, g.stand);
+    shares_are = g.shares_are ∙ ap (listed states choice) (more g.further);
+    left = subst (λ p. 0 < (listed states choice p).total) (more g.further) g.left;
+  }
+
+  state_on : (ls : List Lexeme) (v : Shares) → ListGoes states choice old (l ∷ ls) v → ListGoes states choice (λ k. old k || (s == k)) ls v
+  state_on ls v g = at g.further g.stand g.shares_are g.left
+    where
+      at : (further : List ℕ) → AllZip (StandsFor states) (l ∷ ls) further → v ≡ listed states choice (chosen_with old further) → 0 < (listed states choice (chosen_with old further)).total
+          → ListGoes states choice (λ k. old k || (s == k)) ls v
+      at [] stand shares left = absurd stand
+      at (n ∷ ns) stand shares left =
+          let same : n ≡ s = one_element states l n s stand.0 is in
+          let joined : chosen_with old (n ∷ ns) ≡ chosen_with (λ k. old k || (s == k)) ns = ap (λ m. chosen_with old (m ∷ ns)) same ∙ sym (more ns) in
+          record {
+            further = ns;
+            stand = stand.1;
+            shares_are = shares ∙ ap (listed states choice) joined;
+            left = subst (λ p. 0 < (listed states choice p).total) joined left;
+          }
+
+pub list_takes : (states : Elements) (old : Chosen) (l : Lexeme) (s : ℕ) (marks : List Bool) → StandsFor states l s → s < length old.marks → marks ≡ slice_set old.marks s true
+    → Takes (StartGoes states) (reader.List old) l (reader.List (record { choice = old.choice; marks = marks }))
+list_takes states old l s marks is low set =
+    let same : (k : ℕ) → marked marks k ≡ (marked old.marks k || (s == k)) = λ k. ap (λ m. marked m k) set ∙ marked_more old.marks s low k in
+    record {
+      back = λ ls v g. state_back states old.choice (marked old.marks) l s is ls v (list_same states old.choice (marked marks) (λ k. marked old.marks k || (s == k)) ls v same g);
+      on = λ ls v g. list_same states old.choice (λ k. marked old.marks k || (s == k)) (marked marks) ls v (λ k. sym (same k)) (state_on states old.choice (marked old.marks) l s is ls v g);
+    }
+
+pub list_stuck : (states : Elements) (old : Chosen) (l : Lexeme) → ((s : ℕ) → StandsFor states l s → ⊥) → CannotTake (StartGoes states) (reader.List old) l
+list_stuck states old l none = λ ls v g. at ls g.further g.stand
+  where
+    at : (ls : List Lexeme) (further : List ℕ) → AllZip (StandsFor states) (l ∷ ls) further → ⊥
+    at ls [] stand = stand
+    at ls (n ∷ ns) stand = none n stand.0
+
+below_count : (s count n : ℕ) → count ≡ n → s < n → s < count
+below_count s count n e low = omega arith
+
+named_low : (states : Elements) (name : List ℕ) (s : ℕ) → number_of states name ≡ Some s → s < count_of states
+named_low (Count n) name s e = absurd (none_some e)
+  where
+    none_some : {n : ℕ} → None ≡ Some n → ⊥
+    none_some e = cc
+named_low (Names names) name s e = (position-Some (bytes_eq name) names s [] e).0
+
+-- the number of a state is below their count
+pub stands_low : (states : Elements) (l : Lexeme) (s count : ℕ) → count ≡ count_of states → StandsFor states l s → s < count
+stands_low states l s count e (by_number w low) = below_count s count (count_of states) e low
+stands_low states l s count e (by_name n f) = below_count s count (count_of states) e (named_low states l.bytes s f)
+
+-- ---- the plain form
+
+module _ (states : Elements) (l : Lexeme) (name : l.kind ≡ Name) where
+  no_numeral : l.kind ≡ Numeral → ⊥
+  no_numeral e = kinds l.kind name e
+    where
+      kinds : (k : TokenKind) → k ≡ Name → k ≡ Numeral → ⊥
+      kinds k a b = cc
+
+  no_numbers : {ls : List Lexeme} {hs : List ℤ} → AreNumbers (l ∷ ls) hs → ⊥
+  no_numbers a = begins_no_number no_numeral (λ e. plus l.kind name e) (λ e. minus l.kind name e) a
+    where
+      plus : (k : TokenKind) → k ≡ Name → k ≡ Plus → ⊥
+      plus k a b = cc
+
+      minus : (k : TokenKind) → k ≡ Name → k ≡ Minus → ⊥
+      minus k a b = cc
+
+  pub uniform_begins : IsWord (codes "uniform") l → Takes (StartGoes states) reader.Body l reader.Every
+  uniform_begins word = record { back = λ ls v g. subst (λ xs. IsStartBody states (l ∷ xs) v) (sym g.0) (subst (IsStartBody states (l ∷ [])) (sym g.1) (forms.uniform word)); on = λ ls v g. on ls v g }
+    where
+      on : (ls : List Lexeme) (v : Shares) → IsStartBody states (l ∷ ls) v → (ls ≡ []) × (v ≡ all_states states)
+      on ls v (forms.uniform w) = (refl, refl)
+      on ls v (forms.name n f) = absurd (true≢false (ap is_reserved word.bytes ∙ uniform_is_reserved) n.free)
+      on ls v (forms.number m n b) = absurd (no_numeral n.kind)
+      on ls v (forms.only_state c n h) = absurd (no_numbers n)
+      on ls v (forms.probabilities ps m n c s) = absurd (no_numbers n)
+
+  named_on : (s : ℕ) → StandsFor states l s → (IsWord (codes "uniform") l → ⊥) → (ls : List Lexeme) (v : Shares) → IsStartBody states (l ∷ ls) v → (ls ≡ []) × (v ≡ single states s)
+  named_on s is other ls v (forms.uniform w) = absurd (other w)
+  named_on s is other ls v (forms.name {s = k} n f) = (refl, ap (single states) (one_element states l k s (by_name n f) is))
+  named_on s is other ls v (forms.number m n b) = absurd (no_numeral n.kind)
+  named_on s is other ls v (forms.only_state c n h) = absurd (no_numbers n)
+  named_on s is other ls v (forms.probabilities ps m n c t) = absurd (no_numbers n)
+
+  named_back : (s : ℕ) → StandsFor states l s → IsStartBody states (l ∷ []) (single states s)
+  named_back s (by_number w b) = absurd (no_numeral w.kind)
+  named_back s (by_name n f) = forms.name n f
+
+  pub name_begins : (s : ℕ) → StandsFor states l s → (IsWord (codes "uniform") l → ⊥) → Takes (StartGoes states) reader.Body l (reader.Only s)
+  name_begins s is other = record {
+    back = λ ls v g. subst (λ xs. IsStartBody states (l ∷ xs) v) (sym g.0) (subst (IsStartBody states (l ∷ [])) (sym g.1) (named_back s is));
+    on = λ ls v g. named_on s is other ls v g;
+  }
+
+  pub name_stuck : ((s : ℕ) → StandsFor states l s → ⊥) → (IsWord (codes "uniform") l → ⊥) → CannotTake (StartGoes states) reader.Body l
+  name_stuck none other ls v (forms.uniform w) = other w
+  name_stuck none other ls v (forms.name {s = k} n f) = none k (by_name n f)
+  name_stuck none other ls v (forms.number m n b) = no_numeral n.kind
+  name_stuck none other ls v (forms.only_state c n h) = no_numbers n
+  name_stuck none other ls v (forms.probabilities ps m n c t) = no_numbers n
+
+-- a numeral or a sign that stands for no state begins numbers
+module _ (states : Elements) (l : Lexeme) (no_name : l.kind ≡ Name → ⊥) where
+  numbers_back : (ls : List Lexeme) (v : Shares) → NumbersGo states [] None ls v → IsStartBody states ls v
+  numbers_back ls v g = at g.further g.numbers g.shares
+    where
+      only : (hs : List ℤ) → AreNumbers ls hs → count_of states ≡ 1 → (hs ≡ pos 0 ∷ []) ⊎ (hs ≡ pos one ∷ []) → v ≡ all_states states → IsStartBody states ls v
+      only hs a c (inl e) s = subst (IsStartBody states ls) (sym s) (forms.only_state {h = pos 0} c (subst (AreNumbers ls) e a) (inl refl))
+      only hs a c (inr e) s = subst (IsStartBody states ls) (sym s) (forms.only_state {h = pos one} c (subst (AreNumbers ls) e a) (inr refl))
+
+      at : (hs : List ℤ) → AreNumbers ls hs → AreShares states hs v → IsStartBody states ls v
+      at hs a (steps.only_state c e s) = only hs a c e s
+      at hs a (steps.probabilities ps m e c t s) = subst (IsStartBody states ls) (sym s) (forms.probabilities ps m (subst (AreNumbers ls) e a) c t)
+
+  numbers_on : ((s : ℕ) → 1 < count_of states → IsWhole l s → s < count_of states → ⊥) → (ls : List Lexeme) (v : Shares) → IsStartBody states (l ∷ ls) v → NumbersGo states [] None (l ∷ ls) v
+  numbers_on none ls v (forms.uniform w) = absurd (no_name w.kind)
+  numbers_on none ls v (forms.name n f) = absurd (no_name n.kind)
+  numbers_on none ls v (forms.number {s = k} m n b) = absurd (none k m n b)
+  numbers_on none ls v (forms.only_state {h} c n (inl e)) = record { further = h ∷ []; numbers = n; shares = steps.only_state c (inl (ap (λ x. x ∷ []) e)) refl }
+  numbers_on none ls v (forms.only_state {h} c n (inr e)) = record { further = h ∷ []; numbers = n; shares = steps.only_state c (inr (ap (λ x. x ∷ []) e)) refl }
+  numbers_on none ls v (forms.probabilities ps m n c t) = record { further = map pos ps; numbers = n; shares = steps.probabilities ps m refl c t refl }
+
+  pub body_begins : ((s : ℕ) → 1 < count_of states → IsWhole l s → s < count_of states → ⊥) → (r : StartReader) → Begins (NumbersGo states [] None) l (StartGoes states r) → Takes (StartGoes states) reader.Body l r
+  body_begins none r b = record {
+    back = λ ls v g. numbers_back (l ∷ ls) v (b.back ls v g);
+    on = λ ls v g. b.on ls v (numbers_on none ls v g);
+  }
+
+  pub body_stuck : ((s : ℕ) → 1 < count_of states → IsWhole l s → s < count_of states → ⊥) → CannotTake (NumbersGo states []) None l → CannotTake (StartGoes states) reader.Body l
+  body_stuck none stuck ls v g = stuck ls v (numbers_on none ls v g)
+
+-- ---- digits alone
+
+module _ (states : Elements) (l : Lexeme) (digits : Digits) (are : AreDigits (count_of states) l digits) where
+  digits_no_name : l.kind ≡ Name → ⊥
+  digits_no_name name = kinds l.kind are.digits_are.0 name
+    where
+      kinds : (k : TokenKind) → k ≡ Numeral → k ≡ Name → ⊥
+      kinds k a b = cc
+
+  state_of : (s : ℕ) (o : Option ℕ) → o ≡ Some s → IsState (count_of states) o l → IsWhole l s × (s < count_of states)
+  state_of s None e is = absurd (none_some e)
+    where
+      none_some : {n : ℕ} → None ≡ Some n → ⊥
+      none_some e = cc
+  state_of s (Some n) e is =
+      let same : n ≡ s = cc in
+      subst (λ k. IsWhole l k × (k < count_of states)) same is
+
+  of_state : (s : ℕ) (o : Option ℕ) → IsState (count_of states) o l → IsWhole l s → s < count_of states → o ≡ Some s
+  of_state s None is w low = absurd (is s w low)
+  of_state s (Some n) is w low = ap Some (one_whole l n s is.0 w)
+
+  value_of : (h : ℤ) (r : Result ℤ NumberFault) → r ≡ Ok h → IsValue r false l → IsMillionths false l h
+  value_of h (Ok k) e is =
+      let same : k ≡ h = cc in
+      subst (IsMillionths false l) same is
+  value_of h (Err f) e is = absurd (err_ok e)
+    where
+      err_ok : {f : NumberFault} {k : ℤ} → Err f ≡ Ok k → ⊥
+      err_ok e = cc
+
+  of_value : (h : ℤ) (r : Result ℤ NumberFault) → IsValue r false l → IsMillionths false l h → r ≡ Ok h
+  of_value h (Ok k) is v = ap Ok (one_millionths false l k h is v)
+  of_value h (Err f) is v = absurd (exact_not_refused false l.bytes f h v.readable v.exact is.1)
+
+  back : (ls : List Lexeme) (v : Shares) → DigitsGo states digits ls v → IsStartBody states (l ∷ ls) v
+  back ls v (state_number s none e f) =
+      let is = state_of s digits.state e are.state in
+      subst (λ xs. IsStartBody states (l ∷ xs) v) (sym none) (subst (IsStartBody states (l ∷ [])) (sym f) (forms.number are.more is.0 is.1))
+  back ls v (first_of_more h e g) =
+      numbers_back states l digits_no_name (l ∷ ls) v ((value_begins states [] l None h (value_of h digits.value e are.value)).back ls v g)
+
+  first_on : (ls : List Lexeme) (v : Shares) → NumbersGo states [] None (l ∷ ls) v → DigitsGo states digits ls v
+  first_on ls v g =
+      let f = first_number None l ls g.further are.digits_are.0 g.numbers in
+      first_of_more f.first (of_value f.first digits.value are.value f.value) ((value_begins states [] l None f.first f.value).on ls v g)
+
+  on : (ls : List Lexeme) (v : Shares) → IsStartBody states (l ∷ ls) v → DigitsGo states digits ls v
+  on ls v (forms.uniform w) = absurd (digits_no_name w.kind)
+  on ls v (forms.name n f) = absurd (digits_no_name n.kind)
+  on ls v (forms.number {s = k} m n b) = state_number k refl (of_state k digits.state are.state n b) refl
+  on ls v (forms.only_state c n h) = absurd (omega (arith, c, are.more))
+  on ls v (forms.probabilities ps m n c t) = first_on ls v (record { further = map pos ps; numbers = n; shares = steps.probabilities ps m refl c t refl })
+
+  pub digits_begin : Takes (StartGoes states) reader.Body l (reader.Digits digits)
+  digits_begin = record { back = λ ls v g. back ls v g; on = λ ls v g. on ls v g }
+
+-- digits are a state's number where there is more than one state
+pub not_whole : (states : Elements) (l : Lexeme) → (count_of states ≡ 1) ⊎ (are_digits l.bytes ≡ false) → (s : ℕ) → 1 < count_of states → IsWhole l s → s < count_of states → ⊥
+not_whole states l (inl one) s more w low = omega (arith, one, more)
+not_whole states l (inr other) s more w low = true≢false w.digits other
+
+pub sign_not_whole : (states : Elements) (l : Lexeme) → (l.kind ≡ Numeral → ⊥) → (s : ℕ) → 1 < count_of states → IsWhole l s → s < count_of states → ⊥
+sign_not_whole states l other s more w low = other w.kind
+
+pub whole_or_one : (states : Elements) (l : Lexeme) (count : ℕ) → count ≡ count_of states → (count ≡ 1) ⊎ (are_digits l.bytes ≡ false) → (count_of states ≡ 1) ⊎ (are_digits l.bytes ≡ false)
+whole_or_one states l count e w = subst (λ n. (n ≡ 1) ⊎ (are_digits l.bytes ≡ false)) e w
+
+pub numeral_not_name : (l : Lexeme) → l.kind ≡ Numeral → l.kind ≡ Name → ⊥
+numeral_not_name l a b = cc
+
+pub plus_or_minus : (l : Lexeme) → (l.kind ≡ Plus) ⊎ (l.kind ≡ Minus) → (l.kind ≡ Numeral → ⊥) × (l.kind ≡ Name → ⊥)
+plus_or_minus l (inl e) = (λ n. cc, λ n. cc)
+plus_or_minus l (inr e) = (λ n. cc, λ n. cc)

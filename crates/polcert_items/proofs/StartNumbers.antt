@@ -1,0 +1,259 @@
+-- The numbers of a start item, token by token.
+use Rattle.std.proofs.Common.{◌≡◌, ◌∙◌, ℕ, ◌+◌, ◌<◌, ◌≤◌, ◌⊎◌, inl, inr, false, true, Option, Some, None, Result, Ok, Err, IfOk, OnErr, List, [], ◌∷◌, ◌++◌, length, map, sum, ℤ, pos, negsuc, refl, sym, ap, subst, All, arith, append_assoc}
+use lib.IntN.{nat_abs}
+use Rattle.std.proofs.lemmas.List.Sums.{sum_by-cons}
+use Rattle.std.specs.Int.Signed.{lt_z}
+use borrow.Author.Tests.{ltb-true, ltb-false}
+use Rattle.std.proofs.lemmas.List.Elements.{All-cons, All-head, All-tail}
+use Rattle.polcert_text.specs.Cut.{Lexeme}
+use Rattle.polcert_text.specs.declared.number.NumberFault.{NumberFault}
+use Rattle.polcert_cells.specs.declared.entry.Body.TheVariants as bodies
+use Rattle.polcert_items.specs.declared.entry_reader.Numbers.{Numbers}
+use Rattle.polcert_format.specs.declared.fault.ItemFault.{ItemFault}
+use Rattle.polcert_items.specs.declared.number.Sign.{Sign}
+use Rattle.polcert_items.specs.declared.start_reader.FirstNumber.{FirstNumber}
+use Rattle.polcert_items.specs.declared.start_reader.Digits.{Digits}
+use Rattle.polcert_items.specs.declared.start_reader.StartReader.{StartReader}
+use Rattle.polcert_items.specs.declared.start_reader.StartReader.TheVariants as reader
+use Rattle.polcert_cells.specs.Numbers.{IsMillionths, AreNumbers, one}
+use Rattle.polcert_cells.specs.Numbers as numbers
+use Rattle.polcert_items.specs.NumberSteps.{AreNumbersBehind, is_negative, IsSignAt}
+use Rattle.polcert_cells.specs.declared.elements.Elements.{Elements}
+use Rattle.polcert_cells.specs.Elements.{count_of}
+use Rattle.polcert_cells.specs.declared.shares.Shares.{Shares}
+use Rattle.polcert_cells.specs.Start.{all_states, shares_of}
+use Rattle.polcert_items.specs.LineSteps.{Takes, CannotTake}
+use Rattle.polcert_items.specs.EntrySteps.{ProbabilitiesGo, IsFull, no_numbers}
+use Rattle.polcert_items.specs.StartSteps.{AreShares, only_state, probabilities, NumbersGo, DigitsGo, state_number, first_of_more, SharesGo, StartGoes, Begins, IsOutside, IsNumberStop, behind_number, no_probability, IsDigitsStop, behind_digits, digits_no_probability}
+use Rattle.polcert_cells.proofs.Basics.{true≢false, cons≢nil, same_head, same_tail}
+use Rattle.polcert_items.proofs.ListLaws.{all_none}
+use Rattle.polcert_items.proofs.PatternLaws.{full_probabilities}
+use Rattle.polcert_items.proofs.StepLaws.{sign_back, sign_on, value_back, value_on}
+
+-- ---- one token more
+
+module _ (states : Elements) (before : List ℤ) (l : Lexeme) where
+  pub sign_begins : (s : Sign) → IsSignAt s l → Begins (NumbersGo states before None) l (NumbersGo states before (Some s))
+  sign_begins s at = record {
+    back = λ ls v g. record { further = g.further; numbers = sign_back s l ls g.further at g.numbers; shares = g.shares };
+    on = λ ls v g. record { further = g.further; numbers = sign_on s l ls g.further at g.numbers; shares = g.shares };
+  }
+
+  pub value_begins : (sign : Option Sign) (h : ℤ) → IsMillionths (is_negative sign) l h → Begins (NumbersGo states before sign) l (NumbersGo states (before ++ h ∷ []) None)
+  value_begins sign h is = record {
+    back = λ ls v g. record {
+      further = h ∷ g.further;
+      numbers = value_back sign l ls h g.further is g.numbers;
+      shares = subst (λ hs. AreShares states hs v) (append_assoc before (h ∷ []) g.further) g.shares;
+    };
+    on = λ ls v g.
+        let b = value_on sign l ls h g.further is g.numbers in
+        record {
+          further = b.rest;
+          numbers = b.numbers;
+          shares = subst (λ hs. AreShares states hs v) (ap (λ hs. before ++ hs) b.joined ∙ sym (append_assoc before (h ∷ []) b.rest)) g.shares;
+        };
+  }
+
+-- ---- what follows from the shares
+
+small_ones : (ps : List ℕ) (n : ℕ) → sum ps ≤ n → All (λ p. p ≤ n) ps
+small_ones [] n le = all_none (λ p. p ≤ n)
+small_ones (p ∷ ps) n le =
+    let parts : sum (p ∷ ps) ≡ p + sum ps = sum_by-cons (λ x. x) p ps in
+    All-cons (λ p. p ≤ n) p ps (omega (arith, parts)) (small_ones ps n (omega (arith, parts)))
+
+-- probabilities that begin with a number
+record Fractions (states : Elements) (h : ℤ) (further : List ℤ) (v : Shares) : Type 0 where
+  pub first : ℕ
+  pub rest : List ℕ
+  pub first_is : h ≡ pos first
+  pub rest_is : further ≡ map pos rest
+  pub small : All (λ p. p ≤ one) (first ∷ rest)
+  pub count : length (first ∷ rest) ≡ count_of states
+  pub total : sum (first ∷ rest) ≡ one
+  pub shares_are : v ≡ shares_of (first ∷ rest)
+
+-- a number between 0 and one
+pub record IsFraction (h : ℤ) (p : ℕ) : Type 0 where
+  pub value : h ≡ pos p
+  pub small : p ≤ one
+
+pub fraction : (h : ℤ) → lt_z h (pos 0) ≡ false → lt_z (pos one) h ≡ false → IsFraction h (nat_abs h)
+fraction (pos p) low high = record { value = refl; small = ltb-false one p high }
+fraction (negsuc p) low high = absurd (true≢false refl low)
+
+pub below_outside : (h : ℤ) → lt_z h (pos 0) ≡ true → IsOutside h
+below_outside h low p e small = let below : p < 0 = ltb-true p 0 (subst (λ x. lt_z x (pos 0) ≡ true) e low) in omega arith
+
+pub above_outside : (h : ℤ) → lt_z (pos one) h ≡ true → IsOutside h
+above_outside h high p e small = let above : one < p = ltb-true one p (subst (λ x. lt_z (pos one) x ≡ true) e high) in omega arith
+
+fractions : (states : Elements) (h : ℤ) (further : List ℤ) (v : Shares) (ps : List ℕ) → h ∷ further ≡ map pos ps → length ps ≡ count_of states → sum ps ≡ one → v ≡ shares_of ps → Fractions states h further v
+fractions states h further v [] e count total shares = absurd (cons≢nil e)
+fractions states h further v (p ∷ ps) e count total shares = record {
+  first = p;
+  rest = ps;
+  first_is = same_head e;
+  rest_is = same_tail e;
+  small = small_ones (p ∷ ps) one (omega (arith, total));
+  count = count;
+  total = total;
+  shares_are = shares;
+}
+
+-- with more than one state
+more_fractions : (states : Elements) (h : ℤ) (further : List ℤ) (v : Shares) → 1 < count_of states → AreShares states (h ∷ further) v → Fractions states h further v
+more_fractions states h further v more (only_state c e s) = absurd (omega (arith, c, more))
+more_fractions states h further v more (probabilities ps m e c t s) = fractions states h further v ps e c t s
+
+zero_small : 0 ≤ one
+zero_small = omega arith
+
+one_small : one ≤ one
+one_small = omega arith
+
+first_in_range : (states : Elements) (h : ℤ) (further : List ℤ) (v : Shares) → AreShares states (h ∷ further) v → IsOutside h → ⊥
+first_in_range states h further v (only_state c (inl e) s) out = out 0 (same_head e) zero_small
+first_in_range states h further v (only_state c (inr e) s) out = out one (same_head e) one_small
+first_in_range states h further v (probabilities ps m e c t s) out =
+    let f = fractions states h further v ps e c t s in
+    out f.first f.first_is (All-head (λ p. p ≤ one) f.first f.rest f.small)
+
+-- nothing goes on behind a number out of its range
+pub outside_stuck : (states : Elements) (f : FirstNumber) (l : Lexeme) → IsOutside f.value → CannotTake (StartGoes states) (reader.Number f) l
+outside_stuck states f l out = λ ls v g. first_in_range states f.value g.further v g.shares out
+
+-- ---- a list of probabilities
+
+-- one number was read, of so many
+pub record IsOneRead (states : Elements) (p : ℕ) (n : Numbers ℕ) : Type 0 where
+  pub read : n.read ≡ p ∷ []
+  pub needed : n.needed ≡ count_of states
+  pub sign : n.sign ≡ None
+
+-- the list that begins with this number
+pub one_read : (states : Elements) (p count : ℕ) (read : List ℕ) (n : Numbers ℕ) → n ≡ no_numbers count → count ≡ count_of states → read ≡ n.read ++ p ∷ []
+    → IsOneRead states p (record { read = read; needed = n.needed; sign = n.sign })
+one_read states p count read n is same pushed = record {
+  read = pushed ∙ ap (λ (m : Numbers ℕ). m.read ++ p ∷ []) is;
+  needed = ap (λ (m : Numbers ℕ). m.needed) is ∙ same;
+  sign = ap (λ (m : Numbers ℕ). m.sign) is;
+}
+
+pub more_states : (count n : ℕ) → n ≡ count → (n ≡ 1 → ⊥) → 1 ≤ count → 1 < count
+more_states count n same other some = omega arith
+
+module _ (states : Elements) (p : ℕ) (n : Numbers ℕ) (small : p ≤ one) (is : IsOneRead states p n) (more : 1 < count_of states) where
+  shares_from : (ls : List Lexeme) (v : Shares) → NumbersGo states (pos p ∷ []) None ls v → SharesGo n ls v
+  shares_from ls v g =
+      let f = more_fractions states (pos p) g.further v more g.shares in
+      let same : f.first ≡ p = same_first f.first f.first_is in
+      let whole : n.read ++ f.rest ≡ f.first ∷ f.rest = ap (λ r. r ++ f.rest) is.read ∙ ap (λ x. x ∷ f.rest) (sym same) in
+      record {
+        all = f.first ∷ f.rest;
+        go = record {
+          further = f.rest;
+          numbers = subst (λ s. AreNumbersBehind s ls (map pos f.rest)) (sym is.sign) (subst (AreNumbers ls) f.rest_is g.numbers);
+          small = All-tail (λ p. p ≤ one) f.first f.rest f.small;
+          enough = ap length whole ∙ f.count ∙ sym is.needed;
+          body_is = ap bodies.Probabilities (sym whole);
+        };
+        total = f.total;
+        shares_are = f.shares_are;
+      }
+    where
+      same_first : (q : ℕ) → pos p ≡ pos q → q ≡ p
+      same_first q e = cc
+
+  shares_to : (ls : List Lexeme) (v : Shares) → SharesGo n ls v → NumbersGo states (pos p ∷ []) None ls v
+  shares_to ls v g =
+      let whole : g.all ≡ p ∷ g.go.further = same_body g.all (n.read ++ g.go.further) g.go.body_is ∙ ap (λ r. r ++ g.go.further) is.read in
+      let count : length g.all ≡ count_of states = ap length (same_body g.all (n.read ++ g.go.further) g.go.body_is) ∙ g.go.enough ∙ is.needed in
+      record {
+        further = map pos g.go.further;
+        numbers = subst (λ s. AreNumbersBehind s ls (map pos g.go.further)) is.sign g.go.numbers;
+        shares = probabilities g.all more (ap (map pos) (sym whole)) count g.total g.shares_are;
+      }
+    where
+      same_body : (xs ys : List ℕ) → bodies.Probabilities xs ≡ bodies.Probabilities ys → xs ≡ ys
+      same_body xs ys e = cc
+
+pub shares_take : (states : Elements) (old new : Numbers ℕ) (l : Lexeme) → Takes ProbabilitiesGo old l new → Takes (StartGoes states) (reader.Probabilities old) l (reader.Probabilities new)
+shares_take states old new l t = record {
+  back = λ ls v g. record { all = g.all; go = t.back ls (bodies.Probabilities g.all) g.go; total = g.total; shares_are = g.shares_are };
+  on = λ ls v g. record { all = g.all; go = t.on ls (bodies.Probabilities g.all) g.go; total = g.total; shares_are = g.shares_are };
+}
+
+pub shares_stuck : (states : Elements) (n : Numbers ℕ) (l : Lexeme) → CannotTake ProbabilitiesGo n l → CannotTake (StartGoes states) (reader.Probabilities n) l
+shares_stuck states n l none = λ ls v g. none ls (bodies.Probabilities g.all) g.go
+
+number_is : (states : Elements) (f : FirstNumber) (p : ℕ) → f.value ≡ pos p → (ls : List Lexeme) (v : Shares) → StartGoes states (reader.Number f) ls v → NumbersGo states (pos p ∷ []) None ls v
+number_is states f p e ls v g = subst (λ h. NumbersGo states (h ∷ []) None ls v) e g
+
+is_number : (states : Elements) (f : FirstNumber) (p : ℕ) → f.value ≡ pos p → (ls : List Lexeme) (v : Shares) → NumbersGo states (pos p ∷ []) None ls v → StartGoes states (reader.Number f) ls v
+is_number states f p e ls v g = subst (λ h. NumbersGo states (h ∷ []) None ls v) (sym e) g
+
+-- a second number follows the first one, or its sign
+pub number_takes : (states : Elements) (f : FirstNumber) (p : ℕ) (old new : Numbers ℕ) (l : Lexeme) → f.value ≡ pos p → p ≤ one → 1 < count_of states → IsOneRead states p old
+    → Takes ProbabilitiesGo old l new → Takes (StartGoes states) (reader.Number f) l (reader.Probabilities new)
+number_takes states f p old new l e small more is t =
+    let s = shares_take states old new l t in
+    record {
+      back = λ ls v g. is_number states f p e (l ∷ ls) v (shares_to states p old small is more (l ∷ ls) v (s.back ls v g));
+      on = λ ls v g. s.on ls v (shares_from states p old small is more (l ∷ ls) v (number_is states f p e (l ∷ ls) v g));
+    }
+
+pub number_stuck : (states : Elements) (f : FirstNumber) (p : ℕ) (old : Numbers ℕ) (l : Lexeme) → f.value ≡ pos p → p ≤ one → 1 < count_of states → IsOneRead states p old
+    → CannotTake ProbabilitiesGo old l → CannotTake (StartGoes states) (reader.Number f) l
+number_stuck states f p old l e small more is none = λ ls v g.
+    shares_stuck states old l none ls v (shares_from states p old small is more (l ∷ ls) v (number_is states f p e (l ∷ ls) v g))
+
+-- ---- digits alone
+
+same_value : (h k : ℤ) (r : Result ℤ NumberFault) → r ≡ Ok h → r ≡ Ok k → h ≡ k
+same_value h k r e f = cc
+
+module _ (states : Elements) (digits : Digits) (l : Lexeme) where
+  on_digits : (h : ℤ) → digits.value ≡ Ok h → (ls : List Lexeme) (v : Shares) → DigitsGo states digits (l ∷ ls) v → NumbersGo states (h ∷ []) None (l ∷ ls) v
+  on_digits h is ls v (state_number s none e f) = absurd (cons≢nil none)
+  on_digits h is ls v (first_of_more k e g) = subst (λ x. NumbersGo states (x ∷ []) None (l ∷ ls) v) (same_value k h digits.value e is) g
+
+  pub digits_take : (f : FirstNumber) (n : Numbers ℕ) → digits.value ≡ Ok f.value → Takes (StartGoes states) (reader.Number f) l (reader.Probabilities n)
+      → Takes (StartGoes states) (reader.Digits digits) l (reader.Probabilities n)
+  digits_take f n is t = record {
+    back = λ ls v g. first_of_more f.value is (t.back ls v g);
+    on = λ ls v g. t.on ls v (on_digits f.value is ls v g);
+  }
+
+  pub digits_stuck : (f : FirstNumber) → digits.value ≡ Ok f.value → CannotTake (StartGoes states) (reader.Number f) l → CannotTake (StartGoes states) (reader.Digits digits) l
+  digits_stuck f is none = λ ls v g. none ls v (on_digits f.value is ls v g)
+
+-- ---- where the item ends
+
+pub number_ends : (states : Elements) (f : FirstNumber) (v : Shares) → count_of states ≡ 1 → (f.value ≡ pos 0) ⊎ (f.value ≡ pos one) → v ≡ all_states states → StartGoes states (reader.Number f) [] v
+number_ends states f v count is shares = record { further = []; numbers = numbers.none; shares = only_state count (whole is) shares }
+  where
+    whole : (f.value ≡ pos 0) ⊎ (f.value ≡ pos one) → (f.value ∷ [] ≡ pos 0 ∷ []) ⊎ (f.value ∷ [] ≡ pos one ∷ [])
+    whole (inl e) = inl (ap (λ h. h ∷ []) e)
+    whole (inr e) = inr (ap (λ h. h ∷ []) e)
+
+pub shares_end : (states : Elements) (n : Numbers ℕ) (v : Shares) → IsFull n → sum n.read ≡ one → v ≡ shares_of n.read → StartGoes states (reader.Probabilities n) [] v
+shares_end states n v full total shares = record { all = n.read; go = full_probabilities n full; total = total; shares_are = shares }
+
+-- ---- reasons
+
+pub digits_stop : (digits : Digits) (f : FirstNumber) (l : Lexeme) (kind : ItemFault) (place : ℕ) → digits.value ≡ Ok f.value → f.place ≡ digits.place → IsNumberStop f l kind place → IsDigitsStop digits l kind place
+digits_stop digits f l kind place is at (behind_number r) = behind_digits r
+digits_stop digits f l kind place is at (no_probability k p out) = digits_no_probability f.value k (p ∙ at) is out
+
+pub if_ok_map : {T E : Type 0} (r : Result T E) (P Q : T → Type 0) → ((v : T) → P v → Q v) → IfOk r P → IfOk r Q
+if_ok_map (Ok v) P Q f h = f v h
+if_ok_map (Err e) P Q f h = tt
+
+pub on_err_map : {T E : Type 0} (r : Result T E) {P Q : Type 0} → (P → Q) → OnErr r P → OnErr r Q
+on_err_map (Ok v) f h = tt
+on_err_map (Err e) f h = f h
+
+pub sign_takes : (states : Elements) (sign : Sign) (l : Lexeme) (new : StartReader) → Begins (NumbersGo states [] (Some sign)) l (StartGoes states new) → Takes (StartGoes states) (reader.Sign sign) l new
+sign_takes states sign l new b = record { back = λ ls v g. b.back ls v g; on = λ ls v g. b.on ls v g }

@@ -1,0 +1,19 @@
+-- A start item as its reader goes on with it.
+use Rattle.std.proofs.Common.{List, [], refl}
+use Rattle.polcert_text.specs.Cut.{Lexeme}
+use Rattle.polcert_cells.specs.declared.elements.Elements.{Elements}
+use Rattle.polcert_cells.specs.declared.shares.Shares.{Shares}
+use Rattle.polcert_cells.specs.Start.{IsStart}
+use Rattle.polcert_items.specs.StartSteps.{StartGoes, new_start, IsStartWithin, IsStartSeen}
+
+pub new_start_on : (states : Elements) (ls : List Lexeme) (found : Shares) → IsStart states ls found → StartGoes states new_start ls found
+new_start_on states ls found a = a
+
+pub new_start_back : (states : Elements) (ls : List Lexeme) (found : Shares) → StartGoes states new_start ls found → IsStart states ls found
+new_start_back states ls found a = a
+
+pub new_start_within : (states : Elements) → IsStartWithin states new_start
+new_start_within states = tt
+
+pub new_start_seen : IsStartSeen [] new_start
+new_start_seen = record { sign = refl; first = tt }

@@ -1,0 +1,227 @@
+-- What the places of numbers and entries are for, step by step.
+use Rattle.std.proofs.Common.{◌≡◌, ◌≢◌, ◌∙◌, ℕ, zero, suc, ◌+◌, ◌-◌, ◌≤◌, Bool, true, false, nat_lt, ◌==◌, ◌⊎◌, Option, Some, None, is_some, inl, inr, List, [], ◌∷◌, ◌++◌, length, drop, refl, sym, ap, subst, arith, length-append, if◌then◌else◌}
+use Rattle.std.proofs.lemmas.Grind.{common_steps}
+use Rattle.polcert_text.specs.Cut.{Lexeme}
+use Rattle.polcert_text.specs.declared.lexeme.TokenKind.{TokenKind}
+use Rattle.polcert_text.specs.declared.lexeme.TokenKind.TheVariants as kinds
+use Rattle.polcert_format.specs.declared.fault.ItemFault.{ItemFault}
+use Rattle.polcert_format.specs.declared.fault.ItemFault.TheVariants.{BadShape, WrongNumberCount, Reset, StartSum}
+use Rattle.polcert_items.specs.declared.stop.ItemEnd.{ItemEnd}
+use Rattle.polcert_items.specs.declared.stop.ItemEnd.TheVariants as ends
+use Rattle.polcert_text.specs.Lexemes.{are_digits}
+use Rattle.polcert_cells.specs.declared.entry.Table.{Table}
+use Rattle.polcert_items.specs.declared.entry_reader.Numbers.{Numbers}
+use Rattle.polcert_items.specs.declared.entry_reader.EntryReader.{EntryReader}
+use Rattle.polcert_items.specs.declared.entry_reader.EntryState.TheVariants as states
+use Rattle.polcert_items.specs.declared.number.Sign.{Sign}
+use Rattle.polcert_cells.specs.Preamble.{Preamble, is_mdp, dimensions}
+use Rattle.polcert_cells.specs.Entry.{cells_in}
+use Rattle.polcert_format.specs.Wants.{least_written}
+use Rattle.polcert_format.specs.Reasons.{is_sign}
+use Rattle.polcert_items.specs.NumberSteps.{IsSignAt}
+use Rattle.polcert_items.specs.NumberSteps as steps
+use Rattle.polcert_items.specs.EntrySteps.{awaited, HasRoom, IsFull, no_numbers}
+use Rattle.polcert_format.specs.Misfits.{Wanted, Mark, NumberOrEnd, Number, EndOfNumbers, EndOfWord, misfit, is_reset, begins_number, tests_value, IsMisfit, of_place}
+use Rattle.polcert_format.specs.Wants.{number_end, numbers_want, by_kind, entry_wants, may_be_state, start_body_wants}
+use Rattle.polcert_items.proofs.PatternLaws.{BeginsNumber}
+use Rattle.polcert_items.specs.WantSteps.{Leads, number_wants, list_wants, state_wants, IfAtEnd}
+use Rattle.polcert_items.specs.WantSteps.{entry_wants as reader_wants}
+
+true≢false : true ≡ false → ⊥
+true≢false e = cc
+
+-- ---- numbers
+
+pub sign_leads : (signed : Bool) (left : ℕ) (l : Lexeme) → is_sign l.kind ≡ true → Leads (numbers_want signed left) l (numbers_want true left)
+sign_leads signed left l e = record { same = λ ls i. numbers_want (e i) (if e i then left else left - 1) ls }
+
+pub numeral_leads : (signed : Bool) (left after : ℕ) (l : Lexeme) → l.kind ≡ kinds.Numeral → after ≡ left - 1 → Leads (numbers_want signed left) l (numbers_want false after)
+numeral_leads signed left after l e less =
+    let none : is_sign l.kind ≡ false = ap is_sign e in
+    record { same = λ ls. subst (λ n. numbers_want signed left (l ∷ ls) ≡ numbers_want false n ls) (sym less) (λ i. numbers_want (none i) (if none i then left else left - 1) ls) }
+
+sign_is : (s : Sign) (l : Lexeme) → IsSignAt s l → is_sign l.kind ≡ true
+sign_is s l (steps.plus kind negative place) = ap is_sign kind
+sign_is s l (steps.minus kind negative place) = ap is_sign kind
+
+pub list_sign_leads : {T : Type 0} (n : Numbers T) (l : Lexeme) (s : Sign) → IsSignAt s l → Leads (list_wants n) l (list_wants (record n { sign = Some s }))
+list_sign_leads n l s is = sign_leads (is_some n.sign) (n.needed - length n.read) l (sign_is s l is)
+
+pub list_numeral_leads : {T : Type 0} (n : Numbers T) (l : Lexeme) (read : List T) (v : T) → l.kind ≡ kinds.Numeral → read ≡ n.read ++ v ∷ [] → Leads (list_wants n) l (list_wants (record n { read = read; sign = None }))
+list_numeral_leads n l read v e more =
+    let one = ap length more in
+    let further = length-append n.read (v ∷ []) in
+    numeral_leads (is_some n.sign) (n.needed - length n.read) (n.needed - length read) l e (omega (arith, one, further))
+
+-- all numbers are there
+pub full_wants : {T : Type 0} (n : Numbers T) → IsFull n → EndOfNumbers ≡ list_wants n []
+full_wants n full =
+    let none : n.needed - length n.read ≡ 0 = let e = full.count in omega (arith, e) in
+    sym (λ i. number_end (is_some (full.sign i)) (none i))
+
+-- a number may stand
+open_wants : (sign : Option Sign) (left : ℕ) → (sign ≡ None → left ≡ 0 → ⊥) → number_wants sign ≡ number_end (is_some sign) left
+open_wants (Some s) left f = refl
+open_wants None zero f = absurd (f refl refl)
+open_wants None (suc left) f = refl
+
+awaits : {T : Type 0} (n : Numbers T) → HasRoom n → n.sign ≡ None → n.needed - length n.read ≡ 0 → n.sign ≡ None → IsFull n
+awaits n room none left e =
+    let r : length n.read + 0 ≤ n.needed = subst (λ s. length n.read + awaited s ≤ n.needed) none room in
+    record { sign = none; count = omega (arith, r, left) }
+
+pub more_wants : {T : Type 0} (n : Numbers T) → HasRoom n → (IsFull n → ⊥) → number_wants n.sign ≡ list_wants n []
+more_wants n room not_full = open_wants n.sign (n.needed - length n.read) (λ none left. not_full (awaits n room none left none))
+
+-- a token behind the last number
+pub behind_misfit : {T : Type 0} (n : Numbers T) (l : Lexeme) (kind : ItemFault) → IsFull n → kind ≡ misfit EndOfNumbers (Some l) → IsMisfit (list_wants n []) l kind
+behind_misfit n l kind full e = subst (λ w. IsMisfit w l kind) (full_wants n full) (of_place refl e)
+
+pub number_misfit : {T : Type 0} (n : Numbers T) (l : Lexeme) (kind : ItemFault) → HasRoom n → (IsFull n → ⊥) → IsMisfit (number_wants n.sign) l kind → IsMisfit (list_wants n []) l kind
+number_misfit n l kind room not_full m = subst (λ w. IsMisfit w l kind) (more_wants n room not_full) m
+
+-- ---- entries
+
+pub colon_leads : (preamble : Preamble) (table : Table) (written : ℕ) (l : Lexeme) → l.kind ≡ kinds.Colon → Leads (entry_wants preamble table false written) l (entry_wants preamble table true written)
+colon_leads preamble table written l e = record { same = λ ls i. by_kind (e i) (entry_wants preamble table true written ls) (numbers_want false (cells_in (drop written (dimensions preamble table))) (l ∷ ls)) }
+
+pub name_leads : (preamble : Preamble) (table : Table) (written : ℕ) (l : Lexeme) → l.kind ≡ kinds.Name → Leads (entry_wants preamble table false written) l (λ ls. EndOfWord)
+name_leads preamble table written l e = record { same = λ ls i. by_kind (e i) (entry_wants preamble table true written ls) (numbers_want false (cells_in (drop written (dimensions preamble table))) (l ∷ ls)) }
+
+number_kind : (k : TokenKind) (a b : Wanted) → begins_number k ≡ true → by_kind k a b ≡ b
+number_kind kinds.Numeral a b e = refl
+number_kind kinds.Plus a b e = refl
+number_kind kinds.Minus a b e = refl
+number_kind kinds.Star a b e = refl
+number_kind kinds.Colon a b e = absurd (true≢false (sym e))
+number_kind kinds.Name a b e = absurd (true≢false (sym e))
+
+pub numbers_lead : (preamble : Preamble) (table : Table) (written : ℕ) (l : Lexeme) (new : List Lexeme → Wanted) → begins_number l.kind ≡ true
+    → Leads (numbers_want false (cells_in (drop written (dimensions preamble table)))) l new → Leads (entry_wants preamble table false written) l new
+numbers_lead preamble table written l new e leads =
+    record { same = λ ls. number_kind l.kind (entry_wants preamble table true written ls) (numbers_want false (cells_in (drop written (dimensions preamble table))) (l ∷ ls)) e ∙ leads.same ls }
+
+-- enough places were written for numbers, or too few
+pub enough : (written least : ℕ) → least ≤ written → nat_lt written least ≡ false
+enough written least l = grind (arith, common_steps)
+
+pub too_few : (written least : ℕ) → (least ≤ written → ⊥) → nat_lt written least ≡ true
+too_few written least l = grind (arith, common_steps)
+
+pub numbers_misfit : (preamble : Preamble) (table : Table) (written : ℕ) (l : Lexeme) (kind : ItemFault) → least_written (is_mdp preamble) table ≤ written
+    → IsMisfit (numbers_want false (cells_in (drop written (dimensions preamble table))) []) l kind → IsMisfit (entry_wants preamble table false written []) l kind
+numbers_misfit preamble table written l kind low m =
+    subst (λ b. IsMisfit (if b then Mark else numbers_want false (cells_in (drop written (dimensions preamble table))) []) l kind) (sym (enough written (least_written (is_mdp preamble) table) low)) m
+
+-- what begins no number
+number_no_value : (k : TokenKind) → begins_number k ≡ false → tests_value Number k ≡ false
+number_no_value kinds.Numeral e = absurd (true≢false e)
+number_no_value kinds.Plus e = refl
+number_no_value kinds.Minus e = refl
+number_no_value kinds.Star e = refl
+number_no_value kinds.Colon e = refl
+number_no_value kinds.Name e = refl
+
+body_misfit_at : (b : Bool) (cells : ℕ) (l : Lexeme) (kind : ItemFault) → begins_number l.kind ≡ false → kind ≡ misfit EndOfWord (Some l)
+    → IsMisfit (if b then Mark else number_end false cells) l kind
+body_misfit_at true cells l kind none e = of_place refl e
+body_misfit_at false zero l kind none e = of_place refl (e ∙ sym (λ i. if is_reset l.kind l.bytes then Reset else (if none i then WrongNumberCount else BadShape)))
+body_misfit_at false (suc cells) l kind none e = of_place (number_no_value l.kind none) e
+
+pub body_misfit : (preamble : Preamble) (table : Table) (written : ℕ) (l : Lexeme) (kind : ItemFault) → begins_number l.kind ≡ false → kind ≡ misfit EndOfWord (Some l)
+    → IsMisfit (entry_wants preamble table false written []) l kind
+body_misfit preamble table written l kind none e = body_misfit_at (nat_lt written (least_written (is_mdp preamble) table)) (cells_in (drop written (dimensions preamble table))) l kind none e
+
+pub few_misfit : (preamble : Preamble) (table : Table) (written : ℕ) (l : Lexeme) (kind : ItemFault) → (least_written (is_mdp preamble) table ≤ written → ⊥) → kind ≡ misfit EndOfWord (Some l)
+    → IsMisfit (entry_wants preamble table false written []) l kind
+few_misfit preamble table written l kind few e =
+    subst (λ b. IsMisfit (if b then Mark else numbers_want false (cells_in (drop written (dimensions preamble table))) []) l kind) (sym (too_few written (least_written (is_mdp preamble) table) few)) (of_place refl e)
+
+pub no_number : (k : TokenKind) → k ≢ kinds.Numeral → k ≢ kinds.Plus → k ≢ kinds.Minus → begins_number k ≡ false
+no_number kinds.Numeral a b c = absurd (a refl)
+no_number kinds.Plus a b c = absurd (b refl)
+no_number kinds.Minus a b c = absurd (c refl)
+no_number kinds.Star a b c = refl
+no_number kinds.Colon a b c = refl
+no_number kinds.Name a b c = refl
+
+-- ---- where an entry ends
+
+-- some cells are left open
+pub body_ends : (preamble : Preamble) (table : Table) (written : ℕ) → least_written (is_mdp preamble) table ≤ written → 1 ≤ cells_in (drop written (dimensions preamble table)) → WrongNumberCount ≡ misfit (entry_wants preamble table false written []) None
+body_ends preamble table written low some =
+    subst (λ b. WrongNumberCount ≡ misfit (if b then Mark else number_end false (cells_in (drop written (dimensions preamble table)))) None) (sym (enough written (least_written (is_mdp preamble) table) low)) (at (cells_in (drop written (dimensions preamble table))) some)
+  where
+    at : (cells : ℕ) → 1 ≤ cells → WrongNumberCount ≡ misfit (number_end false cells) None
+    at zero l = absurd (omega (arith, l))
+    at (suc cells) l = refl
+
+pub few_end : (preamble : Preamble) (table : Table) (written : ℕ) → (least_written (is_mdp preamble) table ≤ written → ⊥) → BadShape ≡ misfit (entry_wants preamble table false written []) None
+few_end preamble table written few =
+    subst (λ b. BadShape ≡ misfit (if b then Mark else number_end false (cells_in (drop written (dimensions preamble table)))) None) (sym (too_few written (least_written (is_mdp preamble) table) few)) refl
+
+-- ---- from a known state
+
+pub no_numbers_lead : {T : Type 0} (n : Numbers T) (needed : ℕ) (l : Lexeme) (new : List Lexeme → Wanted) → n ≡ no_numbers needed → Leads (list_wants n) l new → Leads (numbers_want false needed) l new
+no_numbers_lead n needed l new e leads =
+    let all : needed - 0 ≡ needed = omega arith in
+    let begun : Leads (numbers_want false (needed - 0)) l new = subst (λ (m : Numbers _). Leads (list_wants m) l new) e leads in
+    subst (λ m. Leads (numbers_want false m) l new) all begun
+
+pub body_leads : (preamble : Preamble) (r : EntryReader) (l : Lexeme) (new : List Lexeme → Wanted) → r.state ≡ states.Body
+    → Leads (entry_wants preamble r.table false (length r.places)) l new → Leads (reader_wants preamble r) l new
+body_leads preamble r l new e leads = subst (λ s. Leads (state_wants preamble r.table r.places s) l new) (sym e) leads
+
+pub body_ends_in : (preamble : Preamble) (r : EntryReader) → r.state ≡ states.Body → least_written (is_mdp preamble) r.table ≤ length r.places → 1 ≤ cells_in (drop (length r.places) (dimensions preamble r.table))
+    → WrongNumberCount ≡ misfit (reader_wants preamble r []) None
+body_ends_in preamble r e low some = subst (λ s. WrongNumberCount ≡ misfit (state_wants preamble r.table r.places s []) None) (sym e) (body_ends preamble r.table (length r.places) low some)
+
+pub number_begins : (k : TokenKind) → BeginsNumber k → begins_number k ≡ true
+number_begins k (inl e) = ap begins_number e
+number_begins k (inr (inl e)) = ap begins_number e
+number_begins k (inr (inr e)) = ap begins_number e
+
+-- ---- a start item
+
+no_state_of : (count : ℕ) (b : Bool) → b ≡ false → (c : Bool) → (if c then false else b) ≡ false
+no_state_of count b e true = refl
+no_state_of count b e false = e
+
+one_is : (count : ℕ) → count ≡ 1 → (count == 1) ≡ true
+one_is count e = grind (arith, common_steps)
+
+pub no_state : (count : ℕ) (l : Lexeme) → l.kind ≡ kinds.Numeral → (count ≡ 1) ⊎ (are_digits l.bytes ≡ false) → may_be_state count l.kind l.bytes ≡ false
+no_state count l e (inl one) = subst (λ k. may_be_state count k l.bytes ≡ false) (sym e) (let same = one_is count one in λ i. if same i then false else are_digits l.bytes)
+no_state count l e (inr none) = subst (λ k. may_be_state count k l.bytes ≡ false) (sym e) (no_state_of count (are_digits l.bytes) none (count == 1))
+
+pub sign_no_state : (count : ℕ) (l : Lexeme) → (l.kind ≡ kinds.Plus) ⊎ (l.kind ≡ kinds.Minus) → may_be_state count l.kind l.bytes ≡ false
+sign_no_state count l (inl e) = ap (λ k. may_be_state count k l.bytes) e
+sign_no_state count l (inr e) = ap (λ k. may_be_state count k l.bytes) e
+
+pub body_lead : (count : ℕ) (l : Lexeme) (new : List Lexeme → Wanted) → may_be_state count l.kind l.bytes ≡ false → begins_number l.kind ≡ true
+    → Leads (numbers_want false count) l new → Leads (start_body_wants count) l new
+body_lead count l new none begins leads = record { same = at }
+  where
+    at : (ls : List Lexeme) → start_body_wants count (l ∷ ls) ≡ new ls
+    at [] =
+        (λ i. if none i then NumberOrEnd else by_kind l.kind EndOfWord (numbers_want false count (l ∷ []))) ∙ number_kind l.kind EndOfWord (numbers_want false count (l ∷ [])) begins ∙ leads.same []
+    at (m ∷ ls) = number_kind l.kind EndOfWord (numbers_want false count (l ∷ m ∷ ls)) begins ∙ leads.same (m ∷ ls)
+
+-- one number is not enough, or all there may be
+pub number_lacks : (count : ℕ) → 1 ≤ count → count ≢ 1 → WrongNumberCount ≡ misfit (number_end false (count - 1)) None
+number_lacks count some more = at (count - 1) (omega (arith, some, more))
+  where
+    at : (left : ℕ) → 1 ≤ left → WrongNumberCount ≡ misfit (number_end false left) None
+    at zero l = absurd (omega (arith, l))
+    at (suc left) l = refl
+
+pub number_is_all : (count : ℕ) → count ≡ 1 → StartSum ≡ misfit (number_end false (count - 1)) None
+number_is_all count one = let none : count - 1 ≡ 0 = omega (arith, one) in sym (ap (λ n. misfit (number_end false n) None) none)
+
+pub sum_of_all : {T : Type 0} (n : Numbers T) → IsFull n → StartSum ≡ misfit (list_wants n []) None
+sum_of_all n full = ap (λ w. misfit w None) (full_wants n full)
+
+pub no_end_kind : (e : ItemEnd) (P : ItemFault → Type 0) → IfAtEnd e (λ kind. ⊥) → IfAtEnd e P
+no_end_kind (ends.AtEnd kind) P none = absurd none
+no_end_kind (ends.At r) P none = tt
+no_end_kind ends.Memory P none = tt

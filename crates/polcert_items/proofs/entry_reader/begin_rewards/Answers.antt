@@ -1,0 +1,13 @@
+use Rattle.std.proofs.Common.{rules, subst, IfErr}
+use Rattle.polcert_text.specs.Reading.{lexeme_of}
+use Rattle.polcert_items.specs.LineSteps.{CannotTake}
+use Rattle.polcert_items.specs.EntrySteps.{RewardsGo, IfRefused}
+use Rattle.polcert_items.proofs.WantLaws.{no_numbers_lead}
+use Rattle.polcert_items.proofs.entry_reader.begin_rewards.Goals as goal
+
+pub returns-in_err-feed_reward-clause-refused : goal.returns-in_err-feed_reward-clause-refused
+returns-in_err-feed_reward-clause-refused c =
+    subst (λ n. IfErr c.from_residual.result (λ stop. IfRefused stop (λ r. CannotTake RewardsGo n (lexeme_of c.args.token)))) c.new-numbers.ensures (search rules)
+
+pub returns-clause-leads : goal.returns-clause-leads
+returns-clause-leads c = no_numbers_lead c.new-numbers.result c.args.needed (lexeme_of c.args.token) _ c.new-numbers.ensures c.in_ok-feed_reward.ensures.leads

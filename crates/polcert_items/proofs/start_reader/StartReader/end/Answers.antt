@@ -1,0 +1,52 @@
+use Rattle.std.proofs.Common.{[], sym, subst, IfOk}
+use Rattle.polcert_items.specs.StartSteps.{StartGoes, IsStartSeen}
+use Rattle.polcert_items.specs.declared.start_reader.StartReader.TheVariants as reader
+use Rattle.polcert_items.proofs.PatternLaws.{if_err_map}
+use Rattle.polcert_items.proofs.StartSeen.{end_refused}
+use Rattle.std.proofs.Common.{◌≡◌, None, IfErr}
+use Rattle.polcert_cells.specs.Elements.{count_of}
+use Rattle.polcert_format.specs.Misfits.{misfit}
+use Rattle.polcert_items.specs.WantSteps.{start_wants, IfAtEnd}
+use Rattle.polcert_items.specs.StartSteps.{IsStartWithin}
+use Rattle.polcert_items.proofs.WantLaws.{no_end_kind}
+use Rattle.polcert_items.proofs.start_reader.StartReader.end.Goals as goal
+
+pub returns-in-List-clause-reason : goal.returns-in-List-clause-reason
+returns-in-List-clause-reason c = λ body seen. c.end.ensures.reason body
+
+pub returns-in-Number-clause-reason : goal.returns-in-Number-clause-reason
+returns-in-Number-clause-reason c = λ body seen. c.end-in-Number.ensures.reason body
+
+pub returns-in-Digits-clause-refused : goal.returns-in-Digits-clause-refused
+returns-in-Digits-clause-refused c =
+    if_err_map _ _ _ (λ e none. end_refused c.args.states.now c.args.self (reader.Digits c.in-Digits.digits) e c.in-Digits.is none) c.end-in-Digits.ensures.refused
+
+pub returns-in-Digits-clause-reason : goal.returns-in-Digits-clause-reason
+returns-in-Digits-clause-reason c = λ body seen. c.end-in-Digits.ensures.reason body (subst (IsStartSeen body) c.in-Digits.is seen)
+
+pub returns-in-Probabilities-clause-said : goal.returns-in-Probabilities-clause-said
+returns-in-Probabilities-clause-said c =
+    subst (λ s. IfOk c.end_probabilities.result (StartGoes c.args.states.now s [])) (sym c.in-Probabilities.is) (c.end_probabilities.ensures.said c.args.states.now)
+
+pub returns-in-Probabilities-clause-refused : goal.returns-in-Probabilities-clause-refused
+returns-in-Probabilities-clause-refused c =
+    if_err_map _ _ _ (λ e none. end_refused c.args.states.now c.args.self (reader.Probabilities c.in-Probabilities.numbers) e c.in-Probabilities.is none) (c.end_probabilities.ensures.refused c.args.states.now)
+
+pub returns-in-Probabilities-clause-reason : goal.returns-in-Probabilities-clause-reason
+returns-in-Probabilities-clause-reason c = λ body seen. c.end_probabilities.ensures.reason body
+
+pub returns-in-List-clause-kind : goal.returns-in-List-clause-kind
+returns-in-List-clause-kind c =
+    subst (λ s. IfErr c.end.result (λ e. IfAtEnd e (λ kind. kind ≡ misfit (start_wants (count_of c.args.states.now) s []) None))) (sym c.in-List.is) c.end.ensures.kind
+
+pub returns-in-Number-clause-kind : goal.returns-in-Number-clause-kind
+returns-in-Number-clause-kind c =
+    subst (λ s. IfErr c.end-in-Number.result (λ e. IfAtEnd e (λ kind. kind ≡ misfit (start_wants (count_of c.args.states.now) s []) None))) (sym c.in-Number.is) c.end-in-Number.ensures.kind
+
+pub returns-in-Digits-clause-kind : goal.returns-in-Digits-clause-kind
+returns-in-Digits-clause-kind c = if_err_map _ _ _ (λ e none. no_end_kind e _ none) c.end-in-Digits.ensures.kind
+
+pub returns-in-Probabilities-clause-kind : goal.returns-in-Probabilities-clause-kind
+returns-in-Probabilities-clause-kind c =
+    let within = subst (IsStartWithin c.args.states.now) c.in-Probabilities.is c.requires.within in
+    subst (λ s. IfErr c.end_probabilities.result (λ e. IfAtEnd e (λ kind. kind ≡ misfit (start_wants (count_of c.args.states.now) s []) None))) (sym c.in-Probabilities.is) (c.end_probabilities.ensures.kind within.room)

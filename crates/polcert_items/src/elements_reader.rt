@@ -1,0 +1,177 @@
+//! The states, actions or observations of a model, read token by token behind their word.
+ghost use Rattle.std.specs.Prelude.{◌≡◌, ◌<◌, ◌≤◌, ◌^◌, ◌↔◌, ℕ, List, [], ◌∷◌, ◌++◌, false, Some, None, OnOk, OnErr, IfOk, IfErr, IsTrue};
+ghost use Rattle.polcert_text.specs.Cut.{Lexeme};
+ghost use Rattle.polcert_text.specs.Reading.{lexeme_of};
+ghost use Rattle.polcert_cells.specs.Elements.{count_of};
+ghost use Rattle.polcert_items.specs.ElementSteps.{IsText, NamesGo, ElementsGo, AreNamesRead, IsElementsRead, ElementsReason, AreElementsSeen, IsCountOf};
+ghost use Rattle.polcert_items.specs.EntrySteps.{IfRefused};
+ghost use Rattle.polcert_items.specs.ItemSteps.{IsEndReason};
+ghost use Rattle.polcert_items.specs.LineSteps.{Takes, CannotTake, CannotEnd};
+ghost use Rattle.polcert_cells.specs.Meaning.{IsCount};
+ghost use Rattle.polcert_format.specs.Reasons.{is_sign};
+ghost use Rattle.polcert_format.specs.Misfits.{misfit, IsMisfit, CountOrName, FurtherName};
+ghost use Rattle.polcert_items.specs.WantSteps.{Leads, elements_want};
+ghost use Rattle.polcert_cells.specs.Words.{IsName};
+
+use crate::lines::colon;
+use crate::number::{Refusal, misplaced};
+use crate::stop::Stop;
+use polcert_cells::{Elements, Names, Topic, is_reserved};
+use polcert_format::ItemFault;
+use polcert_text::{Token, TokenKind, whole_number};
+use std::alloc::Global;
+
+/// `states:`, `actions:` or `observations:` and a count or names. Each call is told how many there may be at most.
+#[derive(Drop)]
+pub enum ElementsReader {
+    /// The colon behind the item's word.
+    Colon,
+    /// A count or a name, behind the colon.
+    First,
+    /// Nothing, behind a count.
+    Counted(usize),
+    /// A further name.
+    Named(Names),
+}
+
+impl ElementsReader {
+    /// Goes on with a token of the line.
+    pub fn feed(&mut self, alloc: Global, most: usize, token: Token<'_>) -> Result<(), Stop>
+        requires text { IsText (lexeme_of token) }
+        requires within { IsElementsRead most self.old }
+        requires some { 1 ≤ most }
+        requires small { most < 2 ^ 32 }
+        ensures within { OnOk result (IsElementsRead most self.new) }
+        ensures takes { OnOk result (Takes (ElementsGo most) self.old (lexeme_of token.entry) self.new) }
+        ensures refused { IfErr result (λ stop. IfRefused stop (λ r. CannotTake (ElementsGo most) self.old (lexeme_of token.entry))) }
+        ensures reason { IfErr result (λ stop. IfRefused stop (λ r.
+            ElementsReason self.old (lexeme_of token.entry) r.kind r.place)) }
+        ensures seen { (body : List Lexeme) → AreElementsSeen body self.old
+            → OnOk result (AreElementsSeen (body ++ lexeme_of token.entry ∷ []) self.new) }
+        ensures sign { OnOk result (is_sign (lexeme_of token.entry).kind ≡ false) }
+        ensures leads { OnOk result (Leads (elements_want most self.old) (lexeme_of token.entry) (elements_want most self.new)) }
+        ensures kind { IfErr result (λ stop. IfRefused stop (λ r.
+            IsMisfit (elements_want most self.old []) (lexeme_of token.entry) r.kind)) }
+    {
+        match self {
+            ElementsReader::Colon => {
+                colon(token)?;
+                *self = ElementsReader::First;
+                Ok(())
+            }
+            ElementsReader::First => {
+                *self = begin(alloc, most, token)?;
+                Ok(())
+            }
+            ElementsReader::Counted(_) => Err(Stop::Refused(misplaced(token))),
+            ElementsReader::Named(names) => add_name(names, alloc, most, token),
+        }
+    }
+
+    /// The elements, or why the line cannot end here.
+    pub fn end(self) -> Result<Elements, ItemFault>
+        ensures said { (most : ℕ) → IsElementsRead most self → IfOk result (ElementsGo most self []) }
+        ensures within { (most : ℕ) → IsElementsRead most self → IfOk result (λ e. IsCount most (count_of e)) }
+        ensures reason { IfErr result (IsEndReason Topic.States) }
+        ensures refused { (most : ℕ) → OnErr result (CannotEnd (ElementsGo most) self) }
+        ensures kind { (most : ℕ) → IfErr result (λ kind. kind ≡ misfit (elements_want most self []) None) }
+    {
+        match self {
+            ElementsReader::Colon => Err(ItemFault::BadShape),
+            ElementsReader::First => Err(ItemFault::BadCount),
+            ElementsReader::Counted(count) => Ok(Elements::Count(count)),
+            ElementsReader::Named(names) => Ok(Elements::Names(names)),
+        }
+    }
+}
+
+/// What the first token behind the colon begins.
+fn begin(alloc: Global, most: usize, token: Token<'_>) -> Result<ElementsReader, Stop>
+    requires text { IsText (lexeme_of token) }
+    requires some { 1 ≤ most }
+    requires small { most < 2 ^ 32 }
+    ensures within { IfOk result (IsElementsRead most) }
+    ensures takes { IfOk result (Takes (ElementsGo most) ElementsReader.First (lexeme_of token.entry)) }
+    ensures refused { IfErr result (λ stop. IfRefused stop (λ r.
+        CannotTake (ElementsGo most) ElementsReader.First (lexeme_of token.entry))) }
+    ensures reason { IfErr result (λ stop. IfRefused stop (λ r.
+        ElementsReason ElementsReader.First (lexeme_of token.entry) r.kind r.place)) }
+    ensures seen { (colon : Lexeme) → IfOk result (AreElementsSeen (colon ∷ lexeme_of token.entry ∷ [])) }
+    ensures sign { OnOk result (is_sign (lexeme_of token.entry).kind ≡ false) }
+    ensures leads { IfOk result (λ r. Leads (elements_want most ElementsReader.First) (lexeme_of token.entry) (elements_want most r)) }
+    ensures kind { IfErr result (λ stop. IfRefused stop (λ r. IsMisfit CountOrName (lexeme_of token.entry) r.kind)) }
+{
+    match token.kind {
+        TokenKind::Numeral => Ok(ElementsReader::Counted(count(most, token)?)),
+        _ => {
+            let mut names = Names::new(alloc);
+            add_name(&mut names, alloc, most, token)?;
+            Ok(ElementsReader::Named(names))
+        }
+    }
+}
+
+/// The count that the numeral is.
+fn count(most: usize, token: Token<'_>) -> Result<usize, Refusal>
+    requires numeral { token.kind ≡ TokenKind.Numeral }
+    requires small { most < 2 ^ 32 }
+    ensures count { IfOk result (IsCountOf most (lexeme_of token.entry)) }
+    ensures refused { OnErr result (CannotTake (ElementsGo most) ElementsReader.First (lexeme_of token.entry)) }
+    ensures reason { IfErr result (λ r. ElementsReason ElementsReader.First (lexeme_of token.entry) r.kind r.place) }
+    ensures kind { IfErr result (λ r. r.kind ≡ misfit CountOrName (Some (lexeme_of token.entry))) }
+{
+    match whole_number(most + 1, token.bytes) {
+        Some(count) if 1 <= count && count <= most => Ok(count),
+        _ => Err(bad_count(token)),
+    }
+}
+
+/// Puts the name that the token is behind the others, of which there may be so many at most.
+fn add_name(names: &mut Names, alloc: Global, most: usize, token: Token<'_>) -> Result<(), Stop>
+    requires text { IsText (lexeme_of token) }
+    requires within { AreNamesRead most names.old }
+    ensures name { OnOk result (IsName (lexeme_of token.entry)) }
+    ensures added { OnOk result (names.new ≡ names.old ++ token.entry.bytes.now ∷ []) }
+    ensures within { OnOk result (AreNamesRead most names.new) }
+    ensures refused { IfErr result (λ stop. IfRefused stop (λ r. CannotTake (NamesGo most) names.old (lexeme_of token.entry))) }
+    ensures reason { IfErr result (λ stop. IfRefused stop (λ r.
+        ElementsReason (ElementsReader.Named names.old) (lexeme_of token.entry) r.kind r.place)) }
+    ensures kind { IfErr result (λ stop. IfRefused stop (λ r.
+        r.kind ≡ misfit (FurtherName most names.old) (Some (lexeme_of token.entry)))) }
+{
+    if !is_name(token) {
+        return Err(Stop::Refused(misplaced(token)));
+    }
+    if names.len() == most {
+        return Err(Stop::Refused(bad_count(token)));
+    }
+    if names.push(alloc, token.bytes)? {
+        Ok(())
+    } else {
+        Err(Stop::Refused(Refusal {
+            kind: ItemFault::DuplicateName,
+            place: token.place,
+        }))
+    }
+}
+
+/// Whether the token is a name that isn't reserved.
+fn is_name(token: Token<'_>) -> bool
+    ensures { IsTrue result ↔ IsName (lexeme_of token.entry) }
+{
+    match token.kind {
+        TokenKind::Name => !is_reserved(token.bytes),
+        _ => false,
+    }
+}
+
+/// A token that is no count from 1 to the most, or a name too many.
+fn bad_count(token: Token<'_>) -> Refusal
+    ensures kind { result.kind ≡ ItemFault.BadCount }
+    ensures place { result.place ≡ token.entry.place }
+{
+    Refusal {
+        kind: ItemFault::BadCount,
+        place: token.place,
+    }
+}

@@ -1,0 +1,474 @@
+//! An entry, read token by token behind the word of its table.
+ghost use Rattle.std.specs.Prelude.{◌≡◌, ◌<◌, ◌≤◌, ◌↔◌, [], List, Bool, length, drop, IsTrue, IfOk, OnOk, IfErr, OnErr, IfSome, IfNone, MatchOption, Some, None, false, unwrap_or};
+ghost use Rattle.polcert_text.specs.Reading.{lexeme_of};
+ghost use Rattle.std.specs.Option.{option_copied};
+ghost use Rattle.polcert_cells.specs.Preamble.{Preamble};
+ghost use Rattle.polcert_cells.specs.declared.elements.Elements.TheVariants.{Count};
+ghost use Rattle.polcert_cells.specs.Elements.{count_of, most_elements};
+ghost use Rattle.polcert_items.specs.ElementSteps.{IsText};
+ghost use Rattle.polcert_cells.specs.Entry.{IsPlace};
+ghost use Rattle.polcert_format.specs.Wants.{least_written};
+ghost use Rattle.polcert_items.specs.LineSteps.{Takes, CannotTake, CannotEnd};
+ghost use Rattle.polcert_format.specs.KnownPreamble.{preamble_in, indices_in, named_in};
+ghost use Rattle.polcert_items.specs.EntrySteps.{IsFirstPlace, ProbabilitiesGo, RewardsGo, EntryGoes, IsWithinIndices, IsEntryReason, IsPlaceReason, IfRefused, IsFull, IsListReason, MayStand, IsWordBehind, AreBegun, CannotBegin, range_of, HasRoom, HasRoomIn, no_numbers, body_of, entry_sign, AreSome};
+ghost use Rattle.polcert_format.specs.Misfits.{misfit, IsMisfit, Index, Mark};
+ghost use Rattle.polcert_items.specs.NumberSteps.{SignIs};
+ghost use Rattle.polcert_items.specs.ItemSteps.{IsEndReason};
+ghost use Rattle.polcert_format.specs.Text.{Known};
+ghost use Rattle.polcert_format.specs.Wants.{numbers_want, place_wants};
+ghost use Rattle.polcert_items.specs.WantSteps.{Leads, list_wants, state_wants, entry_wants};
+ghost use Rattle.polcert_cells.specs.declared.words.Topic.{Topic};
+ghost use Rattle.polcert_cells.specs.declared.entry.Place.{Place};
+ghost use Rattle.polcert_items.specs.declared.entry_reader.Word.{Word};
+
+use crate::elements::element_of;
+use crate::known::Known;
+use crate::lines::colon;
+use crate::number::{Range, Refusal, Sign, Step, behind_numbers, misplaced, number_step};
+use crate::stop::Stop;
+use polcert_cells::{Body, Elements, Entry, Place, Sequence, Table, Topic, is_word};
+use polcert_format::ItemFault;
+use polcert_text::{Token, TokenKind};
+use std::alloc::Global;
+
+/// A list of so many numbers, as far as it has been read.
+#[derive(Debug, Drop)]
+pub struct Numbers<T: Copy> {
+    pub read: Sequence<T>,
+    pub needed: usize,
+    pub sign: Option<Sign>,
+}
+
+impl<T: Copy> Numbers<T> {
+    pub fn new(alloc: Global, needed: usize) -> Numbers<T>
+        ensures { result ≡ no_numbers needed }
+    {
+        Numbers {
+            read: Sequence::new(alloc),
+            needed,
+            sign: None,
+        }
+    }
+
+    fn is_full(&self) -> bool
+        ensures { IsTrue result ↔ IsFull self.now }
+    {
+        self.sign.is_none() && self.read.len() == self.needed
+    }
+
+    /// Why the list cannot end here, if it cannot.
+    pub fn end_fault(&self) -> Option<ItemFault>
+        ensures full { MatchOption result (IsFull self.now) (λ _. IsFull self.now → ⊥) }
+        ensures reason { IfSome result (λ fault. (t : Topic) → IsEndReason t fault) }
+        ensures kind { HasRoom self.now → IfSome result (λ fault. fault ≡ misfit (list_wants self.now []) None) }
+    {
+        match self.sign {
+            Some(_) => Some(ItemFault::BadShape),
+            None if self.read.len() == self.needed => None,
+            None => Some(ItemFault::WrongNumberCount),
+        }
+    }
+}
+
+impl Numbers<u32> {
+    /// Goes on with a token of a list of probabilities.
+    pub fn feed_probability(&mut self, token: Token<'_>) -> Result<(), Stop>
+        requires { HasRoom self.old }
+        ensures needed { self.new.needed ≡ self.old.needed }
+        ensures room { OnOk result (HasRoom self.new) }
+        ensures takes { OnOk result (Takes ProbabilitiesGo self.old (lexeme_of token.entry) self.new) }
+        ensures refused { IfErr result (λ stop. IfRefused stop (λ r. CannotTake ProbabilitiesGo self.old (lexeme_of token.entry))) }
+        ensures reason { IfErr result (λ stop. IfRefused stop (λ r.
+            IsListReason Range.Probability self.old.sign (lexeme_of token.entry) r.kind r.place)) }
+        ensures sign { OnOk result (SignIs self.new.sign (lexeme_of token.entry)) }
+        ensures leads { OnOk result (Leads (list_wants self.old) (lexeme_of token.entry) (list_wants self.new)) }
+        ensures kind { IfErr result (λ stop. IfRefused stop (λ r.
+            IsMisfit (list_wants self.old []) (lexeme_of token.entry) r.kind)) }
+    {
+        if self.is_full() {
+            return Err(Stop::Refused(behind_numbers(token)));
+        }
+        match number_step(self.sign, token, Range::Probability)? {
+            Step::Sign(sign) => self.sign = Some(sign),
+            Step::Value(value) => {
+                self.read.push(value as u32)?;
+                self.sign = None;
+            }
+        }
+        Ok(())
+    }
+}
+
+impl Numbers<i64> {
+    /// Goes on with a token of a list of rewards.
+    fn feed_reward(&mut self, token: Token<'_>) -> Result<(), Stop>
+        requires { HasRoom self.old }
+        ensures room { OnOk result (HasRoom self.new) }
+        ensures takes { OnOk result (Takes RewardsGo self.old (lexeme_of token.entry) self.new) }
+        ensures refused { IfErr result (λ stop. IfRefused stop (λ r. CannotTake RewardsGo self.old (lexeme_of token.entry))) }
+        ensures reason { IfErr result (λ stop. IfRefused stop (λ r.
+            IsListReason Range.Reward self.old.sign (lexeme_of token.entry) r.kind r.place)) }
+        ensures sign { OnOk result (SignIs self.new.sign (lexeme_of token.entry)) }
+        ensures leads { OnOk result (Leads (list_wants self.old) (lexeme_of token.entry) (list_wants self.new)) }
+        ensures kind { IfErr result (λ stop. IfRefused stop (λ r.
+            IsMisfit (list_wants self.old []) (lexeme_of token.entry) r.kind)) }
+    {
+        if self.is_full() {
+            return Err(Stop::Refused(behind_numbers(token)));
+        }
+        match number_step(self.sign, token, Range::Reward)? {
+            Step::Sign(sign) => self.sign = Some(sign),
+            Step::Value(value) => {
+                self.read.push(value)?;
+                self.sign = None;
+            }
+        }
+        Ok(())
+    }
+}
+
+/// A word in place of an entry's numbers.
+#[derive(Clone, Copy, Debug, PartialEq, Eq)]
+pub enum Word {
+    Uniform,
+    Identity,
+}
+
+/// What an entry goes on with.
+#[derive(Debug, Drop)]
+pub enum EntryState {
+    /// The colon behind the table's word.
+    Colon,
+    /// An index or `*`, behind a colon.
+    Place,
+    /// A further colon, or the body.
+    Body,
+    Probabilities(Numbers<u32>),
+    Rewards(Numbers<i64>),
+    /// Nothing, behind a word.
+    Word(Word),
+}
+
+/// An entry behind the word of its table, as far as it has been read.
+#[derive(Debug, Drop)]
+pub struct EntryReader {
+    pub table: Table,
+    pub places: Sequence<Place>,
+    pub state: EntryState,
+}
+
+impl EntryReader {
+    /// Before the first token.
+    pub fn new(alloc: Global, table: Table) -> EntryReader
+        ensures { result ≡ record { table = table; places = []; state = EntryState.Colon } }
+    {
+        EntryReader {
+            table,
+            places: Sequence::new(alloc),
+            state: EntryState::Colon,
+        }
+    }
+
+    /// Goes on with a token that begins no item.
+    pub fn feed(&mut self, alloc: Global, known: &Known, token: Token<'_>) -> Result<(), Stop>
+        requires within { IsWithinIndices (indices_in known.now self.old.table) self.old }
+        requires text { IsText (lexeme_of token) }
+        ensures table { self.new.table ≡ self.old.table }
+        ensures within { OnOk result (IsWithinIndices (indices_in known.now self.old.table) self.new) }
+        ensures takes { OnOk result (Takes (EntryGoes (preamble_in known.now))
+            self.old (lexeme_of token.entry) self.new) }
+        ensures refused { IfErr result (λ stop. IfRefused stop (λ r.
+            CannotTake (EntryGoes (preamble_in known.now)) self.old (lexeme_of token.entry))) }
+        ensures reason { IfErr result (λ stop. IfRefused stop (λ r.
+            IsEntryReason self.old (lexeme_of token.entry) r.kind r.place)) }
+        ensures sign { OnOk result (SignIs (entry_sign self.new.state) (lexeme_of token.entry)) }
+        ensures leads { OnOk result (Leads (entry_wants (preamble_in known.now) self.old)
+            (lexeme_of token.entry) (entry_wants (preamble_in known.now) self.new)) }
+        ensures kind { IfErr result (λ stop. IfRefused stop (λ r.
+            IsMisfit (entry_wants (preamble_in known.now) self.old []) (lexeme_of token.entry) r.kind)) }
+    {
+        match &mut self.state {
+            EntryState::Colon => {
+                colon(token)?;
+                self.state = EntryState::Place;
+                Ok(())
+            }
+            EntryState::Place => self.feed_place(known, token),
+            EntryState::Body => self.feed_body(alloc, known, token),
+            EntryState::Probabilities(numbers) => numbers.feed_probability(token),
+            EntryState::Rewards(numbers) => numbers.feed_reward(token),
+            EntryState::Word(_) => Err(Stop::Refused(misplaced(token))),
+        }
+    }
+
+    /// Goes on behind a colon.
+    fn feed_place(&mut self, known: &Known, token: Token<'_>) -> Result<(), Stop>
+        requires state { self.old.state ≡ EntryState.Place }
+        requires within { length self.old.places < length (indices_in known.now self.old.table) }
+        requires text { IsText (lexeme_of token) }
+        ensures table { self.new.table ≡ self.old.table }
+        ensures within { OnOk result (IsWithinIndices (indices_in known.now self.old.table) self.new) }
+        ensures takes { OnOk result (Takes (EntryGoes (preamble_in known.now))
+            self.old (lexeme_of token.entry) self.new) }
+        ensures refused { IfErr result (λ stop. IfRefused stop (λ r.
+            CannotTake (EntryGoes (preamble_in known.now)) self.old (lexeme_of token.entry))) }
+        ensures reason { IfErr result (λ stop. IfRefused stop (λ r.
+            IsPlaceReason (lexeme_of token.entry) r.kind r.place)) }
+        ensures sign { OnOk result (SignIs (entry_sign self.new.state) (lexeme_of token.entry)) }
+        ensures leads { OnOk result (Leads (entry_wants (preamble_in known.now) self.old)
+            (lexeme_of token.entry) (entry_wants (preamble_in known.now) self.new)) }
+        ensures kind { IfErr result (λ stop. IfRefused stop (λ r.
+            IsMisfit (entry_wants (preamble_in known.now) self.old []) (lexeme_of token.entry) r.kind)) }
+    {
+        let place = self.next_place(known, token)?;
+        self.places.push(place)?;
+        self.state = EntryState::Body;
+        Ok(())
+    }
+
+    /// The next place that the token is. In an MDP the fourth is `*`: a reward has nothing to do with what is observed.
+    fn next_place(&self, known: &Known, token: Token<'_>) -> Result<Place, Refusal>
+        requires within { length self.now.places < length (indices_in known.now self.now.table) }
+        requires text { IsText (lexeme_of token) }
+        ensures place { IfOk result (IsFirstPlace (drop (length self.now.places) (named_in known.now self.now.table)) (lexeme_of token.entry)) }
+        ensures refused { OnErr result ((p : Place) →
+            IsFirstPlace (drop (length self.now.places) (named_in known.now self.now.table)) (lexeme_of token.entry) p → ⊥) }
+        ensures reason { IfErr result (λ r. IsPlaceReason (lexeme_of token.entry) r.kind r.place) }
+        ensures kind { IfErr result (λ r.
+            r.kind ≡ misfit (place_wants (preamble_in known.now) (length self.now.places)) (Some (lexeme_of token.entry))) }
+    {
+        let written = self.places.len();
+        if known.is_mdp() && written == 3 {
+            return every(token);
+        }
+        place_of(token, known.elements(self.table, written))
+    }
+
+    /// Goes on behind a place.
+    fn feed_body(&mut self, alloc: Global, known: &Known, token: Token<'_>) -> Result<(), Stop>
+        requires state { self.old.state ≡ EntryState.Body }
+        requires within { length self.old.places ≤ length (indices_in known.now self.old.table) }
+        ensures table { self.new.table ≡ self.old.table }
+        ensures within { OnOk result (IsWithinIndices (indices_in known.now self.old.table) self.new) }
+        ensures takes { OnOk result (Takes (EntryGoes (preamble_in known.now))
+            self.old (lexeme_of token.entry) self.new) }
+        ensures refused { IfErr result (λ stop. IfRefused stop (λ r.
+            CannotTake (EntryGoes (preamble_in known.now)) self.old (lexeme_of token.entry))) }
+        ensures reason { IfErr result (λ stop. IfRefused stop (λ r.
+            IsEntryReason self.old (lexeme_of token.entry) r.kind r.place)) }
+        ensures sign { OnOk result (SignIs (entry_sign self.new.state) (lexeme_of token.entry)) }
+        ensures leads { OnOk result (Leads (entry_wants (preamble_in known.now) self.old)
+            (lexeme_of token.entry) (entry_wants (preamble_in known.now) self.new)) }
+        ensures kind { IfErr result (λ stop. IfRefused stop (λ r.
+            IsMisfit (entry_wants (preamble_in known.now) self.old []) (lexeme_of token.entry) r.kind)) }
+    {
+        let written = self.places.len();
+        match token.kind {
+            TokenKind::Colon if written < indices_of(self.table) => {
+                self.state = EntryState::Place;
+                Ok(())
+            }
+            TokenKind::Numeral | TokenKind::Plus | TokenKind::Minus
+                if takes_numbers(known.is_mdp(), self.table, written) => {
+                let needed = known.cells_behind(self.table, written);
+                self.state = begin_numbers(alloc, self.table, needed, token)?;
+                Ok(())
+            }
+            _ => match word_of(self.table, written, token) {
+                Some(word) => {
+                    self.state = EntryState::Word(word);
+                    Ok(())
+                }
+                None => Err(Stop::Refused(misplaced(token))),
+            },
+        }
+    }
+
+    /// The entry, or why it cannot end here.
+    pub fn end(self, known: &Known) -> Result<Entry, ItemFault>
+        ensures said { IfOk result (EntryGoes (preamble_in known.now) self []) }
+        ensures refused { AreSome (indices_in known.now self.table) → OnErr result (CannotEnd (EntryGoes (preamble_in known.now)) self) }
+        ensures reason { IfErr result (IsEndReason (Topic.Cells self.table)) }
+        ensures kind { AreSome (indices_in known.now self.table) → IsWithinIndices (indices_in known.now self.table) self →
+            IfErr result (λ kind. kind ≡ misfit (entry_wants (preamble_in known.now) self []) None) }
+    {
+        let EntryReader {
+            table,
+            places,
+            state,
+        } = self;
+        let body = match state {
+            EntryState::Probabilities(numbers) => match numbers.end_fault() {
+                Some(fault) => return Err(fault),
+                None => Body::Probabilities(numbers.read),
+            },
+            EntryState::Rewards(numbers) => match numbers.end_fault() {
+                Some(fault) => return Err(fault),
+                None => Body::Rewards(numbers.read),
+            },
+            EntryState::Word(word) => body_of(word),
+            EntryState::Body if takes_numbers(known.is_mdp(), table, places.len()) => {
+                return Err(ItemFault::WrongNumberCount);
+            }
+            _ => return Err(ItemFault::BadShape),
+        };
+        Ok(Entry {
+            table,
+            places,
+            body,
+        })
+    }
+}
+
+fn body_of(word: Word) -> Body
+    ensures { result ≡ body_of word }
+{
+    match word {
+        Word::Uniform => Body::Uniform,
+        Word::Identity => Body::Identity,
+    }
+}
+
+/// The body's numbers behind their first token.
+fn begin_numbers(
+    alloc: Global,
+    table: Table,
+    needed: usize,
+    token: Token<'_>,
+) -> Result<EntryState, Stop>
+    ensures begun { IfOk result (AreBegun table needed (lexeme_of token.entry)) }
+    ensures refused { IfErr result (λ stop. IfRefused stop (λ r. CannotBegin table needed (lexeme_of token.entry))) }
+    ensures reason { IfErr result (λ stop. IfRefused stop (λ r.
+        IsListReason (range_of table) None (lexeme_of token.entry) r.kind r.place)) }
+    ensures sign { IfOk result (λ state. SignIs (entry_sign state) (lexeme_of token.entry)) }
+    ensures leads { (p : Preamble) (places : List Place) → IfOk result (λ state.
+        Leads (numbers_want false needed) (lexeme_of token.entry) (state_wants p table places state)) }
+    ensures kind { IfErr result (λ stop. IfRefused stop (λ r.
+        IsMisfit (numbers_want false needed []) (lexeme_of token.entry) r.kind)) }
+    ensures room { IfOk result HasRoomIn }
+{
+    match table {
+        Table::Reward => Ok(EntryState::Rewards(begin_rewards(alloc, needed, token)?)),
+        Table::Transition | Table::Observation => Ok(EntryState::Probabilities(begin_probabilities(
+            alloc, needed, token,
+        )?)),
+    }
+}
+
+/// Rewards behind their first token.
+fn begin_rewards(alloc: Global, needed: usize, token: Token<'_>) -> Result<Numbers<i64>, Stop>
+    ensures begun { IfOk result (Takes RewardsGo (no_numbers needed) (lexeme_of token.entry)) }
+    ensures refused { IfErr result (λ stop. IfRefused stop (λ r.
+        CannotTake RewardsGo (no_numbers needed) (lexeme_of token.entry))) }
+    ensures reason { IfErr result (λ stop. IfRefused stop (λ r.
+        IsListReason Range.Reward None (lexeme_of token.entry) r.kind r.place)) }
+    ensures sign { IfOk result (λ n. SignIs n.sign (lexeme_of token.entry)) }
+    ensures leads { IfOk result (λ n. Leads (numbers_want false needed) (lexeme_of token.entry) (list_wants n)) }
+    ensures kind { IfErr result (λ stop. IfRefused stop (λ r.
+        IsMisfit (numbers_want false needed []) (lexeme_of token.entry) r.kind)) }
+    ensures room { IfOk result (λ n. HasRoom n) }
+{
+    let mut numbers = Numbers::new(alloc, needed);
+    numbers.feed_reward(token)?;
+    Ok(numbers)
+}
+
+/// Probabilities behind their first token.
+fn begin_probabilities(alloc: Global, needed: usize, token: Token<'_>) -> Result<Numbers<u32>, Stop>
+    ensures begun { IfOk result (Takes ProbabilitiesGo (no_numbers needed) (lexeme_of token.entry)) }
+    ensures refused { IfErr result (λ stop. IfRefused stop (λ r.
+        CannotTake ProbabilitiesGo (no_numbers needed) (lexeme_of token.entry))) }
+    ensures reason { IfErr result (λ stop. IfRefused stop (λ r.
+        IsListReason Range.Probability None (lexeme_of token.entry) r.kind r.place)) }
+    ensures sign { IfOk result (λ n. SignIs n.sign (lexeme_of token.entry)) }
+    ensures leads { IfOk result (λ n. Leads (numbers_want false needed) (lexeme_of token.entry) (list_wants n)) }
+    ensures kind { IfErr result (λ stop. IfRefused stop (λ r.
+        IsMisfit (numbers_want false needed []) (lexeme_of token.entry) r.kind)) }
+    ensures room { IfOk result (λ n. HasRoom n) }
+{
+    let mut numbers = Numbers::new(alloc, needed);
+    numbers.feed_probability(token)?;
+    Ok(numbers)
+}
+
+/// The place that the token is: `*`, or one of these elements.
+fn place_of(token: Token<'_>, elements: Option<&Elements>) -> Result<Place, Refusal>
+    requires few { count_of (unwrap_or (option_copied elements) (Count 0)) ≤ most_elements }
+    requires text { IsText (lexeme_of token) }
+    ensures place { IfOk result (IsPlace (unwrap_or (option_copied elements.entry) (Count 0)) (lexeme_of token.entry)) }
+    ensures refused { OnErr result ((p : Place) → IsPlace (unwrap_or (option_copied elements.entry) (Count 0)) (lexeme_of token.entry) p → ⊥) }
+    ensures reason { IfErr result (λ r. IsPlaceReason (lexeme_of token.entry) r.kind r.place) }
+    ensures kind { IfErr result (λ r. r.kind ≡ misfit Index (Some (lexeme_of token.entry))) }
+{
+    match (token.kind, elements) {
+        (TokenKind::Star, _) => Ok(Place::Every),
+        (_, Some(elements)) => Ok(Place::Only(element_of(token, elements)? as u16)),
+        (_, None) => Ok(Place::Only(element_of(token, &Elements::Count(0))? as u16)),
+    }
+}
+
+/// The place that the token is where only `*` may stand.
+fn every(token: Token<'_>) -> Result<Place, Refusal>
+    ensures star { IfOk result (λ p. (p ≡ Place.Every) × ((lexeme_of token.entry).kind ≡ TokenKind.Star)) }
+    ensures refused { OnErr result ((lexeme_of token.entry).kind ≡ TokenKind.Star → ⊥) }
+    ensures reason { IfErr result (λ r. IsPlaceReason (lexeme_of token.entry) r.kind r.place) }
+    ensures kind { IfErr result (λ r. r.kind ≡ misfit Mark (Some (lexeme_of token.entry))) }
+{
+    match token.kind {
+        TokenKind::Star => Ok(Place::Every),
+        _ => Err(misplaced(token)),
+    }
+}
+
+/// How many indices the cells of a table have.
+fn indices_of(table: Table) -> usize
+    ensures { (k : Known) → length (indices_in k table) ≡ result }
+{
+    match table {
+        Table::Transition | Table::Observation => 3,
+        Table::Reward => 4,
+    }
+}
+
+/// Whether numbers may stand behind so many places.
+fn takes_numbers(is_mdp: bool, table: Table, written: usize) -> bool
+    ensures { IsTrue result ↔ (least_written is_mdp table ≤ written) }
+{
+    match table {
+        Table::Reward if !is_mdp => 2 <= written,
+        _ => 1 <= written,
+    }
+}
+
+/// The word that the token is in place of numbers behind so many places, if it may stand there.
+fn word_of(table: Table, written: usize, token: Token<'_>) -> Option<Word>
+    ensures name { IfSome result (λ _. (lexeme_of token.entry).kind ≡ TokenKind.Name) }
+    ensures word { (mdp : Bool) → IfSome result (IsWordBehind mdp table written (lexeme_of token.entry)) }
+    ensures none { (mdp : Bool) → IfNone result ((w : Word) → IsWordBehind mdp table written (lexeme_of token.entry) w → ⊥) }
+{
+    if is_word(&token, b"uniform") && takes_uniform(table, written) {
+        return Some(Word::Uniform);
+    }
+    if is_word(&token, b"identity") && takes_identity(table, written) {
+        return Some(Word::Identity);
+    }
+    None
+}
+
+fn takes_uniform(table: Table, written: usize) -> bool
+    ensures { (mdp : Bool) → (IsTrue result ↔ MayStand mdp table Body.Uniform written) }
+{
+    match table {
+        Table::Transition | Table::Observation => 1 <= written && written <= 2,
+        Table::Reward => false,
+    }
+}
+
+fn takes_identity(table: Table, written: usize) -> bool
+    ensures { (mdp : Bool) → (IsTrue result ↔ MayStand mdp table Body.Identity written) }
+{
+    match table {
+        Table::Transition => written == 1,
+        Table::Observation | Table::Reward => false,
+    }
+}

@@ -1,0 +1,125 @@
+//! An item behind its word, read token by token.
+ghost use Rattle.std.specs.Prelude.{◌≡◌, None, List, [], ◌∷◌, ◌++◌, IfOk, OnOk, IfErr};
+ghost use Rattle.polcert_text.specs.Cut.{Lexeme};
+ghost use Rattle.polcert_text.specs.Reading.{lexeme_of};
+ghost use Rattle.polcert_items.specs.ElementSteps.{IsText};
+ghost use Rattle.polcert_items.specs.EntrySteps.{IfRefused};
+ghost use Rattle.polcert_items.specs.ItemSteps.{ItemGoes, IsItemWithin, IsItemReason, IsItemEndReason, topic_in, IsSeen, new_item, HasElements, pending_in};
+ghost use Rattle.polcert_items.specs.KnownView.{learned, IsSaidWithin};
+ghost use Rattle.polcert_items.specs.LineSteps.{Takes, CannotTake, CannotEnd};
+ghost use Rattle.polcert_format.specs.Misfits.{misfit, IsMisfit};
+ghost use Rattle.polcert_items.specs.StartSteps.{IfNotMemory};
+ghost use Rattle.polcert_items.specs.WantSteps.{Leads, item_wants, IfNotStart, IfStart, IsStartMisfit, IfAtEnd};
+
+use crate::elements_reader::ElementsReader;
+use crate::entry_reader::EntryReader;
+use crate::known::Known;
+use crate::lines::{DiscountReader, ValuesReader};
+use crate::number::Refusal;
+use crate::start_reader::StartReader;
+use crate::stop::{ItemEnd, Stop};
+use polcert_cells::{Elements, Entry, MOST_ACTIONS, MOST_OBSERVATIONS, MOST_STATES, Shares, Topic};
+use polcert_format::ItemFault;
+use polcert_text::Token;
+use std::alloc::Global;
+
+/// An item behind its word, as far as it has been read.
+#[derive(Drop)]
+pub enum ItemReader {
+    Discount(DiscountReader),
+    Values(ValuesReader),
+    States(ElementsReader),
+    Actions(ElementsReader),
+    Observations(ElementsReader),
+    Start(StartReader),
+    Entry(EntryReader),
+}
+
+/// What a whole item says.
+#[derive(Drop)]
+pub enum Said {
+    Discount(u32),
+    Costs(bool),
+    States(Elements),
+    Actions(Elements),
+    Observations(Elements),
+    Start(Shares),
+    Entry(Entry),
+}
+
+impl ItemReader {
+    /// The reader of an item of this topic.
+    pub fn new(alloc: Global, topic: Topic) -> ItemReader
+        ensures { result ≡ new_item topic }
+    {
+        match topic {
+            Topic::Discount => ItemReader::Discount(DiscountReader::Colon),
+            Topic::Values => ItemReader::Values(ValuesReader::Colon),
+            Topic::States => ItemReader::States(ElementsReader::Colon),
+            Topic::Actions => ItemReader::Actions(ElementsReader::Colon),
+            Topic::Observations => ItemReader::Observations(ElementsReader::Colon),
+            Topic::Start => ItemReader::Start(StartReader::new()),
+            Topic::Cells(table) => ItemReader::Entry(EntryReader::new(alloc, table)),
+        }
+    }
+
+    /// Goes on with a token that begins no item.
+    pub fn feed(&mut self, alloc: Global, known: &Known, token: Token<'_>) -> Result<(), Stop>
+        requires within { IsItemWithin known.now self.old }
+        requires text { IsText (lexeme_of token) }
+        ensures topic { topic_in self.new ≡ topic_in self.old }
+        ensures within { OnOk result (IsItemWithin known.now self.new) }
+        ensures takes { OnOk result (Takes (ItemGoes known.now) self.old (lexeme_of token.entry) self.new) }
+        ensures seen { (body : List Lexeme) → IsSeen body self.old → OnOk result (IsSeen (body ++ lexeme_of token.entry ∷ []) self.new) }
+        ensures refused { IfErr result (λ stop. IfRefused stop (λ r.
+            CannotTake (ItemGoes known.now) self.old (lexeme_of token.entry))) }
+        ensures reason { (body : List Lexeme) → IsSeen body self.old → IfErr result (λ stop. IfRefused stop (λ r.
+            IsItemReason self.old body (lexeme_of token.entry) r.kind r.place)) }
+        ensures leads { OnOk result (Leads (item_wants known.now self.old) (lexeme_of token.entry) (item_wants known.now self.new)) }
+        ensures kind { IfErr result (λ stop. IfRefused stop (λ r. IfNotStart (topic_in self.old)
+            (IsMisfit (item_wants known.now self.old []) (lexeme_of token.entry) r.kind))) }
+        ensures start { IfErr result (λ stop. IfRefused stop (λ r. IfStart (topic_in self.old)
+            (IsStartMisfit (item_wants known.now self.old []) (lexeme_of token.entry) r.kind r.place))) }
+    {
+        match self {
+            ItemReader::Discount(reader) => Ok(reader.feed(token)?),
+            ItemReader::Values(reader) => Ok(reader.feed(token)?),
+            ItemReader::States(reader) => reader.feed(alloc, MOST_STATES, token),
+            ItemReader::Actions(reader) => reader.feed(alloc, MOST_ACTIONS, token),
+            ItemReader::Observations(reader) => reader.feed(alloc, MOST_OBSERVATIONS, token),
+            ItemReader::Start(reader) => reader.feed(alloc, known.states(), token),
+            ItemReader::Entry(reader) => reader.feed(alloc, known, token),
+        }
+    }
+
+    /// Why the tokens cannot end in a fault here, if a number was read before that has no value.
+    pub fn pending(&self) -> Option<Refusal>
+        ensures { result ≡ pending_in self.now }
+    {
+        match self {
+            ItemReader::Start(reader) => reader.pending(),
+            _ => None,
+        }
+    }
+
+    /// What the item says, or why it cannot end here.
+    pub fn end(self, alloc: Global, known: &Known) -> Result<Said, ItemEnd>
+        requires { IsItemWithin known.now self }
+        ensures said { IfOk result (λ said. ItemGoes known.now self [] (learned known.now said)) }
+        ensures within { IfOk result IsSaidWithin }
+        ensures refused { HasElements known.now (topic_in self) → IfErr result (λ e. IfNotMemory e (CannotEnd (ItemGoes known.now) self)) }
+        ensures reason { (body : List Lexeme) → IsSeen body self → IfErr result (IsItemEndReason (topic_in self) body) }
+        ensures kind { HasElements known.now (topic_in self) → IfErr result (λ e.
+            IfAtEnd e (λ kind. kind ≡ misfit (item_wants known.now self []) None)) }
+    {
+        match self {
+            ItemReader::Discount(reader) => Ok(Said::Discount(reader.end()?)),
+            ItemReader::Values(reader) => Ok(Said::Costs(reader.end()?)),
+            ItemReader::States(reader) => Ok(Said::States(reader.end()?)),
+            ItemReader::Actions(reader) => Ok(Said::Actions(reader.end()?)),
+            ItemReader::Observations(reader) => Ok(Said::Observations(reader.end()?)),
+            ItemReader::Start(reader) => Ok(Said::Start(reader.end(alloc, known.states())?)),
+            ItemReader::Entry(reader) => Ok(Said::Entry(reader.end(known)?)),
+        }
+    }
+}

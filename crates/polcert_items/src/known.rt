@@ -1,0 +1,264 @@
+//! What the items of a text have said so far.
+ghost use Rattle.std.specs.Prelude.{◌≡◌, ◌<◌, ◌≤◌, length, drop, get_or, List, Some, unwrap_or, OnOk, OnErr, IfOk, if◌then◌else◌};
+ghost use Rattle.std.specs.Option.{option_copied};
+ghost use Rattle.polcert_cells.specs.declared.elements.Elements.{Elements};
+ghost use Rattle.polcert_cells.specs.declared.elements.Elements.TheVariants.{Count};
+ghost use Rattle.polcert_cells.specs.Elements.{count_of, most_states, most_actions, most_observations, most_elements};
+ghost use Rattle.polcert_cells.specs.Entry.{cells_in};
+ghost use Rattle.polcert_cells.specs.declared.words.Topic.{Topic};
+ghost use Rattle.polcert_cells.specs.Preamble.{is_mdp};
+ghost use Rattle.polcert_format.specs.KnownPreamble.{preamble_in, indices_in, named_in};
+ghost use Rattle.polcert_format.specs.Wants.{least_written};
+ghost use Rattle.polcert_items.specs.KnownView.{learned, IsSaidWithin};
+ghost use Rattle.polcert_cells.specs.Meaning.{IsCount};
+ghost use Rattle.polcert_tables.specs.Kept.{IsKeptOf};
+ghost use Rattle.polcert_format.specs.Order.{word_fault};
+ghost use Rattle.polcert_format.specs.Order.{count_in, preamble_fault, is_late, came_before, is_unobserved, cells_are_too_many};
+ghost use Rattle.polcert_format.specs.Text.{nothing_known};
+ghost use Rattle.polcert_items.specs.KnownView.{IsWholeRead, said};
+ghost use Rattle.polcert_text.specs.Cut.{Lexeme};
+
+use crate::item::Said;
+use polcert_cells::{Elements, Entries, Shares, Table, Topic};
+use polcert_format::ItemFault;
+use polcert_tables::{Draft, count_or};
+use std::alloc::{AllocError, Global};
+use std::marker::Model;
+
+const MOST_CELLS: usize = 16_777_216;
+
+/// What the items so far say: the lines of the preamble that came, the start item, and the entries. There are 1 to 1,000
+/// elements of each kind.
+#[derive(Drop)]
+pub struct Known {
+    discount: Option<u32>,
+    costs: Option<bool>,
+    states: Option<Elements>,
+    actions: Option<Elements>,
+    observations: Option<Elements>,
+    start: Option<Shares>,
+    entries: Entries,
+}
+
+impl Model for Known {
+    ghost use Rattle.polcert_format.specs.Text as text;
+    ghost use Rattle.polcert_cells.specs.Elements.{most_states, most_actions, most_observations};
+    ghost use Rattle.polcert_items.specs.KnownView.{known_of, IsCountIn};
+
+    ghost Value = { text.Known };
+
+    ghost view = { λ k. known_of k.discount k.costs k.states k.actions k.observations k.start k.entries };
+
+    ghost invariant = { λ k. IsCountIn most_states k.states × IsCountIn most_actions k.actions × IsCountIn most_observations k.observations };
+}
+
+impl Known {
+    /// Before the first item.
+    pub fn new(alloc: Global) -> Known
+        ensures { result ≡ nothing_known }
+    {
+        Known {
+            discount: None,
+            costs: None,
+            states: None,
+            actions: None,
+            observations: None,
+            start: None,
+            entries: Entries::new(alloc),
+        }
+    }
+
+    /// Adds what a whole item says. Where memory is wanting all stays as it was.
+    pub fn learn(&mut self, said: Said) -> Result<(), AllocError>
+        requires { IsSaidWithin said }
+        ensures ok { OnOk result (self.new ≡ learned self.old said) }
+        ensures err { OnErr result (self.new ≡ self.old) }
+    {
+        match said {
+            Said::Discount(discount) => self.discount = Some(discount),
+            Said::Costs(costs) => self.costs = Some(costs),
+            Said::States(states) => self.states = Some(states),
+            Said::Actions(actions) => self.actions = Some(actions),
+            Said::Observations(observations) => self.observations = Some(observations),
+            Said::Start(shares) => self.start = Some(shares),
+            Said::Entry(entry) => self.entries.push(entry)?,
+        }
+        Ok(())
+    }
+
+    /// The draft of a complete preamble, start item and entries.
+    pub fn into_draft(self, alloc: Global) -> Result<Draft, AllocError>
+        requires { (seen : List Lexeme) × IsWholeRead seen self }
+        ensures { IfOk result (IsKeptOf (said self)) }
+    {
+        let Known {
+            discount,
+            costs,
+            states,
+            actions,
+            observations,
+            start,
+            entries,
+        } = self;
+        Draft::of(
+            alloc,
+            discount.unwrap_or(0),
+            costs.unwrap_or(false),
+            states.unwrap_or(Elements::Count(0)),
+            actions.unwrap_or(Elements::Count(0)),
+            observations,
+            start,
+            entries,
+        )
+    }
+
+    /// What the place of this number may name in an entry of the table, where it may name anything.
+    pub fn elements(&self, table: Table, number: usize) -> Option<&Elements>
+        requires { number < length (indices_in self.now table) }
+        ensures elements { get_or (named_in self.now table) number (Count 0) ≡ unwrap_or (option_copied result) (Count 0) }
+        ensures few { count_of (unwrap_or (option_copied result) (Count 0)) ≤ most_elements }
+    {
+        match (table, number) {
+            (_, 0) => self.actions.as_ref(),
+            (Table::Observation, 2) => match &self.observations {
+                Some(elements) => Some(elements),
+                None => self.states.as_ref(),
+            },
+            (Table::Reward, 3) => self.observations.as_ref(),
+            _ => self.states.as_ref(),
+        }
+    }
+
+    /// The states of a complete preamble.
+    pub fn states(&self) -> &Elements
+        requires { (states : Elements) × (self.now.states ≡ Some states) }
+        ensures states { self.now.states ≡ Some result.now }
+        ensures count { IsCount most_states (count_of result.now) }
+    {
+        self.states.as_ref().unwrap()
+    }
+
+    /// How many cells so many places leave open.
+    pub fn cells_behind(&self, table: Table, written: usize) -> usize
+        requires { least_written (is_mdp (preamble_in self.now)) table ≤ written }
+        ensures { result ≡ cells_in (drop written (indices_in self.now table)) }
+    {
+        let states = count_in(&self.states);
+        let observed = count_or(states, &self.observations);
+        let rewarded = count_or(1, &self.observations);
+        match (table, written) {
+            (Table::Transition, 1) => states * states,
+            (Table::Transition, 2) => states,
+            (Table::Observation, 1) => states * observed,
+            (Table::Observation, 2) => observed,
+            (Table::Reward, 1) => states * states * rewarded,
+            (Table::Reward, 2) => states * rewarded,
+            (Table::Reward, 3) => rewarded,
+            _ => 1,
+        }
+    }
+
+    /// Whether there is no line of observations.
+    pub fn is_mdp(&self) -> bool
+        ensures { result ≡ is_mdp (preamble_in self.now) }
+    {
+        self.observations.is_none()
+    }
+
+    /// Why an item of this topic cannot stand here, whatever its body.
+    pub fn word_fault(&self, topic: Topic) -> Option<ItemFault>
+        ensures { result ≡ word_fault self.now topic }
+    {
+        if self.is_late(topic) {
+            return Some(ItemFault::LateLine);
+        }
+        if self.came_before(topic) {
+            return Some(ItemFault::DuplicateLine);
+        }
+        match topic {
+            Topic::Start => self.preamble_fault(),
+            Topic::Cells(table) => match self.preamble_fault() {
+                Some(fault) => Some(fault),
+                None => self.table_fault(table),
+            },
+            _ => None,
+        }
+    }
+
+    /// Why the table has no entries: what is observed in an MDP is the end state.
+    fn table_fault(&self, table: Table) -> Option<ItemFault>
+        ensures { result ≡ (if is_unobserved self.now (Topic.Cells table) then Some ItemFault.BadShape else None) }
+    {
+        match table {
+            Table::Observation if self.is_mdp() => Some(ItemFault::BadShape),
+            _ => None,
+        }
+    }
+
+    fn is_late(&self, topic: Topic) -> bool
+        ensures { result ≡ is_late self.now topic }
+    {
+        match topic {
+            Topic::Cells(_) => false,
+            Topic::Start => self.entries.len() > 0,
+            _ => self.start.is_some() || self.entries.len() > 0,
+        }
+    }
+
+    fn came_before(&self, topic: Topic) -> bool
+        ensures { result ≡ came_before self.now topic }
+    {
+        match topic {
+            Topic::Discount => self.discount.is_some(),
+            Topic::Values => self.costs.is_some(),
+            Topic::States => self.states.is_some(),
+            Topic::Actions => self.actions.is_some(),
+            Topic::Observations => self.observations.is_some(),
+            Topic::Start => self.start.is_some(),
+            Topic::Cells(_) => false,
+        }
+    }
+
+    /// Why the preamble isn't complete: a line is missing, or else a table has too many cells.
+    pub fn preamble_fault(&self) -> Option<ItemFault>
+        ensures { result ≡ preamble_fault self.now }
+    {
+        if self.discount.is_none() || self.costs.is_none() {
+            return Some(ItemFault::MissingLine);
+        }
+        match (&self.states, &self.actions) {
+            (Some(states), Some(actions)) => {
+                let states = states.count();
+                let observed = count_or(states, &self.observations);
+                let rewarded = count_or(1, &self.observations);
+                cells_fault(states, actions.count(), observed, rewarded)
+            }
+            _ => Some(ItemFault::MissingLine),
+        }
+    }
+}
+
+fn count_in(elements: &Option<Elements>) -> usize
+    ensures { result ≡ count_in elements.now }
+{
+    count_or(0, elements)
+}
+
+fn cells_fault(states: usize, actions: usize, observed: usize, rewarded: usize) -> Option<ItemFault>
+    requires states { states ≤ most_states }
+    requires actions { actions ≤ most_actions }
+    requires observed { observed ≤ most_observations }
+    requires rewarded { rewarded ≤ most_observations }
+    ensures { result ≡ (if cells_are_too_many states actions observed rewarded then Some ItemFault.TooManyCells else None) }
+{
+    let pairs = actions * states;
+    let transitions = pairs * states;
+    if transitions > MOST_CELLS
+        || pairs * observed > MOST_CELLS
+        || transitions * rewarded > MOST_CELLS
+    {
+        Some(ItemFault::TooManyCells)
+    } else {
+        None
+    }
+}

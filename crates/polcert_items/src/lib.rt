@@ -1,0 +1,21 @@
+//! The items of a model's text, read token by token.
+#![tactic(auto)]
+
+mod elements;
+mod elements_reader;
+mod entry_reader;
+mod item;
+mod known;
+mod lines;
+mod number;
+mod start_reader;
+mod stop;
+
+pub use elements_reader::ElementsReader;
+pub use entry_reader::{EntryReader, EntryState, Numbers, Word};
+pub use item::{ItemReader, Said};
+pub use known::Known;
+pub use lines::{DiscountReader, ValuesReader};
+pub use number::{Refusal, Sign};
+pub use start_reader::{Choice, Chosen, Digits, FirstNumber, StartReader};
+pub use stop::{ItemEnd, Stop};

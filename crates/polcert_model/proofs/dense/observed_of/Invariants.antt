@@ -1,9 +1,0 @@
-use Rattle.std.proofs.Common.{◌≡◌, ℕ, ◌<◌, ◌/◌, ◌%◌, get_or, length}
-use Rattle.polcert_model.specs.Contents.{meaning}
-use Rattle.polcert_model.proofs.dense.observed_of.Given as goal
-
-abbrev pub invariant-loop-place : goal.invariant-loop-place
-invariant-loop-place l = record {
-  size : length l.cells.items ≡ l.place;
-  each : (k : ℕ) → k < l.place → get_or l.cells.items k 0 ≡ (meaning l.model).o (k / l.observations / l.states) (k / l.observations % l.states) (k % l.observations);
-}

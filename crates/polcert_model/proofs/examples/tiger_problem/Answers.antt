@@ -1,5 +1,0 @@
-use Rattle.polcert_model.proofs.Tiger.{tiger_denotes}
-use Rattle.polcert_model.proofs.examples.tiger_problem.Goals as goal
-
-pub returns-clause-denotes : goal.returns-clause-denotes
-returns-clause-denotes c = tiger_denotes

@@ -1,5 +1,0 @@
-use Rattle.polcert_model.proofs.ReadLaws as laws
-use Rattle.polcert_model.proofs.laws.first_wrong_stays.Goals as goal
-
-pub returns : goal.returns
-returns c = record { within = laws.wrong_within; at_word = laws.wrong_at_word; at_end = laws.wrong_at_end; at_fault = laws.wrong_at_fault }

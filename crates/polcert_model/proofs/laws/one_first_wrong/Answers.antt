@@ -1,5 +1,0 @@
-use Rattle.polcert_model.proofs.ReadLaws as laws
-use Rattle.polcert_model.proofs.laws.one_first_wrong.Goals as goal
-
-pub returns : goal.returns
-returns c = laws.one_number

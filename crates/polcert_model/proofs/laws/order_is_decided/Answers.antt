@@ -1,5 +1,0 @@
-use Rattle.polcert_model.proofs.OrderLaws as laws
-use Rattle.polcert_model.proofs.laws.order_is_decided.Goals as goal
-
-pub returns : goal.returns
-returns c = record { at_word = laws.wrong_at_word; incomplete = laws.not_complete; complete = laws.is_complete }

@@ -1,5 +1,0 @@
-use Rattle.polcert_model.proofs.RefusalLaws as laws
-use Rattle.polcert_model.proofs.laws.refused_is_not_accepted.Goals as goal
-
-pub returns : goal.returns
-returns c = laws.not_accepted

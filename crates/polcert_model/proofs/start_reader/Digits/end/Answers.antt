@@ -1,6 +1,0 @@
-use Rattle.std.proofs.Common.{refl}
-use Rattle.polcert_model.specs.StartSteps.{state_number}
-use Rattle.polcert_model.proofs.start_reader.Digits.end.Goals as goal
-
-pub returns-in_ok-one_state-in-Some-clause-said : goal.returns-in_ok-one_state-in-Some-clause-said
-returns-in_ok-one_state-in-Some-clause-said c = state_number c.in-Some.state refl c.in-Some.is (c.in_ok-one_state-in-Some.ensures c.args.states.now c.count.ensures)

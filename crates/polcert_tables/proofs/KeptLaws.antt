@@ -1,0 +1,142 @@
+-- What a model keeps has the meaning of the items of its text.
+use Rattle.std.proofs.Common.{◌≡◌, ◌∙◌, ℕ, zero, suc, ◌*◌, ◌<◌, ◌≤◌, ◌==◌, ◌⊎◌, ⊎_elim, false, cond, List, [], ◌∷◌, ℤ, pos, true, Option, Some, None, is_none, unwrap_or, refl, sym, ap, subst, arith}
+use Rattle.std.specs.Option.{ForSome}
+use Rattle.std.proofs.lemmas.Bool.Decides.{nat_tests}
+use Rattle.polcert_cells.specs.declared.entry.Entry.{Entry}
+use Rattle.polcert_cells.specs.declared.entry.Table.{Table}
+use Rattle.polcert_cells.specs.declared.entry.Table.TheVariants.{Transition, Observation}
+use Rattle.polcert_cells.specs.Elements.{count_of, most_states, most_actions, most_observations}
+use Rattle.polcert_cells.specs.Preamble.{Preamble, is_mdp, observed, rewarded, columns}
+use Rattle.polcert_cells.specs.Start.{all_states}
+use Rattle.polcert_cells.specs.Cells.{weight, reward}
+use Rattle.polcert_cells.specs.Meaning.{observation_weight, reward_index, IsSame, observations_of, o_scale, sum_below}
+use Rattle.polcert_cells.specs.Drafts as drafts
+use Rattle.polcert_rules.specs.Sparse.{weight_at}
+use Rattle.polcert_rules.specs.RowTables.{RowTable, row_at, AreRowsOf}
+use Rattle.polcert_rules.specs.Rewards.{AreRewardsOf}
+use Rattle.polcert_rules.specs.RewardAt.{reward_at}
+use Rattle.polcert_cells.specs.Numbers.{one}
+use Rattle.polcert_cells.specs.declared.elements.Elements.{Elements}
+use Rattle.polcert_cells.specs.declared.elements.Elements.TheVariants.{Count}
+use Rattle.polcert_cells.proofs.SoundLaws.{rewarded_few}
+use Rattle.polcert_cells.proofs.Basics.{true≢false}
+use Rattle.polcert_rules.proofs.RewardAt.{reward_is}
+use Rattle.polcert_tables.specs.Kept.{Kept, IsKeptOf, AreObservationsOf, observed_at, meaning}
+use Rattle.polcert_tables.specs.DraftView.{IsDraft}
+
+same_cell : (p : Preamble) (entries : List Entry) (table : Table) (t : RowTable) → AreRowsOf p entries table t
+    → (a s c : ℕ) → a < count_of p.actions → s < count_of p.states → c < columns p table → weight_at (row_at t a s) c ≡ weight p entries table (a ∷ s ∷ c ∷ [])
+same_cell p entries table t h a s c i j k =
+    (h.each a s (omega (arith, i, h.actions)) (omega (arith, j, h.states))).each c (omega (arith, k, h.width))
+
+-- no more elements of a kind than there may be
+abbrev pub AreFew : Preamble → Type 0
+AreFew p = (count_of p.actions ≤ most_actions) × (count_of p.states ≤ most_states) × (count_of (observed p) ≤ most_observations)
+
+-- the rows of O
+observed_cell : (p : Preamble) (entries : List Entry) (rows : Option RowTable) → AreObservationsOf p entries rows
+    → (a e z : ℕ) → a < count_of p.actions → e < count_of p.states → z < count_of (observed p) → observed_at p rows a e z ≡ observation_weight p entries a e z
+observed_cell p entries (Some rows) h a e z i j k =
+    same_cell p entries Observation rows h.1 a e z i j k ∙ ap (λ b. cond b (cond (e == z) (one * count_of p.states) 0) (weight p entries Observation (a ∷ e ∷ z ∷ []))) (sym h.0)
+observed_cell p entries None h a e z i j k = ap (λ b. cond b (cond (e == z) (one * count_of p.states) 0) (weight p entries Observation (a ∷ e ∷ z ∷ []))) (sym h)
+
+-- what a reward depends on is one of so many
+pub index_within : (p : Preamble) (z : ℕ) → z < count_of (observed p) → reward_index p z < count_of (rewarded p)
+index_within p z = at p.observations p.states
+  where
+    at : (o : Option Elements) (states : Elements) → z < count_of (unwrap_or o states) → cond (is_none o) 0 z < count_of (unwrap_or o (Count 1))
+    at (Some d) states l = l
+    at None states l = omega arith
+
+pub kept_same : (d : drafts.Draft) (k : Kept) → AreFew k.preamble → IsKeptOf d k → IsSame (meaning k) (drafts.meaning d)
+kept_same d k few h = record {
+  preamble = h.preamble;
+  start = ap (λ o. unwrap_or o (all_states k.preamble.states)) h.start ∙ ap (λ (p : Preamble). unwrap_or d.start (all_states p.states)) h.preamble;
+  t = λ a s e i j l. same_cell d.preamble d.entries Transition k.transitions h.transitions a s e
+      (subst (λ (p : Preamble). a < count_of p.actions) h.preamble i) (subst (λ (p : Preamble). s < count_of p.states) h.preamble j) (subst (λ (p : Preamble). e < count_of p.states) h.preamble l);
+  o = λ a e z i j l. ap (λ (p : Preamble). observed_at p k.observations a e z) h.preamble ∙ observed_cell d.preamble d.entries k.observations h.observations a e z
+      (subst (λ (p : Preamble). a < count_of p.actions) h.preamble i) (subst (λ (p : Preamble). e < count_of p.states) h.preamble j) (subst (λ (p : Preamble). z < count_of (observed p)) h.preamble l);
+  r = λ a s e z i j l m. ap (λ (p : Preamble). reward_at k.rewards a s e (reward_index p z)) h.preamble ∙ reward_is d.preamble d.entries k.rewards a s e (reward_index d.preamble z) h.rewards
+      (subst (λ (p : Preamble). count_of p.actions ≤ most_actions) h.preamble few.0) (subst (λ (p : Preamble). count_of p.states ≤ most_states) h.preamble few.1)
+      (rewarded_few d.preamble (subst (λ (p : Preamble). count_of (observed p) ≤ most_observations) h.preamble few.2))
+      (subst (λ (p : Preamble). a < count_of p.actions) h.preamble i) (subst (λ (p : Preamble). s < count_of p.states) h.preamble j) (subst (λ (p : Preamble). e < count_of p.states) h.preamble l)
+      (index_within d.preamble z (subst (λ (p : Preamble). z < count_of (observed p)) h.preamble m));
+}
+
+-- in an MDP a reward has nothing to do with what is observed, and that is the end state
+pub mdp_reward : (k : Kept) (a s e z : ℕ) → is_mdp k.preamble ≡ true → (meaning k).r a s e z ≡ (meaning k).r a s e 0
+mdp_reward k a s e z mdp = ap (λ b. reward_at k.rewards a s e (cond b 0 z)) mdp ∙ sym (ap (λ b. reward_at k.rewards a s e (cond b 0 0)) mdp)
+
+sum_of_none : (n k e : ℕ) → n ≤ e → sum_below (λ z. cond (e == z) k 0) n ≡ 0
+sum_of_none zero k e l = refl
+sum_of_none (suc n) k e l =
+    let before = sum_of_none n k e (omega (arith, l)) in
+    let apart : (e == n) ≡ false = grind (arith, nat_tests) in
+    let here : cond (e == n) k 0 ≡ 0 = ap (λ b. cond b k 0) apart in
+    omega (arith, before, here)
+
+-- a row whose whole weight stands in one column
+sum_of_one : (n k e : ℕ) → e < n → sum_below (λ z. cond (e == z) k 0) n ≡ k
+sum_of_one zero k e l = absurd (omega (arith, l))
+sum_of_one (suc n) k e l = ⊎_elim
+    (λ (less : e < n).
+    let before = sum_of_one n k e less in
+    let apart : (e == n) ≡ false = grind (arith, nat_tests) in
+    let here : cond (e == n) k 0 ≡ 0 = ap (λ b. cond b k 0) apart in
+    omega (arith, before, here))
+    (λ (same : e ≡ n).
+    let before = sum_of_none n k e (omega (arith, same)) in
+    let found : (e == n) ≡ true = grind (arith, nat_tests) in
+    let here : cond (e == n) k 0 ≡ k = ap (λ b. cond b k 0) found in
+    omega (arith, before, here))
+    (before_or_last e n l)
+  where
+    before_or_last : (i n : ℕ) → i < suc n → (i < n) ⊎ (i ≡ n)
+    before_or_last i n l = grind arith
+
+-- in an MDP as many elements are observed as there are states
+states_seen : (p : Preamble) → is_mdp p ≡ true → count_of p.states ≡ count_of (observed p)
+states_seen p = at p.observations
+  where
+    at : (o : Option Elements) → is_none o ≡ true → count_of p.states ≡ count_of (unwrap_or o p.states)
+    at None e = refl
+    at (Some elements) e = absurd (true≢false e refl)
+
+-- the row of an end state that is observed sums to the scale
+pub end_sum : (k : Kept) → IsDraft k → (a e : ℕ) → k.observations ≡ None → e < count_of k.preamble.states → o_scale (meaning k) ≡ sum_below ((meaning k).o a e) (observations_of (meaning k))
+end_sum k d a e none l =
+    let mdp : is_mdp k.preamble ≡ true = sym d.mdp ∙ ap (λ (o : Option RowTable). is_none o) none in
+    let seen = states_seen k.preamble mdp in
+    subst (λ (o : Option RowTable). one * count_of (observed k.preamble) ≡ sum_below (observed_at k.preamble o a e) (count_of (observed k.preamble))) (sym none)
+    (ap (λ n. one * n) (sym seen) ∙ sym (sum_of_one (count_of (observed k.preamble)) (one * count_of k.preamble.states) e (subst (λ n. e < n) seen l)))
+
+-- ---- of a draft
+few_in : (k : Kept) → IsDraft k → AreFew k.preamble
+few_in k d = (d.actions.1, d.states.1, d.observations.1)
+
+module _ (k : Kept) (d : IsDraft k) where
+  -- what a reward depends on has its place in the rules
+  pub draft_index : (z : ℕ) → z < count_of (observed k.preamble) → reward_index k.preamble z < k.rewards.shape.observations
+  draft_index z l = subst (λ n. reward_index k.preamble z < n) d.r_counts.observations (index_within k.preamble z l)
+
+  -- what all entries give a cell of R is what the rules give it
+  pub draft_reward : (a s e z : ℕ) (h : ℤ) → a < count_of k.preamble.actions → s < count_of k.preamble.states → e < count_of k.preamble.states → z < count_of (observed k.preamble)
+      → ((p : Preamble) (entries : List Entry) → AreRewardsOf p entries k.rewards → h ≡ reward p entries (a ∷ s ∷ e ∷ reward_index k.preamble z ∷ [])) → h ≡ (meaning k).r a s e z
+  draft_reward a s e z h i j l m is =
+      is d.items.preamble d.items.entries d.said.rewards
+      ∙ ap (λ (p : Preamble). reward d.items.preamble d.items.entries (a ∷ s ∷ e ∷ reward_index p z ∷ [])) d.said.preamble
+      ∙ sym ((kept_same d.items k (few_in k d) d.said).r a s e z i j l m)
+
+  pub draft_alike : (a s e : ℕ) (found : Option ℤ) → a < count_of k.preamble.actions → s < count_of k.preamble.states → e < count_of k.preamble.states
+      → ((p : Preamble) (entries : List Entry) → AreRewardsOf p entries k.rewards → ForSome found (λ h. (z : ℕ) → z < k.rewards.shape.observations → reward p entries (a ∷ s ∷ e ∷ z ∷ []) ≡ h))
+      → ForSome found (λ h. (z : ℕ) → z < count_of (observed k.preamble) → (meaning k).r a s e z ≡ h)
+  draft_alike a s e found i j l alike = λ h is z m.
+      (kept_same d.items k (few_in k d) d.said).r a s e z i j l m
+      ∙ ap (λ (p : Preamble). reward d.items.preamble d.items.entries (a ∷ s ∷ e ∷ reward_index p z ∷ [])) (sym d.said.preamble)
+      ∙ alike d.items.preamble d.items.entries d.said.rewards h is (reward_index k.preamble z) (draft_index z m)
+
+  pub draft_unpaid : (a s : ℕ) → a < count_of k.preamble.actions → s < count_of k.preamble.states
+      → ((p : Preamble) (entries : List Entry) → AreRewardsOf p entries k.rewards → (e z : ℕ) → reward p entries (a ∷ s ∷ e ∷ z ∷ []) ≡ pos 0)
+      → (e z : ℕ) → e < count_of k.preamble.states → z < count_of (observed k.preamble) → (meaning k).r a s e z ≡ pos 0
+  draft_unpaid a s i j none e z l m =
+      (kept_same d.items k (few_in k d) d.said).r a s e z i j l m ∙ none d.items.preamble d.items.entries d.said.rewards e (reward_index d.items.preamble z)

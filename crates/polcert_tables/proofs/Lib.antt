@@ -1,0 +1,4 @@
+pub mod DraftLaws
+pub mod FilledLaws
+pub mod KeptLaws
+pub mod RowSumLaws

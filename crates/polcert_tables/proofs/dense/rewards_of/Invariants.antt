@@ -1,0 +1,12 @@
+use Rattle.std.proofs.Common.{◌≡◌, ℕ, ◌<◌, ◌*◌, ◌/◌, ◌%◌, pos, get_or, length}
+use Rattle.polcert_cells.specs.Meaning.{observations_of}
+use Rattle.polcert_tables.specs.Contents.{meaning}
+use Rattle.polcert_tables.proofs.dense.rewards_of.Given as goal
+
+abbrev pub invariant-loop-row : goal.invariant-loop-row
+invariant-loop-row l =
+    let columns = observations_of (meaning l.model) in
+    record {
+      size : length l.cells.items ≡ l.row * columns;
+      each : (k : ℕ) → k < l.row * columns → get_or l.cells.items k (pos 0) ≡ (meaning l.model).r (k / columns / l.states / l.states) (k / columns / l.states % l.states) (k / columns % l.states) (k % columns);
+    }

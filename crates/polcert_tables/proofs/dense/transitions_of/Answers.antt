@@ -1,0 +1,21 @@
+use Rattle.std.proofs.Common.{◌∙◌, ℕ, ◌+◌, ◌/◌, ◌%◌, ap, arith}
+use Rattle.std.proofs.lemmas.List.{length_push}
+use Rattle.polcert_cells.specs.Tables.{table_of}
+use Rattle.polcert_tables.specs.Contents.{meaning}
+use Rattle.polcert_tables.proofs.FilledLaws as filled
+use Rattle.polcert_tables.proofs.dense.transitions_of.Goals as goal
+
+pub loop-place-preserved : goal.loop-place-preserved
+loop-place-preserved c =
+    let cell = (meaning c.args.model.now).t in
+    let states = c.states-states.result in
+    let columns = c.states-states.result in
+    let f : ℕ → ℕ = λ k. cell (k / columns / states) (k / columns % states) (k % columns) in
+    record {
+      size = rw c.in_ok-push.ensures.items (length_push c.loop-place.cells.items _ ∙ ap (λ n. n + 1) c.loop-place.invariant.size);
+      each = rw c.in_ok-push.ensures.items (filled.filled_next c.loop-place.cells.items f c.loop-place.place _ 0 c.loop-place.invariant.size c.loop-place.invariant.each c.t.ensures);
+    }
+
+pub returns : goal.returns
+returns c =
+    filled.transitions_are (table_of (meaning c.args.model.now)) c.actions.result c.states-states.result c.loop-place.place c.loop-place.cells.items c.actions.ensures.elements c.states-states.ensures.elements (omega arith) c.loop-place.invariant.size c.loop-place.invariant.each

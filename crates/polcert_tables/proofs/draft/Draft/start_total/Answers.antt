@@ -1,0 +1,16 @@
+use Rattle.std.proofs.Common.{◌≡◌, ◌∙◌, ◌*◌, sym, ap}
+use Rattle.polcert_cells.specs.Elements.{count_of}
+use Rattle.polcert_cells.specs.Meaning.{states_of, start_total}
+use Rattle.polcert_tables.specs.DraftView.{kept_of}
+use Rattle.polcert_tables.specs.Kept.{Kept, meaning}
+use Rattle.polcert_cells.proofs.SoundLaws.{alike_total}
+use Rattle.polcert_tables.proofs.draft.Draft.start_total.Goals as goal
+
+pub returns-in-None : goal.returns-in-None
+returns-in-None c =
+    let i = c.self.inside in
+    let same : c.states.result ≡ count_of i.states = c.states.ensures.elements ∙ sym (ap (λ (k : Kept). states_of (meaning k)) c.self.view_is) in
+    ap (λ n. 1 * n) same
+    ∙ alike_total (count_of i.states)
+    ∙ ap (λ o. start_total (meaning (kept_of i.discount i.costs i.states i.actions i.observations o i.transitions i.observed i.rewards))) (sym c.in-None.is)
+    ∙ ap (λ (k : Kept). start_total (meaning k)) c.self.view_is

@@ -1,0 +1,43 @@
+-- What is kept of a text, as contracts see it, and what is known of it.
+-- Nobody has to believe this: only contracts of private functions cite it.
+use Rattle.std.specs.Prelude.{◌≡◌, ℕ, ◌≤◌, Bool, Option, length, is_none}
+use Rattle.std.specs.Option.{ForSome}
+use Rattle.polcert_cells.specs.declared.elements.Elements.{Elements}
+use Rattle.polcert_cells.specs.declared.shares.Shares.{Shares}
+use Rattle.polcert_cells.specs.Numbers.{one}
+use Rattle.polcert_cells.specs.Elements.{count_of, most_states, most_actions, most_observations}
+use Rattle.polcert_cells.specs.Preamble.{observed, is_mdp}
+use Rattle.polcert_cells.specs.Meaning.{IsCount}
+use Rattle.polcert_rules.specs.RowTables.{RowTable}
+use Rattle.polcert_rules.specs.Rewards.{RewardRules, IsShapeOf}
+use Rattle.polcert_cells.specs.Drafts.{Draft}
+use Rattle.polcert_tables.specs.Kept.{Kept, IsKeptOf}
+
+abbrev pub kept_of : ℕ → Bool → Elements → Elements → Option Elements → Option Shares → RowTable → Option RowTable → RewardRules → Kept
+kept_of discount costs states actions observations start transitions observed rewards = record {
+  preamble = record { discount = discount; costs = costs; states = states; actions = actions; observations = observations };
+  start = start;
+  transitions = transitions;
+  observations = observed;
+  rewards = rewards;
+}
+
+-- the rows are for so many actions, states and columns
+pub record HasCounts (t : RowTable) (actions states columns : ℕ) : Type 0 where
+  pub actions_are : t.actions ≡ actions
+  pub states_are : t.states ≡ states
+  pub columns_are : t.columns ≡ columns
+
+-- Counts, a discount of at most one, a share for each state, tables for these counts, and items of a text that say all this.
+pub record IsDraft (k : Kept) : Type 0 where
+  pub states : IsCount most_states (count_of k.preamble.states)
+  pub actions : IsCount most_actions (count_of k.preamble.actions)
+  pub observations : IsCount most_observations (count_of (observed k.preamble))
+  pub discount : k.preamble.discount ≤ one
+  pub start : ForSome k.start (λ found. length found.weights ≡ count_of k.preamble.states)
+  pub t_counts : HasCounts k.transitions (count_of k.preamble.actions) (count_of k.preamble.states) (count_of k.preamble.states)
+  pub o_counts : ForSome k.observations (λ rows. HasCounts rows (count_of k.preamble.actions) (count_of k.preamble.states) (count_of (observed k.preamble)))
+  pub mdp : is_none k.observations ≡ is_mdp k.preamble
+  pub r_counts : IsShapeOf k.preamble k.rewards.shape
+  pub items : Draft
+  pub said : IsKeptOf items k

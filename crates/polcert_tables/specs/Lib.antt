@@ -1,0 +1,5 @@
+pub mod Contents
+pub mod DraftView
+pub mod Filled
+pub mod Kept
+pub mod RowSums

@@ -1,0 +1,178 @@
+//! A model with filled tables: each cell stands at its place, and entries are gone.
+ghost use Rattle.std.specs.Prelude.{◌≡◌, ◌*◌, ◌<◌, length, IfOk, OnOk};
+ghost use Rattle.polcert_cells.specs.Meaning.{states_of, actions_of, observations_of};
+ghost use Rattle.polcert_cells.specs.Tables.{IsProper, IsWithinLimits, table_of};
+ghost use Rattle.polcert_tables.specs.Contents.{meaning};
+ghost use Rattle.polcert_tables.specs.Filled.{AreTransitions, AreObservations, AreRewards, filled_table, lists_of, AddsCells};
+ghost use Rattle.polcert_cells.specs.SameCells.{HasSameCells};
+
+use crate::Model;
+use polcert_cells::Cells;
+use std::alloc::{AllocError, Global};
+use std::marker;
+
+/// What each cell of a row weighs, by the count of its columns: rows sum to 1,000,000 for each column.
+const ONE: u64 = 1_000_000;
+
+/// A model that keeps every cell of its tables: a cell is read in one step, whatever text the model came from.
+#[derive(Drop)]
+pub struct DenseModel {
+    states: usize,
+    actions: usize,
+    observations: usize,
+    discount: u32,
+    transitions: Vec<u64>,
+    observed: Vec<u64>,
+    rewards: Vec<i64>,
+    ghost transition_count: { length transitions.items ≡ actions * states * states },
+    ghost observed_count: { length observed.items ≡ actions * states * observations },
+    ghost reward_count: { length rewards.items ≡ actions * states * states * observations },
+    ghost rows: { IsProper (filled_table (lists_of states actions observations discount transitions.items observed.items rewards.items)) },
+    ghost limits: { IsWithinLimits (filled_table (lists_of states actions observations discount transitions.items observed.items rewards.items)) },
+}
+
+impl marker::Model for DenseModel {
+    ghost use Rattle.polcert_tables.specs.Filled.{Filled, lists_of};
+
+    ghost Value = { Filled };
+
+    ghost view = { λ m. record {
+      lists = lists_of m.states m.actions m.observations m.discount m.transitions.items m.observed.items m.rewards.items;
+      rows = m.rows;
+      limits = m.limits;
+    } };
+}
+
+impl Cells for DenseModel {
+    ghost table = { λ m. filled_table m.lists };
+
+    ghost is_proper = { λ m. m.rows };
+
+    ghost is_within_limits = { λ m. m.limits };
+
+    fn states(&self) -> usize {
+        self.states
+    }
+
+    fn actions(&self) -> usize {
+        self.actions
+    }
+
+    fn observations(&self) -> usize {
+        self.observations
+    }
+
+    fn discount(&self) -> u32 {
+        self.discount
+    }
+
+    fn t_scale(&self) -> u64 {
+        ONE * self.states as u64
+    }
+
+    fn o_scale(&self) -> u64 {
+        ONE * self.observations as u64
+    }
+
+    fn t(&self, a: usize, s: usize, e: usize) -> u64 {
+        self.transitions[(a * self.states + s) * self.states + e]
+    }
+
+    fn o(&self, a: usize, e: usize, z: usize) -> u64 {
+        self.observed[(a * self.states + e) * self.observations + z]
+    }
+
+    fn r(&self, a: usize, s: usize, e: usize, z: usize) -> i64 {
+        self.rewards[((a * self.states + s) * self.states + e) * self.observations + z]
+    }
+}
+
+/// The model with filled tables that says what this model says: the same counts, discount, scales and cells. Want of
+/// memory is the only error.
+pub fn dense_of(alloc: Global, model: &Model) -> Result<DenseModel, AllocError>
+    ensures { IfOk result (λ dense. HasSameCells (table_of (meaning model.now)) (filled_table dense.lists)) }
+{
+    Ok(DenseModel {
+        states: model.states(),
+        actions: model.actions(),
+        observations: model.observations(),
+        discount: model.discount(),
+        transitions: transitions_of(alloc, model)?,
+        observed: observed_of(alloc, model)?,
+        rewards: rewards_of(alloc, model)?,
+    })
+}
+
+/// Every cell of T.
+fn transitions_of(alloc: Global, model: &Model) -> Result<Vec<u64>, AllocError>
+    ensures { IfOk result (λ cells. AreTransitions (table_of (meaning model.now)) cells.items) }
+{
+    let states = model.states();
+    let count = model.actions() * states * states;
+    let mut cells = Vec::with_capacity(alloc, count)?;
+    for place in 0..count {
+        let row = place / states;
+        cells.push(model.t(row / states, row % states, place % states))?;
+    }
+    Ok(cells)
+}
+
+/// Every cell of O.
+fn observed_of(alloc: Global, model: &Model) -> Result<Vec<u64>, AllocError>
+    ensures { IfOk result (λ cells. AreObservations (table_of (meaning model.now)) cells.items) }
+{
+    let states = model.states();
+    let observations = model.observations();
+    let count = model.actions() * states * observations;
+    let mut cells = Vec::with_capacity(alloc, count)?;
+    for place in 0..count {
+        let row = place / observations;
+        cells.push(model.o(row / states, row % states, place % observations))?;
+    }
+    Ok(cells)
+}
+
+/// Every cell of R.
+fn rewards_of(alloc: Global, model: &Model) -> Result<Vec<i64>, AllocError>
+    ensures { IfOk result (λ cells. AreRewards (table_of (meaning model.now)) cells.items) }
+{
+    let states = model.states();
+    let rows = model.actions() * states * states;
+    let mut cells = Vec::with_capacity(alloc, rows * model.observations())?;
+    for row in 0..rows {
+        let start = row / states;
+        push_rewards(
+            &mut cells,
+            model,
+            start / states,
+            start % states,
+            row % states,
+        )?;
+    }
+    Ok(cells)
+}
+
+/// Adds the rewards of an action, a start state and an end state: one for each observation.
+fn push_rewards(
+    cells: &mut Vec<i64>,
+    model: &Model,
+    a: usize,
+    s: usize,
+    e: usize,
+) -> Result<(), AllocError>
+    requires action { a < actions_of (meaning model.now) }
+    requires start { s < states_of (meaning model.now) }
+    requires end { e < states_of (meaning model.now) }
+    ensures { OnOk result (AddsCells ((meaning model.now).r a s e) (observations_of (meaning model.now)) cells.old.items cells.new.items) }
+{
+    let observations = model.observations();
+    match model.r_alike(a, s, e) {
+        Some(reward) => for _ in 0..observations {
+            cells.push(reward)?;
+        },
+        None => for z in 0..observations {
+            cells.push(model.r(a, s, e, z))?;
+        },
+    }
+    Ok(())
+}

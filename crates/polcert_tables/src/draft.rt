@@ -1,0 +1,372 @@
+//! A model whose rows aren't tested yet.
+ghost use Rattle.std.specs.Prelude.{◌≡◌, ◌<◌, ◌≤◌, option_map, false, pos, ℕ, IfOk, IsTrue};
+ghost use Rattle.std.specs.Option.{ForSome, option_copied};
+ghost use Rattle.polcert_cells.specs.Cursors.{IsNext};
+ghost use Rattle.polcert_cells.specs.Elements.{most_states, most_actions, most_observations, most_elements, count_of, name_of};
+ghost use Rattle.polcert_cells.specs.declared.entry.Table.TheVariants.{Transition};
+ghost use Rattle.polcert_cells.specs.Preamble.{Preamble, is_mdp, columns as columns_in};
+ghost use Rattle.polcert_cells.specs.Meaning.{IsCount, reward_index, states_of, actions_of, observations_of, t_scale, o_scale, start_weight, start_total, elements_of, sum_below};
+ghost use Rattle.polcert_tables.specs.Kept.{meaning, IsKeptOf, AreObservationsOf};
+ghost use Rattle.polcert_format.specs.Order.{count_or};
+ghost use Rattle.polcert_rules.specs.Newest.{IsIndexOf};
+ghost use Rattle.polcert_rules.specs.Shapes.{IsShapeOf, AreSound};
+ghost use Rattle.polcert_tables.specs.RowSums.{row_of};
+
+use polcert_cells::{Elements, Entries, Kind, Shares, Table};
+use polcert_rules::{Index, RewardShape, Rewards, Rows, Shape};
+use std::alloc::{AllocError, Global};
+use std::marker;
+
+/// One, in millionths.
+pub const ONE: u64 = 1_000_000;
+
+/// How many things a reward of an MDP depends on beside the action and the states.
+const ONE_THING: usize = 1;
+
+/// The share of each state in a start where all states are alike.
+const ALIKE: u64 = 1;
+
+/// What the items of a text say: a model whose rows aren't tested yet. Its readers answer as those of `Model` do. Rows of T
+/// and O are sparse, and rewards are rules. An MDP has no observations, and no rows of O.
+#[derive(Drop)]
+pub struct Draft {
+    discount: u32,
+    costs: bool,
+    states: Elements,
+    actions: Elements,
+    observations: Option<Elements>,
+    start: Option<Shares>,
+    transitions: Rows,
+    observed: Option<Rows>,
+    rewards: Rewards,
+}
+
+impl marker::Model for Draft {
+    ghost use Rattle.polcert_tables.specs.Kept.{Kept};
+    ghost use Rattle.polcert_tables.specs.DraftView.{kept_of, IsDraft};
+
+    ghost Value = { Kept };
+
+    ghost view = { λ d. kept_of d.discount d.costs d.states d.actions d.observations d.start d.transitions d.observed d.rewards };
+
+    ghost invariant = { λ d. IsDraft (kept_of d.discount d.costs d.states d.actions d.observations d.start d.transitions d.observed d.rewards) };
+}
+
+impl Draft {
+    ghost use Rattle.polcert_cells.specs.Sound.{draft_of, IsSound};
+
+    /// The draft of a text that has these lines in its preamble, this start item or none, and these entries.
+    pub fn of(
+        alloc: Global,
+        discount: u32,
+        costs: bool,
+        states: Elements,
+        actions: Elements,
+        observations: Option<Elements>,
+        start: Option<Shares>,
+        entries: Entries,
+    ) -> Result<Draft, AllocError>
+        requires { IsSound (draft_of discount costs states actions observations start entries) }
+        ensures { IfOk result (IsKeptOf (draft_of discount costs states actions observations start entries)) }
+    {
+        let entries = &entries;
+        let index = Index::of(alloc, entries)?;
+        let shape = Shape {
+            actions: actions.count(),
+            states: states.count(),
+            columns: states.count(),
+        };
+        let transitions = Rows::of(alloc, shape, Table::Transition, entries, &index)?;
+        let observed = observed_rows(alloc, shape, &observations, entries, &index)?;
+        let shape = RewardShape {
+            actions: actions.count(),
+            states: states.count(),
+            observations: count_or(ONE_THING, &observations),
+        };
+        let rewards = Rewards::of(alloc, shape, costs, entries, index)?;
+        Ok(Draft {
+            discount,
+            costs,
+            states,
+            actions,
+            observations,
+            start,
+            transitions,
+            observed,
+            rewards,
+        })
+    }
+
+    /// How many states there are: 1 to 1,000.
+    pub fn states(&self) -> usize
+        ensures elements { result ≡ states_of (meaning self.now) }
+        ensures count { IsCount most_states result }
+    {
+        self.states.count()
+    }
+
+    /// How many actions there are: 1 to 1,000.
+    pub fn actions(&self) -> usize
+        ensures elements { result ≡ actions_of (meaning self.now) }
+        ensures count { IsCount most_actions result }
+    {
+        self.actions.count()
+    }
+
+    /// How many observations there are: 1 to 1,000.
+    pub fn observations(&self) -> usize
+        ensures elements { result ≡ observations_of (meaning self.now) }
+        ensures count { IsCount most_observations result }
+    {
+        count_or(self.states.count(), &self.observations)
+    }
+
+    /// The name of the element of this number, where the text gives names and not a count.
+    pub fn name_of(&self, kind: Kind, index: usize) -> Option<&str>
+        requires { index < count_of (elements_of (meaning self.now) kind) }
+        ensures { option_map (λ name. name.now) result ≡ name_of (elements_of (meaning self.now) kind) index }
+    {
+        self.elements(kind).name_of(index)
+    }
+
+    /// The elements of this kind.
+    pub fn elements(&self, kind: Kind) -> &Elements
+        ensures { result.now ≡ elements_of (meaning self.now) kind }
+    {
+        match kind {
+            Kind::State => &self.states,
+            Kind::Action => &self.actions,
+            Kind::Observation => self.observations.as_ref().unwrap_or(&self.states),
+        }
+    }
+
+    /// Whether there is no line of observations, so that the end state is observed.
+    pub fn is_mdp(&self) -> bool
+        ensures { result ≡ is_mdp (meaning self.now).preamble }
+    {
+        self.observations.is_none()
+    }
+
+    /// The observations' line, where there is one.
+    pub fn observations_line(&self) -> Option<&Elements>
+        ensures { option_copied result ≡ (meaning self.now).preamble.observations }
+    {
+        self.observations.as_ref()
+    }
+
+    /// Whether the text gives costs in place of rewards.
+    pub fn is_cost(&self) -> bool
+        ensures { result ≡ (meaning self.now).preamble.costs }
+    {
+        self.costs
+    }
+
+    /// The discount, in millionths: 0 to 1,000,000.
+    pub fn discount(&self) -> u32
+        ensures { result ≡ (meaning self.now).preamble.discount }
+    {
+        self.discount
+    }
+
+    /// What each row of T should sum to: 1,000,000 for each state.
+    pub fn t_scale(&self) -> u64
+        ensures { result ≡ t_scale (meaning self.now) }
+    {
+        ONE * self.states() as u64
+    }
+
+    /// What each row of O should sum to: 1,000,000 for each observation.
+    pub fn o_scale(&self) -> u64
+        ensures { result ≡ o_scale (meaning self.now) }
+    {
+        ONE * self.observations() as u64
+    }
+
+    /// The share of state `s` in the start, out of `start_total`: 1 where the text has no start item.
+    pub fn start_weight(&self, s: usize) -> u64
+        requires { s < states_of (meaning self.now) }
+        ensures { result ≡ start_weight (meaning self.now) s }
+    {
+        match &self.start {
+            Some(shares) => u64::from(shares.weights.at(s)),
+            None => ALIKE,
+        }
+    }
+
+    /// What the shares of all states in the start sum to.
+    pub fn start_total(&self) -> u64
+        ensures { result ≡ start_total (meaning self.now) }
+    {
+        match &self.start {
+            Some(shares) => u64::from(shares.total),
+            None => ALIKE * self.states() as u64,
+        }
+    }
+
+    /// T: the weight of end state `e` where action `a` is taken in state `s`, out of `t_scale`.
+    pub fn t(&self, a: usize, s: usize, e: usize) -> u64
+        requires action { a < actions_of (meaning self.now) }
+        requires start { s < states_of (meaning self.now) }
+        ensures { result ≡ (meaning self.now).t a s e }
+    {
+        self.transitions.at(a, s, e)
+    }
+
+    /// O: the weight of observation `z` where action `a` ends in state `e`, out of `o_scale`.
+    pub fn o(&self, a: usize, e: usize, z: usize) -> u64
+        requires action { a < actions_of (meaning self.now) }
+        requires end { e < states_of (meaning self.now) }
+        ensures { result ≡ (meaning self.now).o a e z }
+    {
+        match &self.observed {
+            Some(rows) => rows.at(a, e, z),
+            None => if e == z { self.t_scale() } else { 0 },
+        }
+    }
+
+    /// R: the reward, in millionths, where action `a` is taken in state `s`, ends in state `e` and observation `z` is made.
+    pub fn r(&self, a: usize, s: usize, e: usize, z: usize) -> i64
+        requires action { a < actions_of (meaning self.now) }
+        requires start { s < states_of (meaning self.now) }
+        requires end { e < states_of (meaning self.now) }
+        requires observation { z < observations_of (meaning self.now) }
+        ensures { result ≡ (meaning self.now).r a s e z }
+    {
+        self.rewards.at(a, s, e, self.reward_index(z))
+    }
+
+    /// The last index of a reward where observation `z` is made: in an MDP a reward has nothing to do with it.
+    fn reward_index(&self, z: usize) -> usize
+        ensures { result ≡ reward_index (meaning self.now).preamble z }
+    {
+        if self.is_mdp() { 0 } else { z }
+    }
+
+    /// The reward where action `a` is taken in state `s` and ends in state `e`, where it is known at once that it is the
+    /// same for every observation.
+    pub fn r_alike(&self, a: usize, s: usize, e: usize) -> Option<i64>
+        requires action { a < actions_of (meaning self.now) }
+        requires start { s < states_of (meaning self.now) }
+        requires end { e < states_of (meaning self.now) }
+        ensures { ForSome result (λ h. (z : ℕ) → z < observations_of (meaning self.now) → (meaning self.now).r a s e z ≡ h) }
+    {
+        match &self.observations {
+            None => Some(self.r(a, s, e, 0)),
+            Some(_) => self.rewards.alike(a, s, e),
+        }
+    }
+
+    /// Whether an entry gives rewards where action `a` is taken in state `s`: where none does, all are 0.
+    pub fn is_paid(&self, a: usize, s: usize) -> bool
+        requires action { a < actions_of (meaning self.now) }
+        requires start { s < states_of (meaning self.now) }
+        ensures { result ≡ false → (e z : ℕ) → e < states_of (meaning self.now) → z < observations_of (meaning self.now) →
+            (meaning self.now).r a s e z ≡ pos 0 }
+    {
+        self.rewards.is_paid(a, s)
+    }
+
+    /// The first end state, not before `from`, of a weight above 0 where action `a` is taken in state `s`, and that weight.
+    pub fn next_t(&self, a: usize, s: usize, from: usize) -> Option<(usize, u64)>
+        requires action { a < actions_of (meaning self.now) }
+        requires start { s < states_of (meaning self.now) }
+        ensures { IsNext ((meaning self.now).t a s) (states_of (meaning self.now)) from result }
+    {
+        self.transitions.next(a, s, from)
+    }
+
+    /// The first observation, not before `from`, of a weight above 0 where action `a` ends in state `e`, and that weight.
+    pub fn next_o(&self, a: usize, e: usize, from: usize) -> Option<(usize, u64)>
+        requires action { a < actions_of (meaning self.now) }
+        requires end { e < states_of (meaning self.now) }
+        ensures { IsNext ((meaning self.now).o a e) (observations_of (meaning self.now)) from result }
+    {
+        match &self.observed {
+            Some(rows) => rows.next(a, e, from),
+            None => if from <= e {
+                Some((e, self.t_scale()))
+            } else {
+                None
+            },
+        }
+    }
+
+    /// The weight of a cell of T or O.
+    pub fn weight(&self, table: Table, action: usize, state: usize, column: usize) -> u64
+        requires action { action < actions_of (meaning self.now) }
+        requires state { state < states_of (meaning self.now) }
+        ensures { result ≡ row_of self.now table action state column }
+    {
+        match table {
+            Table::Observation => self.o(action, state, column),
+            Table::Transition | Table::Reward => self.t(action, state, column),
+        }
+    }
+
+    /// What the weights of all end states sum to where action `a` is taken in state `s`.
+    pub fn t_sum(&self, a: usize, s: usize) -> u64
+        requires action { a < actions_of (meaning self.now) }
+        requires start { s < states_of (meaning self.now) }
+        ensures { result ≡ sum_below ((meaning self.now).t a s) (states_of (meaning self.now)) }
+    {
+        self.transitions.sum(a, s)
+    }
+
+    /// What the weights of all observations sum to where action `a` ends in state `e`.
+    pub fn o_sum(&self, a: usize, e: usize) -> u64
+        requires action { a < actions_of (meaning self.now) }
+        requires end { e < states_of (meaning self.now) }
+        ensures { result ≡ sum_below ((meaning self.now).o a e) (observations_of (meaning self.now)) }
+    {
+        match &self.observed {
+            Some(rows) => rows.sum(a, e),
+            None => self.o_scale(),
+        }
+    }
+
+    /// How many columns a row of the table has: those of R have one.
+    pub fn columns(&self, table: Table) -> usize
+        ensures columns { result ≡ columns_in self.now.preamble table }
+        ensures count { IsCount most_elements result }
+    {
+        match table {
+            Table::Transition => self.states(),
+            Table::Observation => self.observations(),
+            Table::Reward => 1,
+        }
+    }
+}
+
+/// How many elements a line says, or so many where it didn't come.
+pub fn count_or(count: usize, elements: &Option<Elements>) -> usize
+    ensures { result ≡ count_or count elements.now }
+{
+    match elements {
+        Some(elements) => elements.count(),
+        None => count,
+    }
+}
+
+/// The rows of O, where there are observations.
+fn observed_rows(
+    alloc: Global,
+    shape: Shape,
+    observations: &Option<Elements>,
+    entries: &Entries,
+    index: &Index,
+) -> Result<Option<Rows>, AllocError>
+    requires sound { (p : Preamble) × (p.observations ≡ observations.now) × IsShapeOf p Transition shape × AreSound p entries.now }
+    requires index { IsIndexOf entries.now index.now }
+    ensures rows { IfOk result (λ rows. (p : Preamble) → p.observations ≡ observations.now → IsShapeOf p Transition shape → AreObservationsOf p entries.now rows) }
+{
+    let Some(elements) = observations else {
+        return Ok(None);
+    };
+    let shape = Shape {
+        actions: shape.actions,
+        states: shape.states,
+        columns: elements.count(),
+    };
+    let rows = Rows::of(alloc, shape, Table::Observation, entries, index)?;
+    Ok(Some(rows))
+}

@@ -1,0 +1,14 @@
+//! Models as they are kept: what the items of a text say, with sparse rows and rules for rewards, the test of the row
+//! sums, and filled tables.
+#![tactic(auto)]
+
+mod dense;
+mod draft;
+mod model;
+mod rows;
+mod table;
+
+pub use dense::{DenseModel, dense_of};
+pub use draft::{Draft, ONE, count_or};
+pub use model::Model;
+pub use rows::{WrongRow, first_wrong_row};

@@ -1,0 +1,71 @@
+//! What a check asks of a model.
+ghost use Rattle.std.specs.Prelude.{refl};
+ghost use Rattle.polcert_tables.specs.Contents.{meaning};
+ghost use Rattle.polcert_cells.specs.Tables.{table_of};
+
+use crate::Model;
+use polcert_cells::Cells;
+
+impl Cells for Model {
+    ghost table = { λ m. table_of (meaning m) };
+
+    ghost is_proper = { λ m. record { t_rows = m.rows.transitions; o_rows = m.rows.observations } };
+
+    ghost is_within_limits = { λ m. record {
+      states = m.limits.states;
+      actions = m.limits.actions;
+      observations = m.limits.observations;
+      discount = m.limits.discount;
+      t_scale = refl;
+      o_scale = refl;
+      r = m.limits.r;
+    } };
+
+    fn states(&self) -> usize {
+        Model::states(self)
+    }
+
+    fn actions(&self) -> usize {
+        Model::actions(self)
+    }
+
+    fn observations(&self) -> usize {
+        Model::observations(self)
+    }
+
+    fn discount(&self) -> u32 {
+        Model::discount(self)
+    }
+
+    fn t_scale(&self) -> u64 {
+        Model::t_scale(self)
+    }
+
+    fn o_scale(&self) -> u64 {
+        Model::o_scale(self)
+    }
+
+    fn t(&self, a: usize, s: usize, e: usize) -> u64 {
+        Model::t(self, a, s, e)
+    }
+
+    fn o(&self, a: usize, e: usize, z: usize) -> u64 {
+        Model::o(self, a, e, z)
+    }
+
+    fn r(&self, a: usize, s: usize, e: usize, z: usize) -> i64 {
+        Model::r(self, a, s, e, z)
+    }
+
+    fn next_t(&self, a: usize, s: usize, from: usize) -> Option<(usize, u64)> {
+        self.draft().next_t(a, s, from)
+    }
+
+    fn next_o(&self, a: usize, e: usize, from: usize) -> Option<(usize, u64)> {
+        self.draft().next_o(a, e, from)
+    }
+
+    fn r_alike(&self, a: usize, s: usize, e: usize) -> Option<i64> {
+        self.draft().r_alike(a, s, e)
+    }
+}
