@@ -31,8 +31,12 @@ def solve(model, points=6, steps=400):
     return vectors
 
 
-if __name__ == "__main__":
+def main(name):
     model = controller.read_full_form(sys.stdin.read())
     graph = controller.graph_of(model, solve(model))
-    controller.write_graph(graph, sys.argv[1] + ".pg")
-    controller.write_vectors(graph, controller.evaluate(model, graph), sys.argv[1] + ".alpha")
+    controller.write_graph(graph, name + ".pg")
+    controller.write_vectors(graph, controller.evaluate(model, graph), name + ".alpha")
+
+
+if __name__ == "__main__":
+    controller.run(main, "polcert print machine.POMDP | python3 machine.py OUT", 1)

@@ -6,6 +6,8 @@ those that polcert certified; the worth of a node at a belief is the line betwee
 """
 import sys
 
+import controller
+
 WIDTH, HEIGHT = 760, 440
 LEFT, RIGHT, TOP, BOTTOM = 70, 210, 50, 70
 COLOURS = ["#1b6ca8", "#d1495b", "#2e8b57", "#8a5fbf", "#b8860b", "#555555"]
@@ -85,7 +87,9 @@ def picture(title, states, actions, vectors):
     return "\n".join([*out, "</svg>"])
 
 
+def main(title, first, second, actions):
+    print(picture(title, [first, second], actions.split(","), read_vectors(sys.stdin.read())))
+
+
 if __name__ == "__main__":
-    if len(sys.argv) != 5:
-        sys.exit(__doc__)
-    print(picture(sys.argv[1], sys.argv[2:4], sys.argv[4].split(","), read_vectors(sys.stdin.read())))
+    controller.run(main, "python3 picture.py TITLE STATE STATE ACTIONS < M.lowered.alpha > M.svg", 4)

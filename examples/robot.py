@@ -5,8 +5,6 @@ The robot stands on a free cell of the map and looks north, east, south or west.
 three sensors says whether there is a wall in front, to its left and to its right. Where it reaches the goal it earns 1,
 and is put down anywhere again. The policy keeps a hand on the wall to the right.
 """
-import sys
-
 import controller
 
 MAP = """
@@ -139,7 +137,11 @@ def right_hand():
     return controller.Graph([0, 1, 2], after)
 
 
+def main(out):
+    write_model(out + ".POMDP")
+    controller.write_graph(right_hand(), out + ".pg")
+    controller.write_vectors(right_hand(), controller.evaluate(model(), right_hand()), out + ".alpha")
+
+
 if __name__ == "__main__":
-    write_model(sys.argv[1] + ".POMDP")
-    controller.write_graph(right_hand(), sys.argv[1] + ".pg")
-    controller.write_vectors(right_hand(), controller.evaluate(model(), right_hand()), sys.argv[1] + ".alpha")
+    controller.run(main, "python3 robot.py OUT", 1)

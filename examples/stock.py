@@ -18,10 +18,14 @@ def best_actions(model, steps=2000):
     return [max(range(len(by_action)), key=lambda a: by_action[a][s]) for s in range(model.states)]
 
 
-if __name__ == "__main__":
+def main(name):
     model = controller.read_full_form(sys.stdin.read())
     best = best_actions(model)
     nodes = list(dict.fromkeys(best))
     graph = controller.Graph(nodes, [[nodes.index(action) for action in best]] * len(nodes))
-    controller.write_graph(graph, sys.argv[1] + ".pg")
-    controller.write_vectors(graph, controller.evaluate(model, graph), sys.argv[1] + ".alpha")
+    controller.write_graph(graph, name + ".pg")
+    controller.write_vectors(graph, controller.evaluate(model, graph), name + ".alpha")
+
+
+if __name__ == "__main__":
+    controller.run(main, "polcert print stock.POMDP | python3 stock.py OUT", 1)

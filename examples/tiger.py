@@ -27,7 +27,11 @@ def graph():
     return controller.Graph([action(m) for m in met], [[met.index(after) for after in behind(m)] for m in met])
 
 
-if __name__ == "__main__":
+def main(name):
     model = controller.read_full_form(sys.stdin.read())
-    controller.write_graph(graph(), sys.argv[1] + ".pg")
-    controller.write_vectors(graph(), controller.evaluate(model, graph()), sys.argv[1] + ".alpha")
+    controller.write_graph(graph(), name + ".pg")
+    controller.write_vectors(graph(), controller.evaluate(model, graph()), name + ".alpha")
+
+
+if __name__ == "__main__":
+    controller.run(main, "polcert print tiger.POMDP | python3 tiger.py OUT", 1)

@@ -3,8 +3,15 @@
 import sys
 import xml.etree.ElementTree
 
-if __name__ == "__main__":
-    for vector in xml.etree.ElementTree.parse(sys.argv[1]).iter("Vector"):
+import controller
+
+
+def main(policy):
+    for vector in xml.etree.ElementTree.parse(policy).iter("Vector"):
         if vector.get("obsValue", "0") != "0":
             sys.exit("a policy of mixed observability has no vectors over all states")
         print(vector.get("action"), vector.text.strip(), "", sep="\n")
+
+
+if __name__ == "__main__":
+    controller.run(main, "python3 vectors_of_policy.py M.policy > M.solved", 1)
