@@ -1,6 +1,6 @@
 -- A start item, token by token: what is still to come of an item that was read so far.
 -- Nobody has to believe this: only contracts of private functions cite it.
-use Rattle.std.specs.Prelude.{◌≡◌, ℕ, ◌<◌, ◌≤◌, ◌==◌, ◌||◌, ◌⊎◌, Bool, false, not, Option, Some, None, Result, Ok, Err, List, [], ◌∷◌, ◌++◌, length, map, get_or, sum, ℤ, pos, codes, if◌then◌else◌}
+use Rattle.std.specs.Prelude.{◌≡◌, ℕ, ◌<◌, ◌≤◌, ◌==◌, ◌||◌, ◌⊎◌, Bool, true, false, not, Option, Some, None, Result, Ok, Err, List, [], ◌∷◌, ◌++◌, length, map, get_or, sum, ℤ, pos, codes, if◌then◌else◌}
 use Rattle.std.specs.List.{AllZip, list_all}
 use Rattle.polcert_text.specs.Cut.{Lexeme}
 use Rattle.polcert_text.specs.declared.number.NumberFault.{NumberFault}
@@ -25,6 +25,7 @@ use Rattle.polcert_cells.specs.Elements.{count_of, StandsFor}
 use Rattle.polcert_cells.specs.declared.shares.Shares.{Shares}
 use Rattle.polcert_cells.specs.Start.{alike, all_states, single, shares_of, included, IsStartBody, IsStart}
 use Rattle.polcert_format.specs.Reasons.{StandsIn, NumberStandsIn, IsRefusedNumber, IsNoFraction, IsDigits, is_sign}
+use Rattle.polcert_format.specs.Misfits.{begins_number}
 use Rattle.polcert_items.specs.NumberSteps.{AreNumbersBehind, is_negative, number_place, IsSignAt, SignIs, SignEnds}
 use Rattle.polcert_items.specs.LineSteps.{BehindColon}
 use Rattle.polcert_items.specs.EntrySteps.{ProbabilitiesGo, HasRoom}
@@ -179,6 +180,9 @@ IsReasonAt sign l BadShape place = place ≡ l.place
 IsReasonAt sign l WrongNumberCount place = place ≡ l.place
 IsReasonAt sign l _ place = ⊥
 
+abbrev pub refused : ItemFault → ℕ → Refusal
+refused kind place = record { kind = kind; place = place }
+
 -- a number below 0 or above one
 abbrev pub IsOutside : ℤ → Type 0
 IsOutside h = (p : ℕ) → h ≡ pos p → p ≤ one → ⊥
@@ -193,6 +197,33 @@ pub data IsDigitsStop (digits : Digits) (l : Lexeme) (kind : ItemFault) (place :
   behind_digits : IsReasonAt None l kind place → IsDigitsStop digits l kind place
   digits_no_probability : (h : ℤ) → kind ≡ ProbabilityRange → place ≡ digits.place → digits.value ≡ Ok h → IsOutside h → IsDigitsStop digits l kind place
   digits_no_number : (f : NumberFault) → kind ≡ Number f → place ≡ digits.place → digits.value ≡ Err f → IsDigitsStop digits l kind place
+
+-- the first number is out of range, and another number follows it
+abbrev pub IsLateNumber : ℤ → ℕ → Lexeme → ItemFault → ℕ → Type 0
+IsLateNumber h first l kind place = IsOutside h × (begins_number l.kind ≡ true) × (kind ≡ ProbabilityRange) × (place ≡ first)
+
+-- the digits have no value, and something follows them, or they are such a number
+abbrev pub IsLateValue : Result ℤ NumberFault → ℕ → Lexeme → ItemFault → ℕ → Type 0
+IsLateValue (Ok h) first l kind place = IsLateNumber h first l kind place
+IsLateValue (Err fault) first l kind place = (kind ≡ Number fault) × (place ≡ first)
+
+-- The refusal of the first number that is due as soon as this lexeme follows.
+abbrev pub IsLate : StartReader → Lexeme → ItemFault → ℕ → Type 0
+IsLate (reader.Number first) l kind place = IsLateNumber first.value first.place l kind place
+IsLate (reader.Digits digits) l kind place = IsLateValue digits.value digits.place l kind place
+IsLate _ l kind place = ⊥
+
+-- behind a first number
+abbrev pub IsBehindFirst : StartReader → Type 0
+IsBehindFirst (reader.Number first) = Unit {0}
+IsBehindFirst (reader.Digits digits) = Unit {0}
+IsBehindFirst (reader.Probabilities n) = Unit {0}
+IsBehindFirst _ = ⊥
+
+-- a range is tested only where a number stands behind the first one
+pub record IsRangeTested (r : StartReader) (l : Lexeme) : Type 0 where
+  pub behind : IsBehindFirst r
+  pub number : begins_number l.kind ≡ true
 
 -- what each reason of a refusal stands at, in the body that is refused
 abbrev pub IsReasonIn : List Lexeme → ItemFault → ℕ → Type 0

@@ -1,5 +1,5 @@
 //! A start item, read token by token behind its word.
-ghost use Rattle.std.specs.Prelude.{◌≡◌, ◌-◌, ◌<◌, ◌≤◌, ◌⊎◌, ◌++◌, ◌∷◌, [], ℕ, List, length, map, sum, false, Some, None, is_some, IfOk, OnOk, IfErr, OnErr, MatchOption, if◌then◌else◌};
+ghost use Rattle.std.specs.Prelude.{◌≡◌, ◌≢◌, true, ◌-◌, ◌<◌, ◌≤◌, ◌⊎◌, ◌++◌, ◌∷◌, [], ℕ, List, length, map, sum, false, Some, None, is_some, IfOk, OnOk, IfErr, OnErr, MatchOption, if◌then◌else◌};
 ghost use Rattle.std.specs.List.{count_by};
 ghost use Rattle.polcert_text.specs.Cut.{Lexeme};
 ghost use Rattle.polcert_text.specs.Reading.{lexeme_of};
@@ -10,11 +10,11 @@ ghost use Rattle.polcert_cells.specs.Elements.{count_of, most_states};
 ghost use Rattle.polcert_items.specs.EntrySteps.{IfRefused, HasRoom};
 ghost use Rattle.polcert_items.specs.LineSteps.{Takes, CannotTake, CannotEnd};
 ghost use Rattle.polcert_cells.specs.Meaning.{IsCount};
-ghost use Rattle.polcert_format.specs.Misfits.{misfit, IsMisfit, IsOfValue, Mark, Listed, StartBody};
+ghost use Rattle.polcert_format.specs.Misfits.{misfit, IsMisfit, IsOfValue, begins_number, Mark, Listed, StartBody};
 ghost use Rattle.polcert_items.specs.NumberSteps.{IsMisplaced, SignIs};
 ghost use Rattle.polcert_format.specs.Reasons.{is_sign};
 ghost use Rattle.polcert_cells.specs.Start.{alike, all_states, single, shares_of, is_level, is_positive};
-ghost use Rattle.polcert_items.specs.StartSteps.{StartGoes, IsStartWithin, IsStartSeen, IsStartReason, IsStartEndReason, IfNotMemory, new_start, pending, marked, AreUnmarked, picks, NumbersGo, Begins, IsKept, IsReasonAt, IsNumberStop, IsDigitsStop, AreDigits, first_above_0, is_level_at, level_share};
+ghost use Rattle.polcert_items.specs.StartSteps.{StartGoes, IsStartWithin, IsStartSeen, IsStartReason, IsStartEndReason, IfNotMemory, new_start, pending, marked, AreUnmarked, picks, NumbersGo, Begins, IsKept, IsReasonAt, IsNumberStop, IsDigitsStop, AreDigits, first_above_0, is_level_at, level_share, IsOutside, refused, IsLate, IsLateValue, IsRangeTested};
 ghost use Rattle.polcert_format.specs.Wants.{number_end, numbers_want, start_body_wants};
 ghost use Rattle.polcert_items.specs.WantSteps.{Leads, number_wants, list_wants, start_wants, IfAtEnd, IsValueOr, IsAtToken};
 
@@ -112,6 +112,9 @@ impl StartReader {
         ensures kind { IfErr result (λ stop. IfRefused stop (λ r.
             IsValueOr (start_wants (count_of states.now) self.old []) (lexeme_of token.entry) r.kind)) }
         ensures place { IfErr result (λ stop. IfRefused stop (λ r. IsAtToken (lexeme_of token.entry) r.kind r.place)) }
+        ensures late { (r : Refusal) → IsLate self.old (lexeme_of token.entry) r.kind r.place → result ≡ Err (Stop.Refused r) }
+        ensures range { IfErr result (λ stop. IfRefused stop (λ r.
+            r.kind ≡ ItemFault.ProbabilityRange → IsRangeTested self.old (lexeme_of token.entry))) }
     {
         match self {
             StartReader::Form => {
@@ -315,6 +318,7 @@ fn begin_body(states: &Elements, token: Token<'_>) -> Result<StartReader, Refusa
     ensures leads { IfOk result (λ r. Leads (start_body_wants (count_of states.now))
         (lexeme_of token.entry) (start_wants (count_of states.now) r)) }
     ensures kind { IfErr result (λ r. IsValueOr StartBody (lexeme_of token.entry) r.kind) }
+    ensures range { IfErr result (λ r. r.kind ≢ ItemFault.ProbabilityRange) }
 {
     match token.kind {
         TokenKind::Name => begin_name(states, token),
@@ -337,6 +341,7 @@ fn begin_name(states: &Elements, token: Token<'_>) -> Result<StartReader, Refusa
     ensures leads { IfOk result (λ r. Leads (start_body_wants (count_of states.now))
         (lexeme_of token.entry) (start_wants (count_of states.now) r)) }
     ensures kind { IfErr result (λ r. IsValueOr StartBody (lexeme_of token.entry) r.kind) }
+    ensures range { IfErr result (λ r. r.kind ≢ ItemFault.ProbabilityRange) }
 {
     if is_word(&token, b"uniform") {
         return Ok(StartReader::Every);
@@ -356,6 +361,7 @@ fn begin_numeral(states: &Elements, token: Token<'_>) -> Result<StartReader, Ref
     ensures leads { IfOk result (λ r. Leads (start_body_wants (count_of states.now))
         (lexeme_of token.entry) (start_wants (count_of states.now) r)) }
     ensures kind { IfErr result (λ r. IsValueOr StartBody (lexeme_of token.entry) r.kind) }
+    ensures range { IfErr result (λ r. r.kind ≢ ItemFault.ProbabilityRange) }
 {
     match digits_of(states.count(), token) {
         Some(digits) => Ok(StartReader::Digits(digits)),
@@ -392,6 +398,7 @@ fn first_number(sign: Option<Sign>, token: Token<'_>) -> Result<StartReader, Ref
     ensures leads { (count : ℕ) → IfOk result (λ r. Leads (numbers_want (is_some sign) count) (lexeme_of token.entry) (start_wants count r)) }
     ensures kind { IfErr result (λ r. IsMisfit (number_wants sign) (lexeme_of token.entry) r.kind) }
     ensures number { IfErr result (λ r. (lexeme_of token.entry).kind ≡ TokenKind.Numeral → IsOfValue r.kind) }
+    ensures range { IfErr result (λ r. r.kind ≢ ItemFault.ProbabilityRange) }
 {
     match number_step(sign, token, Range::Reward)? {
         Step::Sign(sign) => Ok(StartReader::Sign(sign)),
@@ -417,6 +424,10 @@ impl FirstNumber {
         ensures leads { IfOk result (λ n. Leads (numbers_want false (count_of states.now - 1)) (lexeme_of token.entry) (list_wants n)) }
         ensures kind { IfErr result (λ stop. IfRefused stop (λ r.
             IsValueOr (number_end false (count_of states.now - 1)) (lexeme_of token.entry) r.kind)) }
+        ensures late { IsOutside self.value → begins_number (lexeme_of token.entry).kind ≡ true →
+            result ≡ Err (Stop.Refused (refused ItemFault.ProbabilityRange self.place)) }
+        ensures range { IfErr result (λ stop. IfRefused stop (λ r.
+            r.kind ≡ ItemFault.ProbabilityRange → begins_number (lexeme_of token.entry).kind ≡ true)) }
     {
         match token.kind {
             TokenKind::Numeral | TokenKind::Plus | TokenKind::Minus => self.add(
@@ -440,12 +451,10 @@ impl FirstNumber {
         ensures leads { IfOk result (λ n. Leads (numbers_want false (count_of states.now - 1)) (lexeme_of token.entry) (list_wants n)) }
         ensures kind { IfErr result (λ stop. IfRefused stop (λ r.
             IsValueOr (number_end false (count_of states.now - 1)) (lexeme_of token.entry) r.kind)) }
+        ensures late { IsOutside self.value → result ≡ Err (Stop.Refused (refused ItemFault.ProbabilityRange self.place)) }
     {
         if self.value < 0 || self.value > ONE as i64 {
-            return Err(Stop::Refused(Refusal {
-                kind: ItemFault::ProbabilityRange,
-                place: self.place,
-            }));
+            return Err(self.out_of_range());
         }
         let count = states.count();
         if count == 1 {
@@ -455,6 +464,16 @@ impl FirstNumber {
         numbers.read.push(self.value as u32)?;
         numbers.feed_probability(token)?;
         Ok(numbers)
+    }
+
+    /// The refusal of this number where another follows it, and it is out of range.
+    fn out_of_range(self) -> Stop
+        ensures { result ≡ Stop.Refused (refused ItemFault.ProbabilityRange self.place) }
+    {
+        Stop::Refused(Refusal {
+            kind: ItemFault::ProbabilityRange,
+            place: self.place,
+        })
     }
 
     /// The shares where this number is all there is, behind `start:`.
@@ -492,6 +511,10 @@ impl Digits {
         ensures leads { IfOk result (λ n. Leads (numbers_want false (count_of states.now - 1)) (lexeme_of token.entry) (list_wants n)) }
         ensures kind { IfErr result (λ stop. IfRefused stop (λ r.
             IsValueOr (number_end false (count_of states.now - 1)) (lexeme_of token.entry) r.kind)) }
+        ensures late { (r : Refusal) → IsLateValue self.value self.place (lexeme_of token.entry) r.kind r.place →
+            result ≡ Err (Stop.Refused r) }
+        ensures range { IfErr result (λ stop. IfRefused stop (λ r.
+            r.kind ≡ ItemFault.ProbabilityRange → begins_number (lexeme_of token.entry).kind ≡ true)) }
     {
         match self.value {
             Ok(value) => {

@@ -1,7 +1,11 @@
-use Rattle.std.proofs.Common.{◌∙◌, ℕ, ap, rules, FitsSigned, w64, to_z-of_z}
+use Rattle.std.proofs.Common.{◌∙◌, ℕ, ap, sym, subst, rules, FitsSigned, w64, to_z-of_z}
 use Rattle.polcert_text.specs.Reading.{lexeme_of}
 use Rattle.polcert_cells.specs.Elements.{count_of}
 use Rattle.polcert_items.specs.declared.entry_reader.Numbers.{Numbers}
+use Rattle.polcert_items.specs.declared.start_reader.StartReader.TheVariants as reader
+use Rattle.polcert_items.specs.EntrySteps.{IfRefused}
+use Rattle.polcert_items.specs.LineSteps.{CannotTake}
+use Rattle.polcert_items.specs.StartSteps.{IsOutside, StartGoes}
 use Rattle.polcert_items.proofs.PatternLaws.{if_err_map, refused_map}
 use Rattle.polcert_items.proofs.StartNumbers.{fraction, below_outside, above_outside, outside_stuck, one_read, more_states, number_takes, number_stuck}
 use Rattle.polcert_items.proofs.start_reader.FirstNumber.add.Goals.{then-self-lt0-via-then-self-lt0, then-self-lt0-via-else-self-lt0+then-self}
@@ -11,10 +15,14 @@ pub returns-then-self-lt0-clause-refused : goal.returns-then-self-lt0-clause-ref
 returns-then-self-lt0-clause-refused c =
     let h = c.args.self.value in
     let fits : FitsSigned w64 h = search rules in
+    let l = lexeme_of c.args.token in
+    let outside : IsOutside h =
     elim c.then-self-lt0.branch [
-      | then-self-lt0-via-then-self-lt0 w ↦ outside_stuck c.args.states.now c.args.self (lexeme_of c.args.token) (below_outside h (simp to_z-of_z at w.if-self-lt0.true))
-      | then-self-lt0-via-else-self-lt0+then-self w ↦ outside_stuck c.args.states.now c.args.self (lexeme_of c.args.token) (above_outside h (simp to_z-of_z at w.if-self.true))
-    ]
+      | then-self-lt0-via-then-self-lt0 w ↦ below_outside h (simp to_z-of_z at w.if-self-lt0.true)
+      | then-self-lt0-via-else-self-lt0+then-self w ↦ above_outside h (simp to_z-of_z at w.if-self.true)
+    ] in
+    subst (λ stop. IfRefused stop (λ r. CannotTake (StartGoes c.args.states.now) (reader.Number c.args.self) l)) (sym c.out_of_range.ensures)
+    (outside_stuck c.args.states.now c.args.self l outside)
 
 pub returns-in_err-feed_probability-clause-refused : goal.returns-in_err-feed_probability-clause-refused
 returns-in_err-feed_probability-clause-refused c =
