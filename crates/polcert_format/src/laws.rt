@@ -1,5 +1,5 @@
 //! Laws of the definitions: each function has an empty body, and its contract is the law.
-ghost use Rattle.std.specs.Prelude.{◌≡◌, ◌<◌, ℕ, List, ℤ, pos, Option, Some, None, ◌+◌, ◌++◌, ◌∷◌, [], true, false, length};
+ghost use Rattle.std.specs.Prelude.{◌≡◌, ℕ, List, ℤ, pos, Option, Some, None, ◌+◌, ◌++◌, ◌∷◌, [], true, false, length};
 ghost use Rattle.std.specs.List.{list_any};
 ghost use Rattle.polcert_text.specs.Cut.{Lexeme};
 ghost use Rattle.polcert_text.specs.declared.tokens.TokenFault.{TokenFault};
