@@ -5,7 +5,7 @@ use Rattle.polcert_text.specs.Bytes.{class_of}
 use Rattle.polcert_text.specs.Numbers.{number_of, exponent_size, power_of, size_of, millionth}
 use Rattle.polcert_text.specs.declared.tokens.TokenFault.TheVariants.{Glued}
 use Rattle.polcert_format.specs.declared.fault.ItemFault.TheVariants.{Token, BeforeFirstItem, DuplicateLine, MissingLine, DiscountRange}
-use Rattle.polcert_cells.specs.declared.words.Topic.TheVariants.{Discount}
+use Rattle.polcert_cells.specs.declared.words.Topic.TheVariants.{Discount, Start}
 use Rattle.polcert_cells.specs.Words.{topic, topic_of}
 use Rattle.polcert_cells.specs.Numbers.{IsMillionths, none, unsigned, one}
 use Rattle.polcert_format.specs.Items.{Item, IsItem, IsDivided}
@@ -171,6 +171,9 @@ two_stuck further after (texts.discount {g = g} p e c n l) =
     let r = numbers_go_on further (unsigned (two 10) none) n refl in
     no_fraction g (sym (same_head r.joined)) l
 
+not_start : Discount ≡ Start → ⊥
+not_start e = cc
+
 pub above_one_stops : StopsInBody above_one DiscountRange 1 10
 above_one_stops = record {
   before = [];
@@ -186,7 +189,7 @@ above_one_stops = record {
   rest = numeral_at 10 (codes "2") ∷ [];
   whole = refl;
   is_taken = possible colon_possible;
-  stops = at_lexeme two_stuck (of_value refl tt);
+  stops = at_lexeme two_stuck (of_value refl tt) (λ start range. absurd (not_start start));
   place_is = refl;
   clean = λ rest after. refl;
 }

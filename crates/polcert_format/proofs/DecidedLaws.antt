@@ -13,24 +13,25 @@ use Rattle.polcert_format.proofs.ItemLaws.{one_division}
 use Rattle.polcert_format.proofs.TextLaws.{one_known}
 
 -- lists that are the same, cut at the same length
-record SameCut (xs ys : List Item) (x y : Item) : Type 0 where
-  front : xs ≡ ys
-  here : x ≡ y
+pub record SameCut (xs ys us vs : List Item) (x y : Item) : Type 0 where
+  pub front : xs ≡ ys
+  pub here : x ≡ y
+  pub behind : us ≡ vs
 
-same_cut : (xs ys us vs : List Item) (x y : Item) → xs ++ x ∷ us ≡ ys ++ y ∷ vs → length xs ≡ length ys → SameCut xs ys x y
-same_cut [] [] us vs x y e l = record { front = refl; here = same_head e }
+pub same_cut : (xs ys us vs : List Item) (x y : Item) → xs ++ x ∷ us ≡ ys ++ y ∷ vs → length xs ≡ length ys → SameCut xs ys us vs x y
+same_cut [] [] us vs x y e l = record { front = refl; here = same_head e; behind = same_tail e }
 same_cut [] (z ∷ ys) us vs x y e l = absurd (omega (arith, l))
 same_cut (z ∷ xs) [] us vs x y e l = absurd (omega (arith, l))
 same_cut (z ∷ xs) (w ∷ ys) us vs x y e l =
     let lengths : suc (length xs) ≡ suc (length ys) = l in
     let rest = same_cut xs ys us vs x y (same_tail e) (omega (arith, lengths)) in
     let head : z ≡ w = same_head e in
-    record { front = (λ i. head i ∷ rest.front i); here = rest.here }
+    record { front = (λ i. head i ∷ rest.front i); here = rest.here; behind = rest.behind }
 
 one_fault : {A : Type 0} {o p : Option A} {f g : A} → o ≡ p → o ≡ Some f → p ≡ Some g → f ≡ g
 one_fault e a b = cc
 
-same_length : (n : ℕ) (xs ys : List Item) → n ≡ length xs + 1 → n ≡ length ys + 1 → length xs ≡ length ys
+pub same_length : (n : ℕ) (xs ys : List Item) → n ≡ length xs + 1 → n ≡ length ys + 1 → length xs ≡ length ys
 same_length n xs ys a b = omega (arith, a, b)
 
 -- an item of the text and the end have two numbers

@@ -1,5 +1,6 @@
 pub mod DecidedLaws
 pub mod Dividing
+pub mod FirstNumbers
 pub mod FirstPlaces
 pub mod FrontLaws
 pub mod GoOnLaws

@@ -1,3 +1,4 @@
+pub mod FirstNumber
 pub mod FirstWrong
 pub mod FullForm
 pub mod Items

@@ -1,9 +1,9 @@
 -- Refusals: what is promised of each, and where those inside an item's body stand.
-use Rattle.std.specs.Prelude.{◌≡◌, ℕ, ◌+◌, true, List, [], ◌∷◌, ◌++◌, length, Some, None}
+use Rattle.std.specs.Prelude.{◌≡◌, ℕ, ◌+◌, ◌<◌, true, List, [], ◌∷◌, ◌++◌, length, Some, None}
 use Rattle.polcert_text.specs.Cut.{Lexeme}
 use Rattle.polcert_text.specs.declared.lexeme.TokenKind.TheVariants.{Numeral}
 use Rattle.polcert_format.specs.declared.fault.ItemFault.{ItemFault}
-use Rattle.polcert_format.specs.declared.fault.ItemFault.TheVariants.{Token, TextTooLong, IndexOutOfRange}
+use Rattle.polcert_format.specs.declared.fault.ItemFault.TheVariants.{Token, TextTooLong, ProbabilityRange}
 use Rattle.polcert_format.specs.declared.fault.ModelFault.{ModelFault}
 use Rattle.polcert_format.specs.declared.fault.ModelFault.TheVariants.{RowSum, Memory}
 use Rattle.polcert_format.specs.declared.fault.ModelFault.TheVariants as model_faults
@@ -16,6 +16,7 @@ use Rattle.polcert_cells.specs.Meaning.{Meaning, meaning_of}
 use Rattle.polcert_cells.specs.Rows.{IsFirstWrongRow}
 use Rattle.polcert_format.specs.Text.{Known, nothing_known, AreRight, IsRightText, IsModelText}
 use Rattle.polcert_format.specs.Reading.{IsWrong, CannotGoOn, IsPossible}
+use Rattle.polcert_format.specs.FirstNumber.{IsLateIn}
 use Rattle.polcert_format.specs.FirstWrong.{TextTokens, IsFirstWrong, LiesIn, IsDecided, word_place}
 use Rattle.polcert_format.specs.Reasons.{IsReason, is_sign}
 use Rattle.polcert_format.specs.Misfits.{misfit, IsOfValue, IsMisfit}
@@ -51,24 +52,25 @@ abbrev pub place_or : List Lexeme → ℕ → ℕ
 place_or [] behind = behind
 place_or (l ∷ ls) behind = l.place
 
--- What was taken of an item is still possible. (Of a start item this isn't said: its numbers are tested only once it has
--- more than one, and their sum and the states that are left only at its end.)
+-- What was taken of an item is still possible. (Of a start item this isn't said: its first number is tested late, and the
+-- sum of its numbers and the states that are left only at its end.)
 pub data IsTaken (k : Known) (t : Topic) (taken : List Lexeme) : Type 0 where
   possible : IsPossible k t taken → IsTaken k t taken
   in_start : t ≡ Start → IsTaken k t taken
 
+-- Of a start item's first number, right behind its colon, no range is tested.
+abbrev pub IsDueAtOnce : Topic → List Lexeme → ItemFault → Type 0
+IsDueAtOnce t taken kind = t ≡ Start → kind ≡ ProbabilityRange → 1 < length taken
+
 -- Behind the lexemes taken the item is no longer possible: with the next lexeme, with the next two as a sign and a
 -- numeral, or, where nothing is left of it, as it is. The kind is so of what this place is for and of what stands there.
--- (Of a start item it isn't said at which of its numbers one is refused for its value or as no state's: the first is tested
--- late, only where more follow or the item ends.)
 pub data Stops (k : Known) (t : Topic) (kind : ItemFault) (taken : List Lexeme) : List Lexeme → Type 0 where
-  at_lexeme : {l : Lexeme} {behind : List Lexeme} → CannotGoOn k t (taken ++ l ∷ []) → IsMisfit (wanted k t taken) l kind → Stops k t kind taken (l ∷ behind)
-  at_number : {sign l : Lexeme} {behind : List Lexeme} → is_sign sign.kind ≡ true → l.kind ≡ Numeral → IsPossible k t (taken ++ sign ∷ [])
-      → CannotGoOn k t (taken ++ sign ∷ l ∷ []) → IsOfValue kind → IsMisfit (wanted k t (taken ++ sign ∷ [])) l kind → Stops k t kind taken (sign ∷ l ∷ behind)
+  at_lexeme : {l : Lexeme} {behind : List Lexeme} → CannotGoOn k t (taken ++ l ∷ []) → IsMisfit (wanted k t taken) l kind → IsDueAtOnce t taken kind
+      → Stops k t kind taken (l ∷ behind)
+  at_number : {sign l : Lexeme} {behind : List Lexeme} → is_sign sign.kind ≡ true → l.kind ≡ Numeral → IsTaken k t (taken ++ sign ∷ [])
+      → CannotGoOn k t (taken ++ sign ∷ l ∷ []) → IsOfValue kind → IsMisfit (wanted k t (taken ++ sign ∷ [])) l kind → IsDueAtOnce t taken kind
+      → Stops k t kind taken (sign ∷ l ∷ behind)
   at_end : IsWrong k t taken → kind ≡ misfit (wanted k t taken) None → Stops k t kind taken []
-  in_start_item : {l : Lexeme} {behind : List Lexeme} → t ≡ Start → CannotGoOn k t (taken ++ l ∷ []) → kind ≡ misfit (wanted k t taken) (Some l) → Stops k t kind taken (l ∷ behind)
-  late_number : {l : Lexeme} {behind : List Lexeme} → t ≡ Start → IsOfValue kind → Stops k t kind taken (l ∷ behind)
-  late_state : {l : Lexeme} {behind : List Lexeme} → t ≡ Start → kind ≡ IndexOutOfRange → Stops k t kind taken (l ∷ behind)
 
 -- The place stands in the item where its lexemes so far are still possible, and with what stands there they aren't.
 -- Where nothing is left of the item and of the text, the tokens end cleanly.
@@ -114,12 +116,18 @@ pub data EndsPossible (ts : TextTokens) (number : ℕ) : Type 0 where
   in_item : IsLastTaken ts number → EndsPossible ts number
 
 -- Where the refusal of an item stands: it is decided before the item's body, or stands in the body as far as that is
--- possible, or is a fault of the tokens behind what is possible.
+-- possible, or is that of a start item's first number, or a fault of the tokens behind what is possible.
 pub data StandsRight (ts : TextTokens) (kind : ItemFault) (number place : ℕ) : Type 0 where
   before_body : IsDecided ts number kind place → StandsRight ts kind number place
   in_body : StopsInBody ts kind number place → StandsRight ts kind number place
+  of_first_number : IsLateIn ts number kind place → StandsRight ts kind number place
   of_tokens : IsOfTokens kind → EndsPossible ts number → StandsRight ts kind number place
 
+pub record IsItemPlaced (ts : TextTokens) (kind : ItemFault) (number place : ℕ) : Type 0 where
+  pub stands : StandsRight ts kind number place
+  -- what is due of a start item's first number comes before anything behind it
+  pub late : (fault : ItemFault) (at : ℕ) → IsLateIn ts number fault at → (kind ≡ fault) × (place ≡ at)
+
 abbrev pub IsPlacedRight : TextTokens → ModelFault → Type 0
-IsPlacedRight ts (model_faults.Item kind number place) = StandsRight ts kind number place
+IsPlacedRight ts (model_faults.Item kind number place) = IsItemPlaced ts kind number place
 IsPlacedRight ts _ = Unit {0}

@@ -21,6 +21,7 @@ ghost use Rattle.polcert_cells.specs.Laws.{GivesLastCovering, OneMoreWeight, One
 ghost use Rattle.polcert_cells.specs.declared.words.Topic.{Topic};
 ghost use Rattle.polcert_cells.specs.Words.{topic, begins_item};
 ghost use Rattle.polcert_format.specs.Reading.{AreRightItems, IsWithinItem, CannotGoOn, IsWrong};
+ghost use Rattle.polcert_format.specs.FirstNumber.{IsLateIn};
 ghost use Rattle.polcert_format.specs.FirstWrong.{TextTokens, tokens_of, IsFirstWrong, IsDecided, AreTokensOf, HasTokens, word_place, LiesIn};
 ghost use Rattle.polcert_format.specs.declared.fault.ItemFault.{ItemFault};
 ghost use Rattle.polcert_format.specs.Order.{preamble_fault, word_fault};
@@ -167,6 +168,14 @@ pub fn one_decision()
     ensures nothing { (ts : TextTokens) (before : List Item) (item : Item) (after : List Item) (k : Known) (t : Topic)
         (f : ItemFault) (p : ℕ) → IsDivided ts.lexemes [] (before ++ item ∷ after) → AreRight nothing_known before k →
         topic item.word ≡ Some t → word_fault k t ≡ None → IsDecided ts (length before + 1) f p → ⊥ }
+{}
+
+/// What is wrong with a start item's first number, where it is due only behind the number, is one kind at one place, and
+/// nothing is decided before the item's body.
+pub fn one_late_refusal()
+    ensures one { (ts : TextTokens) (n : ℕ) (f g : ItemFault) (p q : ℕ) →
+        IsLateIn ts n f p → IsLateIn ts n g q → (f ≡ g) × (p ≡ q) }
+    ensures undecided { (ts : TextTokens) (n : ℕ) (f g : ItemFault) (p q : ℕ) → IsLateIn ts n f p → IsDecided ts n g q → ⊥ }
 {}
 
 /// A text that is refused, but for want of memory, isn't the text of a model.

@@ -1,9 +1,9 @@
 -- An item's reader, token by token: what it keeps of the body, and why a token is refused.
-use Rattle.std.proofs.Common.{◌≡◌, ◌∙◌, ℕ, false, Option, Some, None, List, [], ◌∷◌, ◌++◌, Result, Ok, Err, OnOk, IfErr, unwrap_or, refl, sym, ap, subst}
+use Rattle.std.proofs.Common.{◌≡◌, ◌∙◌, ℕ, ◌⊎◌, inl, inr, Bool, true, false, Option, Some, None, List, [], ◌∷◌, ◌++◌, Result, Ok, Err, OnOk, IfErr, unwrap_or, refl, sym, ap, subst}
 use Rattle.polcert_text.specs.Cut.{Lexeme}
 use Rattle.polcert_items.specs.declared.elements_reader.ElementsReader.{ElementsReader}
 use Rattle.polcert_format.specs.declared.fault.ItemFault.{ItemFault}
-use Rattle.polcert_format.specs.declared.fault.ItemFault.TheVariants.{BadShape, BadCount, DuplicateName, Reset, WrongNumberCount, StartSum, StartEmpty}
+use Rattle.polcert_format.specs.declared.fault.ItemFault.TheVariants.{BadShape, BadCount, DuplicateName, Reset, WrongNumberCount, ProbabilityRange, StartSum, StartEmpty}
 use Rattle.polcert_items.specs.declared.item.ItemReader.{ItemReader}
 use Rattle.polcert_items.specs.declared.item.ItemReader.TheVariants as items
 use Rattle.polcert_items.specs.declared.number.Sign.{Sign}
@@ -15,10 +15,13 @@ use Rattle.polcert_cells.specs.declared.elements.Elements.{Elements}
 use Rattle.polcert_cells.specs.declared.elements.Elements.TheVariants.{Count}
 use Rattle.polcert_cells.specs.Elements.{count_of}
 use Rattle.polcert_format.specs.Misfits.{misfit}
-use Rattle.polcert_items.specs.WantSteps.{Leads, start_wants, item_wants, IfAtEnd, IfStart, IsValueOr, IsAtToken, IsStartMisfit}
+use Rattle.polcert_items.specs.WantSteps.{Leads, start_wants, item_wants, IfAtEnd, IfStart}
 use Rattle.polcert_items.specs.declared.stop.Stop.{Stop}
 use Rattle.polcert_items.specs.declared.stop.Stop.TheVariants as stops
-use Rattle.polcert_items.proofs.StartSeen.{start_misfit}
+use Rattle.polcert_items.specs.declared.number.Refusal.{Refusal}
+use Rattle.polcert_format.specs.FirstNumber.{IsLate, states_known}
+use Rattle.polcert_items.proofs.FirstNumberLaws as laws
+use Rattle.polcert_items.proofs.PatternLaws.{if_err_map, each_refused_map}
 use Rattle.polcert_format.specs.Text.{Known}
 use Rattle.polcert_items.specs.LineSteps.{Takes, CannotTake}
 use Rattle.polcert_format.specs.KnownPreamble.{preamble_in}
@@ -26,7 +29,7 @@ use Rattle.polcert_items.specs.EntrySteps.{IfRefused}
 use Rattle.polcert_format.specs.Reasons.{is_sign, ends_in_sign, IsOfElements}
 use Rattle.polcert_items.specs.NumberSteps.{SignIs, SignEnds}
 use Rattle.polcert_items.specs.ElementSteps.{ElementsReason, AreElementsSeen}
-use Rattle.polcert_items.specs.StartSteps.{StartGoes, IsStartReason, IsStartEndReason}
+use Rattle.polcert_items.specs.StartSteps.{StartGoes, start_sign, IsStartSeen, IsStartReason, IsStartEndReason, IsStop, IsDue, IsHeld, IsRangeTested, IsEndDue, IsLateEnd, StopsStart}
 use Rattle.polcert_items.specs.ItemSteps.{ItemGoes, IsSeen, topic_in, IsItemReason, of_token, of_start, IsItemEndReason}
 use Rattle.polcert_items.proofs.ElementLaws.{repeated_name}
 
@@ -56,15 +59,15 @@ elements_reason item r body l Reset place other of seen m = of_token other m
 elements_reason item r body l BadShape place other of seen m = of_token other m
 elements_reason item r body l _ place other of seen m = absurd m
 
-module _ (item : ItemReader) (r : ElementsReader) (body : List Lexeme) (l : Lexeme) (kind : ItemFault) (place : ℕ) (s : IsSeen body item) (m : ElementsReason r l kind place) where
+module _ (item : ItemReader) (r : ElementsReader) (body : List Lexeme) (l : Lexeme) (kind : ItemFault) (place : ℕ) (count : ℕ) (s : IsSeen count body item) (m : ElementsReason r l kind place) where
   pub states_reason : item ≡ items.States r → IsItemReason item body l kind place
-  states_reason e = subst (λ i. IsItemReason i body l kind place) (sym e) (elements_reason (items.States r) r body l kind place (λ x. cc) tt (subst (IsSeen body) e s).1 m)
+  states_reason e = subst (λ i. IsItemReason i body l kind place) (sym e) (elements_reason (items.States r) r body l kind place (λ x. cc) tt (subst (IsSeen count body) e s).1 m)
 
   pub actions_reason : item ≡ items.Actions r → IsItemReason item body l kind place
-  actions_reason e = subst (λ i. IsItemReason i body l kind place) (sym e) (elements_reason (items.Actions r) r body l kind place (λ x. cc) tt (subst (IsSeen body) e s).1 m)
+  actions_reason e = subst (λ i. IsItemReason i body l kind place) (sym e) (elements_reason (items.Actions r) r body l kind place (λ x. cc) tt (subst (IsSeen count body) e s).1 m)
 
   pub observations_reason : item ≡ items.Observations r → IsItemReason item body l kind place
-  observations_reason e = subst (λ i. IsItemReason i body l kind place) (sym e) (elements_reason (items.Observations r) r body l kind place (λ x. cc) tt (subst (IsSeen body) e s).1 m)
+  observations_reason e = subst (λ i. IsItemReason i body l kind place) (sym e) (elements_reason (items.Observations r) r body l kind place (λ x. cc) tt (subst (IsSeen count body) e s).1 m)
 
 pub start_reason : (item : ItemReader) (r : StartReader) (body : List Lexeme) (l : Lexeme) (kind : ItemFault) (place : ℕ) → item ≡ items.Start r → IsStartReason (body ++ l ∷ []) kind place
     → IsItemReason item body l kind place
@@ -97,14 +100,39 @@ start_leads k states item old new l known is leads =
     subst (λ s. Leads (start_wants (count_of s) old) l (start_wants (count_of s) new)) (sym (known_states k states known)) leads in
     subst (λ i. Leads (item_wants k i) l (item_wants k (items.Start new))) (sym is) go
 
-pub start_named : (k : Known) (states : Elements) (item : ItemReader) (old : StartReader) (l : Lexeme) (stop : Stop) → k.states ≡ Some states → item ≡ items.Start old
-    → IfRefused stop (λ r. IsValueOr (start_wants (count_of states) old []) l r.kind) → IfRefused stop (λ r. IsAtToken l r.kind r.place)
-    → IfRefused stop (λ r. IfStart (topic_in item) (IsStartMisfit (item_wants k item []) l r.kind r.place))
-start_named k states item old l (stops.Refused r) known is named at =
-    let go : IsStartMisfit (item_wants k (items.Start old) []) l r.kind r.place =
-    subst (λ s. IsStartMisfit (start_wants (count_of s) old []) l r.kind r.place) (sym (known_states k states known)) (start_misfit (start_wants (count_of states) old []) l r.kind r.place named at) in
-    subst (λ i. IfStart (topic_in i) (IsStartMisfit (item_wants k i []) l r.kind r.place)) (sym is) go
-start_named k states item old l stops.Memory known is named at = tt
+pub start_seen : (k : Known) (states : Elements) (item : ItemReader) (old : StartReader) (body : List Lexeme) → k.states ≡ Some states → item ≡ items.Start old → IsSeen (states_known k) body item
+    → IsStartSeen (count_of states) body old
+start_seen k states item old body known is s = subst (λ e. IsStartSeen (count_of e) body old) (known_states k states known) (subst (IsSeen (states_known k) body) is s)
+
+pub start_keeps : (k : Known) (states : Elements) (new : StartReader) (body : List Lexeme) → k.states ≡ Some states → IsStartSeen (count_of states) body new → IsSeen (states_known k) body (items.Start new)
+start_keeps k states new body known s = subst (λ e. IsStartSeen (count_of e) body new) (sym (known_states k states known)) s
+
+-- why it cannot go on
+pub start_stops : (k : Known) (states : Elements) (item : ItemReader) (old : StartReader) (body : List Lexeme) (l : Lexeme) (stop : Stop) → k.states ≡ Some states → item ≡ items.Start old
+    → IsSeen (states_known k) body item → IfRefused stop (λ r. IsStop (IsDue old l) (start_sign old) (start_wants (count_of states) old []) l r.kind r.place)
+    → IfRefused stop (λ r. r.kind ≡ ProbabilityRange → IsRangeTested old l)
+    → IfRefused stop (λ r. IfStart (topic_in item) (StopsStart (states_known k) body (item_wants k item []) l r.kind r.place))
+start_stops k states item old body l (stops.Refused r) known is s named range =
+    let go : StopsStart (count_of states) body (start_wants (count_of states) old []) l r.kind r.place =
+    laws.stops_start (count_of states) body old (start_wants (count_of states) old []) l r.kind r.place (start_seen k states item old body known is s) named range in
+    let here : StopsStart (states_known k) body (item_wants k (items.Start old) []) l r.kind r.place =
+    subst (λ e. StopsStart (count_of e) body (start_wants (count_of e) old []) l r.kind r.place) (sym (known_states k states known)) go in
+    subst (λ i. IfStart (topic_in i) (StopsStart (states_known k) body (item_wants k i []) l r.kind r.place)) (sym is) here
+start_stops k states item old body l stops.Memory known is s named range = tt
+
+-- what is due of its first number is what is answered
+pub start_late : (k : Known) (states : Elements) (item : ItemReader) (old : StartReader) (body more : List Lexeme) (l : Lexeme) (ends : Bool) (late : Refusal) (result : Result Unit Stop)
+    → k.states ≡ Some states → item ≡ items.Start old → IsSeen (states_known k) body item → IsLate (states_known k) (body ++ l ∷ more) ends late.kind late.place
+    → ((r : Refusal) → IsDue old l r.kind r.place → result ≡ Err (stops.Refused r)) → (IsHeld (count_of states) old l → IfErr result (λ stop. IfRefused stop (λ r. ⊥)))
+    → IfErr result (λ stop. IfRefused stop (λ r. (r.kind ≡ late.kind) × (r.place ≡ late.place)))
+start_late k states item old body more l ends late result known is s due answered held =
+    let here : IsLate (count_of states) (body ++ l ∷ more) ends late.kind late.place =
+    subst (λ e. IsLate (count_of e) (body ++ l ∷ more) ends late.kind late.place) (known_states k states known) due in
+    of (laws.late_at_lexeme (count_of states) body more l ends old late.kind late.place (start_seen k states item old body known is s) here)
+  where
+    of : IsDue old l late.kind late.place ⊎ IsHeld (count_of states) old l → IfErr result (λ stop. IfRefused stop (λ r. (r.kind ≡ late.kind) × (r.place ≡ late.place)))
+    of (inl d) = subst (λ (x : Result Unit Stop). IfErr x (λ stop. IfRefused stop (λ r. (r.kind ≡ late.kind) × (r.place ≡ late.place)))) (sym (answered late d)) (refl, refl)
+    of (inr h) = if_err_map result _ _ (λ stop x. each_refused_map stop (λ r none. absurd none) x) (held h)
 
 pub if_err_both : {T E : Type 0} (r : Result T E) (P Q R : E → Type 0) → ((e : E) → P e → Q e → R e) → IfErr r P → IfErr r Q → IfErr r R
 if_err_both (Ok v) P Q R f x y = tt
@@ -119,17 +147,25 @@ start_ends k states item r e known is named =
 
 -- ---- why an item cannot end
 
-pub start_end_reason : (item : ItemReader) (r : StartReader) (body : List Lexeme) (end : ItemEnd) → item ≡ items.Start r → IsStartEndReason body end → IsItemEndReason (topic_in item) body end
-start_end_reason item r body end e m = subst (λ i. IsItemEndReason (topic_in i) body end) (sym e) (at end m)
+pub start_end_reason : (k : Known) (states : Elements) (item : ItemReader) (r : StartReader) (body : List Lexeme) (end : ItemEnd) → k.states ≡ Some states → item ≡ items.Start r → IsSeen (states_known k) body item
+    → IsStartEndReason body end → IsEndDue r end → IsItemEndReason (states_known k) (topic_in item) body end
+start_end_reason k states item r body end known e s m due = subst (λ i. IsItemEndReason (states_known k) (topic_in i) body end) (sym e) (at end m due)
   where
-    at : (end : ItemEnd) → IsStartEndReason body end → IsItemEndReason Start body end
-    at (ends.AtEnd kind) m = at_end kind m
+    at : (end : ItemEnd) → IsStartEndReason body end → IsEndDue r end → IsItemEndReason (states_known k) Start body end
+    at (ends.AtEnd kind) m due = at_end kind m
       where
-        at_end : (kind : ItemFault) → IsStartEndReason body (ends.AtEnd kind) → IsItemEndReason Start body (ends.AtEnd kind)
+        at_end : (kind : ItemFault) → IsStartEndReason body (ends.AtEnd kind) → IsItemEndReason (states_known k) Start body (ends.AtEnd kind)
         at_end BadShape m = tt
         at_end WrongNumberCount m = tt
         at_end StartSum m = refl
         at_end StartEmpty m = refl
         at_end _ m = absurd m
-    at (ends.At r) m = (refl, m.0, m.1)
-    at ends.Memory m = tt
+    at (ends.At x) m due =
+        (refl, m.1, subst (λ e. IsLate (count_of e) body true x.kind x.place) (sym (known_states k states known)) (laws.end_is_late (count_of states) body r x (start_seen k states item r body known e s) due))
+    at ends.Memory m due = tt
+
+pub start_late_end : (k : Known) (states : Elements) (item : ItemReader) (r : StartReader) (body : List Lexeme) (end : ItemEnd) (late : Refusal) → k.states ≡ Some states → item ≡ items.Start r
+    → IsSeen (states_known k) body item → IsLate (states_known k) body true late.kind late.place → IsEndDue r end → IsLateEnd end late
+start_late_end k states item r body end late known is s l due =
+    laws.late_at_end (count_of states) body r end late (start_seen k states item r body known is s)
+    (subst (λ e. IsLate (count_of e) body true late.kind late.place) (known_states k states known) l) due

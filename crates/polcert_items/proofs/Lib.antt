@@ -1,4 +1,5 @@
 pub mod ElementLaws
+pub mod FirstNumberLaws
 pub mod ItemReading
 pub mod LineLaws
 pub mod ListLaws

@@ -1,5 +1,5 @@
 -- Lists of numbers, token by token.
-use Rattle.std.proofs.Common.{◌≡◌, ◌∙◌, ℕ, ◌≤◌, Some, None, List, [], ◌∷◌, ◌++◌, length, map, ℤ, pos, refl, sym, ap, subst, All, arith, append_assoc, Result, Ok, Err, IfErr}
+use Rattle.std.proofs.Common.{◌≡◌, ◌∙◌, ℕ, ◌≤◌, inl, inr, true, false, Option, Some, None, List, [], ◌∷◌, ◌++◌, length, map, ℤ, pos, refl, sym, ap, subst, All, arith, append_assoc, Result, Ok, Err, IfErr}
 use lib.IntN.{nat_abs}
 use Rattle.std.proofs.lemmas.List.Elements.{All-cons, All-tail}
 use Rattle.polcert_text.specs.Cut.{Lexeme}
@@ -7,8 +7,15 @@ use Rattle.polcert_cells.specs.declared.entry.Body.TheVariants as bodies
 use Rattle.polcert_cells.specs.declared.entry.Body.{Body}
 use Rattle.polcert_items.specs.declared.entry_reader.Numbers.{Numbers}
 use Rattle.polcert_items.specs.declared.number.Sign.{Sign}
-use Rattle.polcert_items.specs.declared.number.Range.TheVariants.{Probability}
+use Rattle.polcert_items.specs.declared.number.Range.TheVariants.{Probability, Reward}
+use Rattle.polcert_text.specs.declared.lexeme.TokenKind.{TokenKind}
+use Rattle.polcert_text.specs.declared.lexeme.TokenKind.TheVariants.{Plus, Minus}
 use Rattle.polcert_cells.specs.Numbers.{IsMillionths, AreNumbers, one}
+use Rattle.polcert_cells.specs.Numbers as numbers
+use Rattle.polcert_cells.proofs.Basics.{true≢false}
+use Rattle.polcert_format.specs.Reasons.{is_sign}
+use Rattle.polcert_format.proofs.Possible.{a_zero, zero_is}
+use Rattle.polcert_items.specs.StartSteps.{IsNumberHeld}
 use Rattle.polcert_items.specs.NumberSteps.{AreNumbersBehind, IsInRange, is_negative, IsSignAt, IsNoNumber}
 use Rattle.polcert_items.specs.LineSteps.{Takes, CannotTake}
 use Rattle.polcert_items.specs.EntrySteps.{ProbabilitiesGo, RewardsGo, IfRefused}
@@ -138,3 +145,22 @@ probabilities_take_number old new l h same_needed v range is read =
     let p = range.0 in
     let size : nat_abs h ≡ p = ap nat_abs range.1.0 in
     probabilities_take_value old new l same_needed p (subst (IsMillionths (is_negative old.sign) l) range.1.0 v) range.1.1 is (read ∙ ap (λ n. old.read ++ n ∷ []) size)
+
+-- ---- what goes on to a number
+
+any_reward : (h : ℤ) → All (IsInRange Reward) (h ∷ [])
+any_reward h = All-cons (IsInRange Reward) h [] tt (all_none (IsInRange Reward))
+
+sign_goes_on : (l : Lexeme) → is_sign l.kind ≡ true → IsNoNumber Reward None l → ⊥
+sign_goes_on l e none = of l.kind refl e
+  where
+    of : (kind : TokenKind) → l.kind ≡ kind → is_sign kind ≡ true → ⊥
+    of Plus is e = none (a_zero ∷ []) (pos 0 ∷ []) (numbers.plus is (zero_is false) numbers.none) (any_reward (pos 0))
+    of Minus is e = none (a_zero ∷ []) (pos 0 ∷ []) (numbers.minus is (zero_is true) numbers.none) (any_reward (pos 0))
+    of _ is e = true≢false e refl
+
+-- neither a sign nor a number's numeral is refused in the first number's place
+pub held_not_refused : (sign : Option Sign) (l : Lexeme) → IsNoNumber Reward sign l → IsNumberHeld sign l → ⊥
+held_not_refused None l none (inl e) = sign_goes_on l e none
+held_not_refused None l none (inr v) = none [] (v.0 ∷ []) (numbers.unsigned v.1 numbers.none) (any_reward v.0)
+held_not_refused (Some sign) l none v = none [] (v.0 ∷ []) (v.1, numbers.none) (any_reward v.0)

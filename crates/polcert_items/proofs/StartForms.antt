@@ -83,7 +83,7 @@ equal_or_not a b = grind arith
 test_equal : (a b : ℕ) → a ≡ b → (a == b) ≡ true
 test_equal a b e = grind (arith, nat_tests)
 
-test_different : (a b : ℕ) → (a ≡ b → ⊥) → (a == b) ≡ false
+pub test_different : (a b : ℕ) → (a ≡ b → ⊥) → (a == b) ≡ false
 test_different a b e = grind (arith, nat_tests)
 
 pub marked_more : (marks : List Bool) (s : ℕ) → s < length marks → (k : ℕ) → marked (slice_set marks s true) k ≡ (marked marks k || (s == k))

@@ -24,7 +24,8 @@ use Rattle.polcert_cells.specs.declared.shares.Shares.{Shares}
 use Rattle.polcert_cells.specs.Start.{all_states, shares_of}
 use Rattle.polcert_items.specs.LineSteps.{Takes, CannotTake}
 use Rattle.polcert_items.specs.EntrySteps.{ProbabilitiesGo, IsFull, no_numbers}
-use Rattle.polcert_items.specs.StartSteps.{AreShares, only_state, probabilities, NumbersGo, DigitsGo, state_number, first_of_more, SharesGo, StartGoes, Begins, IsOutside, IsNumberStop, behind_number, no_probability, IsDigitsStop, behind_digits, digits_no_probability}
+use Rattle.polcert_items.specs.StartSteps.{AreShares, only_state, probabilities, NumbersGo, DigitsGo, state_number, first_of_more, SharesGo, StartGoes, Begins, IsOutside, IsDueNumber, IsDueValue, IsStop, due, at_once}
+use Rattle.polcert_format.specs.Misfits.{Wanted}
 use Rattle.polcert_cells.proofs.Basics.{true≢false, cons≢nil, same_head, same_tail}
 use Rattle.polcert_items.proofs.ListLaws.{all_none}
 use Rattle.polcert_items.proofs.PatternLaws.{full_probabilities}
@@ -243,9 +244,10 @@ shares_end states n v full total shares = record { all = n.read; go = full_proba
 
 -- ---- reasons
 
-pub digits_stop : (digits : Digits) (f : FirstNumber) (l : Lexeme) (kind : ItemFault) (place : ℕ) → digits.value ≡ Ok f.value → f.place ≡ digits.place → IsNumberStop f l kind place → IsDigitsStop digits l kind place
-digits_stop digits f l kind place is at (behind_number r) = behind_digits r
-digits_stop digits f l kind place is at (no_probability k p out) = digits_no_probability f.value k (p ∙ at) is out
+pub digits_stop : (digits : Digits) (f : FirstNumber) (w : Wanted) (l : Lexeme) (kind : ItemFault) (place : ℕ) → digits.value ≡ Ok f.value → f.place ≡ digits.place
+    → IsStop (IsDueNumber f.value f.place l) None w l kind place → IsStop (IsDueValue digits.value digits.place l) None w l kind place
+digits_stop digits f w l kind place is at (due d) = due (subst (λ v. IsDueValue v digits.place l kind place) (sym is) (subst (λ p. IsDueNumber f.value p l kind place) at d))
+digits_stop digits f w l kind place is at (at_once m r) = at_once m r
 
 pub if_ok_map : {T E : Type 0} (r : Result T E) (P Q : T → Type 0) → ((v : T) → P v → Q v) → IfOk r P → IfOk r Q
 if_ok_map (Ok v) P Q f h = f v h

@@ -1,5 +1,5 @@
 -- A start item as its reader goes on with it.
-use Rattle.std.proofs.Common.{List, [], refl}
+use Rattle.std.proofs.Common.{ℕ, List, [], refl}
 use Rattle.polcert_text.specs.Cut.{Lexeme}
 use Rattle.polcert_cells.specs.declared.elements.Elements.{Elements}
 use Rattle.polcert_cells.specs.declared.shares.Shares.{Shares}
@@ -15,5 +15,5 @@ new_start_back states ls found a = a
 pub new_start_within : (states : Elements) → IsStartWithin states new_start
 new_start_within states = tt
 
-pub new_start_seen : IsStartSeen [] new_start
-new_start_seen = record { sign = refl; first = tt }
+pub new_start_seen : (count : ℕ) → IsStartSeen count [] new_start
+new_start_seen count = record { sign = refl; body_is = refl }

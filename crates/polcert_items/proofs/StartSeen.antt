@@ -1,7 +1,10 @@
 -- What the body of a start item so far has to do with its reader's state, and where its refusals stand.
-use Rattle.std.proofs.Common.{◌≡◌, ◌∙◌, ℕ, ◌++◌, Bool, false, true, Option, Some, None, Result, Ok, Err, List, [], ◌∷◌, codes, ℤ, refl, sym, ap, subst, append_assoc}
+use Rattle.std.specs.Prelude.{if◌then◌else◌, ◌==◌}
+use Rattle.std.proofs.Common.{◌≡◌, ◌∙◌, ℕ, ◌<◌, ◌++◌, Bool, false, true, Option, Some, None, Result, Ok, Err, List, [], ◌∷◌, codes, ℤ, refl, sym, ap, subst, append_assoc, arith}
 use Rattle.polcert_text.specs.Cut.{Lexeme}
-use Rattle.polcert_text.specs.declared.lexeme.TokenKind.TheVariants.{Numeral}
+use Rattle.polcert_text.specs.declared.lexeme.TokenKind.{TokenKind}
+use Rattle.polcert_text.specs.declared.lexeme.TokenKind.TheVariants.{Numeral, Name}
+use Rattle.polcert_format.proofs.FirstNumbers.{digits_numeral}
 use Rattle.polcert_text.specs.declared.number.NumberFault.{NumberFault}
 use Rattle.polcert_format.specs.declared.fault.ItemFault.{ItemFault}
 use Rattle.polcert_format.specs.declared.fault.ItemFault.TheVariants.{Number, BadShape, BadCount, UnknownName, IndexOutOfRange, WrongNumberCount, ProbabilityRange, DiscountRange, Reset, StartSum, StartEmpty}
@@ -22,10 +25,17 @@ use Rattle.polcert_items.specs.ItemSteps.{IsEndReason}
 use Rattle.polcert_format.specs.Reasons.{StandsIn, NumberStandsIn, unsigned, plus, minus, IsRefusedNumber, IsNoFraction, IsDigits, is_sign, ends_in_sign}
 use Rattle.polcert_items.specs.NumberSteps.{is_negative, number_place, IsSignAt, SignIs, SignEnds}
 use Rattle.polcert_items.specs.NumberSteps as steps
-use Rattle.polcert_format.specs.Misfits.{Wanted, IsOfValue}
-use Rattle.polcert_items.specs.WantSteps.{IsAtToken, of_number, at_token, IsValueOr, value, other, IsStartMisfit, number, token}
+use Rattle.polcert_format.specs.Misfits.{Wanted}
+use Rattle.polcert_format.specs.FirstNumber.{BeginsWithNumber, BeginsWithDigits}
+use Rattle.polcert_format.specs.FirstNumber as begins
+use Rattle.polcert_format.specs.Wants.{may_be_state}
+use Rattle.polcert_text.specs.Lexemes.{are_digits}
+use Rattle.polcert_cells.proofs.Basics.{cons≢nil, same_head, same_tail, true≢false}
+use Rattle.polcert_items.specs.declared.start_reader.Chosen.{Chosen}
+use Rattle.polcert_items.specs.declared.entry_reader.Numbers.{Numbers}
+use Rattle.polcert_items.proofs.StartForms.{test_different}
 use Rattle.polcert_items.specs.EntrySteps.{IsListReason, no_number, no_further}
-use Rattle.polcert_items.specs.StartSteps.{start_sign, pending_of, pending, IsValue, IsKept, IsStartSeen, IsReasonAt, IsOutside, IsNumberStop, behind_number, no_probability, IsDigitsStop, behind_digits, digits_no_probability, digits_no_number, IsReasonIn, IsStartReason, IsStartEndKind, IfNotMemory, StartGoes}
+use Rattle.polcert_items.specs.StartSteps.{start_sign, pending_of, pending, IsValue, AreDigits, IsFormed, IsKept, IsNumberKept, IsBehindColon, IsListBegun, IsWordBody, IsFraction, IsStartSeen, IsReasonAt, IsInside, IsOutside, IsDueNumber, IsDueValue, IsStop, due, at_once, IsReasonIn, IsStartReason, IsStartEndKind, IfNotMemory, StartGoes}
 
 none≢some : {A : Type 0} {x : A} → None ≡ Some x → ⊥
 none≢some e = cc
@@ -81,33 +91,198 @@ number_lexeme body place Is (unsigned before m after whole ends p so) = record {
 number_lexeme body place Is (plus before s m after whole kind p so) = record { before = before; lexeme = s; after = m ∷ after; whole = whole; place_is = p; holds = tt }
 number_lexeme body place Is (minus before s m after whole kind p so) = record { before = before; lexeme = s; after = m ∷ after; whole = whole; place_is = p; holds = tt }
 
+-- ---- a number that the body begins with
+
+pub begins_map : (body : List Lexeme) (place : ℕ) (Is Other : Bool → Lexeme → Type 0) (ls : List Lexeme) → ((negative : Bool) (l : Lexeme) → Is negative l → Other negative l) → BeginsWithNumber body place Is ls
+    → BeginsWithNumber body place Other ls
+begins_map body place Is Other ls f (begins.unsigned c l whole kind p so) = begins.unsigned c l whole kind p (f false l so)
+begins_map body place Is Other ls f (begins.plus c s l whole kind is p so) = begins.plus c s l whole kind is p (f false l so)
+begins_map body place Is Other ls f (begins.minus c s l whole kind is p so) = begins.minus c s l whole kind is p (f true l so)
+
+-- and with more behind it
+pub begins_more : (body : List Lexeme) (place : ℕ) (Is : Bool → Lexeme → Type 0) (ls further : List Lexeme) → BeginsWithNumber body place Is ls → BeginsWithNumber (body ++ further) place Is (ls ++ further)
+begins_more body place Is ls further (begins.unsigned c l whole kind p so) = begins.unsigned c l (ap (λ (b : List Lexeme). b ++ further) whole) kind p so
+begins_more body place Is ls further (begins.plus c s l whole kind is p so) = begins.plus c s l (ap (λ (b : List Lexeme). b ++ further) whole) kind is p so
+begins_more body place Is ls further (begins.minus c s l whole kind is p so) = begins.minus c s l (ap (λ (b : List Lexeme). b ++ further) whole) kind is p so
+
+-- it stands in the body
+begins_stands : (body : List Lexeme) (place : ℕ) (Is : Bool → Lexeme → Type 0) (ls : List Lexeme) → BeginsWithNumber body place Is ls → NumberStandsIn body place Is
+begins_stands body place Is ls (begins.unsigned c l whole kind p so) = unsigned (c ∷ []) l ls whole (ap is_sign kind) p so
+begins_stands body place Is ls (begins.plus c s l whole kind is p so) = plus (c ∷ []) s l ls whole is p so
+begins_stands body place Is ls (begins.minus c s l whole kind is p so) = minus (c ∷ []) s l ls whole is p so
+
+-- digits, with more behind them, are a number
+pub digits_begin : (count : ℕ) (body : List Lexeme) (place : ℕ) (Is : Lexeme → Type 0) (Other : Bool → Lexeme → Type 0) (ls : List Lexeme) → ((l : Lexeme) → Is l → Other false l)
+    → BeginsWithDigits count body place Is ls → BeginsWithNumber body place Other ls
+digits_begin count body place Is Other ls f d = begins.unsigned d.colon d.digits d.whole d.is_colon d.place_is (f d.digits d.holds)
+
+pub digits_more : (count : ℕ) (body : List Lexeme) (place : ℕ) (Is Other : Lexeme → Type 0) (ls further : List Lexeme) → ((l : Lexeme) → Is l → Other l) → BeginsWithDigits count body place Is ls
+    → BeginsWithDigits count (body ++ further) place Other (ls ++ further)
+digits_more count body place Is Other ls further f d = record {
+  colon = d.colon;
+  digits = d.digits;
+  whole = ap (λ (b : List Lexeme). b ++ further) d.whole;
+  is_colon = d.is_colon;
+  are_digits = d.are_digits;
+  place_is = d.place_is;
+  holds = f d.digits d.holds;
+}
+
 -- ---- what was seen
 
 numeral_no_sign : (l : Lexeme) → l.kind ≡ Numeral → is_sign l.kind ≡ false
 numeral_no_sign l e = ap is_sign e
 
-seen : (count : ℕ) (body : List Lexeme) (sign : Option Sign) (l : Lexeme) (r : StartReader) → SignEnds sign body → IsKept count sign l r → IsStartSeen (body ++ l ∷ []) r
-seen count body sign l (reader.Sign s) ends k = record { sign = sign_ends (Some s) body l k; first = tt }
-seen count body sign l (reader.Number f) ends k = record {
+-- behind the colon, and a sign if there is one, a number begins the body
+number_begins : (sign : Option Sign) (body : List Lexeme) (l : Lexeme) (place : ℕ) (Is : Bool → Lexeme → Type 0) → IsBehindColon sign body → place ≡ number_place sign l → Is (is_negative sign) l
+    → BeginsWithNumber (body ++ l ∷ []) place Is []
+number_begins None body l place Is b p so = begins.unsigned b.0 l (ap (λ (c : List Lexeme). c ++ l ∷ []) b.1) b.2 p so
+number_begins (Some sign) body l place Is b p so = at b.4
+  where
+    whole : body ++ l ∷ [] ≡ b.0 ∷ b.1 ∷ l ∷ []
+    whole = ap (λ (c : List Lexeme). c ++ l ∷ []) b.2
+
+    at : IsSignAt sign b.1 → BeginsWithNumber (body ++ l ∷ []) place Is []
+    at (steps.plus kind negative there) = begins.plus b.0 b.1 l whole b.3 kind (p ∙ there) (subst (λ n. Is n l) negative so)
+    at (steps.minus kind negative there) = begins.minus b.0 b.1 l whole b.3 kind (p ∙ there) (subst (λ n. Is n l) negative so)
+
+-- the body that begins with a lexeme and digits has these in their places
+second_of : (c l d : Lexeme) (body ls : List Lexeme) → body ≡ c ∷ [] → body ++ l ∷ [] ≡ ls → (x : Lexeme) → ls ≡ x ∷ d ∷ [] → l ≡ d
+second_of c l d body ls e f x g = same_head (same_tail (sym (ap (λ (b : List Lexeme). b ++ l ∷ []) e) ∙ f ∙ g))
+
+no_number_digits : (count : ℕ) (body : List Lexeme) (l : Lexeme) → IsBehindColon None body → may_be_state count l.kind l.bytes ≡ false → (place : ℕ)
+    → BeginsWithDigits count (body ++ l ∷ []) place (λ x. Unit {0}) [] → ⊥
+no_number_digits count body l b none place d =
+    let same : l ≡ d.digits = second_of b.0 l d.digits body (body ++ l ∷ []) b.1 refl d.colon d.whole in
+    true≢false d.are_digits (subst (λ (x : Lexeme). may_be_state count x.kind x.bytes ≡ false) same none)
+
+-- a signed number is no digits alone
+no_signed_digits : (count : ℕ) (sign : Sign) (body : List Lexeme) (l : Lexeme) → IsBehindColon (Some sign) body → (place : ℕ) → BeginsWithDigits count (body ++ l ∷ []) place (λ x. Unit {0}) [] → ⊥
+no_signed_digits count sign body l b place d = cons≢nil (same_tail (same_tail (sym (ap (λ (c : List Lexeme). c ++ l ∷ []) b.2) ∙ d.whole)))
+
+first_seen : (count : ℕ) (sign : Option Sign) (body : List Lexeme) (l : Lexeme) (first : FirstNumber) → IsBehindColon sign body → IsNumberKept sign l (reader.Number first)
+    → ((place : ℕ) → BeginsWithDigits count (body ++ l ∷ []) place (λ x. Unit {0}) [] → ⊥) → IsStartSeen count (body ++ l ∷ []) (reader.Number first)
+first_seen count sign body l first b k none = record {
   sign = sign_ends None body l (numeral_no_sign l k.1.kind);
-  first = number_stands sign body l f.place (λ negative m. IsMillionths negative m f.value) ends k.0 k.1;
+  body_is = record { number = number_begins sign body l first.place (λ negative m. IsMillionths negative m first.value) b k.0 k.1; no_digits = none };
 }
-seen count body sign l (reader.Digits d) ends k =
-    let none : SignEnds None body = subst (λ s. SignEnds s body) k.0 ends in
+
+sign_seen : (count : ℕ) (body : List Lexeme) (l : Lexeme) (s : Sign) → IsBehindColon None body → IsSignAt s l → IsStartSeen count (body ++ l ∷ []) (reader.Sign s)
+sign_seen count body l s b at = record {
+  sign = sign_ends (Some s) body l at;
+  body_is = (b.0, l, ap (λ (c : List Lexeme). c ++ l ∷ []) b.1, b.2, at);
+}
+
+one_state_or_more : (count : ℕ) (l : Lexeme) → 1 < count → IsDigits l → may_be_state count l.kind l.bytes ≡ true
+one_state_or_more count l more d = subst (λ kind. may_be_state count kind l.bytes ≡ true) (sym d.0) (several (count == 1) (test_different count 1 (λ e. omega (arith, more, e))))
+  where
+    several : (one : Bool) → one ≡ false → (if one then false else are_digits l.bytes) ≡ true
+    several false e = d.1
+    several true e = absurd (true≢false refl e)
+
+digits_seen : (count : ℕ) (body : List Lexeme) (l : Lexeme) (d : Digits) → IsBehindColon None body → AreDigits count l d → IsStartSeen count (body ++ l ∷ []) (reader.Digits d)
+digits_seen count body l d b k = record {
+  sign = sign_ends None body l (numeral_no_sign l k.digits_are.0);
+  body_is = record {
+    colon = b.0;
+    digits = l;
+    whole = ap (λ (c : List Lexeme). c ++ l ∷ []) b.1;
+    is_colon = b.2;
+    are_digits = one_state_or_more count l k.more k.digits_are;
+    place_is = k.place;
+    holds = record { state = k.state; value = k.value };
+  };
+}
+
+word_seen : (body : List Lexeme) (l : Lexeme) → IsBehindColon None body → l.kind ≡ Name → IsWordBody (body ++ l ∷ [])
+word_seen body l b name = (b.0, l, ap (λ (c : List Lexeme). c ++ l ∷ []) b.1, name)
+
+-- behind the colon
+pub body_seen : (count : ℕ) (body : List Lexeme) (l : Lexeme) (r : StartReader) → IsBehindColon None body → IsKept count l r → IsStartSeen count (body ++ l ∷ []) r
+body_seen count body l reader.Every b k = record { sign = sign_ends None body l (ap is_sign k); body_is = word_seen body l b k }
+body_seen count body l (reader.Only s) b k = record { sign = sign_ends None body l (ap is_sign k); body_is = word_seen body l b k }
+body_seen count body l (reader.Digits d) b k = digits_seen count body l d b k
+body_seen count body l (reader.Sign s) b k = sign_seen count body l s b k.1.1
+body_seen count body l (reader.Number first) b k = first_seen count None body l first b k.1 (no_number_digits count body l b k.0)
+body_seen count body l reader.Form b k = absurd k.1
+body_seen count body l (reader.Colon c) b k = absurd k.1
+body_seen count body l (reader.List c) b k = absurd k.1
+body_seen count body l reader.Body b k = absurd k.1
+body_seen count body l (reader.Probabilities n) b k = absurd k.1
+
+-- behind the first number's sign
+pub numeral_seen : (count : ℕ) (sign : Sign) (body : List Lexeme) (l : Lexeme) (r : StartReader) → IsBehindColon (Some sign) body → IsNumberKept (Some sign) l r → IsStartSeen count (body ++ l ∷ []) r
+numeral_seen count sign body l (reader.Number first) b k = first_seen count (Some sign) body l first b k (no_signed_digits count sign body l b)
+numeral_seen count sign body l (reader.Sign s) b k = absurd (none≢some (sym k.0))
+numeral_seen count sign body l reader.Form b k = absurd k
+numeral_seen count sign body l (reader.Colon c) b k = absurd k
+numeral_seen count sign body l (reader.List c) b k = absurd k
+numeral_seen count sign body l reader.Body b k = absurd k
+numeral_seen count sign body l reader.Every b k = absurd k
+numeral_seen count sign body l (reader.Only s) b k = absurd k
+numeral_seen count sign body l (reader.Digits d) b k = absurd k
+numeral_seen count sign body l (reader.Probabilities n) b k = absurd k
+
+-- the first lexeme
+pub form_seen : (count : ℕ) (body : List Lexeme) (l : Lexeme) (r : StartReader) → body ≡ [] → IsFormed l r → IsStartSeen count (body ++ l ∷ []) r
+form_seen count body l (reader.Colon c) b k = record { sign = sign_ends None body l (ap is_sign k); body_is = (l, [], ap (λ (x : List Lexeme). x ++ l ∷ []) b, k) }
+form_seen count body l reader.Body b k = record { sign = sign_ends None body l (ap is_sign k); body_is = (l, ap (λ (x : List Lexeme). x ++ l ∷ []) b, k) }
+form_seen count body l reader.Form b k = absurd k
+form_seen count body l (reader.List c) b k = absurd k
+form_seen count body l reader.Every b k = absurd k
+form_seen count body l (reader.Only s) b k = absurd k
+form_seen count body l (reader.Sign s) b k = absurd k
+form_seen count body l (reader.Number f) b k = absurd k
+form_seen count body l (reader.Digits d) b k = absurd k
+form_seen count body l (reader.Probabilities n) b k = absurd k
+
+-- a list of states
+pub list_seen : (count : ℕ) (body : List Lexeme) (l : Lexeme) (c : Chosen) → IsListBegun body → is_sign l.kind ≡ false → IsStartSeen count (body ++ l ∷ []) (reader.List c)
+list_seen count body l c b free = record {
+  sign = sign_ends None body l free;
+  body_is = (b.0, b.1 ++ l ∷ [], ap (λ (x : List Lexeme). x ++ l ∷ []) b.2, b.3);
+}
+
+fraction_of : (h : ℤ) → (IsOutside h → ⊥) → (negative : Bool) (l : Lexeme) → IsMillionths negative l h → IsFraction negative l
+fraction_of h inside negative l v = (h, v, inside)
+
+-- more numbers
+pub number_seen : (count : ℕ) (body : List Lexeme) (l : Lexeme) (f : FirstNumber) (n : Numbers ℕ) → IsStartSeen count body (reader.Number f) → (IsOutside f.value → ⊥) → SignIs n.sign l
+    → IsStartSeen count (body ++ l ∷ []) (reader.Probabilities n)
+number_seen count body l f n s inside sign = record {
+  sign = sign_ends n.sign body l sign;
+  body_is = record {
+    place = f.place;
+    next = l;
+    behind = [];
+    number = begins_more body f.place IsFraction [] (l ∷ []) (begins_map body f.place _ IsFraction [] (fraction_of f.value inside) s.body_is.number);
+  };
+}
+
+inside_value : (v : Result ℤ NumberFault) (l : Lexeme) → IsInside v → IsValue v false l → IsFraction false l
+inside_value (Ok h) l inside is = (h, is, inside)
+inside_value (Err f) l inside is = absurd inside
+
+pub digits_go_on : (count : ℕ) (body : List Lexeme) (l : Lexeme) (d : Digits) (n : Numbers ℕ) → IsStartSeen count body (reader.Digits d) → IsInside d.value → SignIs n.sign l
+    → IsStartSeen count (body ++ l ∷ []) (reader.Probabilities n)
+digits_go_on count body l d n s inside sign = record {
+  sign = sign_ends n.sign body l sign;
+  body_is = record {
+    place = d.place;
+    next = l;
+    behind = [];
+    number = begins_more body d.place IsFraction [] (l ∷ []) (digits_begin count body d.place _ IsFraction [] (λ x k. inside_value d.value x inside k.value) s.body_is);
+  };
+}
+
+pub further_seen : (count : ℕ) (body : List Lexeme) (l : Lexeme) (m n : Numbers ℕ) → IsStartSeen count body (reader.Probabilities m) → SignIs n.sign l
+    → IsStartSeen count (body ++ l ∷ []) (reader.Probabilities n)
+further_seen count body l m n s sign =
+    let b = s.body_is in
     record {
-      sign = sign_ends None body l (numeral_no_sign l k.1.digits_are.0);
-      first = record {
-        lexeme = stands body l d.place IsDigits k.1.place k.1.digits_are;
-        number = unsigned body l [] refl none k.1.place k.1.value;
-      };
+      sign = sign_ends n.sign body l sign;
+      body_is = record { place = b.place; next = b.next; behind = b.behind ++ l ∷ []; number = begins_more body b.place IsFraction (b.next ∷ b.behind) (l ∷ []) b.number };
     }
-seen count body sign l (reader.Probabilities n) ends k = record { sign = sign_ends n.sign body l k; first = tt }
-seen count body sign l reader.Form ends k = record { sign = sign_ends None body l k; first = tt }
-seen count body sign l (reader.Colon c) ends k = record { sign = sign_ends None body l k; first = tt }
-seen count body sign l (reader.List c) ends k = record { sign = sign_ends None body l k; first = tt }
-seen count body sign l reader.Body ends k = record { sign = sign_ends None body l k; first = tt }
-seen count body sign l reader.Every ends k = record { sign = sign_ends None body l k; first = tt }
-seen count body sign l (reader.Only s) ends k = record { sign = sign_ends None body l k; first = tt }
 
 -- ---- reasons
 
@@ -134,38 +309,44 @@ fault_reason : (body : List Lexeme) (fault : NumberFault) (kind : ItemFault) (pl
 fault_reason body fault kind place at is p n =
     subst (λ k. IsStartReason body k place) (sym is) (subst (λ q. IsStartReason body (Number fault) q) (sym p) (at_number body at (IsRefusedNumber fault) (Number fault) (λ m. m) n))
 
-pub number_reason : (body : List Lexeme) (f : FirstNumber) (l : Lexeme) (kind : ItemFault) (place : ℕ) → IsStartSeen body (reader.Number f) → IsNumberStop f l kind place → IsStartReason (body ++ l ∷ []) kind place
-number_reason body f l kind place s (behind_number r) = token_reason body None l kind place s.sign r
-number_reason body f l kind place s (no_probability is p out) = range_reason (body ++ l ∷ []) f.value kind place f.place is p out (number_more body l f.place _ s.first)
+pub number_reason : (count : ℕ) (body : List Lexeme) (f : FirstNumber) (w : Wanted) (l : Lexeme) (kind : ItemFault) (place : ℕ) → IsStartSeen count body (reader.Number f)
+    → IsStop (IsDueNumber f.value f.place l) None w l kind place → IsStartReason (body ++ l ∷ []) kind place
+number_reason count body f w l kind place s (at_once m r) = token_reason body None l kind place s.sign r
+number_reason count body f w l kind place s (due d) =
+    range_reason (body ++ l ∷ []) f.value kind place f.place d.1.1 d.1.2 d.1.0 (number_more body l f.place _ (begins_stands body f.place _ [] s.body_is.number))
 
-pub digits_reason : (body : List Lexeme) (d : Digits) (l : Lexeme) (kind : ItemFault) (place : ℕ) → IsStartSeen body (reader.Digits d) → IsDigitsStop d l kind place → IsStartReason (body ++ l ∷ []) kind place
-digits_reason body d l kind place s (behind_digits r) = token_reason body None l kind place s.sign r
-digits_reason body d l kind place s (digits_no_probability h is p v out) =
-    range_reason (body ++ l ∷ []) h kind place d.place is p out
-    (number_more body l d.place _ (number_map body d.place (IsValue d.value) _ (λ negative m so. subst (λ r. IsValue r negative m) v so) s.first.number))
-digits_reason body d l kind place s (digits_no_number f is p v) =
-    fault_reason (body ++ l ∷ []) f kind place d.place is p
-    (number_more body l d.place _ (number_map body d.place (IsValue d.value) (IsRefusedNumber f) (λ negative m so. subst (λ r. IsValue r negative m) v so) s.first.number))
+pub digits_reason : (count : ℕ) (body : List Lexeme) (d : Digits) (w : Wanted) (l : Lexeme) (kind : ItemFault) (place : ℕ) → IsStartSeen count body (reader.Digits d)
+    → IsStop (IsDueValue d.value d.place l) None w l kind place → IsStartReason (body ++ l ∷ []) kind place
+digits_reason count body d w l kind place s (at_once m r) = token_reason body None l kind place s.sign r
+digits_reason count body d w l kind place s (due late) = of_value d.value refl late
+  where
+    stands_as : (Other : Bool → Lexeme → Type 0) → ((x : Lexeme) → IsValue d.value false x → Other false x) → NumberStandsIn (body ++ l ∷ []) d.place Other
+    stands_as Other f = number_more body l d.place Other (begins_stands body d.place Other [] (digits_begin count body d.place _ Other [] (λ x k. f x k.value) s.body_is))
+
+    of_value : (v : Result ℤ NumberFault) → d.value ≡ v → IsDueValue v d.place l kind place → IsStartReason (body ++ l ∷ []) kind place
+    of_value (Ok h) is x = range_reason (body ++ l ∷ []) h kind place d.place x.1.1 x.1.2 x.1.0 (stands_as (λ negative m. IsMillionths negative m h) (λ m. subst (λ v. IsValue v false m) is))
+    of_value (Err f) is x = fault_reason (body ++ l ∷ []) f kind place d.place x.0 x.1 (stands_as (IsRefusedNumber f) (λ m. subst (λ v. IsValue v false m) is))
 
 -- digits without a value
-pub pending_reason : (body : List Lexeme) (r : StartReader) (f : Refusal) → IsStartSeen body r → pending r ≡ Some f → IsStartReason body f.kind f.place
-pending_reason body (reader.Digits d) f s e = of_value d.value refl e
+pub pending_reason : (count : ℕ) (body : List Lexeme) (r : StartReader) (f : Refusal) → IsStartSeen count body r → pending r ≡ Some f → IsStartReason body f.kind f.place
+pending_reason count body (reader.Digits d) f s e = of_value d.value refl e
   where
     of_value : (v : Result ℤ NumberFault) → d.value ≡ v → pending_of v d.place ≡ Some f → IsStartReason body f.kind f.place
     of_value (Ok h) is e = absurd (none≢some e)
     of_value (Err g) is e =
         let same = some_once e in
         subst (λ (x : Refusal). IsStartReason body x.kind x.place) same
-        (fault_reason body g (Number g) d.place d.place refl refl (number_map body d.place (IsValue d.value) (IsRefusedNumber g) (λ negative m so. subst (λ v. IsValue v negative m) is so) s.first.number))
-pending_reason body reader.Form f s e = absurd (none≢some e)
-pending_reason body (reader.Colon c) f s e = absurd (none≢some e)
-pending_reason body (reader.List c) f s e = absurd (none≢some e)
-pending_reason body reader.Body f s e = absurd (none≢some e)
-pending_reason body reader.Every f s e = absurd (none≢some e)
-pending_reason body (reader.Only n) f s e = absurd (none≢some e)
-pending_reason body (reader.Sign x) f s e = absurd (none≢some e)
-pending_reason body (reader.Number x) f s e = absurd (none≢some e)
-pending_reason body (reader.Probabilities n) f s e = absurd (none≢some e)
+        (fault_reason body g (Number g) d.place d.place refl refl
+        (begins_stands body d.place (IsRefusedNumber g) [] (digits_begin count body d.place _ (IsRefusedNumber g) [] (λ x k. subst (λ v. IsValue v false x) is k.value) s.body_is)))
+pending_reason count body reader.Form f s e = absurd (none≢some e)
+pending_reason count body (reader.Colon c) f s e = absurd (none≢some e)
+pending_reason count body (reader.List c) f s e = absurd (none≢some e)
+pending_reason count body reader.Body f s e = absurd (none≢some e)
+pending_reason count body reader.Every f s e = absurd (none≢some e)
+pending_reason count body (reader.Only n) f s e = absurd (none≢some e)
+pending_reason count body (reader.Sign x) f s e = absurd (none≢some e)
+pending_reason count body (reader.Number x) f s e = absurd (none≢some e)
+pending_reason count body (reader.Probabilities n) f s e = absurd (none≢some e)
 
 -- why a token is refused in a list of probabilities
 from_number : (sign : Option Sign) (l : Lexeme) (kind : ItemFault) (place : ℕ) → steps.IsNumberReason ranges.Probability sign l kind place → IsReasonAt sign l kind place
@@ -191,19 +372,12 @@ list_reason sign l kind place (no_further r) = from_behind sign l kind place r
 
 -- ---- from a known state
 
-pub seen_in : (count : ℕ) (body : List Lexeme) (l : Lexeme) (old r new : StartReader) → old ≡ r → IsKept count (start_sign r) l new → IsStartSeen body old → IsStartSeen (body ++ l ∷ []) new
-seen_in count body l old r new is k s = seen count body (start_sign r) l new (subst (λ x. SignEnds (start_sign x) body) is s.sign) k
+pub seen_as : (count : ℕ) (body : List Lexeme) (old r : StartReader) → old ≡ r → IsStartSeen count body old → IsStartSeen count body r
+seen_as count body old r is s = subst (IsStartSeen count body) is s
 
-pub reason_in : (body : List Lexeme) (l : Lexeme) (old r : StartReader) (kind : ItemFault) (place : ℕ) → old ≡ r → IsStartSeen body old → IsReasonAt (start_sign r) l kind place → IsStartReason (body ++ l ∷ []) kind place
-reason_in body l old r kind place is s t = token_reason body (start_sign r) l kind place (subst (λ x. SignEnds (start_sign x) body) is s.sign) t
-
-pub number_reason_in : (body : List Lexeme) (l : Lexeme) (old : StartReader) (f : FirstNumber) (kind : ItemFault) (place : ℕ) → old ≡ reader.Number f → IsStartSeen body old → IsNumberStop f l kind place
+pub reason_in : (count : ℕ) (body : List Lexeme) (l : Lexeme) (old r : StartReader) (kind : ItemFault) (place : ℕ) → old ≡ r → IsStartSeen count body old → IsReasonAt (start_sign r) l kind place
     → IsStartReason (body ++ l ∷ []) kind place
-number_reason_in body l old f kind place is s n = number_reason body f l kind place (subst (IsStartSeen body) is s) n
-
-pub digits_reason_in : (body : List Lexeme) (l : Lexeme) (old : StartReader) (d : Digits) (kind : ItemFault) (place : ℕ) → old ≡ reader.Digits d → IsStartSeen body old → IsDigitsStop d l kind place
-    → IsStartReason (body ++ l ∷ []) kind place
-digits_reason_in body l old d kind place is s n = digits_reason body d l kind place (subst (IsStartSeen body) is s) n
+reason_in count body l old r kind place is s t = token_reason body (start_sign r) l kind place (subst (λ x. SignEnds (start_sign x) body) is s.sign) t
 
 -- why a list of numbers cannot end
 pub end_kind : (kind : ItemFault) → IsEndReason Start kind → IsStartEndKind kind
@@ -217,56 +391,28 @@ end_kind _ r = absurd r
 pub end_refused : (states : Elements) (old r : StartReader) (e : ItemEnd) → old ≡ r → IfNotMemory e (CannotEnd (StartGoes states) r) → IfNotMemory e (CannotEnd (StartGoes states) old)
 end_refused states old r e is none = subst (λ s. IfNotMemory e (CannotEnd (StartGoes states) s)) (sym is) none
 
--- ---- where a token is refused
-
-pub reason_place : (sign : Option Sign) (l : Lexeme) (kind : ItemFault) (place : ℕ) → IsReasonAt sign l kind place → IsAtToken l kind place
-reason_place sign l (Number fault) place r = of_number tt
-reason_place sign l ProbabilityRange place r = of_number tt
-reason_place sign l Reset place r = at_token r.0
-reason_place sign l UnknownName place r = at_token r.0
-reason_place sign l IndexOutOfRange place r = at_token r.0
-reason_place sign l BadShape place r = at_token r
-reason_place sign l WrongNumberCount place r = at_token r
-reason_place sign l _ place r = absurd r
-
-pub misplaced_place : (l : Lexeme) (kind : ItemFault) (place : ℕ) → steps.IsMisplaced l kind place → IsAtToken l kind place
-misplaced_place l Reset place r = at_token r.0
-misplaced_place l BadShape place r = at_token r
-misplaced_place l _ place r = absurd r
-
-of_range : (kind : ItemFault) → kind ≡ ProbabilityRange → IsOfValue kind
-of_range kind e = subst IsOfValue (sym e) tt
-
-of_fault : (kind : ItemFault) (f : NumberFault) → kind ≡ Number f → IsOfValue kind
-of_fault kind f e = subst IsOfValue (sym e) tt
-
-pub number_place_of : (f : FirstNumber) (l : Lexeme) (kind : ItemFault) (place : ℕ) → IsNumberStop f l kind place → IsAtToken l kind place
-number_place_of f l kind place (behind_number r) = reason_place None l kind place r
-number_place_of f l kind place (no_probability is p out) = of_number (of_range kind is)
-
-pub digits_place_of : (d : Digits) (l : Lexeme) (kind : ItemFault) (place : ℕ) → IsDigitsStop d l kind place → IsAtToken l kind place
-digits_place_of d l kind place (behind_digits r) = reason_place None l kind place r
-digits_place_of d l kind place (digits_no_probability h is p v out) = of_number (of_range kind is)
-digits_place_of d l kind place (digits_no_number f is p v) = of_number (of_fault kind f is)
-
-pub start_misfit : (w : Wanted) (l : Lexeme) (kind : ItemFault) (place : ℕ) → IsValueOr w l kind → IsAtToken l kind place → IsStartMisfit w l kind place
-start_misfit w l kind place (value v) at = number v
-start_misfit w l kind place (other e) (of_number v) = number v
-start_misfit w l kind place (other e) (at_token p) = token p e
-
--- digits without a value are refused for their value
-pub pending_value : (r : StartReader) (f : Refusal) → pending r ≡ Some f → IsOfValue f.kind
-pending_value (reader.Digits d) f e = of_value d.value e
+may_be_digits : (count : ℕ) (l : Lexeme) → may_be_state count l.kind l.bytes ≡ true → IsDigits l
+may_be_digits count l e = (digits_numeral count l e, of l.kind e)
   where
-    of_value : (v : Result ℤ NumberFault) → pending_of v d.place ≡ Some f → IsOfValue f.kind
-    of_value (Ok h) e = absurd (none≢some e)
-    of_value (Err g) e = subst (λ (x : Refusal). IsOfValue x.kind) (some_once e) tt
-pending_value reader.Form f e = absurd (none≢some e)
-pending_value (reader.Colon c) f e = absurd (none≢some e)
-pending_value (reader.List c) f e = absurd (none≢some e)
-pending_value reader.Body f e = absurd (none≢some e)
-pending_value reader.Every f e = absurd (none≢some e)
-pending_value (reader.Only n) f e = absurd (none≢some e)
-pending_value (reader.Sign x) f e = absurd (none≢some e)
-pending_value (reader.Number x) f e = absurd (none≢some e)
-pending_value (reader.Probabilities n) f e = absurd (none≢some e)
+    of_count : (one : Bool) → (if one then false else are_digits l.bytes) ≡ true → are_digits l.bytes ≡ true
+    of_count false e = e
+    of_count true e = absurd (true≢false e refl)
+
+    of : (kind : TokenKind) → may_be_state count kind l.bytes ≡ true → are_digits l.bytes ≡ true
+    of Numeral e = of_count (count == 1) e
+    of _ e = absurd (true≢false e refl)
+
+-- digits that are no state's number
+pub digits_end_reason : (count : ℕ) (body : List Lexeme) (d : Digits) → IsStartSeen count body (reader.Digits d) → IsStartReason body IndexOutOfRange d.place
+digits_end_reason count body d s =
+    let b = s.body_is in
+    record {
+      stands = record { before = b.colon ∷ []; lexeme = b.digits; after = []; whole = b.whole; place_is = b.place_is; holds = tt };
+      reason = record { before = b.colon ∷ []; lexeme = b.digits; after = []; whole = b.whole; place_is = b.place_is; holds = may_be_digits count b.digits b.are_digits };
+    }
+
+-- a token that has no place
+pub misplaced_at : (sign : Option Sign) (l : Lexeme) (kind : ItemFault) (place : ℕ) → steps.IsMisplaced l kind place → IsReasonAt sign l kind place
+misplaced_at sign l Reset place r = r
+misplaced_at sign l BadShape place r = r
+misplaced_at sign l _ place r = absurd r

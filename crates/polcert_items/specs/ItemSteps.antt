@@ -1,9 +1,9 @@
 -- An item, token by token: what is still to come of an item that was read so far.
 -- Nobody has to believe this: only contracts of private functions cite it.
-use Rattle.std.specs.Prelude.{◌≡◌, ℕ, Bool, false, Option, Some, None, List, [], ◌∷◌, ◌++◌}
+use Rattle.std.specs.Prelude.{◌≡◌, ℕ, Bool, true, false, Option, Some, None, List, [], ◌∷◌, ◌++◌}
 use Rattle.polcert_text.specs.Cut.{Lexeme}
 use Rattle.polcert_format.specs.declared.fault.ItemFault.{ItemFault}
-use Rattle.polcert_format.specs.declared.fault.ItemFault.TheVariants.{BadShape, BadCount, DuplicateName, IndexOutOfRange, WrongNumberCount, ProbabilityRange, DiscountRange, StartSum, StartEmpty}
+use Rattle.polcert_format.specs.declared.fault.ItemFault.TheVariants.{BadShape, BadCount, DuplicateName, WrongNumberCount, ProbabilityRange, DiscountRange, StartSum, StartEmpty}
 use Rattle.polcert_cells.specs.declared.entry.Entry.{Entry}
 use Rattle.polcert_cells.specs.declared.entry.Table.{Table}
 use Rattle.polcert_items.specs.declared.item.Said.TheVariants as said
@@ -28,6 +28,7 @@ use Rattle.polcert_format.specs.Reasons.{ends_in_sign, IsNoFraction, IsOfElement
 use Rattle.polcert_items.specs.NumberSteps.{SignEnds, is_negative, number_place}
 use Rattle.polcert_items.specs.LineSteps.{DiscountGoes, discount_sign, ValuesGoes}
 use Rattle.polcert_items.specs.ElementSteps.{ElementsGo, IsElementsRead, AreElementsSeen}
+use Rattle.polcert_format.specs.FirstNumber.{IsLate}
 use Rattle.polcert_format.specs.KnownPreamble.{preamble_in, indices_in}
 use Rattle.polcert_items.specs.EntrySteps.{EntryGoes, IsWithinIndices, entry_sign, AreSome}
 use Rattle.polcert_items.specs.StartSteps.{StartGoes, new_start, pending, IsStartWithin, IsStartSeen, IsReasonAt, IsStartReason}
@@ -85,13 +86,13 @@ new_item Observations = items.Observations elements.Colon
 new_item Start = items.Start new_start
 new_item (Cells table) = items.Entry (new_entry table)
 
--- what the body so far has to do with the state of its reader
-abbrev pub IsSeen : List Lexeme → ItemReader → Type 0
-IsSeen body (items.States r) = (ends_in_sign body ≡ false) × AreElementsSeen body r
-IsSeen body (items.Actions r) = (ends_in_sign body ≡ false) × AreElementsSeen body r
-IsSeen body (items.Observations r) = (ends_in_sign body ≡ false) × AreElementsSeen body r
-IsSeen body (items.Start r) = IsStartSeen body r
-IsSeen body item = SignEnds (sign_in item) body
+-- what the body so far has to do with the state of its reader, with so many states
+abbrev pub IsSeen : ℕ → List Lexeme → ItemReader → Type 0
+IsSeen count body (items.States r) = (ends_in_sign body ≡ false) × AreElementsSeen body r
+IsSeen count body (items.Actions r) = (ends_in_sign body ≡ false) × AreElementsSeen body r
+IsSeen count body (items.Observations r) = (ends_in_sign body ≡ false) × AreElementsSeen body r
+IsSeen count body (items.Start r) = IsStartSeen count body r
+IsSeen count body item = SignEnds (sign_in item) body
 
 -- why a token is refused in an item of this topic, behind this sign and body; some reasons are of some topics alone
 abbrev pub IsTokenReason : Topic → Option Sign → List Lexeme → Lexeme → ItemFault → ℕ → Type 0
@@ -115,11 +116,11 @@ IsEndReason t StartSum = t ≡ Start
 IsEndReason t StartEmpty = t ≡ Start
 IsEndReason t _ = ⊥
 
--- why an item of this topic and body cannot end, and where
-abbrev pub IsItemEndReason : Topic → List Lexeme → ItemEnd → Type 0
-IsItemEndReason t body (ends.AtEnd kind) = IsEndReason t kind
-IsItemEndReason t body (ends.At r) = (t ≡ Start) × (r.kind ≡ IndexOutOfRange) × IsStartReason body r.kind r.place
-IsItemEndReason t body ends.Memory = Unit {0}
+-- why an item of this topic and body cannot end, and where, with so many states
+abbrev pub IsItemEndReason : ℕ → Topic → List Lexeme → ItemEnd → Type 0
+IsItemEndReason count t body (ends.AtEnd kind) = IsEndReason t kind
+IsItemEndReason count t body (ends.At r) = (t ≡ Start) × IsStartReason body r.kind r.place × IsLate count body true r.kind r.place
+IsItemEndReason count t body ends.Memory = Unit {0}
 
 -- in an entry, every index of its table numbers something
 abbrev pub HasElements : Known → Topic → Type 0

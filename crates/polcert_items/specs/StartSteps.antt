@@ -10,6 +10,9 @@ use Rattle.polcert_items.specs.declared.number.Refusal.{Refusal}
 use Rattle.polcert_items.specs.declared.number.Sign.{Sign}
 use Rattle.polcert_cells.specs.declared.entry.Body.TheVariants as bodies
 use Rattle.polcert_items.specs.declared.entry_reader.Numbers.{Numbers}
+use Rattle.polcert_text.specs.declared.lexeme.TokenKind.TheVariants.{Name, Colon}
+use Rattle.polcert_format.specs.FirstNumber.{BeginsWithNumber, BeginsWithDigits, IsLate}
+use Rattle.polcert_format.specs.Wants.{may_be_state}
 use Rattle.polcert_items.specs.declared.start_reader.Choice.{Choice}
 use Rattle.polcert_items.specs.declared.start_reader.Choice.TheVariants.{Include, Exclude}
 use Rattle.polcert_items.specs.declared.start_reader.FirstNumber.{FirstNumber}
@@ -25,8 +28,8 @@ use Rattle.polcert_cells.specs.Elements.{count_of, StandsFor}
 use Rattle.polcert_cells.specs.declared.shares.Shares.{Shares}
 use Rattle.polcert_cells.specs.Start.{alike, all_states, single, shares_of, included, IsStartBody, IsStart}
 use Rattle.polcert_format.specs.Reasons.{StandsIn, NumberStandsIn, IsRefusedNumber, IsNoFraction, IsDigits, is_sign}
-use Rattle.polcert_format.specs.Misfits.{begins_number}
-use Rattle.polcert_items.specs.NumberSteps.{AreNumbersBehind, is_negative, number_place, IsSignAt, SignIs, SignEnds}
+use Rattle.polcert_format.specs.Misfits.{Wanted, IsMisfit, begins_number}
+use Rattle.polcert_items.specs.NumberSteps.{AreNumbersBehind, is_negative, number_place, IsSignAt, SignEnds}
 use Rattle.polcert_items.specs.LineSteps.{BehindColon}
 use Rattle.polcert_items.specs.EntrySteps.{ProbabilitiesGo, HasRoom}
 
@@ -146,28 +149,85 @@ pub record AreDigits (count : ℕ) (l : Lexeme) (digits : Digits) : Type 0 where
   pub state : IsState count digits.state l
   pub value : IsValue digits.value false l
 
--- what the state keeps of the lexeme that was just taken, behind this sign
-abbrev pub IsKept : ℕ → Option Sign → Lexeme → StartReader → Type 0
-IsKept count sign l (reader.Sign s) = IsSignAt s l
-IsKept count sign l (reader.Number first) = (first.place ≡ number_place sign l) × IsMillionths (is_negative sign) l first.value
-IsKept count sign l (reader.Digits digits) = (sign ≡ None) × AreDigits count l digits
-IsKept count sign l (reader.Probabilities n) = SignIs n.sign l
-IsKept count sign l _ = is_sign l.kind ≡ false
+-- what the first lexeme makes of the item
+abbrev pub IsFormed : Lexeme → StartReader → Type 0
+IsFormed l (reader.Colon choice) = l.kind ≡ Name
+IsFormed l reader.Body = l.kind ≡ Colon
+IsFormed l _ = ⊥
 
--- the first number stands in the body, as it is kept
-pub record AreDigitsIn (body : List Lexeme) (digits : Digits) : Type 0 where
-  pub lexeme : StandsIn body digits.place IsDigits
-  pub number : NumberStandsIn body digits.place (IsValue digits.value)
+-- what is kept of a lexeme of the first number, behind this sign
+abbrev pub IsNumberKept : Option Sign → Lexeme → StartReader → Type 0
+IsNumberKept sign l (reader.Sign s) = (sign ≡ None) × IsSignAt s l
+IsNumberKept sign l (reader.Number first) = (first.place ≡ number_place sign l) × IsMillionths (is_negative sign) l first.value
+IsNumberKept sign l _ = ⊥
 
-abbrev pub IsFirstIn : List Lexeme → StartReader → Type 0
-IsFirstIn body (reader.Number first) = NumberStandsIn body first.place (λ negative l. IsMillionths negative l first.value)
-IsFirstIn body (reader.Digits digits) = AreDigitsIn body digits
-IsFirstIn body _ = Unit {0}
+-- what is kept of the lexeme behind the colon, with so many states
+abbrev pub IsKept : ℕ → Lexeme → StartReader → Type 0
+IsKept count l reader.Every = l.kind ≡ Name
+IsKept count l (reader.Only s) = l.kind ≡ Name
+IsKept count l (reader.Digits digits) = AreDigits count l digits
+IsKept count l r = (may_be_state count l.kind l.bytes ≡ false) × IsNumberKept None l r
+
+-- a number below 0 or above one
+abbrev pub IsOutside : ℤ → Type 0
+IsOutside h = (p : ℕ) → h ≡ pos p → p ≤ one → ⊥
+
+-- a number with a value that isn't
+abbrev pub IsInside : Result ℤ NumberFault → Type 0
+IsInside (Ok h) = IsOutside h → ⊥
+IsInside (Err fault) = ⊥
+
+-- the body is a colon, and the first number's sign, if it has one
+abbrev pub IsBehindColon : Option Sign → List Lexeme → Type 0
+IsBehindColon None body = (colon : Lexeme) × (body ≡ colon ∷ []) × (colon.kind ≡ Colon)
+IsBehindColon (Some sign) body = (colon : Lexeme) × (s : Lexeme) × (body ≡ colon ∷ s ∷ []) × (colon.kind ≡ Colon) × IsSignAt sign s
+
+-- the body begins with the word of a list
+abbrev pub IsListBegun : List Lexeme → Type 0
+IsListBegun body = (word : Lexeme) × (ls : List Lexeme) × (body ≡ word ∷ ls) × (word.kind ≡ Name)
+
+-- the body is a colon and a word
+abbrev pub IsWordBody : List Lexeme → Type 0
+IsWordBody body = (colon : Lexeme) × (word : Lexeme) × (body ≡ colon ∷ word ∷ []) × (word.kind ≡ Name)
+
+-- the body is a number as it was kept, and not digits alone that may be a state's number
+pub record IsNumberBody (count : ℕ) (body : List Lexeme) (first : FirstNumber) : Type 0 where
+  pub number : BeginsWithNumber body first.place (λ negative l. IsMillionths negative l first.value) []
+  pub no_digits : (place : ℕ) → BeginsWithDigits count body place (λ l. Unit {0}) [] → ⊥
+
+-- what was kept of digits: the state of this number, and their value
+pub record IsDigitsKept (count : ℕ) (digits : Digits) (l : Lexeme) : Type 0 where
+  pub state : IsState count digits.state l
+  pub value : IsValue digits.value false l
+
+-- a number that is a probability
+abbrev pub IsFraction : Bool → Lexeme → Type 0
+IsFraction negative l = (h : ℤ) × IsMillionths negative l h × (IsOutside h → ⊥)
+
+-- behind the first number, a probability, more was taken
+pub record IsFurtherBody (body : List Lexeme) : Type 0 where
+  pub place : ℕ
+  pub next : Lexeme
+  pub behind : List Lexeme
+  pub number : BeginsWithNumber body place IsFraction (next ∷ behind)
+
+-- the body so far, as the state knows it, with so many states
+abbrev pub IsBody : ℕ → List Lexeme → StartReader → Type 0
+IsBody count body reader.Form = body ≡ []
+IsBody count body (reader.Colon choice) = IsListBegun body
+IsBody count body (reader.List chosen) = IsListBegun body
+IsBody count body reader.Body = IsBehindColon None body
+IsBody count body reader.Every = IsWordBody body
+IsBody count body (reader.Only s) = IsWordBody body
+IsBody count body (reader.Sign sign) = IsBehindColon (Some sign) body
+IsBody count body (reader.Number first) = IsNumberBody count body first
+IsBody count body (reader.Digits digits) = BeginsWithDigits count body digits.place (IsDigitsKept count digits) []
+IsBody count body (reader.Probabilities n) = IsFurtherBody body
 
 -- what the body so far has to do with the state
-pub record IsStartSeen (body : List Lexeme) (r : StartReader) : Type 0 where
+pub record IsStartSeen (count : ℕ) (body : List Lexeme) (r : StartReader) : Type 0 where
   pub sign : SignEnds (start_sign r) body
-  pub first : IsFirstIn body r
+  pub body_is : IsBody count body r
 
 -- why a token is refused, and where: at the token, or at the sign before it
 abbrev pub IsReasonAt : Option Sign → Lexeme → ItemFault → ℕ → Type 0
@@ -183,35 +243,41 @@ IsReasonAt sign l _ place = ⊥
 abbrev pub refused : ItemFault → ℕ → Refusal
 refused kind place = record { kind = kind; place = place }
 
--- a number below 0 or above one
-abbrev pub IsOutside : ℤ → Type 0
-IsOutside h = (p : ℕ) → h ≡ pos p → p ≤ one → ⊥
+-- the first number is out of range
+abbrev pub IsOutOfRange : ℤ → ℕ → ItemFault → ℕ → Type 0
+IsOutOfRange h first kind place = IsOutside h × (kind ≡ ProbabilityRange) × (place ≡ first)
 
--- why a token behind the first number is refused: it has no place there, or the number is out of its range
-pub data IsNumberStop (first : FirstNumber) (l : Lexeme) (kind : ItemFault) (place : ℕ) : Type 0 where
-  behind_number : IsReasonAt None l kind place → IsNumberStop first l kind place
-  no_probability : kind ≡ ProbabilityRange → place ≡ first.place → IsOutside first.value → IsNumberStop first l kind place
-
--- the same where the first number is digits alone; they may be no number
-pub data IsDigitsStop (digits : Digits) (l : Lexeme) (kind : ItemFault) (place : ℕ) : Type 0 where
-  behind_digits : IsReasonAt None l kind place → IsDigitsStop digits l kind place
-  digits_no_probability : (h : ℤ) → kind ≡ ProbabilityRange → place ≡ digits.place → digits.value ≡ Ok h → IsOutside h → IsDigitsStop digits l kind place
-  digits_no_number : (f : NumberFault) → kind ≡ Number f → place ≡ digits.place → digits.value ≡ Err f → IsDigitsStop digits l kind place
-
--- the first number is out of range, and another number follows it
-abbrev pub IsLateNumber : ℤ → ℕ → Lexeme → ItemFault → ℕ → Type 0
-IsLateNumber h first l kind place = IsOutside h × (begins_number l.kind ≡ true) × (kind ≡ ProbabilityRange) × (place ≡ first)
+-- and another number follows it
+abbrev pub IsDueNumber : ℤ → ℕ → Lexeme → ItemFault → ℕ → Type 0
+IsDueNumber h first l kind place = (begins_number l.kind ≡ true) × IsOutOfRange h first kind place
 
 -- the digits have no value, and something follows them, or they are such a number
-abbrev pub IsLateValue : Result ℤ NumberFault → ℕ → Lexeme → ItemFault → ℕ → Type 0
-IsLateValue (Ok h) first l kind place = IsLateNumber h first l kind place
-IsLateValue (Err fault) first l kind place = (kind ≡ Number fault) × (place ≡ first)
+abbrev pub IsDueValue : Result ℤ NumberFault → ℕ → Lexeme → ItemFault → ℕ → Type 0
+IsDueValue (Ok h) first l kind place = IsDueNumber h first l kind place
+IsDueValue (Err fault) first l kind place = (kind ≡ Number fault) × (place ≡ first)
 
 -- The refusal of the first number that is due as soon as this lexeme follows.
-abbrev pub IsLate : StartReader → Lexeme → ItemFault → ℕ → Type 0
-IsLate (reader.Number first) l kind place = IsLateNumber first.value first.place l kind place
-IsLate (reader.Digits digits) l kind place = IsLateValue digits.value digits.place l kind place
-IsLate _ l kind place = ⊥
+abbrev pub IsDue : StartReader → Lexeme → ItemFault → ℕ → Type 0
+IsDue (reader.Number first) l kind place = IsDueNumber first.value first.place l kind place
+IsDue (reader.Digits digits) l kind place = IsDueValue digits.value digits.place l kind place
+IsDue _ l kind place = ⊥
+
+-- why a token is refused, behind this sign and where this is wanted: for the first number, or for itself
+pub data IsStop (Due : ItemFault → ℕ → Type 0) (sign : Option Sign) (w : Wanted) (l : Lexeme) (kind : ItemFault) (place : ℕ) : Type 0 where
+  due : Due kind place → IsStop Due sign w l kind place
+  at_once : IsMisfit w l kind → IsReasonAt sign l kind place → IsStop Due sign w l kind place
+
+-- what goes on to a number, behind this sign: another sign doesn't
+abbrev pub IsNumberHeld : Option Sign → Lexeme → Type 0
+IsNumberHeld None l = (is_sign l.kind ≡ true) ⊎ ((h : ℤ) × IsMillionths false l h)
+IsNumberHeld (Some sign) l = (h : ℤ) × IsMillionths sign.negative l h
+
+-- what goes on to the first number, or to its end, and is tested later
+abbrev pub IsHeld : ℕ → StartReader → Lexeme → Type 0
+IsHeld count reader.Form l = l.kind ≡ Colon
+IsHeld count reader.Body l = (may_be_state count l.kind l.bytes ≡ true) ⊎ IsNumberHeld None l
+IsHeld count (reader.Sign sign) l = IsNumberHeld (Some sign) l
+IsHeld count _ l = ⊥
 
 -- behind a first number
 abbrev pub IsBehindFirst : StartReader → Type 0
@@ -252,6 +318,36 @@ abbrev pub IsStartEndReason : List Lexeme → ItemEnd → Type 0
 IsStartEndReason body (ends.AtEnd kind) = IsStartEndKind kind
 IsStartEndReason body (ends.At r) = (r.kind ≡ IndexOutOfRange) × IsStartReason body r.kind r.place
 IsStartEndReason body ends.Memory = Unit {0}
+
+-- the reason is told at the item's end
+abbrev pub IsAtEnd : ItemEnd → Type 0
+IsAtEnd (ends.At r) = ⊥
+IsAtEnd _ = Unit {0}
+
+-- Digits that are no state's number are why a start item cannot end behind them, and nothing else is told before its end.
+abbrev pub IsEndDue : StartReader → ItemEnd → Type 0
+IsEndDue (reader.Digits digits) (ends.At r) = (digits.state ≡ None) × (r.kind ≡ IndexOutOfRange) × (r.place ≡ digits.place)
+IsEndDue (reader.Digits digits) (ends.AtEnd kind) = ⊥
+IsEndDue (reader.Digits digits) ends.Memory = Unit {0}
+IsEndDue _ e = IsAtEnd e
+
+-- the item cannot end for this refusal, or memory was wanting
+abbrev pub IsLateEnd : ItemEnd → Refusal → Type 0
+IsLateEnd (ends.At r) late = (r.kind ≡ late.kind) × (r.place ≡ late.place)
+IsLateEnd (ends.AtEnd kind) late = ⊥
+IsLateEnd ends.Memory late = Unit {0}
+
+-- more than a colon, and a sign if one ends the body
+abbrev pub IsBehindNumber : Option Sign → List Lexeme → Type 0
+IsBehindNumber None body = 1 < length body
+IsBehindNumber (Some sign) body = 2 < length body
+
+-- Why a start item cannot go on with this lexeme behind the body, where this is wanted: for its first number, which is
+-- refused late, or for the lexeme itself; and no range is tested at the first number.
+pub data StopsStart (count : ℕ) (body : List Lexeme) (w : Wanted) (l : Lexeme) (kind : ItemFault) (place : ℕ) : Type 0 where
+  first_number : ((more : List Lexeme) (ends : Bool) → IsLate count (body ++ l ∷ more) ends kind place) → StopsStart count body w l kind place
+  token : (sign : Option Sign) → SignEnds sign body → IsMisfit w l kind → IsReasonAt sign l kind place → (kind ≡ ProbabilityRange → IsBehindNumber sign body)
+      → StopsStart count body w l kind place
 
 -- this holds, or memory was wanting
 abbrev pub IfNotMemory : ItemEnd → Type 0 → Type 0

@@ -29,7 +29,7 @@ use Rattle.polcert_format.specs.Text.{Known}
 use Rattle.polcert_items.specs.ElementSteps.{names_with}
 use Rattle.polcert_cells.specs.Preamble.{Preamble}
 use Rattle.polcert_format.specs.KnownPreamble.{preamble_in}
-use Rattle.polcert_format.specs.Misfits.{Wanted, Mark, Listed, FurtherName, NumberOrEnd, Number, Digits, EndOfWord, misfit, IsOfValue}
+use Rattle.polcert_format.specs.Misfits.{Wanted, Mark, Listed, FurtherName, NumberOrEnd, Number, Digits, EndOfWord}
 use Rattle.polcert_format.specs.Wants as wants
 use Rattle.polcert_format.specs.Wants.{numbers_want}
 
@@ -112,21 +112,6 @@ IfNotStart _ P = P
 abbrev pub IfAtEnd : ItemEnd → (ItemFault → Type 0) → Type 0
 IfAtEnd (ends.AtEnd kind) P = P kind
 IfAtEnd _ P = Unit {0}
-
--- a refusal for a number's value, or as the table of kinds says
-pub data IsValueOr (w : Wanted) (l : Lexeme) (kind : ItemFault) : Type 0 where
-  value : IsOfValue kind → IsValueOr w l kind
-  other : kind ≡ misfit w (Some l) → IsValueOr w l kind
-
--- a refusal for a number's value, perhaps of one before, or at this token
-pub data IsAtToken (l : Lexeme) (kind : ItemFault) (place : ℕ) : Type 0 where
-  of_number : IsOfValue kind → IsAtToken l kind place
-  at_token : place ≡ l.place → IsAtToken l kind place
-
--- the same as the table of kinds says
-pub data IsStartMisfit (w : Wanted) (l : Lexeme) (kind : ItemFault) (place : ℕ) : Type 0 where
-  number : IsOfValue kind → IsStartMisfit w l kind place
-  token : place ≡ l.place → kind ≡ misfit w (Some l) → IsStartMisfit w l kind place
 
 -- this holds of start items
 abbrev pub IfStart : Topic → Type 0 → Type 0

@@ -1,5 +1,5 @@
 //! An item behind its word, read token by token.
-ghost use Rattle.std.specs.Prelude.{◌≡◌, None, List, [], ◌∷◌, ◌++◌, IfOk, OnOk, IfErr};
+ghost use Rattle.std.specs.Prelude.{◌≡◌, Bool, true, None, List, [], ◌∷◌, ◌++◌, IfOk, OnOk, IfErr};
 ghost use Rattle.polcert_text.specs.Cut.{Lexeme};
 ghost use Rattle.polcert_text.specs.Reading.{lexeme_of};
 ghost use Rattle.polcert_items.specs.ElementSteps.{IsText};
@@ -8,8 +8,9 @@ ghost use Rattle.polcert_items.specs.ItemSteps.{ItemGoes, IsItemWithin, IsItemRe
 ghost use Rattle.polcert_items.specs.KnownView.{learned, IsSaidWithin};
 ghost use Rattle.polcert_items.specs.LineSteps.{Takes, CannotTake, CannotEnd};
 ghost use Rattle.polcert_format.specs.Misfits.{misfit, IsMisfit};
-ghost use Rattle.polcert_items.specs.StartSteps.{IfNotMemory};
-ghost use Rattle.polcert_items.specs.WantSteps.{Leads, item_wants, IfNotStart, IfStart, IsStartMisfit, IfAtEnd};
+ghost use Rattle.polcert_items.specs.StartSteps.{IfNotMemory, IsLateEnd, StopsStart};
+ghost use Rattle.polcert_format.specs.FirstNumber.{IsLate, states_known};
+ghost use Rattle.polcert_items.specs.WantSteps.{Leads, item_wants, IfNotStart, IfStart, IfAtEnd};
 
 use crate::elements_reader::ElementsReader;
 use crate::entry_reader::EntryReader;
@@ -70,16 +71,22 @@ impl ItemReader {
         ensures topic { topic_in self.new ≡ topic_in self.old }
         ensures within { OnOk result (IsItemWithin known.now self.new) }
         ensures takes { OnOk result (Takes (ItemGoes known.now) self.old (lexeme_of token.entry) self.new) }
-        ensures seen { (body : List Lexeme) → IsSeen body self.old → OnOk result (IsSeen (body ++ lexeme_of token.entry ∷ []) self.new) }
+        ensures seen { (body : List Lexeme) → IsSeen (states_known known.now) body self.old →
+            OnOk result (IsSeen (states_known known.now) (body ++ lexeme_of token.entry ∷ []) self.new) }
         ensures refused { IfErr result (λ stop. IfRefused stop (λ r.
             CannotTake (ItemGoes known.now) self.old (lexeme_of token.entry))) }
-        ensures reason { (body : List Lexeme) → IsSeen body self.old → IfErr result (λ stop. IfRefused stop (λ r.
+        ensures reason { (body : List Lexeme) → IsSeen (states_known known.now) body self.old → IfErr result (λ stop. IfRefused stop (λ r.
             IsItemReason self.old body (lexeme_of token.entry) r.kind r.place)) }
         ensures leads { OnOk result (Leads (item_wants known.now self.old) (lexeme_of token.entry) (item_wants known.now self.new)) }
         ensures kind { IfErr result (λ stop. IfRefused stop (λ r. IfNotStart (topic_in self.old)
             (IsMisfit (item_wants known.now self.old []) (lexeme_of token.entry) r.kind))) }
-        ensures start { IfErr result (λ stop. IfRefused stop (λ r. IfStart (topic_in self.old)
-            (IsStartMisfit (item_wants known.now self.old []) (lexeme_of token.entry) r.kind r.place))) }
+        ensures start { (body : List Lexeme) → IsSeen (states_known known.now) body self.old → IfErr result (λ stop. IfRefused stop (λ r.
+            IfStart (topic_in self.old) (StopsStart (states_known known.now) body (item_wants known.now self.old [])
+            (lexeme_of token.entry) r.kind r.place))) }
+        ensures late { (body more : List Lexeme) (ends : Bool) (late : Refusal) → IsSeen (states_known known.now) body self.old →
+            topic_in self.old ≡ Topic.Start →
+            IsLate (states_known known.now) (body ++ lexeme_of token.entry ∷ more) ends late.kind late.place →
+            IfErr result (λ stop. IfRefused stop (λ r. (r.kind ≡ late.kind) × (r.place ≡ late.place))) }
     {
         match self {
             ItemReader::Discount(reader) => Ok(reader.feed(token)?),
@@ -108,7 +115,10 @@ impl ItemReader {
         ensures said { IfOk result (λ said. ItemGoes known.now self [] (learned known.now said)) }
         ensures within { IfOk result IsSaidWithin }
         ensures refused { HasElements known.now (topic_in self) → IfErr result (λ e. IfNotMemory e (CannotEnd (ItemGoes known.now) self)) }
-        ensures reason { (body : List Lexeme) → IsSeen body self → IfErr result (IsItemEndReason (topic_in self) body) }
+        ensures reason { (body : List Lexeme) → IsSeen (states_known known.now) body self →
+            IfErr result (IsItemEndReason (states_known known.now) (topic_in self) body) }
+        ensures late { (body : List Lexeme) (late : Refusal) → IsSeen (states_known known.now) body self → topic_in self ≡ Topic.Start →
+            IsLate (states_known known.now) body true late.kind late.place → IfErr result (λ e. IsLateEnd e late) }
         ensures kind { HasElements known.now (topic_in self) → IfErr result (λ e.
             IfAtEnd e (λ kind. kind ≡ misfit (item_wants known.now self []) None)) }
     {

@@ -14,9 +14,9 @@ ghost use Rattle.polcert_format.specs.Misfits.{misfit, IsMisfit, IsOfValue, begi
 ghost use Rattle.polcert_items.specs.NumberSteps.{IsMisplaced, SignIs};
 ghost use Rattle.polcert_format.specs.Reasons.{is_sign};
 ghost use Rattle.polcert_cells.specs.Start.{alike, all_states, single, shares_of, is_level, is_positive};
-ghost use Rattle.polcert_items.specs.StartSteps.{StartGoes, IsStartWithin, IsStartSeen, IsStartReason, IsStartEndReason, IfNotMemory, new_start, pending, marked, AreUnmarked, picks, NumbersGo, Begins, IsKept, IsReasonAt, IsNumberStop, IsDigitsStop, AreDigits, first_above_0, is_level_at, level_share, IsOutside, refused, IsLate, IsLateValue, IsRangeTested};
+ghost use Rattle.polcert_items.specs.StartSteps.{StartGoes, IsStartWithin, IsStartSeen, IsStartReason, IsStartEndReason, IfNotMemory, new_start, start_sign, pending, marked, AreUnmarked, picks, NumbersGo, Begins, IsFormed, IsKept, IsNumberKept, IsHeld, IsNumberHeld, IsReasonAt, IsInside, IsOutside, IsOutOfRange, IsDue, IsDueNumber, IsDueValue, IsAtEnd, IsEndDue, IsStop, AreDigits, first_above_0, is_level_at, level_share, refused, IsRangeTested};
 ghost use Rattle.polcert_format.specs.Wants.{number_end, numbers_want, start_body_wants};
-ghost use Rattle.polcert_items.specs.WantSteps.{Leads, number_wants, list_wants, start_wants, IfAtEnd, IsValueOr, IsAtToken};
+ghost use Rattle.polcert_items.specs.WantSteps.{Leads, number_wants, list_wants, start_wants, IfAtEnd};
 
 use crate::elements::element_of;
 use crate::entry_reader::Numbers;
@@ -103,16 +103,17 @@ impl StartReader {
         ensures takes { OnOk result (Takes (StartGoes states.now) self.old (lexeme_of token.entry) self.new) }
         ensures refused { IfErr result (λ stop. IfRefused stop (λ r.
             CannotTake (StartGoes states.now) self.old (lexeme_of token.entry))) }
-        ensures seen { (body : List Lexeme) → IsStartSeen body self.old →
-            OnOk result (IsStartSeen (body ++ lexeme_of token.entry ∷ []) self.new) }
-        ensures reason { (body : List Lexeme) → IsStartSeen body self.old → IfErr result (λ stop. IfRefused stop (λ r.
-            IsStartReason (body ++ lexeme_of token.entry ∷ []) r.kind r.place)) }
+        ensures seen { (body : List Lexeme) → IsStartSeen (count_of states.now) body self.old →
+            OnOk result (IsStartSeen (count_of states.now) (body ++ lexeme_of token.entry ∷ []) self.new) }
+        ensures reason { (body : List Lexeme) → IsStartSeen (count_of states.now) body self.old →
+            IfErr result (λ stop. IfRefused stop (λ r. IsStartReason (body ++ lexeme_of token.entry ∷ []) r.kind r.place)) }
         ensures leads { OnOk result (Leads (start_wants (count_of states.now) self.old)
             (lexeme_of token.entry) (start_wants (count_of states.now) self.new)) }
-        ensures kind { IfErr result (λ stop. IfRefused stop (λ r.
-            IsValueOr (start_wants (count_of states.now) self.old []) (lexeme_of token.entry) r.kind)) }
-        ensures place { IfErr result (λ stop. IfRefused stop (λ r. IsAtToken (lexeme_of token.entry) r.kind r.place)) }
-        ensures late { (r : Refusal) → IsLate self.old (lexeme_of token.entry) r.kind r.place → result ≡ Err (Stop.Refused r) }
+        ensures stops { IfErr result (λ stop. IfRefused stop (λ r.
+            IsStop (IsDue self.old (lexeme_of token.entry)) (start_sign self.old)
+            (start_wants (count_of states.now) self.old []) (lexeme_of token.entry) r.kind r.place)) }
+        ensures held { IsHeld (count_of states.now) self.old (lexeme_of token.entry) → IfErr result (λ stop. IfRefused stop (λ r. ⊥)) }
+        ensures late { (r : Refusal) → IsDue self.old (lexeme_of token.entry) r.kind r.place → result ≡ Err (Stop.Refused r) }
         ensures range { IfErr result (λ stop. IfRefused stop (λ r.
             r.kind ≡ ItemFault.ProbabilityRange → IsRangeTested self.old (lexeme_of token.entry))) }
     {
@@ -159,10 +160,7 @@ impl StartReader {
         match self {
             StartReader::Digits(digits) => match digits.value {
                 Ok(_) => None,
-                Err(fault) => Some(Refusal {
-                    kind: ItemFault::Number(fault),
-                    place: digits.place,
-                }),
+                Err(fault) => Some(digits.without_value(fault)),
             },
             _ => None,
         }
@@ -174,8 +172,9 @@ impl StartReader {
         requires within { IsStartWithin states.now self }
         ensures said { IfOk result (StartGoes states.now self []) }
         ensures refused { IfErr result (λ e. IfNotMemory e (CannotEnd (StartGoes states.now) self)) }
-        ensures reason { (body : List Lexeme) → IsStartSeen body self → IfErr result (IsStartEndReason body) }
+        ensures reason { (body : List Lexeme) → IsStartSeen (count_of states.now) body self → IfErr result (IsStartEndReason body) }
         ensures kind { IfErr result (λ e. IfAtEnd e (λ kind. kind ≡ misfit (start_wants (count_of states.now) self []) None)) }
+        ensures due { IfErr result (IsEndDue self) }
     {
         match self {
             StartReader::Form | StartReader::Colon(_) | StartReader::Sign(_) => Err(ItemEnd::AtEnd(
@@ -197,7 +196,8 @@ fn form_of(token: Token<'_>) -> Result<StartReader, Refusal>
     ensures begun { (states : AnyElements) → IfOk result (Takes (StartGoes states) StartReader.Form (lexeme_of token.entry)) }
     ensures within { (states : AnyElements) → IfOk result (IsStartWithin states) }
     ensures refused { (states : AnyElements) → OnErr result (CannotTake (StartGoes states) StartReader.Form (lexeme_of token.entry)) }
-    ensures kept { (count : ℕ) → IfOk result (IsKept count None (lexeme_of token.entry)) }
+    ensures formed { IfOk result (IsFormed (lexeme_of token.entry)) }
+    ensures held { OnErr result ((lexeme_of token.entry).kind ≢ TokenKind.Colon) }
     ensures reason { IfErr result (λ r. IsMisplaced (lexeme_of token.entry) r.kind r.place) }
     ensures leads { (count : ℕ) → IfOk result (λ r. Leads (start_wants count StartReader.Form) (lexeme_of token.entry) (start_wants count r)) }
     ensures kind { IfErr result (λ r. IsMisfit Mark (lexeme_of token.entry) r.kind) }
@@ -252,6 +252,7 @@ impl Chosen {
             IfErr result (λ e. IfNotMemory e (CannotEnd (StartGoes states) (StartReader.List self))) }
         ensures reason { (body : List Lexeme) → IfErr result (IsStartEndReason body) }
         ensures kind { IfErr result (λ e. IfAtEnd e (λ kind. kind ≡ misfit Listed None)) }
+        ensures at_end { IfErr result IsAtEnd }
     {
         let shares = self.shares(alloc)?;
         if shares.total == 0 {
@@ -313,11 +314,12 @@ fn begin_body(states: &Elements, token: Token<'_>) -> Result<StartReader, Refusa
     ensures begun { IfOk result (Takes (StartGoes states.now) StartReader.Body (lexeme_of token.entry)) }
     ensures within { IfOk result (IsStartWithin states.now) }
     ensures refused { OnErr result (CannotTake (StartGoes states.now) StartReader.Body (lexeme_of token.entry)) }
-    ensures kept { IfOk result (IsKept (count_of states.now) None (lexeme_of token.entry)) }
+    ensures kept { IfOk result (IsKept (count_of states.now) (lexeme_of token.entry)) }
+    ensures held { OnErr result (IsHeld (count_of states.now) StartReader.Body (lexeme_of token.entry) → ⊥) }
     ensures reason { IfErr result (λ r. IsReasonAt None (lexeme_of token.entry) r.kind r.place) }
     ensures leads { IfOk result (λ r. Leads (start_body_wants (count_of states.now))
         (lexeme_of token.entry) (start_wants (count_of states.now) r)) }
-    ensures kind { IfErr result (λ r. IsValueOr StartBody (lexeme_of token.entry) r.kind) }
+    ensures kind { IfErr result (λ r. IsMisfit StartBody (lexeme_of token.entry) r.kind) }
     ensures range { IfErr result (λ r. r.kind ≢ ItemFault.ProbabilityRange) }
 {
     match token.kind {
@@ -336,11 +338,12 @@ fn begin_name(states: &Elements, token: Token<'_>) -> Result<StartReader, Refusa
     ensures begun { IfOk result (Takes (StartGoes states.now) StartReader.Body (lexeme_of token.entry)) }
     ensures within { IfOk result (IsStartWithin states.now) }
     ensures refused { OnErr result (CannotTake (StartGoes states.now) StartReader.Body (lexeme_of token.entry)) }
-    ensures kept { IfOk result (IsKept (count_of states.now) None (lexeme_of token.entry)) }
+    ensures kept { IfOk result (IsKept (count_of states.now) (lexeme_of token.entry)) }
+    ensures held { OnErr result (IsHeld (count_of states.now) StartReader.Body (lexeme_of token.entry) → ⊥) }
     ensures reason { IfErr result (λ r. IsReasonAt None (lexeme_of token.entry) r.kind r.place) }
     ensures leads { IfOk result (λ r. Leads (start_body_wants (count_of states.now))
         (lexeme_of token.entry) (start_wants (count_of states.now) r)) }
-    ensures kind { IfErr result (λ r. IsValueOr StartBody (lexeme_of token.entry) r.kind) }
+    ensures kind { IfErr result (λ r. IsMisfit StartBody (lexeme_of token.entry) r.kind) }
     ensures range { IfErr result (λ r. r.kind ≢ ItemFault.ProbabilityRange) }
 {
     if is_word(&token, b"uniform") {
@@ -356,11 +359,12 @@ fn begin_numeral(states: &Elements, token: Token<'_>) -> Result<StartReader, Ref
     ensures begun { IfOk result (Takes (StartGoes states.now) StartReader.Body (lexeme_of token.entry)) }
     ensures within { IfOk result (IsStartWithin states.now) }
     ensures refused { OnErr result (CannotTake (StartGoes states.now) StartReader.Body (lexeme_of token.entry)) }
-    ensures kept { IfOk result (IsKept (count_of states.now) None (lexeme_of token.entry)) }
+    ensures kept { IfOk result (IsKept (count_of states.now) (lexeme_of token.entry)) }
+    ensures held { OnErr result (IsHeld (count_of states.now) StartReader.Body (lexeme_of token.entry) → ⊥) }
     ensures reason { IfErr result (λ r. IsReasonAt None (lexeme_of token.entry) r.kind r.place) }
     ensures leads { IfOk result (λ r. Leads (start_body_wants (count_of states.now))
         (lexeme_of token.entry) (start_wants (count_of states.now) r)) }
-    ensures kind { IfErr result (λ r. IsValueOr StartBody (lexeme_of token.entry) r.kind) }
+    ensures kind { IfErr result (λ r. IsMisfit StartBody (lexeme_of token.entry) r.kind) }
     ensures range { IfErr result (λ r. r.kind ≢ ItemFault.ProbabilityRange) }
 {
     match digits_of(states.count(), token) {
@@ -393,7 +397,8 @@ fn first_number(sign: Option<Sign>, token: Token<'_>) -> Result<StartReader, Ref
         Begins (NumbersGo states [] sign) (lexeme_of token.entry) (StartGoes states r)) }
     ensures within { (states : AnyElements) → IfOk result (IsStartWithin states) }
     ensures refused { (states : AnyElements) → OnErr result (CannotTake (NumbersGo states []) sign (lexeme_of token.entry)) }
-    ensures kept { (count : ℕ) → IfOk result (IsKept count sign (lexeme_of token.entry)) }
+    ensures kept { IfOk result (IsNumberKept sign (lexeme_of token.entry)) }
+    ensures held { OnErr result (IsNumberHeld sign (lexeme_of token.entry) → ⊥) }
     ensures reason { IfErr result (λ r. IsReasonAt sign (lexeme_of token.entry) r.kind r.place) }
     ensures leads { (count : ℕ) → IfOk result (λ r. Leads (numbers_want (is_some sign) count) (lexeme_of token.entry) (start_wants count r)) }
     ensures kind { IfErr result (λ r. IsMisfit (number_wants sign) (lexeme_of token.entry) r.kind) }
@@ -419,11 +424,11 @@ impl FirstNumber {
         ensures refused { IfErr result (λ stop. IfRefused stop (λ r.
             CannotTake (StartGoes states.now) (StartReader.Number self) (lexeme_of token.entry))) }
         ensures kept { IfOk result (λ n. SignIs n.sign (lexeme_of token.entry)) }
-        ensures reason { IfErr result (λ stop. IfRefused stop (λ r.
-            IsNumberStop self (lexeme_of token.entry) r.kind r.place)) }
+        ensures inside { IfOk result (λ n. IsOutside self.value → ⊥) }
         ensures leads { IfOk result (λ n. Leads (numbers_want false (count_of states.now - 1)) (lexeme_of token.entry) (list_wants n)) }
-        ensures kind { IfErr result (λ stop. IfRefused stop (λ r.
-            IsValueOr (number_end false (count_of states.now - 1)) (lexeme_of token.entry) r.kind)) }
+        ensures stops { IfErr result (λ stop. IfRefused stop (λ r.
+            IsStop (IsDueNumber self.value self.place (lexeme_of token.entry)) None
+            (number_end false (count_of states.now - 1)) (lexeme_of token.entry) r.kind r.place)) }
         ensures late { IsOutside self.value → begins_number (lexeme_of token.entry).kind ≡ true →
             result ≡ Err (Stop.Refused (refused ItemFault.ProbabilityRange self.place)) }
         ensures range { IfErr result (λ stop. IfRefused stop (λ r.
@@ -446,11 +451,11 @@ impl FirstNumber {
         ensures refused { IfErr result (λ stop. IfRefused stop (λ r.
             CannotTake (StartGoes states.now) (StartReader.Number self) (lexeme_of token.entry))) }
         ensures kept { IfOk result (λ n. SignIs n.sign (lexeme_of token.entry)) }
-        ensures reason { IfErr result (λ stop. IfRefused stop (λ r.
-            IsNumberStop self (lexeme_of token.entry) r.kind r.place)) }
+        ensures inside { IfOk result (λ n. IsOutside self.value → ⊥) }
         ensures leads { IfOk result (λ n. Leads (numbers_want false (count_of states.now - 1)) (lexeme_of token.entry) (list_wants n)) }
-        ensures kind { IfErr result (λ stop. IfRefused stop (λ r.
-            IsValueOr (number_end false (count_of states.now - 1)) (lexeme_of token.entry) r.kind)) }
+        ensures stops { IfErr result (λ stop. IfRefused stop (λ r.
+            IsStop (IsOutOfRange self.value self.place) None
+            (number_end false (count_of states.now - 1)) (lexeme_of token.entry) r.kind r.place)) }
         ensures late { IsOutside self.value → result ≡ Err (Stop.Refused (refused ItemFault.ProbabilityRange self.place)) }
     {
         if self.value < 0 || self.value > ONE as i64 {
@@ -484,6 +489,7 @@ impl FirstNumber {
         ensures reason { (body : List Lexeme) → IfErr result (IsStartEndReason body) }
         ensures kind { IfErr result (λ e. IfAtEnd e (λ kind.
             kind ≡ misfit (number_end false (count_of states.now - 1)) None)) }
+        ensures at_end { IfErr result IsAtEnd }
     {
         let count = states.count();
         if count != 1 {
@@ -506,12 +512,12 @@ impl Digits {
         ensures refused { IfErr result (λ stop. IfRefused stop (λ r.
             CannotTake (StartGoes states.now) (StartReader.Digits self) (lexeme_of token.entry))) }
         ensures kept { IfOk result (λ n. SignIs n.sign (lexeme_of token.entry)) }
-        ensures reason { IfErr result (λ stop. IfRefused stop (λ r.
-            IsDigitsStop self (lexeme_of token.entry) r.kind r.place)) }
+        ensures inside { IfOk result (λ n. IsInside self.value) }
         ensures leads { IfOk result (λ n. Leads (numbers_want false (count_of states.now - 1)) (lexeme_of token.entry) (list_wants n)) }
-        ensures kind { IfErr result (λ stop. IfRefused stop (λ r.
-            IsValueOr (number_end false (count_of states.now - 1)) (lexeme_of token.entry) r.kind)) }
-        ensures late { (r : Refusal) → IsLateValue self.value self.place (lexeme_of token.entry) r.kind r.place →
+        ensures stops { IfErr result (λ stop. IfRefused stop (λ r.
+            IsStop (IsDueValue self.value self.place (lexeme_of token.entry)) None
+            (number_end false (count_of states.now - 1)) (lexeme_of token.entry) r.kind r.place)) }
+        ensures late { (r : Refusal) → IsDueValue self.value self.place (lexeme_of token.entry) r.kind r.place →
             result ≡ Err (Stop.Refused r) }
         ensures range { IfErr result (λ stop. IfRefused stop (λ r.
             r.kind ≡ ItemFault.ProbabilityRange → begins_number (lexeme_of token.entry).kind ≡ true)) }
@@ -524,10 +530,17 @@ impl Digits {
                 };
                 first.go_on(alloc, states, token)
             }
-            Err(fault) => Err(Stop::Refused(Refusal {
-                kind: ItemFault::Number(fault),
-                place: self.place,
-            })),
+            Err(fault) => Err(Stop::Refused(self.without_value(fault))),
+        }
+    }
+
+    /// The refusal of the digits where something follows them, and they have no value, for this reason.
+    fn without_value(self, fault: NumberFault) -> Refusal
+        ensures { result ≡ refused (ItemFault.Number fault) self.place }
+    {
+        Refusal {
+            kind: ItemFault::Number(fault),
+            place: self.place,
         }
     }
 
@@ -537,8 +550,8 @@ impl Digits {
         requires within { IsStartWithin states.now (StartReader.Digits self) }
         ensures said { IfOk result (StartGoes states.now (StartReader.Digits self) []) }
         ensures refused { IfErr result (λ e. IfNotMemory e (CannotEnd (StartGoes states.now) (StartReader.Digits self))) }
-        ensures reason { (body : List Lexeme) → IsStartSeen body (StartReader.Digits self) → IfErr result (IsStartEndReason body) }
-        ensures kind { IfErr result (λ e. IfAtEnd e (λ kind. ⊥)) }
+        ensures reason { (body : List Lexeme) → IsStartSeen (count_of states.now) body (StartReader.Digits self) → IfErr result (IsStartEndReason body) }
+        ensures due { IfErr result (IsEndDue (StartReader.Digits self)) }
     {
         match self.state {
             Some(state) => Ok(one_state(alloc, states.count(), state)?),
@@ -558,6 +571,7 @@ fn end_probabilities(alloc: Global, numbers: Numbers<u32>) -> Result<Shares, Ite
         IfErr result (λ e. IfNotMemory e (CannotEnd (StartGoes states) (StartReader.Probabilities numbers))) }
     ensures reason { (body : List Lexeme) → IfErr result (IsStartEndReason body) }
     ensures kind { HasRoom numbers → IfErr result (λ e. IfAtEnd e (λ kind. kind ≡ misfit (list_wants numbers []) None)) }
+    ensures at_end { IfErr result IsAtEnd }
 {
     if let Some(fault) = numbers.end_fault() {
         return Err(ItemEnd::AtEnd(fault));

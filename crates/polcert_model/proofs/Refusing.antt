@@ -1,6 +1,6 @@
 -- What the reader of a text refuses within an item: each refusal is of the first wrong item, lies in it, and has its
 -- reason.
-use Rattle.std.proofs.Common.{◌≡◌, ◌∙◌, ℕ, ◌+◌, ◌⊎◌, inl, inr, true, false, Bool, Option, Some, None, List, [], ◌∷◌, ◌++◌, length, refl, sym, ap, subst}
+use Rattle.std.proofs.Common.{◌≡◌, ◌∙◌, ℕ, ◌+◌, ◌<◌, arith, length-append, ◌⊎◌, inl, inr, true, false, Bool, Option, Some, None, List, [], ◌∷◌, ◌++◌, length, refl, sym, ap, subst}
 use Rattle.std.proofs.lemmas.List.{append_assoc, append-nil}
 use Rattle.polcert_text.specs.Cut.{Lexeme}
 use Rattle.polcert_text.specs.declared.lexeme.TokenKind.TheVariants.{Numeral}
@@ -13,6 +13,7 @@ use Rattle.polcert_items.specs.declared.item.ItemReader.TheVariants as items
 use Rattle.polcert_items.specs.declared.number.Refusal.{Refusal}
 use Rattle.polcert_items.specs.declared.number.Sign.{Sign}
 use Rattle.polcert_model.specs.declared.reader.TextReader.{TextReader}
+use Rattle.polcert_cells.specs.declared.entry.Table.{Table}
 use Rattle.polcert_cells.specs.declared.words.Topic.{Topic}
 use Rattle.polcert_cells.specs.declared.words.Topic.TheVariants.{Discount, Values, States, Actions, Observations, Start, Cells}
 use Rattle.polcert_cells.specs.Words.{topic, begins_item}
@@ -23,18 +24,20 @@ use Rattle.polcert_format.specs.Reading.{IsWithinItem, IsWrong, CannotGoOn, IsPo
 use Rattle.polcert_format.specs.FirstWrong.{TextTokens, AreTokensOf, IsFirstWrong, LiesIn, IsDecided, word_place, wrong_item, wrong_last}
 use Rattle.polcert_format.specs.Reasons.{IsReason, InItem, StandsIn, NumberStandsIn, IsRepeated, is_sign}
 use Rattle.polcert_format.specs.Reasons as reasons
-use Rattle.polcert_format.specs.Refusals.{place_or, IsTaken, Stops, StopsInBody, in_body}
+use Rattle.polcert_format.specs.Refusals.{place_or, IsTaken, IsDueAtOnce, Stops, StopsInBody, in_body, of_first_number}
 use Rattle.polcert_format.specs.Refusals as refusals
 use Rattle.polcert_items.specs.NumberSteps.{is_negative, number_place, IsSignAt, SignEnds}
 use Rattle.polcert_items.specs.NumberSteps as steps
 use Rattle.polcert_items.specs.LineSteps.{CannotTake, CannotEnd}
-use Rattle.polcert_items.specs.StartSteps.{IsReasonIn, IsStartReason}
+use Rattle.polcert_items.specs.StartSteps.{IsReasonAt, IsReasonIn, IsStartReason, IsBehindNumber, StopsStart, first_number, token}
+use Rattle.polcert_format.specs.FirstNumber.{IsLate, IsLateIn, ends_cleanly, states_known}
+use Rattle.polcert_format.proofs.FirstNumbers.{late_here}
+use Rattle.polcert_items.proofs.FirstNumberLaws.{late_at_fault, pending_is_late}
 use Rattle.polcert_items.specs.ItemSteps.{ItemGoes, topic_in, sign_in, pending_in, IsSeen, IsTokenReason, IsItemReason, IsEndReason}
 use Rattle.polcert_items.specs.ItemSteps as steps_of
 use Rattle.polcert_format.specs.Misfits.{misfit, IsOfValue, IsMisfit}
 use Rattle.polcert_format.specs.Wants.{wanted}
-use Rattle.polcert_items.specs.WantSteps.{item_wants, IfNotStart, IfStart, IsStartMisfit}
-use Rattle.polcert_items.specs.WantSteps as want_steps
+use Rattle.polcert_items.specs.WantSteps.{item_wants, IfNotStart, IfStart}
 use Rattle.polcert_model.specs.TextSteps.{IsItemRead, EndsItem, IsRefusedBehind, IsRefusedAt, Refuses}
 use Rattle.polcert_model.specs.TextSteps as texts
 use Rattle.polcert_cells.proofs.Basics.{one_some, cons≢nil}
@@ -45,10 +48,28 @@ use Rattle.polcert_format.proofs.PlaceLaws.{Rises, tokens_rise, lies_in_item}
 use Rattle.polcert_format.proofs.DecidedLaws.{nothing_decided}
 use Rattle.polcert_format.proofs.Possible.{possible_front}
 use Rattle.polcert_format.proofs.Within.{within_goes_on}
-use Rattle.polcert_items.proofs.StartSeen.{pending_reason, pending_value}
+use Rattle.polcert_items.proofs.StartSeen.{pending_reason}
 
 none≢some : {A : Type 0} {x : A} → None ≡ Some x → ⊥
 none≢some e = cc
+
+discount_no_start : Discount ≡ Start → ⊥
+discount_no_start e = cc
+
+values_no_start : Values ≡ Start → ⊥
+values_no_start e = cc
+
+states_no_start : States ≡ Start → ⊥
+states_no_start e = cc
+
+actions_no_start : Actions ≡ Start → ⊥
+actions_no_start e = cc
+
+observations_no_start : Observations ≡ Start → ⊥
+observations_no_start e = cc
+
+cells_no_start : (table : Table) → Cells table ≡ Start → ⊥
+cells_no_start table e = cc
 
 -- an item of the text with this number, topic and body, behind right ones
 pub record Here (ts : TextTokens) (n : ℕ) (k : Known) (t : Topic) (body : List Lexeme) : Type 0 where
@@ -169,68 +190,90 @@ sign_kind : (sign : Sign) (s : Lexeme) → IsSignAt sign s → is_sign s.kind �
 sign_kind sign s (steps.plus kind negative place) = ap is_sign kind
 sign_kind sign s (steps.minus kind negative place) = ap is_sign kind
 
+-- a start item's range is tested only behind its first number
+abbrev Tests : Topic → Option Sign → List Lexeme → ItemFault → Type 0
+Tests t sign body kind = t ≡ Start → kind ≡ ProbabilityRange → IsBehindNumber sign body
+
+taken_front : (k : Known) (t : Topic) (taken more : List Lexeme) → IsTaken k t (taken ++ more) → IsTaken k t taken
+taken_front k t taken more (refusals.possible p) = refusals.possible (possible_front k t taken more p)
+taken_front k t taken more (refusals.in_start e) = refusals.in_start e
+
+one_less : (before body : List Lexeme) (s : Lexeme) → body ≡ before ++ s ∷ [] → 2 < length body → 1 < length before
+one_less before body s e more =
+    let lengths : length body ≡ length before + 1 = ap length e ∙ length-append before (s ∷ []) in
+    omega (arith, lengths, more)
+
 number_stops : (ts : TextTokens) (kind : ItemFault) (n place : ℕ) (k : Known) (t : Topic) (sign : Option Sign) (body more : List Lexeme) (l : Lexeme) → Here ts n k t ((body ++ l ∷ []) ++ more)
-    → SignEnds sign body → place ≡ number_place sign l → l.kind ≡ Numeral → IsPossible k t body → CannotGoOn k t (body ++ l ∷ []) → IsOfValue kind → IsMisfit (wanted k t body) l kind
+    → SignEnds sign body → place ≡ number_place sign l → l.kind ≡ Numeral → IsTaken k t body → CannotGoOn k t (body ++ l ∷ []) → IsOfValue kind → IsMisfit (wanted k t body) l kind → Tests t sign body kind
     → StopsInBody ts kind n place
-number_stops ts kind n place k t None body more l h ends p numeral possible stuck value unfit =
-    stops_here ts kind n place k t ((body ++ l ∷ []) ++ more) body (l ∷ more) h (append_assoc body (l ∷ []) more) (refusals.possible possible) (refusals.at_lexeme stuck unfit) p (λ none. absurd (cons≢nil none))
-number_stops ts kind n place k t (Some sign) body more l h ends p numeral possible stuck value unfit =
+number_stops ts kind n place k t None body more l h ends p numeral taken stuck value unfit tests =
+    stops_here ts kind n place k t ((body ++ l ∷ []) ++ more) body (l ∷ more) h (append_assoc body (l ∷ []) more) taken (refusals.at_lexeme stuck unfit tests) p (λ none. absurd (cons≢nil none))
+number_stops ts kind n place k t (Some sign) body more l h ends p numeral taken stuck value unfit tests =
     let before = ends.0 in
     let s = ends.1.0 in
     let whole = ends.1.1.0 in
-    let signed : IsPossible k t (before ++ s ∷ []) = subst (IsPossible k t) whole possible in
-    let front : IsPossible k t before = possible_front k t before (s ∷ []) signed in
+    let signed : IsTaken k t (before ++ s ∷ []) = subst (IsTaken k t) whole taken in
+    let front : IsTaken k t before = taken_front k t before (s ∷ []) signed in
     let pair : CannotGoOn k t (before ++ s ∷ l ∷ []) = subst (CannotGoOn k t) (ap (λ (b : List Lexeme). b ++ l ∷ []) whole ∙ append_assoc before (s ∷ []) (l ∷ [])) stuck in
     let behind : IsMisfit (wanted k t (before ++ s ∷ [])) l kind = subst (λ b. IsMisfit (wanted k t b) l kind) whole unfit in
-    stops_here ts kind n place k t ((body ++ l ∷ []) ++ more) before (s ∷ l ∷ more) h (signed_whole body before more s l whole) (refusals.possible front)
-    (refusals.at_number (sign_kind sign s ends.1.1.1) numeral signed pair value behind) (p ∙ sign_place sign s ends.1.1.1) (λ none. absurd (cons≢nil none))
+    stops_here ts kind n place k t ((body ++ l ∷ []) ++ more) before (s ∷ l ∷ more) h (signed_whole body before more s l whole) front
+    (refusals.at_number (sign_kind sign s ends.1.1.1) numeral signed pair value behind (λ start range. one_less before body s whole (tests start range))) (p ∙ sign_place sign s ends.1.1.1)
+    (λ none. absurd (cons≢nil none))
 
 at_number : (ts : TextTokens) (n place : ℕ) (k : Known) (t : Topic) (sign : Option Sign) (body more : List Lexeme) (l : Lexeme) (kind : ItemFault) → Here ts n k t ((body ++ l ∷ []) ++ more)
-    → Rises 0 ts.lexemes ts.end → SignEnds sign body → IsPossible k t body → CannotGoOn k t (body ++ l ∷ []) → IsOfValue kind → IsMisfit (wanted k t body) l kind → l.kind ≡ Numeral → place ≡ number_place sign l
-    → IsReason ts n place kind → Refused ts n place kind
-at_number ts n place k t sign body more l kind h rises ends possible stuck value unfit numeral p reason = record {
+    → Rises 0 ts.lexemes ts.end → SignEnds sign body → IsTaken k t body → CannotGoOn k t (body ++ l ∷ []) → IsOfValue kind → IsMisfit (wanted k t body) l kind → Tests t sign body kind → l.kind ≡ Numeral
+    → place ≡ number_place sign l → IsReason ts n place kind → Refused ts n place kind
+at_number ts n place k t sign body more l kind h rises ends taken stuck value unfit tests numeral p reason = record {
   lies = number_lies ts n place k t sign body more l h rises ends p;
   reason = reason;
-  stops = number_stops ts kind n place k t sign body more l h ends p numeral possible stuck value unfit;
+  stops = number_stops ts kind n place k t sign body more l h ends p numeral taken stuck value unfit tests;
 }
 
-at_lexeme : (ts : TextTokens) (n place : ℕ) (k : Known) (t : Topic) (body more : List Lexeme) (l : Lexeme) (kind : ItemFault) → Here ts n k t ((body ++ l ∷ []) ++ more)
-    → Rises 0 ts.lexemes ts.end → IsPossible k t body → CannotGoOn k t (body ++ l ∷ []) → IsMisfit (wanted k t body) l kind → place ≡ l.place → IsReason ts n place kind → Refused ts n place kind
-at_lexeme ts n place k t body more l kind h rises possible stuck unfit p reason = record {
+-- the reasons that are no range
+abbrev IsNoRange : ItemFault → Type 0
+IsNoRange ProbabilityRange = ⊥
+IsNoRange _ = Unit {0}
+
+untested : (t : Topic) (taken : List Lexeme) (kind : ItemFault) → IsNoRange kind → IsDueAtOnce t taken kind
+untested t taken kind other start range = absurd (subst IsNoRange range other)
+
+at_lexeme : (ts : TextTokens) (n place : ℕ) (k : Known) (t : Topic) (body more : List Lexeme) (l : Lexeme) (kind : ItemFault) → IsNoRange kind → Here ts n k t ((body ++ l ∷ []) ++ more)
+    → Rises 0 ts.lexemes ts.end → IsTaken k t body → CannotGoOn k t (body ++ l ∷ []) → IsMisfit (wanted k t body) l kind → place ≡ l.place → IsReason ts n place kind → Refused ts n place kind
+at_lexeme ts n place k t body more l kind other h rises taken stuck unfit p reason = record {
   lies = lies_here ts n place k t ((body ++ l ∷ []) ++ more) body (l ∷ more) h rises (append_assoc body (l ∷ []) more) p;
   reason = reason;
-  stops = stops_here ts kind n place k t ((body ++ l ∷ []) ++ more) body (l ∷ more) h (append_assoc body (l ∷ []) more) (refusals.possible possible) (refusals.at_lexeme stuck unfit) p (λ none. absurd (cons≢nil none));
+  stops = stops_here ts kind n place k t ((body ++ l ∷ []) ++ more) body (l ∷ more) h (append_assoc body (l ∷ []) more) taken (refusals.at_lexeme stuck unfit (untested t body kind other)) p (λ none. absurd (cons≢nil none));
 }
 
 stands : (body more : List Lexeme) (l : Lexeme) (place : ℕ) (Is : Lexeme → Type 0) → place ≡ l.place → Is l → reasons.StandsIn ((body ++ l ∷ []) ++ more) place Is
 stands body more l place Is p so = record { before = body; lexeme = l; after = more; whole = append_assoc body (l ∷ []) more; place_is = p; holds = so }
 
 refused_here : (ts : TextTokens) (n place : ℕ) (k : Known) (t : Topic) (sign : Option Sign) (body more : List Lexeme) (l : Lexeme) (kind : ItemFault)
-    → Here ts n k t ((body ++ l ∷ []) ++ more) → Rises 0 ts.lexemes ts.end → SignEnds sign body → IsPossible k t body → CannotGoOn k t (body ++ l ∷ []) → IsMisfit (wanted k t body) l kind → IsTokenReason t sign body l kind place
+    → Here ts n k t ((body ++ l ∷ []) ++ more) → Rises 0 ts.lexemes ts.end → SignEnds sign body → IsTaken k t body → CannotGoOn k t (body ++ l ∷ []) → IsMisfit (wanted k t body) l kind → Tests t sign body kind → IsTokenReason t sign body l kind place
     → Refused ts n place kind
-refused_here ts n place k t sign body more l (Number fault) h rises ends possible stuck unfit m =
-    at_number ts n place k t sign body more l (Number fault) h rises ends possible stuck tt unfit m.1.0 m.0
+refused_here ts n place k t sign body more l (Number fault) h rises ends taken stuck unfit tests m =
+    at_number ts n place k t sign body more l (Number fault) h rises ends taken stuck tt unfit tests m.1.0 m.0
     (so_here ts n k t _ _ h (number_stands sign body more l place (reasons.IsRefusedNumber fault) ends m.0 m.1))
-refused_here ts n place k t sign body more l DiscountRange h rises ends possible stuck unfit m =
-    at_number ts n place k t sign body more l DiscountRange h rises ends possible stuck tt unfit m.2.1.kind m.1
+refused_here ts n place k t sign body more l DiscountRange h rises ends taken stuck unfit tests m =
+    at_number ts n place k t sign body more l DiscountRange h rises ends taken stuck tt unfit tests m.2.1.kind m.1
     (so_here ts n k t _ _ h (m.0, number_stands sign body more l place reasons.IsNoFraction ends m.1 m.2))
-refused_here ts n place k t sign body more l ProbabilityRange h rises ends possible stuck unfit m =
-    at_number ts n place k t sign body more l ProbabilityRange h rises ends possible stuck tt unfit m.1.1.1.kind m.1.0
+refused_here ts n place k t sign body more l ProbabilityRange h rises ends taken stuck unfit tests m =
+    at_number ts n place k t sign body more l ProbabilityRange h rises ends taken stuck tt unfit tests m.1.1.1.kind m.1.0
     (so_here ts n k t _ _ h (m.0, number_stands sign body more l place reasons.IsNoFraction ends m.1.0 m.1.1))
-refused_here ts n place k t sign body more l Reset h rises ends possible stuck unfit m =
-    at_lexeme ts n place k t body more l Reset h rises possible stuck unfit m.0 (so_here ts n k t _ _ h (stands body more l place _ m.0 m.1))
-refused_here ts n place k t sign body more l DuplicateName h rises ends possible stuck unfit m =
-    at_lexeme ts n place k t body more l DuplicateName h rises possible stuck unfit m.0
+refused_here ts n place k t sign body more l Reset h rises ends taken stuck unfit tests m =
+    at_lexeme ts n place k t body more l Reset tt h rises taken stuck unfit m.0 (so_here ts n k t _ _ h (stands body more l place _ m.0 m.1))
+refused_here ts n place k t sign body more l DuplicateName h rises ends taken stuck unfit tests m =
+    at_lexeme ts n place k t body more l DuplicateName tt h rises taken stuck unfit m.0
     (so_here ts n k t _ _ h (m.1, subst (λ b. IsRepeated b place) (sym (append_assoc body (l ∷ []) more)) (m.2 more)))
-refused_here ts n place k t sign body more l UnknownName h rises ends possible stuck unfit m =
-    at_lexeme ts n place k t body more l UnknownName h rises possible stuck unfit m.0 (so_here ts n k t _ _ h (stands body more l place _ m.0 m.1))
-refused_here ts n place k t sign body more l IndexOutOfRange h rises ends possible stuck unfit m =
-    at_lexeme ts n place k t body more l IndexOutOfRange h rises possible stuck unfit m.0 (so_here ts n k t _ _ h (stands body more l place _ m.0 m.1))
-refused_here ts n place k t sign body more l BadCount h rises ends possible stuck unfit m =
-    at_lexeme ts n place k t body more l BadCount h rises possible stuck unfit m.0 (so_here ts n k t _ _ h m.1)
-refused_here ts n place k t sign body more l BadShape h rises ends possible stuck unfit m = at_lexeme ts n place k t body more l BadShape h rises possible stuck unfit m tt
-refused_here ts n place k t sign body more l WrongNumberCount h rises ends possible stuck unfit m = at_lexeme ts n place k t body more l WrongNumberCount h rises possible stuck unfit m tt
-refused_here ts n place k t sign body more l _ h rises ends possible stuck unfit m = absurd m
+refused_here ts n place k t sign body more l UnknownName h rises ends taken stuck unfit tests m =
+    at_lexeme ts n place k t body more l UnknownName tt h rises taken stuck unfit m.0 (so_here ts n k t _ _ h (stands body more l place _ m.0 m.1))
+refused_here ts n place k t sign body more l IndexOutOfRange h rises ends taken stuck unfit tests m =
+    at_lexeme ts n place k t body more l IndexOutOfRange tt h rises taken stuck unfit m.0 (so_here ts n k t _ _ h (stands body more l place _ m.0 m.1))
+refused_here ts n place k t sign body more l BadCount h rises ends taken stuck unfit tests m =
+    at_lexeme ts n place k t body more l BadCount tt h rises taken stuck unfit m.0 (so_here ts n k t _ _ h m.1)
+refused_here ts n place k t sign body more l BadShape h rises ends taken stuck unfit tests m = at_lexeme ts n place k t body more l BadShape tt h rises taken stuck unfit m tt
+refused_here ts n place k t sign body more l WrongNumberCount h rises ends taken stuck unfit tests m = at_lexeme ts n place k t body more l WrongNumberCount tt h rises taken stuck unfit m tt
+refused_here ts n place k t sign body more l _ h rises ends taken stuck unfit tests m = absurd m
 
 -- the item doesn't go on with the lexeme
 stuck : (seen : List Lexeme) (r : TextReader) (w : IsItemRead seen r) (l : Lexeme) → CannotTake (ItemGoes r.known) w.item l
@@ -261,12 +304,6 @@ number_further body more place Is (reasons.minus before s l after e kind p so) =
 start_lies : (ts : TextTokens) (n place : ℕ) (k : Known) (t : Topic) (body : List Lexeme) → Here ts n k t body → Rises 0 ts.lexemes ts.end → StandsIn body place (λ l. Unit {0}) → LiesIn ts n place
 start_lies ts n place k t body h rises s = lies_here ts n place k t body s.before (s.lexeme ∷ s.after) h rises s.whole s.place_is
 
--- a number of it that is tested late
-start_stops : (ts : TextTokens) (kind : ItemFault) (n place : ℕ) (k : Known) (t : Topic) (body : List Lexeme) → Here ts n k t body → t ≡ Start
-    → ((taken : List Lexeme) (l : Lexeme) (behind : List Lexeme) → Stops k t kind taken (l ∷ behind)) → StandsIn body place (λ l. Unit {0}) → StopsInBody ts kind n place
-start_stops ts kind n place k t body h e stops s =
-    stops_here ts kind n place k t body s.before (s.lexeme ∷ s.after) h s.whole (refusals.in_start e) (stops s.before s.lexeme s.after) s.place_is (λ none. absurd (cons≢nil none))
-
 start_reason : (ts : TextTokens) (n place : ℕ) (k : Known) (t : Topic) (body more : List Lexeme) (kind : ItemFault) → Here ts n k t (body ++ more) → t ≡ Start → IsReasonIn body kind place
     → IsReason ts n place kind
 start_reason ts n place k t body more (Number fault) h e m = so_here ts n k t _ _ h (number_further body more place _ m)
@@ -279,44 +316,92 @@ start_reason ts n place k t body more WrongNumberCount h e m = tt
 start_reason ts n place k t body more BadShape h e m = tt
 start_reason ts n place k t body more _ h e m = absurd m
 
-start_refused : (text : List ℕ) (ts : TextTokens) (n place : ℕ) (k : Known) (t : Topic) (body more : List Lexeme) (kind : ItemFault) → AreTokensOf text ts → Here ts n k t (body ++ more) → word_fault k t ≡ None
-    → IsWrong k t (body ++ more) → t ≡ Start → IsStartReason body kind place → StopsInBody ts kind n place → Refuses ts (model_faults.Item kind n place)
-start_refused text ts n place k t body more kind tokens h free wrong e r stops = record {
+-- ---- the first number of a start item
+
+-- the refusal of it that is due in the item here
+late_in : (ts : TextTokens) (n : ℕ) (k : Known) (t : Topic) (body : List Lexeme) (kind : ItemFault) (place : ℕ) (h : Here ts n k t body) → t ≡ Start → word_fault k t ≡ None
+    → IsLate (states_known k) body (ends_cleanly h.after ts.ending) kind place → IsLateIn ts n kind place
+late_in ts n k t body kind place h start free late = record {
+  before = h.before;
+  item = item_here h;
+  after = h.after;
+  divided = h.divided;
+  number_is = h.number_is;
+  k = k;
+  known = h.taken;
+  topic_is = h.topic_is ∙ ap Some start;
+  may_stand = sym (ap (word_fault k) start) ∙ free;
+  late = late;
+}
+
+late_of : (ts : TextTokens) (n : ℕ) (k : Known) (t : Topic) (body : List Lexeme) (kind : ItemFault) (place : ℕ) (h : Here ts n k t body) → IsLateIn ts n kind place
+    → (t ≡ Start) × IsLate (states_known k) body (ends_cleanly h.after ts.ending) kind place
+late_of ts n k t body kind place h w = late_here ts n kind place h.before (item_here h) h.after k t h.divided h.taken h.topic_is h.number_is w
+
+-- what is due of the first number is this refusal
+abbrev IsWhatIsDue : TextTokens → ℕ → ItemFault → ℕ → Type 0
+IsWhatIsDue ts n kind place = (fault : ItemFault) (at : ℕ) → IsLateIn ts n fault at → (kind ≡ fault) × (place ≡ at)
+
+start_refused : (text : List ℕ) (ts : TextTokens) (n place : ℕ) (k : Known) (t : Topic) (body more : List Lexeme) (kind : ItemFault) → AreTokensOf text ts → (h : Here ts n k t (body ++ more)) → word_fault k t ≡ None
+    → IsFirstWrong ts n → t ≡ Start → IsStartReason body kind place → IsLate (states_known k) (body ++ more) (ends_cleanly h.after ts.ending) kind place → IsWhatIsDue ts n kind place
+    → Refuses ts (model_faults.Item kind n place)
+start_refused text ts n place k t body more kind tokens h free wrong e r late due = record {
   refusal = record {
-    first_wrong = first_here ts n k t (body ++ more) h wrong;
+    first_wrong = wrong;
     lies = start_lies ts n place k t (body ++ more) h (tokens_rise text ts tokens) (stands_further body more place _ r.stands);
     reason = start_reason ts n place k t body more kind h e r.reason;
     decided = λ fault at x. absurd (free_here ts n k t (body ++ more) h free fault at x);
   };
-  placed = in_body stops;
+  placed = record { stands = of_first_number (late_in ts n k t (body ++ more) kind place h e free late); late = due };
 }
+
+-- an item that ends in a fault of the tokens doesn't end cleanly
+fault_ends : (ending : Option TokenFault) (f : TokenFault) → ending ≡ Some f → ends_cleanly [] ending ≡ false
+fault_ends ending f e = ap (ends_cleanly []) e
+
+-- at a fault of the tokens, what is due of an item's first number is what waits for more
+pub due_at_fault : (ts : TextTokens) (n : ℕ) (k : Known) (t : Topic) (body : List Lexeme) (item : ItemReader) (f : TokenFault) (kind : ItemFault) (place : ℕ) (h : Here ts n k t (body ++ [])) → h.after ≡ [] → ts.ending ≡ Some f
+    → topic_in item ≡ t → IsSeen (states_known k) body item → IsLateIn ts n kind place → pending_in item ≡ Some (record { kind = kind; place = place })
+due_at_fault ts n k t body item f kind place h last ending topics seen w =
+    let found = late_of ts n k t (body ++ []) kind place h w in
+    let clean : ends_cleanly h.after ts.ending ≡ false = ap (λ items. ends_cleanly items ts.ending) last ∙ fault_ends ts.ending f ending in
+    let late : IsLate (states_known k) body false kind place =
+    subst (λ b. IsLate (states_known k) body b kind place) clean (subst (λ (b : List Lexeme). IsLate (states_known k) b (ends_cleanly h.after ts.ending) kind place) (append-nil body) found.1) in
+    of item (topics ∙ found.0) seen late
+  where
+    of : (i : ItemReader) → topic_in i ≡ Start → IsSeen (states_known k) body i → IsLate (states_known k) body false kind place → pending_in i ≡ Some (record { kind = kind; place = place })
+    of (items.Start r) e s late = late_at_fault (states_known k) body r kind place s late
+    of (items.Discount r) e s late = absurd (discount_no_start e)
+    of (items.Values r) e s late = absurd (values_no_start e)
+    of (items.States r) e s late = absurd (states_no_start e)
+    of (items.Actions r) e s late = absurd (actions_no_start e)
+    of (items.Observations r) e s late = absurd (observations_no_start e)
+    of (items.Entry r) e s late = absurd (cells_no_start r.table e)
 
 -- a start item in which the tokens end in a fault behind a number without a value
 pub pending_refused : (seen : List Lexeme) (r : TextReader) (f : TokenFault) (x : Refusal) → (w : IsItemRead seen r) → pending_in w.item ≡ Some x
     → (text : List ℕ) (ts : TextTokens) → AreTokensOf text ts → ts.lexemes ≡ seen → ts.ending ≡ Some f → Refuses ts (model_faults.Item x.kind r.number x.place)
 pending_refused seen r f x w e text ts tokens same ending =
-    let why = pending_why w.body w.item x w.read.seen e in
-    let reason : IsStartReason w.body x.kind x.place = why.1 in
-    let start : w.t ≡ Start = sym w.read.topic_is ∙ why.0 in
+    let why = pending_why (states_known r.known) w.body w.item x w.read.seen e in
     let h : Here ts r.number r.known w.t (w.body ++ []) = here ts r.number seen w.body [] [] r.known w.t [] w.within (same ∙ sym (append-nil seen)) w.number_is empty_division in
-    record {
-      refusal = record {
-        first_wrong = wrong_last h.before (item_here h) r.known f h.divided h.taken ending h.number_is;
-        lies = start_lies ts r.number x.place r.known w.t (w.body ++ []) h (tokens_rise text ts tokens) (stands_further w.body [] x.place _ reason.stands);
-        reason = start_reason ts r.number x.place r.known w.t w.body [] x.kind h start reason.reason;
-        decided = λ fault at y. absurd (free_here ts r.number r.known w.t (w.body ++ []) h w.read.may_stand fault at y);
-      };
-      placed = in_body (start_stops ts x.kind r.number x.place r.known w.t (w.body ++ []) h start (λ taken l behind. refusals.late_number start why.2) (stands_further w.body [] x.place _ reason.stands));
-    }
+    let late : IsLate (states_known r.known) (w.body ++ []) (ends_cleanly [] ts.ending) x.kind x.place =
+    subst (λ b. IsLate (states_known r.known) (w.body ++ []) b x.kind x.place) (sym (fault_ends ts.ending f ending))
+    (subst (λ (b : List Lexeme). IsLate (states_known r.known) b false x.kind x.place) (sym (append-nil w.body)) why.2) in
+    start_refused text ts r.number x.place r.known w.t w.body [] x.kind tokens h w.read.may_stand (wrong_last h.before (item_here h) r.known f h.divided h.taken ending h.number_is) (sym w.read.topic_is ∙ why.0) why.1 late
+    (λ fault at is. same_refusal x fault at (sym e ∙ due_at_fault ts r.number r.known w.t w.body w.item f fault at h refl ending w.read.topic_is w.read.seen is))
   where
-    pending_why : (body : List Lexeme) (item : ItemReader) (x : Refusal) → IsSeen body item → pending_in item ≡ Some x → (topic_in item ≡ Start) × IsStartReason body x.kind x.place × IsOfValue x.kind
-    pending_why body (items.Start s) x seen e = (refl, pending_reason body s x seen e, pending_value s x e)
-    pending_why body (items.Discount s) x seen e = absurd (none≢some e)
-    pending_why body (items.Values s) x seen e = absurd (none≢some e)
-    pending_why body (items.States s) x seen e = absurd (none≢some e)
-    pending_why body (items.Actions s) x seen e = absurd (none≢some e)
-    pending_why body (items.Observations s) x seen e = absurd (none≢some e)
-    pending_why body (items.Entry s) x seen e = absurd (none≢some e)
+    same_refusal : (x : Refusal) (fault : ItemFault) (at : ℕ) → Some x ≡ Some (record { kind = fault; place = at }) → (x.kind ≡ fault) × (x.place ≡ at)
+    same_refusal x fault at q = (ap (λ (y : Refusal). y.kind) (one_some refl q), ap (λ (y : Refusal). y.place) (one_some refl q))
+
+    pending_why : (count : ℕ) (body : List Lexeme) (item : ItemReader) (x : Refusal) → IsSeen count body item → pending_in item ≡ Some x
+        → (topic_in item ≡ Start) × IsStartReason body x.kind x.place × IsLate count body false x.kind x.place
+    pending_why count body (items.Start s) x seen e = (refl, pending_reason count body s x seen e, pending_is_late count body s x seen e)
+    pending_why count body (items.Discount s) x seen e = absurd (none≢some e)
+    pending_why count body (items.Values s) x seen e = absurd (none≢some e)
+    pending_why count body (items.States s) x seen e = absurd (none≢some e)
+    pending_why count body (items.Actions s) x seen e = absurd (none≢some e)
+    pending_why count body (items.Observations s) x seen e = absurd (none≢some e)
+    pending_why count body (items.Entry s) x seen e = absurd (none≢some e)
 
 is_start : (t : Topic) → (t ≡ Start) ⊎ (t ≡ Start → ⊥)
 is_start Start = inl refl
@@ -336,14 +421,14 @@ is_taken k t body possible = of (is_start t)
     of (inr other) = refusals.possible (possible other)
 
 -- the sign that waits for its numeral ends the body
-pub seen_sign : (body : List Lexeme) (item : ItemReader) → (topic_in item ≡ Start → ⊥) → IsSeen body item → SignEnds (sign_in item) body
-seen_sign body (items.Discount r) other s = s
-seen_sign body (items.Values r) other s = s
-seen_sign body (items.States r) other s = s.0
-seen_sign body (items.Actions r) other s = s.0
-seen_sign body (items.Observations r) other s = s.0
-seen_sign body (items.Start r) other s = absurd (other refl)
-seen_sign body (items.Entry r) other s = s
+pub seen_sign : (count : ℕ) (body : List Lexeme) (item : ItemReader) → (topic_in item ≡ Start → ⊥) → IsSeen count body item → SignEnds (sign_in item) body
+seen_sign count body (items.Discount r) other s = s
+seen_sign count body (items.Values r) other s = s
+seen_sign count body (items.States r) other s = s.0
+seen_sign count body (items.Actions r) other s = s.0
+seen_sign count body (items.Observations r) other s = s.0
+seen_sign count body (items.Start r) other s = absurd (other refl)
+seen_sign count body (items.Entry r) other s = s
 
 -- what is said of items that are no start item
 not_start : (t : Topic) (P : Type 0) → (t ≡ Start → ⊥) → IfNotStart t P → P
@@ -362,46 +447,72 @@ here_unfit : (k : Known) (t : Topic) (body : List Lexeme) (item : ItemReader) �
     → (l : Lexeme) (kind : ItemFault) → IfNotStart t (IsMisfit (item_wants k item []) l kind) → IsMisfit (wanted k t body) l kind
 here_unfit k t body item other wants l kind unfit = subst (λ x. IsMisfit x l kind) (wants_here k t body item wants) (not_start t _ other unfit)
 
+-- why a token is refused in a start item, as of any item
+start_token : (sign : Option Sign) (body : List Lexeme) (l : Lexeme) (kind : ItemFault) (place : ℕ) → IsReasonAt sign l kind place → IsTokenReason Start sign body l kind place
+start_token sign body l ProbabilityRange place m = (tt, m)
+start_token sign body l DiscountRange place m = absurd m
+start_token sign body l DuplicateName place m = absurd m
+start_token sign body l BadCount place m = absurd m
+start_token sign body l kind place m = m
+
 pub feed_refused : (seen : List Lexeme) (r : TextReader) (l : Lexeme) (kind : ItemFault) (place : ℕ) (w : IsItemRead seen r) → begins_item l ≡ false
     → CannotTake (ItemGoes r.known) w.item l → IsItemReason w.item w.body l kind place → IfNotStart (topic_in w.item) (IsMisfit (item_wants r.known w.item []) l kind)
-    → IfStart (topic_in w.item) (IsStartMisfit (item_wants r.known w.item []) l kind place) → IsRefusedBehind (seen ++ l ∷ []) (model_faults.Item kind r.number place)
-feed_refused seen r l kind place w inner none reason unfit named text ts further tokens e =
+    → IfStart (topic_in w.item) (StopsStart (states_known r.known) w.body (item_wants r.known w.item []) l kind place)
+    → ((more : List Lexeme) (ends : Bool) (late : Refusal) → topic_in w.item ≡ Start → IsLate (states_known r.known) (w.body ++ l ∷ more) ends late.kind late.place → (kind ≡ late.kind) × (place ≡ late.place))
+    → IsRefusedBehind (seen ++ l ∷ []) (model_faults.Item kind r.number place)
+feed_refused seen r l kind place w inner none reason unfit stops due text ts further tokens e =
     let d = has_division further in
     let more : List Lexeme = d.0 in
     let behind = within_goes_on seen l r.known w.t w.body w.within inner in
     let h : Here ts r.number r.known w.t ((w.body ++ l ∷ []) ++ more) = here ts r.number (seen ++ l ∷ []) (w.body ++ l ∷ []) further more r.known w.t d.1 behind e w.number_is d.2 in
     at reason more h
   where
+    -- what is due of a start item's first number is this
+    is_due : (more : List Lexeme) (h : Here ts r.number r.known w.t ((w.body ++ l ∷ []) ++ more)) → IsWhatIsDue ts r.number kind place
+    is_due more h fault at is =
+        let found = late_of ts r.number r.known w.t ((w.body ++ l ∷ []) ++ more) fault at h is in
+        due more (ends_cleanly h.after ts.ending) (record { kind = fault; place = at }) (w.read.topic_is ∙ found.0)
+        (subst (λ (b : List Lexeme). IsLate (states_known r.known) b (ends_cleanly h.after ts.ending) fault at) (append_assoc w.body (l ∷ []) more) found.1)
+
+    refused_so : (more : List Lexeme) (h : Here ts r.number r.known w.t ((w.body ++ l ∷ []) ++ more)) → Refused ts r.number place kind → Refuses ts (model_faults.Item kind r.number place)
+    refused_so more h refused = record {
+      refusal = record {
+        first_wrong = first_here ts r.number r.known w.t ((w.body ++ l ∷ []) ++ more) h (stuck seen r w l none more);
+        lies = refused.lies;
+        reason = refused.reason;
+        decided = λ fault at x. absurd (free_here ts r.number r.known w.t ((w.body ++ l ∷ []) ++ more) h w.read.may_stand fault at x);
+      };
+      placed = record { stands = in_body refused.stops; late = is_due more h };
+    }
+
     of_one : (more : List Lexeme) → Here ts r.number r.known w.t ((w.body ++ l ∷ []) ++ more) → (topic_in w.item ≡ Start → ⊥) → IsTokenReason (topic_in w.item) (sign_in w.item) w.body l kind place
         → Refuses ts (model_faults.Item kind r.number place)
     of_one more h other m =
-        let refused = refused_here ts r.number place r.known w.t (sign_in w.item) w.body more l kind h (tokens_rise text ts tokens) (seen_sign w.body w.item other w.read.seen)
-        (w.read.possible (λ s. other (w.read.topic_is ∙ s))) (stuck seen r w l none) (here_unfit r.known w.t w.body w.item (λ s. other (w.read.topic_is ∙ s)) w.read.wants l kind (subst (λ u. IfNotStart u (IsMisfit (item_wants r.known w.item []) l kind)) w.read.topic_is unfit)) (subst (λ t. IsTokenReason t (sign_in w.item) w.body l kind place) w.read.topic_is m) in
-        record {
-          refusal = record {
-            first_wrong = first_here ts r.number r.known w.t ((w.body ++ l ∷ []) ++ more) h (stuck seen r w l none more);
-            lies = refused.lies;
-            reason = refused.reason;
-            decided = λ fault at x. absurd (free_here ts r.number r.known w.t ((w.body ++ l ∷ []) ++ more) h w.read.may_stand fault at x);
-          };
-          placed = in_body refused.stops;
-        }
+        refused_so more h
+        (refused_here ts r.number place r.known w.t (sign_in w.item) w.body more l kind h (tokens_rise text ts tokens) (seen_sign (states_known r.known) w.body w.item other w.read.seen)
+        (refusals.possible (w.read.possible (λ s. other (w.read.topic_is ∙ s)))) (stuck seen r w l none)
+        (here_unfit r.known w.t w.body w.item (λ s. other (w.read.topic_is ∙ s)) w.read.wants l kind (subst (λ u. IfNotStart u (IsMisfit (item_wants r.known w.item []) l kind)) w.read.topic_is unfit))
+        (λ s range. absurd (other (w.read.topic_is ∙ s))) (subst (λ t. IsTokenReason t (sign_in w.item) w.body l kind place) w.read.topic_is m))
 
     of_start : (more : List Lexeme) (h : Here ts r.number r.known w.t ((w.body ++ l ∷ []) ++ more)) → w.t ≡ Start → IsStartReason (w.body ++ l ∷ []) kind place
-        → IsStartMisfit (wanted r.known w.t w.body) l kind place → StopsInBody ts kind r.number place
-    of_start more h start m (want_steps.number v) =
-        start_stops ts kind r.number place r.known w.t ((w.body ++ l ∷ []) ++ more) h start (λ taken x behind. refusals.late_number start v) (stands_further (w.body ++ l ∷ []) more place _ m.stands)
-    of_start more h start m (want_steps.token p e) =
-        stops_here ts kind r.number place r.known w.t ((w.body ++ l ∷ []) ++ more) w.body (l ∷ more) h (append_assoc w.body (l ∷ []) more) (refusals.in_start start) (refusals.in_start_item start (stuck seen r w l none) e) p
-        (λ none. absurd (cons≢nil none))
+        → StopsStart (states_known r.known) w.body (wanted r.known w.t w.body) l kind place → Refuses ts (model_faults.Item kind r.number place)
+    of_start more h start m (first_number late) =
+        start_refused text ts r.number place r.known w.t (w.body ++ l ∷ []) more kind tokens h w.read.may_stand
+        (first_here ts r.number r.known w.t ((w.body ++ l ∷ []) ++ more) h (stuck seen r w l none more)) start m
+        (subst (λ (b : List Lexeme). IsLate (states_known r.known) b (ends_cleanly h.after ts.ending) kind place) (sym (append_assoc w.body (l ∷ []) more)) (late more (ends_cleanly h.after ts.ending)))
+        (is_due more h)
+    of_start more h start m (token sign ends misfits why range) =
+        refused_so more h
+        (refused_here ts r.number place r.known w.t sign w.body more l kind h (tokens_rise text ts tokens) ends (refusals.in_start start) (stuck seen r w l none) misfits (λ s. range)
+        (subst (λ t. IsTokenReason t sign w.body l kind place) (sym start) (start_token sign w.body l kind place why)))
 
     at : IsItemReason w.item w.body l kind place → (more : List Lexeme) → Here ts r.number r.known w.t ((w.body ++ l ∷ []) ++ more) → Refuses ts (model_faults.Item kind r.number place)
     at (steps_of.of_token other m) more h = of_one more h other m
     at (steps_of.of_start start m) more h =
-        let misfits : IsStartMisfit (wanted r.known w.t w.body) l kind place =
-        subst (λ x. IsStartMisfit x l kind place) (wants_here r.known w.t w.body w.item w.read.wants) (subst (λ u. IfStart u (IsStartMisfit (item_wants r.known w.item []) l kind place)) start named) in
-        start_refused text ts r.number place r.known w.t (w.body ++ l ∷ []) more kind tokens h w.read.may_stand (stuck seen r w l none more) (sym w.read.topic_is ∙ start) m
-        (of_start more h (sym w.read.topic_is ∙ start) m misfits)
+        let here_stops : StopsStart (states_known r.known) w.body (wanted r.known w.t w.body) l kind place =
+        subst (λ x. StopsStart (states_known r.known) w.body x l kind place) (wants_here r.known w.t w.body w.item w.read.wants)
+        (subst (λ u. IfStart u (StopsStart (states_known r.known) w.body (item_wants r.known w.item []) l kind place)) start stops) in
+        of_start more h (sym w.read.topic_is ∙ start) m here_stops
 
 -- ---- an item that cannot end
 
@@ -432,9 +543,26 @@ end_reason ts n place k t body BadShape h m = tt
 end_reason ts n place k t body WrongNumberCount h m = tt
 end_reason ts n place k t body _ h m = absurd m
 
+-- an item that ends
+clean_ends : (items : List Item) (ending : Option TokenFault) → (items ≡ [] → ending ≡ None) → ends_cleanly items ending ≡ true
+clean_ends [] None clean = refl
+clean_ends [] (Some f) clean = absurd (none≢some (sym (clean refl)))
+clean_ends (x ∷ xs) ending clean = refl
+
+-- what is due of its first number there
+due_at_end : (ts : TextTokens) (n place : ℕ) (k : Known) (t : Topic) (body : List Lexeme) (fault : ItemFault) (at : ℕ) (x : EndsHere ts n place k t body) → IsLateIn ts n fault at
+    → (t ≡ Start) × IsLate (states_known k) body true fault at
+due_at_end ts n place k t body fault at x w =
+    let found = late_of ts n k t (body ++ []) fault at x.here_is w in (
+      found.0,
+      subst (λ b. IsLate (states_known k) body b fault at) (clean_ends x.here_is.after ts.ending x.clean)
+          (subst (λ (b : List Lexeme). IsLate (states_known k) b (ends_cleanly x.here_is.after ts.ending) fault at) (append-nil body) found.1),
+    )
+
 pub end_refused : (seen : List Lexeme) (r : TextReader) (kind : ItemFault) (place : ℕ) (w : IsItemRead seen r) → CannotEnd (ItemGoes r.known) w.item
-    → IsEndReason (topic_in w.item) kind → kind ≡ misfit (item_wants r.known w.item []) None → IsRefusedAt seen place (model_faults.Item kind r.number place)
-end_refused seen r kind place w none reason kinds text ts tokens ends =
+    → IsEndReason (topic_in w.item) kind → kind ≡ misfit (item_wants r.known w.item []) None
+    → ((late : Refusal) → topic_in w.item ≡ Start → IsLate (states_known r.known) w.body true late.kind late.place → ⊥) → IsRefusedAt seen place (model_faults.Item kind r.number place)
+end_refused seen r kind place w none reason kinds undue text ts tokens ends =
     let x = ends_here ts r.number place seen w.body r.known w.t w.within w.number_is ends in
     record {
       refusal = record {
@@ -443,7 +571,12 @@ end_refused seen r kind place w none reason kinds text ts tokens ends =
         reason = end_reason ts r.number place r.known w.t (w.body ++ []) kind x.here_is (subst (λ t. IsEndReason t kind) w.read.topic_is reason);
         decided = λ fault at y. absurd (free_here ts r.number r.known w.t (w.body ++ []) x.here_is w.read.may_stand fault at y);
       };
-      placed = in_body (stops_here ts kind r.number place r.known w.t (w.body ++ []) w.body [] x.here_is refl (taken (is_start w.t)) stops x.place_is (λ nothing. x.clean));
+      placed = record {
+        stands = in_body (stops_here ts kind r.number place r.known w.t (w.body ++ []) w.body [] x.here_is refl (taken (is_start w.t)) stops x.place_is (λ nothing. x.clean));
+        late = λ fault at y.
+            let found = due_at_end ts r.number place r.known w.t w.body fault at x y in
+            absurd (undue (record { kind = fault; place = at }) (w.read.topic_is ∙ found.0) found.1);
+      };
     }
   where
     taken : (w.t ≡ Start) ⊎ (w.t ≡ Start → ⊥) → IsTaken r.known w.t w.body
@@ -457,9 +590,16 @@ end_refused seen r kind place w none reason kinds text ts tokens ends =
 
 -- a start item that cannot end, for the number before its end
 pub end_refused_before : (seen : List Lexeme) (r : TextReader) (kind : ItemFault) (at place : ℕ) (w : IsItemRead seen r) → CannotEnd (ItemGoes r.known) w.item
-    → topic_in w.item ≡ Start → kind ≡ IndexOutOfRange → IsStartReason w.body kind at → IsRefusedAt seen place (model_faults.Item kind r.number at)
-end_refused_before seen r kind at place w none start late reason text ts tokens ends =
+    → topic_in w.item ≡ Start → IsStartReason w.body kind at → IsLate (states_known r.known) w.body true kind at
+    → ((late : Refusal) → topic_in w.item ≡ Start → IsLate (states_known r.known) w.body true late.kind late.place → (kind ≡ late.kind) × (at ≡ late.place))
+    → IsRefusedAt seen place (model_faults.Item kind r.number at)
+end_refused_before seen r kind at place w none start reason late due text ts tokens ends =
     let x = ends_here ts r.number place seen w.body r.known w.t w.within w.number_is ends in
-    start_refused text ts r.number at r.known w.t w.body [] kind tokens x.here_is w.read.may_stand (λ after taken. none after (w.read.on [] after taken)) (sym w.read.topic_is ∙ start) reason
-    (start_stops ts kind r.number at r.known w.t (w.body ++ []) x.here_is (sym w.read.topic_is ∙ start) (λ taken l behind. refusals.late_state (sym w.read.topic_is ∙ start) late)
-    (stands_further w.body [] at _ reason.stands))
+    let here_late : IsLate (states_known r.known) (w.body ++ []) (ends_cleanly x.here_is.after ts.ending) kind at =
+    subst (λ b. IsLate (states_known r.known) (w.body ++ []) b kind at) (sym (clean_ends x.here_is.after ts.ending x.clean))
+    (subst (λ (b : List Lexeme). IsLate (states_known r.known) b true kind at) (sym (append-nil w.body)) late) in
+    start_refused text ts r.number at r.known w.t w.body [] kind tokens x.here_is w.read.may_stand
+    (first_here ts r.number r.known w.t (w.body ++ []) x.here_is (λ after taken. none after (w.read.on [] after taken))) (sym w.read.topic_is ∙ start) reason here_late
+    (λ fault p y.
+    let found = due_at_end ts r.number place r.known w.t w.body fault p x y in
+    due (record { kind = fault; place = p }) (w.read.topic_is ∙ found.0) found.1)

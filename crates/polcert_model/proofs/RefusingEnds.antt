@@ -17,6 +17,8 @@ use Rattle.polcert_cells.specs.Words.{topic, begins_item}
 use Rattle.polcert_format.specs.Items.{Item, IsDivided}
 use Rattle.polcert_format.specs.Text.{Known}
 use Rattle.polcert_format.specs.Order.{is_late, came_before, ends_preamble, has_all_lines, preamble_fault, is_unobserved, fault_behind, word_fault}
+use Rattle.polcert_format.specs.FirstNumber.{IsLateIn}
+use Rattle.polcert_format.proofs.FirstNumbers.{late_undecided}
 use Rattle.polcert_format.specs.FirstWrong.{TextTokens, AreTokensOf, LiesIn, IsDecided, wrong_front, wrong_fault, wrong_last, wrong_end, before_items, at_word, at_end}
 use Rattle.polcert_format.specs.Reasons.{IsReason}
 use Rattle.polcert_format.specs.Refusals.{IsItemRefusal, IsOfTokens, IsTaken, IsLastTaken, before_body, of_tokens}
@@ -30,7 +32,7 @@ use Rattle.polcert_format.proofs.OrderLaws.{wrong_at_word, not_complete, are_too
 use Rattle.polcert_format.proofs.PlaceLaws.{tokens_rise, fault_rises, lies_at_word, lies_before_items, lies_at_end, lies_at_fault, lies_at_once}
 use Rattle.polcert_format.proofs.DecidedLaws.{one_decided}
 use Rattle.polcert_format.proofs.Within.{item_begins}
-use Rattle.polcert_model.proofs.Refusing.{Here, item_here, here, first_here, free_here, pending_refused, is_taken}
+use Rattle.polcert_model.proofs.Refusing.{Here, item_here, here, first_here, free_here, due_at_fault, pending_refused, is_taken}
 
 -- ---- before the first item
 
@@ -51,7 +53,7 @@ before_refused seen r l w inner text ts further tokens e =
         reason = decided;
         decided = λ fault at x. one_decided ts r.number BeforeFirstItem fault l.place at decided x;
       };
-      placed = before_body decided;
+      placed = record { stands = before_body decided; late = λ fault at x. absurd (late_undecided ts _ fault _ at _ x decided) };
     }
 
 -- ---- what is decided before a body
@@ -124,7 +126,7 @@ word_refused seen r word t kind w is wrong text ts further tokens e =
         reason = order_reason ts (r.number + 1) word.place kind (word_order r.known t kind wrong) decided;
         decided = λ fault at x. one_decided ts (r.number + 1) kind fault word.place at decided x;
       };
-      placed = before_body decided;
+      placed = record { stands = before_body decided; late = λ fault at x. absurd (late_undecided ts _ fault _ at _ x decided) };
     }
 
 pub text_end_refused : (seen : List Lexeme) (r : TextReader) (kind : ItemFault) → AreItemsRead seen r → preamble_fault r.known ≡ Some kind
@@ -141,7 +143,7 @@ text_end_refused seen r kind w wrong text ts tokens e clean =
         reason = order_reason ts (r.number + 1) ts.end kind (preamble_order r.known kind wrong) decided;
         decided = λ fault at x. one_decided ts (r.number + 1) kind fault ts.end at decided x;
       };
-      placed = before_body decided;
+      placed = record { stands = before_body decided; late = λ fault at x. absurd (late_undecided ts _ fault _ at _ x decided) };
     }
 
 -- ---- a fault of the tokens
@@ -168,6 +170,11 @@ none_decided ts n place fault f empty e (before_items l ls items d z x p) = cons
 none_decided ts n place fault f empty e (at_word before item after k t d taken is wrong z p) =
     no_empty before item after (one_division [] [] [] (before ++ item ∷ after) [] (subst (λ s. IsDivided s [] (before ++ item ∷ after)) empty d) empty_division).1
 none_decided ts n place fault f empty e (at_end items k d taken clean wrong z p) = some≢none e clean
+
+-- and no first number is refused late
+none_late : (ts : TextTokens) (n place : ℕ) (fault : ItemFault) → ts.lexemes ≡ [] → IsLateIn ts n fault place → ⊥
+none_late ts n place fault empty w =
+    no_empty w.before w.item w.after (one_division [] [] [] (w.before ++ w.item ∷ w.after) [] (subst (λ s. IsDivided s [] (w.before ++ w.item ∷ w.after)) empty w.divided) empty_division).1
 
 at_once : (seen : List Lexeme) (r : TextReader) (f : TokenFault) → IsNothingRead seen r → (text : List ℕ) (ts : TextTokens) → AreTokensOf text ts → ts.lexemes ≡ seen
     → ts.ending ≡ Some f → IsItemRefusal ts (fault_kind f) r.number (fault_place f)
@@ -210,10 +217,22 @@ last_taken seen r w ts e =
 pub fault_refused : (seen : List Lexeme) (r : TextReader) (f : TokenFault) → IsTextRead seen r → (text : List ℕ) (ts : TextTokens) → AreTokensOf text ts → ts.lexemes ≡ seen
     → ts.ending ≡ Some f → Refuses ts (tokens_end r.number (pending_at r.item) f)
 fault_refused seen r f (texts.nothing w) text ts tokens e ending =
-    subst (λ o. Refuses ts (tokens_end r.number (pending_at o) f)) (sym w.item_is) (record { refusal = at_once seen r f w text ts tokens e ending; placed = of_tokens (fault_of_tokens f) (refusals.at_once (e ∙ w.nothing)) })
+    subst (λ o. Refuses ts (tokens_end r.number (pending_at o) f)) (sym w.item_is) (record {
+      refusal = at_once seen r f w text ts tokens e ending;
+      placed = record { stands = of_tokens (fault_of_tokens f) (refusals.at_once (e ∙ w.nothing)); late = λ fault at x. absurd (none_late ts r.number at fault (e ∙ w.nothing) x) };
+    })
 fault_refused seen r f (texts.item w) text ts tokens e ending =
     subst (λ o. Refuses ts (tokens_end r.number (pending_at o) f)) (sym w.item_is) (of_pending (pending_in w.item) refl)
   where
+    h : Here ts r.number r.known w.t (w.body ++ [])
+    h = here ts r.number seen w.body [] [] r.known w.t [] w.within (e ∙ sym (append-nil seen)) w.number_is empty_division
+
     of_pending : (o : Option Refusal) → pending_in w.item ≡ o → Refuses ts (tokens_end r.number o f)
-    of_pending None none = record { refusal = in_item seen r f w text ts tokens e ending; placed = of_tokens (fault_of_tokens f) (refusals.in_item (last_taken seen r w ts e)) }
+    of_pending None none = record {
+      refusal = in_item seen r f w text ts tokens e ending;
+      placed = record {
+        stands = of_tokens (fault_of_tokens f) (refusals.in_item (last_taken seen r w ts e));
+        late = λ fault at x. absurd (none≢some (sym none ∙ due_at_fault ts r.number r.known w.t w.body w.item f fault at h refl ending w.read.topic_is w.read.seen x));
+      };
+    }
     of_pending (Some x) some = pending_refused seen r f x w some text ts tokens e ending

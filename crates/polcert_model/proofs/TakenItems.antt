@@ -29,6 +29,7 @@ use Rattle.polcert_items.specs.StartSteps.{new_start}
 use Rattle.polcert_items.specs.ItemSteps.{ItemGoes, IsItemWithin, topic_in, IsSeen, new_item, new_entry, HasElements}
 use Rattle.polcert_format.specs.Wants.{wanted}
 use Rattle.polcert_items.specs.WantSteps.{Leads, item_wants}
+use Rattle.polcert_format.specs.FirstNumber.{states_known}
 use Rattle.polcert_model.specs.TextSteps.{IsBodyRead}
 use Rattle.polcert_format.proofs.FirstPlaces.{entry_begins}
 use Rattle.polcert_format.proofs.KnownLaws.{same_preamble, same_indices, same_states}
@@ -144,14 +145,14 @@ new_within k Observations free = tt
 new_within k Start free = let stands = start_may_stand k free in (stands.1.0.states, (stands.1.1.lines.states, new_start_within stands.1.0.states))
 new_within k (Cells table) free = refl
 
-new_seen : (t : Topic) → IsSeen [] (new_item t)
-new_seen Discount = refl
-new_seen Values = refl
-new_seen States = (refl, refl)
-new_seen Actions = (refl, refl)
-new_seen Observations = (refl, refl)
-new_seen Start = new_start_seen
-new_seen (Cells table) = refl
+new_seen : (count : ℕ) (t : Topic) → IsSeen count [] (new_item t)
+new_seen count Discount = refl
+new_seen count Values = refl
+new_seen count States = (refl, refl)
+new_seen count Actions = (refl, refl)
+new_seen count Observations = (refl, refl)
+new_seen count Start = new_start_seen count
+new_seen count (Cells table) = refl
 
 new_wants : (k : Known) (t : Topic) (ls : List Lexeme) → wanted k t ls ≡ item_wants k (new_item t) ls
 new_wants k Discount ls = refl
@@ -170,7 +171,7 @@ item_begun k t free =
       may_stand = free;
       topic_is = new_topic t;
       within = within;
-      seen = new_seen t;
+      seen = new_seen (states_known k) t;
       back = λ ls next goes. goes_taken k t ls next free goes;
       on = λ ls next taken. taken_goes k t ls next taken;
       possible = λ other.
@@ -181,7 +182,7 @@ item_begun k t free =
 
 -- one lexeme more
 pub item_goes_on : (k : Known) (t : Topic) (body : List Lexeme) (old new : ItemReader) (l : Lexeme) → IsBodyRead k t body old → topic_in new ≡ topic_in old → IsItemWithin k new
-    → Takes (ItemGoes k) old l new → IsSeen (body ++ l ∷ []) new → Leads (item_wants k old) l (item_wants k new) → IsBodyRead k t (body ++ l ∷ []) new
+    → Takes (ItemGoes k) old l new → IsSeen (states_known k) (body ++ l ∷ []) new → Leads (item_wants k old) l (item_wants k new) → IsBodyRead k t (body ++ l ∷ []) new
 item_goes_on k t body old new l r same within takes seen leads =
     record {
       may_stand = r.may_stand;

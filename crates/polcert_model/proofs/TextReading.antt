@@ -1,9 +1,9 @@
 -- A text's reader, step by step: what it holds behind one more lexeme, and behind an item.
-use Rattle.std.proofs.Common.{◌≡◌, ◌∙◌, ℕ, ◌+◌, false, Option, Some, None, List, [], ◌∷◌, ◌++◌, refl, sym, ap, subst, append_assoc, length-append}
+use Rattle.std.proofs.Common.{◌≡◌, ◌∙◌, ℕ, ◌+◌, Bool, true, false, Option, Some, None, List, [], ◌∷◌, ◌++◌, refl, sym, ap, subst, append_assoc, length-append}
 use Rattle.std.proofs.lemmas.List.{append-nil}
 use Rattle.polcert_text.specs.Cut.{Lexeme}
 use Rattle.polcert_format.specs.declared.fault.ItemFault.{ItemFault}
-use Rattle.polcert_format.specs.declared.fault.ItemFault.TheVariants.{BeforeFirstItem, IndexOutOfRange}
+use Rattle.polcert_format.specs.declared.fault.ItemFault.TheVariants.{BeforeFirstItem}
 use Rattle.polcert_format.specs.declared.fault.ModelFault.{ModelFault}
 use Rattle.polcert_format.specs.declared.fault.ModelFault.TheVariants as model_faults
 use Rattle.polcert_items.specs.declared.item.ItemReader.{ItemReader}
@@ -17,11 +17,13 @@ use Rattle.polcert_format.specs.Text.{Known, nothing_known, IsRight, AreRight}
 use Rattle.polcert_format.specs.Text as texts
 use Rattle.polcert_format.specs.Order.{word_fault, preamble_fault}
 use Rattle.polcert_items.specs.LineSteps.{Takes, CannotTake, CannotEnd}
-use Rattle.polcert_items.specs.StartSteps.{IsStartReason}
+use Rattle.polcert_items.specs.StartSteps.{IsStartReason, StopsStart}
 use Rattle.polcert_items.specs.ItemSteps.{ItemGoes, IsItemWithin, IsItemReason, IsEndReason, IsSeen, topic_in, new_item, HasElements}
 use Rattle.polcert_items.specs.KnownView.{learned}
 use Rattle.polcert_format.specs.Misfits.{misfit, IsMisfit}
-use Rattle.polcert_items.specs.WantSteps.{Leads, item_wants, IfNotStart, IfStart, IsStartMisfit}
+use Rattle.polcert_items.specs.WantSteps.{Leads, item_wants, IfNotStart, IfStart}
+use Rattle.polcert_items.specs.declared.number.Refusal.{Refusal}
+use Rattle.polcert_format.specs.FirstNumber.{IsLate, states_known}
 use Rattle.polcert_model.specs.TextSteps.{Refuses, IsTextRead, IsItemRead, IsBodyRead, AreItemsRead, IsRefusedBehind, IsRefusedAt, IsRefusedWhole, at_word, at_end, nothing, item}
 use Rattle.polcert_cells.proofs.Basics.{one_some}
 use Rattle.polcert_format.proofs.Dividing.{begins, empty_division}
@@ -83,23 +85,28 @@ cannot_end seen r i w e stuck =
 
 -- the open item cannot end
 pub item_not_ended : (seen : List Lexeme) (r : TextReader) (i : ItemReader) (kind : ItemFault) (place : ℕ) → IsTextRead seen r → r.item ≡ Some i
-    → (HasElements r.known (topic_in i) → CannotEnd (ItemGoes r.known) i) → ((body : List Lexeme) → IsSeen body i → IsEndReason (topic_in i) kind)
-    → (HasElements r.known (topic_in i) → kind ≡ misfit (item_wants r.known i []) None) → IsRefusedAt seen place (model_faults.Item kind r.number place)
-item_not_ended seen r i kind place (nothing n) e stuck reason kinds = absurd (none≢some n.item_is e)
-item_not_ended seen r i kind place (item w) e stuck reason kinds =
+    → (HasElements r.known (topic_in i) → CannotEnd (ItemGoes r.known) i) → ((body : List Lexeme) → IsSeen (states_known r.known) body i → IsEndReason (topic_in i) kind)
+    → (HasElements r.known (topic_in i) → kind ≡ misfit (item_wants r.known i []) None)
+    → ((body : List Lexeme) (late : Refusal) → IsSeen (states_known r.known) body i → topic_in i ≡ Start → IsLate (states_known r.known) body true late.kind late.place → ⊥) → IsRefusedAt seen place (model_faults.Item kind r.number place)
+item_not_ended seen r i kind place (nothing n) e stuck reason kinds undue = absurd (none≢some n.item_is e)
+item_not_ended seen r i kind place (item w) e stuck reason kinds undue =
     let same = same_item seen r i e w in
-    end_refused seen r kind place w (cannot_end seen r i w e stuck) (subst (λ j. IsEndReason (topic_in j) kind) (sym same) (reason w.body (subst (IsSeen w.body) same w.read.seen)))
+    end_refused seen r kind place w (cannot_end seen r i w e stuck) (subst (λ j. IsEndReason (topic_in j) kind) (sym same) (reason w.body (subst (IsSeen (states_known r.known) w.body) same w.read.seen)))
     (subst (λ j. kind ≡ misfit (item_wants r.known j []) None) (sym same) (kinds (some_elements seen r i w e)))
+    (λ late start. undue w.body late (subst (IsSeen (states_known r.known) w.body) same w.read.seen) (sym (ap topic_in same) ∙ start))
 
 -- nor for the number before its end
 pub item_not_ended_before : (seen : List Lexeme) (r : TextReader) (i : ItemReader) (kind : ItemFault) (at place : ℕ) → IsTextRead seen r → r.item ≡ Some i
-    → (HasElements r.known (topic_in i) → CannotEnd (ItemGoes r.known) i) → ((body : List Lexeme) → IsSeen body i → (topic_in i ≡ Start) × (kind ≡ IndexOutOfRange) × IsStartReason body kind at)
+    → (HasElements r.known (topic_in i) → CannotEnd (ItemGoes r.known) i)
+    → ((body : List Lexeme) → IsSeen (states_known r.known) body i → (topic_in i ≡ Start) × IsStartReason body kind at × IsLate (states_known r.known) body true kind at)
+    → ((body : List Lexeme) (late : Refusal) → IsSeen (states_known r.known) body i → topic_in i ≡ Start → IsLate (states_known r.known) body true late.kind late.place → (kind ≡ late.kind) × (at ≡ late.place))
     → IsRefusedAt seen place (model_faults.Item kind r.number at)
-item_not_ended_before seen r i kind at place (nothing n) e stuck reason = absurd (none≢some n.item_is e)
-item_not_ended_before seen r i kind at place (item w) e stuck reason =
+item_not_ended_before seen r i kind at place (nothing n) e stuck reason due = absurd (none≢some n.item_is e)
+item_not_ended_before seen r i kind at place (item w) e stuck reason due =
     let same = same_item seen r i e w in
-    let why = reason w.body (subst (IsSeen w.body) same w.read.seen) in
-    end_refused_before seen r kind at place w (cannot_end seen r i w e stuck) (ap topic_in same ∙ why.0) why.1 why.2
+    let read = subst (IsSeen (states_known r.known) w.body) same w.read.seen in
+    let why = reason w.body read in
+    end_refused_before seen r kind at place w (cannot_end seen r i w e stuck) (ap topic_in same ∙ why.0) why.1 why.2 (λ late start. due w.body late read (sym (ap topic_in same) ∙ start))
 
 -- ---- one lexeme more
 
@@ -111,7 +118,7 @@ not_begun seen r l (item w) e inside = absurd (none≢some e w.item_is)
 
 -- the open item takes it
 pub item_takes : (seen : List Lexeme) (r : TextReader) (l : Lexeme) (old new : ItemReader) → IsTextRead seen r → r.item ≡ Some old → begins_item l ≡ false
-    → topic_in new ≡ topic_in old → IsItemWithin r.known new → Takes (ItemGoes r.known) old l new → ((body : List Lexeme) → IsSeen body old → IsSeen (body ++ l ∷ []) new)
+    → topic_in new ≡ topic_in old → IsItemWithin r.known new → Takes (ItemGoes r.known) old l new → ((body : List Lexeme) → IsSeen (states_known r.known) body old → IsSeen (states_known r.known) (body ++ l ∷ []) new)
     → Leads (item_wants r.known old) l (item_wants r.known new) → IsTextRead (seen ++ l ∷ []) (reader_of r.known (Some new) r.number)
 item_takes seen r l old new (nothing n) e inside same within takes goes_on leads = absurd (none≢some n.item_is e)
 item_takes seen r l old new (item w) e inside same within takes goes_on leads =
@@ -128,14 +135,20 @@ item_takes seen r l old new (item w) e inside same within takes goes_on leads =
 
 -- it cannot
 pub item_refuses : (seen : List Lexeme) (r : TextReader) (l : Lexeme) (i : ItemReader) (kind : ItemFault) (place : ℕ) → IsTextRead seen r → r.item ≡ Some i → begins_item l ≡ false
-    → CannotTake (ItemGoes r.known) i l → ((body : List Lexeme) → IsSeen body i → IsItemReason i body l kind place)
-    → IfNotStart (topic_in i) (IsMisfit (item_wants r.known i []) l kind) → IfStart (topic_in i) (IsStartMisfit (item_wants r.known i []) l kind place) → IsRefusedBehind (seen ++ l ∷ []) (model_faults.Item kind r.number place)
-item_refuses seen r l i kind place (nothing n) e inside stuck reason unfit named = absurd (none≢some n.item_is e)
-item_refuses seen r l i kind place (item w) e inside stuck reason unfit named =
+    → CannotTake (ItemGoes r.known) i l → ((body : List Lexeme) → IsSeen (states_known r.known) body i → IsItemReason i body l kind place)
+    → IfNotStart (topic_in i) (IsMisfit (item_wants r.known i []) l kind)
+    → ((body : List Lexeme) → IsSeen (states_known r.known) body i → IfStart (topic_in i) (StopsStart (states_known r.known) body (item_wants r.known i []) l kind place))
+    → ((body more : List Lexeme) (ends : Bool) (late : Refusal) → IsSeen (states_known r.known) body i → topic_in i ≡ Start → IsLate (states_known r.known) (body ++ l ∷ more) ends late.kind late.place
+    → (kind ≡ late.kind) × (place ≡ late.place))
+    → IsRefusedBehind (seen ++ l ∷ []) (model_faults.Item kind r.number place)
+item_refuses seen r l i kind place (nothing n) e inside stuck reason unfit stops due = absurd (none≢some n.item_is e)
+item_refuses seen r l i kind place (item w) e inside stuck reason unfit stops due =
     let same = sym (same_item seen r i e w) in
-    feed_refused seen r l kind place w inside (subst (λ j. CannotTake (ItemGoes r.known) j l) same stuck) (subst (λ j. IsItemReason j w.body l kind place) same (reason w.body (subst (IsSeen w.body) (sym same) w.read.seen)))
+    let read = subst (IsSeen (states_known r.known) w.body) (sym same) w.read.seen in
+    feed_refused seen r l kind place w inside (subst (λ j. CannotTake (ItemGoes r.known) j l) same stuck) (subst (λ j. IsItemReason j w.body l kind place) same (reason w.body read))
     (subst (λ j. IfNotStart (topic_in j) (IsMisfit (item_wants r.known j []) l kind)) same unfit)
-    (subst (λ j. IfStart (topic_in j) (IsStartMisfit (item_wants r.known j []) l kind place)) same named)
+    (subst (λ j. IfStart (topic_in j) (StopsStart (states_known r.known) w.body (item_wants r.known j []) l kind place)) same (stops w.body read))
+    (λ more ends late start. due w.body more ends late read (ap topic_in same ∙ start))
 
 -- ---- an item's word
 

@@ -18,6 +18,7 @@ use Rattle.polcert_cells.specs.Words.{begins_item}
 use Rattle.polcert_format.specs.Text.{Known, nothing_known, IsRight}
 use Rattle.polcert_format.specs.Order.{word_fault}
 use Rattle.polcert_format.specs.Reading.{AreRightItems, IsWithinItem, IsPossible}
+use Rattle.polcert_format.specs.FirstNumber.{states_known}
 use Rattle.polcert_format.specs.FirstWrong.{TextTokens, AreTokensOf}
 use Rattle.polcert_format.specs.Refusals.{IsRefusal, IsPlacedRight}
 use Rattle.polcert_format.specs.Wants.{wanted}
@@ -30,7 +31,7 @@ pub record IsBodyRead (k : Known) (t : Topic) (body : List Lexeme) (item : ItemR
   pub may_stand : word_fault k t ≡ None
   pub topic_is : topic_in item ≡ t
   pub within : IsItemWithin k item
-  pub seen : IsSeen body item
+  pub seen : IsSeen (states_known k) body item
   pub back : (ls : List Lexeme) (next : Known) → ItemGoes k item ls next → IsRight k t (body ++ ls) next
   pub on : (ls : List Lexeme) (next : Known) → IsRight k t (body ++ ls) next → ItemGoes k item ls next
   pub possible : (t ≡ Start → ⊥) → IsPossible k t body

@@ -23,9 +23,6 @@ returns-in-Plus-clause-refused c =
     let other = plus_or_minus l c.in-Plus.is in
     on_err_map _ (λ stuck. body_stuck states l other.1 (sign_not_whole states l other.0) stuck) (c.first_number.ensures.refused states)
 
-pub returns-in-Plus-clause-kept : goal.returns-in-Plus-clause-kept
-returns-in-Plus-clause-kept c = c.first_number.ensures.kept _
-
 pub returns-in-Plus-clause-leads : goal.returns-in-Plus-clause-leads
 returns-in-Plus-clause-leads c =
     let states = c.args.states.now in

@@ -31,9 +31,6 @@ returns-in-None-clause-refused c =
     let none = not_whole states l (whole_or_one states l c.count.result c.count.ensures c.in-None.ensures) in
     on_err_map _ (λ stuck. body_stuck states l (numeral_not_name l c.requires.numeral) none stuck) (c.first_number.ensures.refused states)
 
-pub returns-in-None-clause-kept : goal.returns-in-None-clause-kept
-returns-in-None-clause-kept c = c.first_number.ensures.kept _
-
 pub returns-in-None-clause-leads : goal.returns-in-None-clause-leads
 returns-in-None-clause-leads c =
     let states = c.args.states.now in

@@ -2,6 +2,8 @@ use Rattle.std.proofs.Common.{rules, subst, sym, [], FitsSigned, w64, to_z-of_z}
 use Rattle.polcert_text.specs.Reading.{lexeme_of}
 use Rattle.polcert_items.specs.StartSteps.{Begins, NumbersGo, StartGoes}
 use Rattle.polcert_items.specs.declared.start_reader.StartReader.TheVariants as reader
+use Rattle.polcert_text.proofs.Taking.{on_err}
+use Rattle.polcert_items.proofs.ListLaws.{held_not_refused}
 use Rattle.polcert_items.proofs.StartNumbers.{sign_begins, value_begins}
 use Rattle.polcert_items.proofs.start_reader.first_number.Goals as goal
 
@@ -16,3 +18,6 @@ returns-in-Value-clause-begun c = λ states.
     let fits : FitsSigned w64 h = search rules in
     let step = rw c.in-Value.is at c.in_ok-sign.ensures.step in
     simp to_z-of_z (value_begins states [] (lexeme_of c.args.token) c.args.sign h step.0)
+
+pub returns-in_err-sign-clause-held : goal.returns-in_err-sign-clause-held
+returns-in_err-sign-clause-held c = on_err _ (held_not_refused c.args.sign (lexeme_of c.args.token) c.in_err-sign.ensures.refused.none)

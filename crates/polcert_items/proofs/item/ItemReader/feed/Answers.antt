@@ -1,10 +1,11 @@
-use Rattle.std.proofs.Common.{None, subst}
+use Rattle.std.proofs.Common.{None, [], ◌∷◌, ◌++◌, subst}
+use Rattle.polcert_format.specs.FirstNumber.{states_known}
 use Rattle.polcert_text.specs.Reading.{lexeme_of}
 use Rattle.polcert_items.specs.EntrySteps.{entry_sign}
 use Rattle.polcert_items.specs.LineSteps.{discount_sign}
 use Rattle.polcert_items.specs.ItemSteps.{IsSeen}
 use Rattle.polcert_items.proofs.PatternLaws.{if_err_map, refused_map, each_refused_map, on_ok_map}
-use Rattle.polcert_items.proofs.ItemReading.{sign_ends, elements_seen, states_reason, actions_reason, observations_reason, start_reason, start_takes, start_stuck, start_leads, start_named, if_err_both}
+use Rattle.polcert_items.proofs.ItemReading.{sign_ends, elements_seen, states_reason, actions_reason, observations_reason, start_reason, start_takes, start_stuck, start_leads, start_seen, start_keeps, start_stops, start_late, if_err_both}
 use Rattle.polcert_items.proofs.item.ItemReader.feed.Goals as goal
 
 pub returns-in_ok-feed-in-Discount-clause-seen : goal.returns-in_ok-feed-in-Discount-clause-seen
@@ -16,29 +17,29 @@ returns-in_ok-feed-in-Values-clause-seen c = λ body s. sign_ends None body (lex
 pub returns-in-States-clause-seen : goal.returns-in-States-clause-seen
 returns-in-States-clause-seen c = λ body s.
     let e = c.feed-in-States.ensures in
-    elements_seen c.feed-in-States.result body (lexeme_of c.args.token) c.feed-in-States.new.self e.sign (e.seen body (subst (IsSeen body) c.in-States.is s).1)
+    elements_seen c.feed-in-States.result body (lexeme_of c.args.token) c.feed-in-States.new.self e.sign (e.seen body (subst (IsSeen (states_known c.args.known.now) body) c.in-States.is s).1)
 
 pub returns-in-States-clause-reason : goal.returns-in-States-clause-reason
 returns-in-States-clause-reason c = λ body s.
-    if_err_map _ _ _ (λ stop h. each_refused_map stop (λ f x. states_reason c.args.self.now c.in-States.reader body (lexeme_of c.args.token) f.kind f.place s x c.in-States.is) h) c.feed-in-States.ensures.reason
+    if_err_map _ _ _ (λ stop h. each_refused_map stop (λ f x. states_reason c.args.self.now c.in-States.reader body (lexeme_of c.args.token) f.kind f.place (states_known c.args.known.now) s x c.in-States.is) h) c.feed-in-States.ensures.reason
 
 pub returns-in-Actions-clause-seen : goal.returns-in-Actions-clause-seen
 returns-in-Actions-clause-seen c = λ body s.
     let e = c.feed-in-Actions.ensures in
-    elements_seen c.feed-in-Actions.result body (lexeme_of c.args.token) c.feed-in-Actions.new.self e.sign (e.seen body (subst (IsSeen body) c.in-Actions.is s).1)
+    elements_seen c.feed-in-Actions.result body (lexeme_of c.args.token) c.feed-in-Actions.new.self e.sign (e.seen body (subst (IsSeen (states_known c.args.known.now) body) c.in-Actions.is s).1)
 
 pub returns-in-Actions-clause-reason : goal.returns-in-Actions-clause-reason
 returns-in-Actions-clause-reason c = λ body s.
-    if_err_map _ _ _ (λ stop h. each_refused_map stop (λ f x. actions_reason c.args.self.now c.in-Actions.reader body (lexeme_of c.args.token) f.kind f.place s x c.in-Actions.is) h) c.feed-in-Actions.ensures.reason
+    if_err_map _ _ _ (λ stop h. each_refused_map stop (λ f x. actions_reason c.args.self.now c.in-Actions.reader body (lexeme_of c.args.token) f.kind f.place (states_known c.args.known.now) s x c.in-Actions.is) h) c.feed-in-Actions.ensures.reason
 
 pub returns-in-Observations-clause-seen : goal.returns-in-Observations-clause-seen
 returns-in-Observations-clause-seen c = λ body s.
     let e = c.feed-in-Observations.ensures in
-    elements_seen c.feed-in-Observations.result body (lexeme_of c.args.token) c.feed-in-Observations.new.self e.sign (e.seen body (subst (IsSeen body) c.in-Observations.is s).1)
+    elements_seen c.feed-in-Observations.result body (lexeme_of c.args.token) c.feed-in-Observations.new.self e.sign (e.seen body (subst (IsSeen (states_known c.args.known.now) body) c.in-Observations.is s).1)
 
 pub returns-in-Observations-clause-reason : goal.returns-in-Observations-clause-reason
 returns-in-Observations-clause-reason c = λ body s.
-    if_err_map _ _ _ (λ stop h. each_refused_map stop (λ f x. observations_reason c.args.self.now c.in-Observations.reader body (lexeme_of c.args.token) f.kind f.place s x c.in-Observations.is) h)
+    if_err_map _ _ _ (λ stop h. each_refused_map stop (λ f x. observations_reason c.args.self.now c.in-Observations.reader body (lexeme_of c.args.token) f.kind f.place (states_known c.args.known.now) s x c.in-Observations.is) h)
     c.feed-in-Observations.ensures.reason
 
 pub returns-in-Start-clause-takes : goal.returns-in-Start-clause-takes
@@ -54,7 +55,7 @@ returns-in-Start-clause-refused c =
 pub returns-in-Start-clause-reason : goal.returns-in-Start-clause-reason
 returns-in-Start-clause-reason c = λ body s.
     if_err_map _ _ _ (λ stop h. each_refused_map stop (λ f x. start_reason c.args.self.now c.in-Start.reader body (lexeme_of c.args.token) f.kind f.place c.in-Start.is x) h)
-    (c.feed-in-Start.ensures.reason body (subst (IsSeen body) c.in-Start.is s))
+    (c.feed-in-Start.ensures.reason body (start_seen c.args.known.now c.states.result.now c.args.self.now c.in-Start.reader body c.states.ensures.states c.in-Start.is s))
 
 pub returns-in-Entry-clause-seen : goal.returns-in-Entry-clause-seen
 returns-in-Entry-clause-seen c = λ body s. on_ok_map _ (sign_ends (entry_sign c.feed-in-Entry.new.self.state) body (lexeme_of c.args.token)) c.feed-in-Entry.ensures.sign
@@ -64,7 +65,18 @@ returns-in-Start-clause-leads c =
     on_ok_map _ (start_leads c.args.known.now c.states.result.now c.args.self.now c.in-Start.reader c.feed-in-Start.new.self (lexeme_of c.args.token) c.states.ensures.states c.in-Start.is)
     c.feed-in-Start.ensures.leads
 
+pub returns-in-Start-clause-seen : goal.returns-in-Start-clause-seen
+returns-in-Start-clause-seen c = λ body s.
+    let l = lexeme_of c.args.token in
+    on_ok_map _ (start_keeps c.args.known.now c.states.result.now c.feed-in-Start.new.self (body ++ l ∷ []) c.states.ensures.states)
+    (c.feed-in-Start.ensures.seen body (start_seen c.args.known.now c.states.result.now c.args.self.now c.in-Start.reader body c.states.ensures.states c.in-Start.is s))
+
 pub returns-in-Start-clause-start : goal.returns-in-Start-clause-start
-returns-in-Start-clause-start c =
-    if_err_both _ _ _ _ (λ stop named at. start_named c.args.known.now c.states.result.now c.args.self.now c.in-Start.reader (lexeme_of c.args.token) stop c.states.ensures.states c.in-Start.is named at)
-    c.feed-in-Start.ensures.kind c.feed-in-Start.ensures.place
+returns-in-Start-clause-start c = λ body s.
+    if_err_both _ _ _ _ (λ stop named range. start_stops c.args.known.now c.states.result.now c.args.self.now c.in-Start.reader body (lexeme_of c.args.token) stop c.states.ensures.states c.in-Start.is s named range)
+    c.feed-in-Start.ensures.stops c.feed-in-Start.ensures.range
+
+pub returns-in-Start-clause-late : goal.returns-in-Start-clause-late
+returns-in-Start-clause-late c = λ body more ends late s start due.
+    start_late c.args.known.now c.states.result.now c.args.self.now c.in-Start.reader body more (lexeme_of c.args.token) ends late c.feed-in-Start.result c.states.ensures.states c.in-Start.is s due
+    c.feed-in-Start.ensures.late c.feed-in-Start.ensures.held

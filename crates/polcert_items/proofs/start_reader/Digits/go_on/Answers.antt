@@ -1,7 +1,6 @@
 use Rattle.std.proofs.Common.{◌≡◌, Ok, rules, refl, FitsSigned, w64, to_z, of_z, to_z-of_z}
 use Rattle.polcert_text.specs.Reading.{lexeme_of}
 use Rattle.polcert_items.specs.declared.start_reader.FirstNumber.{FirstNumber}
-use Rattle.polcert_items.specs.StartSteps.{digits_no_number}
 use Rattle.polcert_items.proofs.PatternLaws.{if_err_map, refused_map, each_refused_map}
 use Rattle.polcert_items.proofs.StartNumbers.{digits_take, digits_stuck, digits_stop, if_ok_map}
 use Rattle.polcert_items.proofs.start_reader.Digits.go_on.Goals as goal
@@ -20,11 +19,8 @@ returns-in-Ok-clause-refused c =
     let is : c.args.self.value ≡ Ok first.value = simp to_z-of_z c.in-Ok.is in
     if_err_map _ _ _ (λ stop g. refused_map stop (digits_stuck c.args.states.now c.args.self (lexeme_of c.args.token) first is) g) c.go_on.ensures.refused
 
-pub returns-in-Ok-clause-reason : goal.returns-in-Ok-clause-reason
-returns-in-Ok-clause-reason c =
+pub returns-in-Ok-clause-stops : goal.returns-in-Ok-clause-stops
+returns-in-Ok-clause-stops c =
     let h = c.in-Ok.value in
     let fits : FitsSigned w64 h = search rules in
-    if_err_map _ _ _ (λ stop g. each_refused_map stop (λ r n. digits_stop c.args.self _ (lexeme_of c.args.token) r.kind r.place (simp to_z-of_z c.in-Ok.is) refl n) g) c.go_on.ensures.reason
-
-pub returns-in-Err-clause-reason : goal.returns-in-Err-clause-reason
-returns-in-Err-clause-reason c = digits_no_number c.in-Err.fault refl refl c.in-Err.is
+    if_err_map _ _ _ (λ stop g. each_refused_map stop (λ r n. digits_stop c.args.self _ _ (lexeme_of c.args.token) r.kind r.place (simp to_z-of_z c.in-Ok.is) refl n) g) c.go_on.ensures.stops

@@ -1,5 +1,5 @@
 use Rattle.std.proofs.Common.{[], sym, subst, IfOk}
-use Rattle.polcert_items.specs.StartSteps.{StartGoes, IsStartSeen}
+use Rattle.polcert_items.specs.StartSteps.{StartGoes, IsStartSeen, IsEndDue}
 use Rattle.polcert_items.specs.declared.start_reader.StartReader.TheVariants as reader
 use Rattle.polcert_items.proofs.PatternLaws.{if_err_map}
 use Rattle.polcert_items.proofs.StartSeen.{end_refused}
@@ -8,7 +8,6 @@ use Rattle.polcert_cells.specs.Elements.{count_of}
 use Rattle.polcert_format.specs.Misfits.{misfit}
 use Rattle.polcert_items.specs.WantSteps.{start_wants, IfAtEnd}
 use Rattle.polcert_items.specs.StartSteps.{IsStartWithin}
-use Rattle.polcert_items.proofs.WantLaws.{no_end_kind}
 use Rattle.polcert_items.proofs.start_reader.StartReader.end.Goals as goal
 
 pub returns-in-List-clause-reason : goal.returns-in-List-clause-reason
@@ -22,7 +21,7 @@ returns-in-Digits-clause-refused c =
     if_err_map _ _ _ (λ e none. end_refused c.args.states.now c.args.self (reader.Digits c.in-Digits.digits) e c.in-Digits.is none) c.end-in-Digits.ensures.refused
 
 pub returns-in-Digits-clause-reason : goal.returns-in-Digits-clause-reason
-returns-in-Digits-clause-reason c = λ body seen. c.end-in-Digits.ensures.reason body (subst (IsStartSeen body) c.in-Digits.is seen)
+returns-in-Digits-clause-reason c = λ body seen. c.end-in-Digits.ensures.reason body (subst (IsStartSeen (count_of c.args.states.now) body) c.in-Digits.is seen)
 
 pub returns-in-Probabilities-clause-said : goal.returns-in-Probabilities-clause-said
 returns-in-Probabilities-clause-said c =
@@ -43,10 +42,16 @@ pub returns-in-Number-clause-kind : goal.returns-in-Number-clause-kind
 returns-in-Number-clause-kind c =
     subst (λ s. IfErr c.end-in-Number.result (λ e. IfAtEnd e (λ kind. kind ≡ misfit (start_wants (count_of c.args.states.now) s []) None))) (sym c.in-Number.is) c.end-in-Number.ensures.kind
 
-pub returns-in-Digits-clause-kind : goal.returns-in-Digits-clause-kind
-returns-in-Digits-clause-kind c = if_err_map _ _ _ (λ e none. no_end_kind e _ none) c.end-in-Digits.ensures.kind
-
 pub returns-in-Probabilities-clause-kind : goal.returns-in-Probabilities-clause-kind
 returns-in-Probabilities-clause-kind c =
     let within = subst (IsStartWithin c.args.states.now) c.in-Probabilities.is c.requires.within in
     subst (λ s. IfErr c.end_probabilities.result (λ e. IfAtEnd e (λ kind. kind ≡ misfit (start_wants (count_of c.args.states.now) s []) None))) (sym c.in-Probabilities.is) (c.end_probabilities.ensures.kind within.room)
+
+pub returns-in-List-clause-due : goal.returns-in-List-clause-due
+returns-in-List-clause-due c = subst (λ s. IfErr c.end.result (IsEndDue s)) (sym c.in-List.is) c.end.ensures.at_end
+
+pub returns-in-Number-clause-due : goal.returns-in-Number-clause-due
+returns-in-Number-clause-due c = subst (λ s. IfErr c.end-in-Number.result (IsEndDue s)) (sym c.in-Number.is) c.end-in-Number.ensures.at_end
+
+pub returns-in-Probabilities-clause-due : goal.returns-in-Probabilities-clause-due
+returns-in-Probabilities-clause-due c = subst (λ s. IfErr c.end_probabilities.result (IsEndDue s)) (sym c.in-Probabilities.is) c.end_probabilities.ensures.at_end

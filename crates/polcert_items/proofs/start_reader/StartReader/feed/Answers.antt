@@ -1,14 +1,15 @@
-use Rattle.std.proofs.Common.{sym, ap, subst, rules, None, Some}
+use Rattle.std.proofs.Common.{sym, ap, subst, rules, ◌-◌, false, None, Some}
 use Rattle.polcert_text.specs.Reading.{lexeme_of}
 use Rattle.polcert_cells.specs.Elements.{count_of}
 use Rattle.polcert_items.specs.LineSteps.{Takes, CannotTake}
 use Rattle.polcert_items.specs.EntrySteps.{IfRefused}
 use Rattle.polcert_format.specs.Reasons.{is_sign}
-use Rattle.polcert_items.specs.StartSteps.{StartGoes, IsReasonAt, IsNumberStop, IsDigitsStop}
+use Rattle.polcert_items.specs.StartSteps.{StartGoes, IsReasonAt, IsDueNumber, IsDueValue, IsStop}
+use Rattle.polcert_format.specs.Wants.{number_end}
 use Rattle.polcert_items.specs.declared.start_reader.StartReader.TheVariants as reader
 use Rattle.polcert_items.proofs.PatternLaws.{if_err_map, refused_map, each_refused_map, on_ok_map}
 use Rattle.polcert_items.proofs.StartNumbers.{sign_takes, shares_take, shares_stuck}
-use Rattle.polcert_items.proofs.StartSeen.{seen_in, reason_in, number_reason_in, digits_reason_in, list_reason, reason_place, number_place_of, digits_place_of}
+use Rattle.polcert_items.proofs.StartSeen.{seen_as, form_seen, list_seen, body_seen, numeral_seen, number_seen, digits_go_on, further_seen, reason_in, number_reason, digits_reason, list_reason}
 use Rattle.polcert_items.specs.WantSteps.{Leads, start_wants}
 use Rattle.polcert_items.proofs.start_reader.StartReader.feed.Goals as goal
 
@@ -17,35 +18,35 @@ pub returns-in_err-feed-in-List-clause-reason :
 returns-in_err-feed-in-List-clause-reason c = λ body seen.
     let l = lexeme_of c.args.token in
     if_err_map c.from_residual-in_err-feed-in-List.result (λ stop. IfRefused stop (λ r. IsReasonAt None l r.kind r.place)) _
-    (λ stop h. each_refused_map stop (λ r x. reason_in body l c.args.self.now (reader.List c.in-List.chosen) r.kind r.place c.in-List.is seen x) h) (search rules)
+    (λ stop h. each_refused_map stop (λ r x. reason_in (count_of c.args.states.now) body l c.args.self.now (reader.List c.in-List.chosen) r.kind r.place c.in-List.is seen x) h) (search rules)
 
 pub returns-in_err-self-in-Body-clause-reason :
     goal.returns-in_err-self-in-Body-clause-reason
 returns-in_err-self-in-Body-clause-reason c = λ body seen.
     let l = lexeme_of c.args.token in
     if_err_map c.from_residual-in_err-self-in-Body.result (λ stop. IfRefused stop (λ r. IsReasonAt None l r.kind r.place)) _
-    (λ stop h. each_refused_map stop (λ r x. reason_in body l c.args.self.now reader.Body r.kind r.place c.in-Body.is seen x) h) (search rules)
+    (λ stop h. each_refused_map stop (λ r x. reason_in (count_of c.args.states.now) body l c.args.self.now reader.Body r.kind r.place c.in-Body.is seen x) h) (search rules)
 
 pub returns-in_err-self-in-Sign-clause-reason :
     goal.returns-in_err-self-in-Sign-clause-reason
 returns-in_err-self-in-Sign-clause-reason c = λ body seen.
     let l = lexeme_of c.args.token in
     if_err_map c.from_residual-in_err-self-in-Sign.result (λ stop. IfRefused stop (λ r. IsReasonAt (Some c.in-Sign.sign) l r.kind r.place)) _
-    (λ stop h. each_refused_map stop (λ r x. reason_in body l c.args.self.now (reader.Sign c.in-Sign.sign) r.kind r.place c.in-Sign.is seen x) h) (search rules)
+    (λ stop h. each_refused_map stop (λ r x. reason_in (count_of c.args.states.now) body l c.args.self.now (reader.Sign c.in-Sign.sign) r.kind r.place c.in-Sign.is seen x) h) (search rules)
 
 pub returns-in_err-go_on-in-Number-clause-reason :
     goal.returns-in_err-go_on-in-Number-clause-reason
 returns-in_err-go_on-in-Number-clause-reason c = λ body seen.
     let l = lexeme_of c.args.token in
-    if_err_map c.from_residual-in_err-go_on-in-Number.result (λ stop. IfRefused stop (λ r. IsNumberStop c.in-Number.first l r.kind r.place)) _
-    (λ stop h. each_refused_map stop (λ r x. number_reason_in body l c.args.self.now c.in-Number.first r.kind r.place c.in-Number.is seen x) h) (search rules)
+    if_err_map c.from_residual-in_err-go_on-in-Number.result (λ stop. IfRefused stop (λ r. IsStop (IsDueNumber c.in-Number.first.value c.in-Number.first.place l) None (number_end false (count_of c.args.states.now - 1)) l r.kind r.place)) _
+    (λ stop h. each_refused_map stop (λ r x. number_reason (count_of c.args.states.now) body c.in-Number.first _ l r.kind r.place (seen_as (count_of c.args.states.now) body c.args.self.now (reader.Number c.in-Number.first) c.in-Number.is seen) x) h) (search rules)
 
 pub returns-in_err-go_on-in-Digits-clause-reason :
     goal.returns-in_err-go_on-in-Digits-clause-reason
 returns-in_err-go_on-in-Digits-clause-reason c = λ body seen.
     let l = lexeme_of c.args.token in
-    if_err_map c.from_residual-in_err-go_on-in-Digits.result (λ stop. IfRefused stop (λ r. IsDigitsStop c.in-Digits.digits l r.kind r.place)) _
-    (λ stop h. each_refused_map stop (λ r x. digits_reason_in body l c.args.self.now c.in-Digits.digits r.kind r.place c.in-Digits.is seen x) h) (search rules)
+    if_err_map c.from_residual-in_err-go_on-in-Digits.result (λ stop. IfRefused stop (λ r. IsStop (IsDueValue c.in-Digits.digits.value c.in-Digits.digits.place l) None (number_end false (count_of c.args.states.now - 1)) l r.kind r.place)) _
+    (λ stop h. each_refused_map stop (λ r x. digits_reason (count_of c.args.states.now) body c.in-Digits.digits _ l r.kind r.place (seen_as (count_of c.args.states.now) body c.args.self.now (reader.Digits c.in-Digits.digits) c.in-Digits.is seen) x) h) (search rules)
 
 pub returns-in_err-go_on-in-Digits-clause-refused : goal.returns-in_err-go_on-in-Digits-clause-refused
 returns-in_err-go_on-in-Digits-clause-refused c =
@@ -62,19 +63,32 @@ returns-in_ok-self-in-Form-clause-takes c =
     subst (λ s. Takes (StartGoes c.args.states.now) s (lexeme_of c.args.token) c.in_ok-self-in-Form.field-0) (sym c.in-Form.is) (c.in_ok-self-in-Form.ensures.begun c.args.states.now)
 
 pub returns-in_ok-self-in-Form-clause-seen : goal.returns-in_ok-self-in-Form-clause-seen
-returns-in_ok-self-in-Form-clause-seen c = λ body seen. seen_in 0 body (lexeme_of c.args.token) c.args.self.now reader.Form _ c.in-Form.is (c.in_ok-self-in-Form.ensures.kept 0) seen
+returns-in_ok-self-in-Form-clause-seen c = λ body seen.
+    let l = lexeme_of c.args.token in
+    let count = count_of c.args.states.now in
+    let at = seen_as count body c.args.self.now reader.Form c.in-Form.is seen in
+    form_seen count body l _ at.body_is c.in_ok-self-in-Form.ensures.formed
 
 pub returns-in_ok-new-in-Colon-clause-seen : goal.returns-in_ok-new-in-Colon-clause-seen
 returns-in_ok-new-in-Colon-clause-seen c = λ body seen.
-    seen_in 0 body (lexeme_of c.args.token) c.args.self.now (reader.Colon c.in-Colon.choice) (reader.List c.in_ok-new-in-Colon.field-0) c.in-Colon.is (ap is_sign c.in_ok-colon-in-Colon.ensures.ok) seen
+    let l = lexeme_of c.args.token in
+    let count = count_of c.args.states.now in
+    let at = seen_as count body c.args.self.now (reader.Colon c.in-Colon.choice) c.in-Colon.is seen in
+    list_seen count body l c.in_ok-new-in-Colon.field-0 at.body_is (ap is_sign c.in_ok-colon-in-Colon.ensures.ok)
 
 pub returns-in_ok-feed-in-List-clause-seen : goal.returns-in_ok-feed-in-List-clause-seen
 returns-in_ok-feed-in-List-clause-seen c = λ body seen.
-    seen_in 0 body (lexeme_of c.args.token) c.args.self.now (reader.List c.in-List.chosen) (reader.List c.feed.new.self) c.in-List.is c.in_ok-feed-in-List.ensures.kept seen
+    let l = lexeme_of c.args.token in
+    let count = count_of c.args.states.now in
+    let at = seen_as count body c.args.self.now (reader.List c.in-List.chosen) c.in-List.is seen in
+    list_seen count body l c.feed.new.self at.body_is c.in_ok-feed-in-List.ensures.kept
 
 pub returns-in_ok-self-in-Body-clause-seen : goal.returns-in_ok-self-in-Body-clause-seen
 returns-in_ok-self-in-Body-clause-seen c = λ body seen.
-    seen_in (count_of c.args.states.now) body (lexeme_of c.args.token) c.args.self.now reader.Body _ c.in-Body.is c.in_ok-self-in-Body.ensures.kept seen
+    let l = lexeme_of c.args.token in
+    let count = count_of c.args.states.now in
+    let at = seen_as count body c.args.self.now reader.Body c.in-Body.is seen in
+    body_seen count body l _ at.body_is c.in_ok-self-in-Body.ensures.kept
 
 pub returns-in_ok-self-in-Sign-clause-within : goal.returns-in_ok-self-in-Sign-clause-within
 returns-in_ok-self-in-Sign-clause-within c = c.in_ok-self-in-Sign.ensures.within c.args.states.now
@@ -86,11 +100,17 @@ returns-in_ok-self-in-Sign-clause-takes c =
 
 pub returns-in_ok-self-in-Sign-clause-seen : goal.returns-in_ok-self-in-Sign-clause-seen
 returns-in_ok-self-in-Sign-clause-seen c = λ body seen.
-    seen_in 0 body (lexeme_of c.args.token) c.args.self.now (reader.Sign c.in-Sign.sign) _ c.in-Sign.is (c.in_ok-self-in-Sign.ensures.kept 0) seen
+    let l = lexeme_of c.args.token in
+    let count = count_of c.args.states.now in
+    let at = seen_as count body c.args.self.now (reader.Sign c.in-Sign.sign) c.in-Sign.is seen in
+    numeral_seen count c.in-Sign.sign body l _ at.body_is c.in_ok-self-in-Sign.ensures.kept
 
 pub returns-in_ok-go_on-in-Number-clause-seen : goal.returns-in_ok-go_on-in-Number-clause-seen
 returns-in_ok-go_on-in-Number-clause-seen c = λ body seen.
-    seen_in 0 body (lexeme_of c.args.token) c.args.self.now (reader.Number c.in-Number.first) (reader.Probabilities c.in_ok-go_on-in-Number.field-0) c.in-Number.is c.in_ok-go_on-in-Number.ensures.kept seen
+    let l = lexeme_of c.args.token in
+    let count = count_of c.args.states.now in
+    let at = seen_as count body c.args.self.now (reader.Number c.in-Number.first) c.in-Number.is seen in
+    number_seen count body l c.in-Number.first c.in_ok-go_on-in-Number.field-0 at c.in_ok-go_on-in-Number.ensures.inside c.in_ok-go_on-in-Number.ensures.kept
 
 pub returns-in_ok-go_on-in-Digits-clause-takes : goal.returns-in_ok-go_on-in-Digits-clause-takes
 returns-in_ok-go_on-in-Digits-clause-takes c =
@@ -98,7 +118,10 @@ returns-in_ok-go_on-in-Digits-clause-takes c =
 
 pub returns-in_ok-go_on-in-Digits-clause-seen : goal.returns-in_ok-go_on-in-Digits-clause-seen
 returns-in_ok-go_on-in-Digits-clause-seen c = λ body seen.
-    seen_in 0 body (lexeme_of c.args.token) c.args.self.now (reader.Digits c.in-Digits.digits) (reader.Probabilities c.in_ok-go_on-in-Digits.field-0) c.in-Digits.is c.in_ok-go_on-in-Digits.ensures.kept seen
+    let l = lexeme_of c.args.token in
+    let count = count_of c.args.states.now in
+    let at = seen_as count body c.args.self.now (reader.Digits c.in-Digits.digits) c.in-Digits.is seen in
+    digits_go_on count body l c.in-Digits.digits c.in_ok-go_on-in-Digits.field-0 at c.in_ok-go_on-in-Digits.ensures.inside c.in_ok-go_on-in-Digits.ensures.kept
 
 pub returns-in-Probabilities-clause-takes : goal.returns-in-Probabilities-clause-takes
 returns-in-Probabilities-clause-takes c =
@@ -114,13 +137,16 @@ returns-in-Probabilities-clause-refused c =
 
 pub returns-in-Probabilities-clause-seen : goal.returns-in-Probabilities-clause-seen
 returns-in-Probabilities-clause-seen c = λ body seen.
-    on_ok_map _ (λ k. seen_in 0 body (lexeme_of c.args.token) c.args.self.now (reader.Probabilities c.in-Probabilities.numbers) (reader.Probabilities c.feed_probability.new.self) c.in-Probabilities.is k seen) c.feed_probability.ensures.sign
+    let l = lexeme_of c.args.token in
+    let count = count_of c.args.states.now in
+    let at = seen_as count body c.args.self.now (reader.Probabilities c.in-Probabilities.numbers) c.in-Probabilities.is seen in
+    on_ok_map _ (λ k. further_seen count body l c.in-Probabilities.numbers c.feed_probability.new.self at k) c.feed_probability.ensures.sign
 
 pub returns-in-Probabilities-clause-reason : goal.returns-in-Probabilities-clause-reason
 returns-in-Probabilities-clause-reason c = λ body seen.
     let l = lexeme_of c.args.token in
     let n = c.in-Probabilities.numbers in
-    if_err_map _ _ _ (λ stop h. each_refused_map stop (λ r x. reason_in body l c.args.self.now (reader.Probabilities n) r.kind r.place c.in-Probabilities.is seen (list_reason n.sign l r.kind r.place x)) h) c.feed_probability.ensures.reason
+    if_err_map _ _ _ (λ stop h. each_refused_map stop (λ r x. reason_in (count_of c.args.states.now) body l c.args.self.now (reader.Probabilities n) r.kind r.place c.in-Probabilities.is seen (list_reason n.sign l r.kind r.place x)) h) c.feed_probability.ensures.reason
 
 pub returns-in_ok-self-in-Form-clause-leads : goal.returns-in_ok-self-in-Form-clause-leads
 returns-in_ok-self-in-Form-clause-leads c =
@@ -131,34 +157,3 @@ pub returns-in_ok-self-in-Sign-clause-leads : goal.returns-in_ok-self-in-Sign-cl
 returns-in_ok-self-in-Sign-clause-leads c =
     let count = count_of c.args.states.now in
     subst (λ s. Leads (start_wants count s) (lexeme_of c.args.token) (start_wants count c.in_ok-self-in-Sign.field-0)) (sym c.in-Sign.is) (c.in_ok-self-in-Sign.ensures.leads count)
-
-pub returns-in_err-feed-in-List-clause-place : goal.returns-in_err-feed-in-List-clause-place
-returns-in_err-feed-in-List-clause-place c =
-    let l = lexeme_of c.args.token in
-    if_err_map c.from_residual-in_err-feed-in-List.result (λ stop. IfRefused stop (λ r. IsReasonAt None l r.kind r.place)) _ (λ stop h. each_refused_map stop (λ r x. reason_place None l r.kind r.place x) h) (search rules)
-
-pub returns-in_err-self-in-Body-clause-place : goal.returns-in_err-self-in-Body-clause-place
-returns-in_err-self-in-Body-clause-place c =
-    let l = lexeme_of c.args.token in
-    if_err_map c.from_residual-in_err-self-in-Body.result (λ stop. IfRefused stop (λ r. IsReasonAt None l r.kind r.place)) _ (λ stop h. each_refused_map stop (λ r x. reason_place None l r.kind r.place x) h) (search rules)
-
-pub returns-in_err-self-in-Sign-clause-place : goal.returns-in_err-self-in-Sign-clause-place
-returns-in_err-self-in-Sign-clause-place c =
-    let l = lexeme_of c.args.token in
-    if_err_map c.from_residual-in_err-self-in-Sign.result (λ stop. IfRefused stop (λ r. IsReasonAt (Some c.in-Sign.sign) l r.kind r.place)) _ (λ stop h. each_refused_map stop (λ r x. reason_place (Some c.in-Sign.sign) l r.kind r.place x) h) (search rules)
-
-pub returns-in_err-go_on-in-Number-clause-place : goal.returns-in_err-go_on-in-Number-clause-place
-returns-in_err-go_on-in-Number-clause-place c =
-    let l = lexeme_of c.args.token in
-    if_err_map c.from_residual-in_err-go_on-in-Number.result (λ stop. IfRefused stop (λ r. IsNumberStop c.in-Number.first l r.kind r.place)) _ (λ stop h. each_refused_map stop (λ r x. number_place_of c.in-Number.first l r.kind r.place x) h) (search rules)
-
-pub returns-in_err-go_on-in-Digits-clause-place : goal.returns-in_err-go_on-in-Digits-clause-place
-returns-in_err-go_on-in-Digits-clause-place c =
-    let l = lexeme_of c.args.token in
-    if_err_map c.from_residual-in_err-go_on-in-Digits.result (λ stop. IfRefused stop (λ r. IsDigitsStop c.in-Digits.digits l r.kind r.place)) _ (λ stop h. each_refused_map stop (λ r x. digits_place_of c.in-Digits.digits l r.kind r.place x) h) (search rules)
-
-pub returns-in-Probabilities-clause-place : goal.returns-in-Probabilities-clause-place
-returns-in-Probabilities-clause-place c =
-    let l = lexeme_of c.args.token in
-    let n = c.in-Probabilities.numbers in
-    if_err_map _ _ _ (λ stop h. each_refused_map stop (λ r x. reason_place n.sign l r.kind r.place (list_reason n.sign l r.kind r.place x)) h) c.feed_probability.ensures.reason

@@ -18,6 +18,7 @@ returns-in-Err-Refused-clause-read c = λ seen read inside text ts further token
     let stuck = rw c.in-Err-Refused.field-0-is at c.in-Err-Refused.ensures.refused in
     let reason = rw c.in-Err-Refused.field-0-is at c.in-Err-Refused.ensures.reason in
     let unfit = rw c.in-Err-Refused.field-0-is at c.in-Err-Refused.ensures.kind in
-    let named = rw c.in-Err-Refused.field-0-is at c.in-Err-Refused.ensures.start in
+    let stops = rw c.in-Err-Refused.field-0-is at c.in-Err-Refused.ensures.start in
+    let late = rw c.in-Err-Refused.field-0-is at c.in-Err-Refused.ensures.late in
     subst (Refuses ts) (sym c.fault-in-Err-Refused.ensures)
-    (item_refuses seen c.args.self.now (lexeme_of c.args.token) c.in-Some.item c.in-Err-Refused.refusal.kind c.in-Err-Refused.refusal.place read c.in-Some.is inside stuck reason unfit named text ts further tokens same)
+    (item_refuses seen c.args.self.now (lexeme_of c.args.token) c.in-Some.item c.in-Err-Refused.refusal.kind c.in-Err-Refused.refusal.place read c.in-Some.is inside stuck reason unfit stops late text ts further tokens same)
