@@ -1,7 +1,7 @@
 -- What a run says of the texts of three sources, from what its calls say of what these denote.
-use Rattle.std.proofs.Common.{◌≡◌, ℕ, ℤ, neg_ℤ, List, ◌⊎◌, inl, inr, Result, Ok, Err, subst, sym, ap, refl}
+use Rattle.std.proofs.Common.{◌≡◌, ◌∙◌, ℕ, ◌<◌, ℤ, neg_ℤ, List, ◌⊎◌, inl, inr, Result, Ok, Err, IfOk, subst, sym, ap, refl}
 use Rattle.polcert_cells.specs.Meaning.{Meaning, states_of}
-use Rattle.polcert_policy.specs.Graphs.{PolicyGraph}
+use Rattle.polcert_policy.specs.Graphs.{PolicyGraph, nodes}
 use Rattle.polcert_policy.specs.Vectors.{PolicyVectors, shifted_by}
 use Rattle.polcert_policy.specs.VectorText.{IsVectorsText}
 use Rattle.polcert_policy.specs.FullForm.{vectors_text}
@@ -11,15 +11,18 @@ use Rattle.polcert_answer.specs.declared.fault.RunFault.{RunFault}
 use Rattle.polcert_answer.specs.declared.fault.RunFault.TheVariants.{Lower}
 use Rattle.polcert_check.specs.declared.verdict.Verdict.{Verdict}
 use Rattle.polcert_check.specs.declared.verdict.Verdict.TheVariants.{Yes}
+use Rattle.polcert_check.specs.Horizon.{Controller}
 use Rattle.polcert_check.specs.Lower.{HasLeastConstant, IsLeastConstant, IsNotLowered}
 use Rattle.polcert_check.specs.Shortfall.{Passes}
+use Rattle.polcert_check.specs.StartWorth.{IsBestStart}
 use Rattle.polcert_check.specs.Verdict.{IsVerdict}
 use Rattle.polcert_answer.specs.Headline.{Certificate, controller}
 use Rattle.polcert_answer.specs.Lines.{IsVerdictLine}
-use Rattle.polcert_answer.specs.Reading.{AreDenoted}
+use Rattle.polcert_answer.specs.Reading.{AreDenoted, IsAnswerLine, AreLowered}
 use Rattle.polcert_answer.specs.Answer.{IsAnswer}
-use Rattle.polcert_answer.specs.Run.{AreCertified, HasVerdict, HavePromise, HasLowered, IsNotLowerable, IsWhy}
-use Rattle.polcert_answer.proofs.Denoted.{of_parts, certificate_of, verdict_of_each, line_of_each, constant_of_each, reason_of_each, text_of_each, yes_certified, yes_rewarded}
+use Rattle.polcert_answer.specs.Run.{AreCertified, HasVerdict, HavePromise, HasStartPromise, HasLowered, IsNotLowerable, IsWhy}
+use Rattle.polcert_answer.proofs.Denoted.{of_parts, certificate_of, verdict_of_each, line_of_each, best_of_each, worth_of_each, constant_of_each, reason_of_each, text_of_each, yes_certified, yes_rewarded, yes_started}
+use Rattle.polcert_answer.proofs.OneAnswer.{but_for_memory}
 
 -- what two answers hold that are one
 pub same_ok : {V E : Type 0} (v w : V) (r : Result V E) → r ≡ Ok v → r ≡ Ok w → v ≡ w
@@ -27,6 +30,10 @@ same_ok v w r e f = cc
 
 pub same_lower : {V : Type 0} (a b : LowerFault) (r : Result V RunFault) → r ≡ Err (Lower a) → r ≡ Err (Lower b) → a ≡ b
 same_lower a b r e f = cc
+
+-- the best node is one of the graph
+best_is_node : {model graph vectors : List ℕ} (c : Certificate model graph vectors) (n : ℕ) → IsBestStart c.meaning c.values n → n < nodes c.policy
+best_is_node c n best = subst (λ count. n < count) c.are_vectors.2.nodes_are best.is_below
 
 module _ (of_model of_graph of_vectors : List ℕ → Type 0) (m : Meaning) (g : PolicyGraph) (v : PolicyVectors) (d : AreDenoted of_model of_graph of_vectors m g v) where
   abbrev texts : AreCertified of_model of_graph of_vectors
@@ -40,48 +47,104 @@ module _ (of_model of_graph of_vectors : List ℕ → Type 0) (m : Meaning) (g :
     certificate = certificate_of m g v d.has_graph d.are_vectors;
   }
 
-  pub has_verdict : (verdict : Verdict) (line : List ℕ) → IsVerdict (of_parts m g v) verdict → IsVerdictLine m (of_parts m g v) v verdict line
-      → HasVerdict of_model of_graph of_vectors verdict line
-  has_verdict verdict line is is_line = record {
+  pub has_verdict : (verdict : Verdict) (line : List ℕ) → IsAnswerLine m g v verdict line → HasVerdict of_model of_graph of_vectors verdict line
+  has_verdict verdict line is = record {
     texts = texts;
-    answer = (certificate_of m g v d.has_graph d.are_vectors, verdict_of_each m g v d.has_graph d.are_vectors verdict is);
-    is_line = line_of_each m g v d.has_graph d.are_vectors verdict line is_line;
+    answer = (certificate_of m g v d.has_graph d.are_vectors, verdict_of_each m g v d.has_graph d.are_vectors verdict is.verdict_is);
+    is_line = line_of_each m g v d.has_graph d.are_vectors verdict line is.line_is;
   }
 
-  pub has_promise : (verdict : Verdict) → verdict ≡ Yes → IsVerdict (of_parts m g v) verdict → HavePromise of_model of_graph of_vectors
-  has_promise verdict same is =
-      let passes = subst (IsVerdict (of_parts m g v)) same is in
-      let answer : IsAnswer d.first d.second d.third (Ok Yes) =
-      (certificate_of m g v d.has_graph d.are_vectors, verdict_of_each m g v d.has_graph d.are_vectors Yes passes) in
+  has_promise : (line : List ℕ) → IsAnswerLine m g v Yes line → HavePromise of_model of_graph of_vectors
+  unfolding has_verdict
+  has_promise line is =
+      let answer : IsAnswer d.first d.second d.third (Ok Yes) = (has_verdict Yes line is).answer in
       record { texts = texts; promise = yes_certified d.first d.second d.third answer; rewards = yes_rewarded d.first d.second d.third answer }
 
-  -- the lowered vectors, as they are written and read back
-  pub has_lowered : (by : ℤ) (w : PolicyVectors) → IsLeastConstant (of_parts m g v) v by → w ≡ shifted_by v (neg_ℤ by) → Passes (of_parts m g w)
-      → w.states ≡ states_of m → IsVectorsText g w.states (vectors_text g w) w → HasLowered of_model of_graph of_vectors by (vectors_text g w)
-  has_lowered by w least is passes states reads_back =
-      let again : IsVectorsText g (states_of m) (vectors_text g w) w = subst (λ s. IsVectorsText g s (vectors_text g w) w) states reads_back in
-      let passed : IsAnswer d.first d.second (vectors_text g w) (Ok Yes) =
-      (certificate_of m g w d.has_graph again, verdict_of_each m g w d.has_graph again Yes passes) in
+  -- the line of a yes, and what is promised from the start
+  has_start_promise : (line : List ℕ) → IsAnswerLine m g v Yes line → HasStartPromise of_model of_graph of_vectors line
+  unfolding has_verdict
+  has_start_promise line is =
+      let (node, worth, best, is_worth, spelled) = is.line_is in
+      let each = best_of_each m g v d.has_graph d.are_vectors node best in
+      let worths = worth_of_each m g v d.has_graph d.are_vectors node worth is_worth in
       record {
         texts = texts;
-        least = constant_of_each m g v d.has_graph d.are_vectors by least;
-        is_text = λ c. rw is (text_of_each m g v d.has_graph d.are_vectors (neg_ℤ by) c);
-        answer = passed;
-        promise = yes_certified d.first d.second (vectors_text g w) passed;
-        rewards = yes_rewarded d.first d.second (vectors_text g w) passed;
+        node = node;
+        worth = worth;
+        is_line = spelled;
+        best = each;
+        is_worth = worths;
+        promise = λ c k. yes_started d.first d.second d.third (has_verdict Yes line is).answer c k node worth (best_is_node c node (each c)) (worths c);
       }
 
-  why : (fault : LowerFault) → ((fault ≡ faults.Memory) × HasLeastConstant (of_parts m g v) v) ⊎ IsNotLowered (of_parts m g v) v fault
-      → (c : Certificate d.first d.second d.third) → IsWhy (controller c) c.values fault
-  why faults.Memory (inl (is, (by, least))) c = (by, constant_of_each m g v d.has_graph d.are_vectors by least c)
-  why faults.Memory (inr refused) c = absurd refused
-  why (faults.NoConstant n s amount) (inl (is, least)) c = cc
-  why (faults.NoConstant n s amount) (inr refused) c = reason_of_each m g v d.has_graph d.are_vectors (faults.NoConstant n s amount) refused c
-  why faults.OutOfRange (inl (is, least)) c = cc
-  why faults.OutOfRange (inr refused) c = reason_of_each m g v d.has_graph d.are_vectors faults.OutOfRange refused c
-  why (faults.NoSuccessor n s z) (inl (is, least)) c = cc
-  why (faults.NoSuccessor n s z) (inr refused) c = reason_of_each m g v d.has_graph d.are_vectors (faults.NoSuccessor n s z) refused c
+  -- what is answered of a line that a sink took, where one was written
+  module _ (took : List ℕ → Type 0) where
+    pub answered_of : (r : Result Verdict RunFault) → IfOk r (λ verdict. (line : List ℕ) × IsAnswerLine m g v verdict line × took line)
+        → IfOk r (λ verdict. (line : List ℕ) × HasVerdict of_model of_graph of_vectors verdict line × took line)
+    answered_of (Ok verdict) (line, is, was_taken) = (line, has_verdict verdict line is, was_taken)
+    answered_of (Err fault) is = tt
 
-  pub not_lowerable : (fault : LowerFault) → ((fault ≡ faults.Memory) × HasLeastConstant (of_parts m g v) v) ⊎ IsNotLowered (of_parts m g v) v fault
-      → IsNotLowerable of_model of_graph of_vectors fault
-  not_lowerable fault refused = record { texts = texts; reason = why fault refused }
+    yes_of : (r : Result Verdict RunFault) → IfOk r (λ verdict. (line : List ℕ) × IsAnswerLine m g v verdict line × took line) → r ≡ Ok Yes
+        → (line : List ℕ) × IsAnswerLine m g v Yes line × took line
+    yes_of r is same = subst (λ (x : Result Verdict RunFault). IfOk x (λ verdict. (line : List ℕ) × IsAnswerLine m g v verdict line × took line)) same is
+
+    pub promise_of : (r : Result Verdict RunFault) → IfOk r (λ verdict. (line : List ℕ) × IsAnswerLine m g v verdict line × took line) → r ≡ Ok Yes
+        → HavePromise of_model of_graph of_vectors
+    promise_of r is same = let (line, of_yes, was_taken) = yes_of r is same in has_promise line of_yes
+
+    pub start_promise_of : (r : Result Verdict RunFault) → IfOk r (λ verdict. (line : List ℕ) × IsAnswerLine m g v verdict line × took line) → r ≡ Ok Yes
+        → (line : List ℕ) × HasStartPromise of_model of_graph of_vectors line × took line
+    start_promise_of r is same = let (line, of_yes, was_taken) = yes_of r is same in (line, has_start_promise line of_yes, was_taken)
+
+  -- the lowered vectors, as they are written and read back
+  pub has_lowered : (by : ℤ) (text : List ℕ) → AreLowered m g v by text → HasLowered of_model of_graph of_vectors by text
+  has_lowered by text are =
+      let passed : IsAnswer d.first d.second text (Ok Yes) =
+      (certificate_of m g are.lower d.has_graph are.reads_back, verdict_of_each m g are.lower d.has_graph are.reads_back Yes are.passes) in
+      let spelled : text ≡ vectors_text g (shifted_by v (neg_ℤ by)) = are.text_is ∙ ap (λ w. vectors_text g w) are.shifted in
+      record {
+        texts = texts;
+        least = constant_of_each m g v d.has_graph d.are_vectors by are.least;
+        is_text = λ c. spelled ∙ text_of_each m g v d.has_graph d.are_vectors (neg_ℤ by) c;
+        answer = passed;
+        only_yes = but_for_memory d.first d.second text Yes passed;
+        promise = yes_certified d.first d.second text passed;
+        rewards = yes_rewarded d.first d.second text passed;
+      }
+
+  pub lowered_of : (took : List ℕ → Type 0) (r : Result ℤ RunFault) → IfOk r (λ by. (text : List ℕ) × AreLowered m g v by text × took text)
+      → IfOk r (λ by. (text : List ℕ) × HasLowered of_model of_graph of_vectors by text × took text)
+  lowered_of took (Ok by) (text, are, was_taken) = (text, has_lowered by text are, was_taken)
+  lowered_of took (Err fault) are = tt
+
+  why_of_each : (fault : LowerFault) → IsWhy (of_parts m g v) v fault → (c : Certificate d.first d.second d.third) → IsWhy (controller c) c.values fault
+  why_of_each faults.Memory (by, least) c = (by, constant_of_each m g v d.has_graph d.are_vectors by least c)
+  why_of_each (faults.NoConstant n s amount) why c = reason_of_each m g v d.has_graph d.are_vectors (faults.NoConstant n s amount) why c
+  why_of_each faults.OutOfRange why c = reason_of_each m g v d.has_graph d.are_vectors faults.OutOfRange why c
+  why_of_each (faults.NoSuccessor n s z) why c = reason_of_each m g v d.has_graph d.are_vectors (faults.NoSuccessor n s z) why c
+
+  pub not_lowerable : (fault : LowerFault) → IsWhy (of_parts m g v) v fault → IsNotLowerable of_model of_graph of_vectors fault
+  not_lowerable fault why = record { texts = texts; reason = why_of_each fault why }
+
+-- what is known of lowered vectors and of their full form
+pub are_lowered : (m : Meaning) (g : PolicyGraph) (v : PolicyVectors) (by : ℤ) (w : PolicyVectors) → IsLeastConstant (of_parts m g v) v by → w ≡ shifted_by v (neg_ℤ by)
+    → Passes (of_parts m g w) → w.states ≡ states_of m → IsVectorsText g w.states (vectors_text g w) w → AreLowered m g v by (vectors_text g w)
+are_lowered m g v by w least is passes states reads_back = record {
+  lower = w;
+  least = least;
+  shifted = is;
+  passes = passes;
+  text_is = refl;
+  reads_back = subst (λ s. IsVectorsText g s (vectors_text g w) w) states reads_back;
+}
+
+-- why vectors are not lowered
+pub why_of : (c : Controller) (v : PolicyVectors) (fault : LowerFault) → ((fault ≡ faults.Memory) × HasLeastConstant c v) ⊎ IsNotLowered c v fault → IsWhy c v fault
+why_of c v faults.Memory (inl (is, least)) = least
+why_of c v faults.Memory (inr refused) = absurd refused
+why_of c v (faults.NoConstant n s amount) (inl (is, least)) = cc
+why_of c v (faults.NoConstant n s amount) (inr refused) = refused
+why_of c v faults.OutOfRange (inl (is, least)) = cc
+why_of c v faults.OutOfRange (inr refused) = refused
+why_of c v (faults.NoSuccessor n s z) (inl (is, least)) = cc
+why_of c v (faults.NoSuccessor n s z) (inr refused) = refused

@@ -8,7 +8,7 @@ use Rattle.polcert_model.specs.Text.{IsModelText}
 use Rattle.polcert_model.proofs.FilledLaws.{table_rows}
 use Rattle.polcert_model.proofs.LimitLaws.{within_limits}
 use Rattle.polcert_model.proofs.TextLaws as models
-use Rattle.polcert_policy.specs.Graphs.{PolicyGraph, IsProperGraph}
+use Rattle.polcert_policy.specs.Graphs.{PolicyGraph, IsProperGraph, nodes}
 use Rattle.polcert_policy.specs.declared.fault.GraphFault.{GraphFault}
 use Rattle.polcert_policy.specs.declared.fault.VectorFault.{VectorFault}
 use Rattle.polcert_policy.specs.GraphText.{IsGraphText, IsGraphRefusal, IsNoGraphText}
@@ -22,12 +22,14 @@ use Rattle.polcert_check.specs.declared.verdict.Verdict.TheVariants.{Yes, Short,
 use Rattle.polcert_check.specs.Horizon.{Controller, controller_of, Fits, MeetsHorizon, one, step_scale}
 use Rattle.polcert_check.specs.Lower.{IsLeastConstant, IsNotLowered}
 use Rattle.polcert_check.specs.declared.fault.LowerFault.{LowerFault}
-use Rattle.polcert_check.specs.StartWorth.{IsCeilQuotient}
+use Rattle.polcert_check.specs.StartWorth.{IsCeilQuotient, IsBestStart, IsStartWorth, StartPromise}
 use Rattle.polcert_check.specs.Verdict.{IsVerdict}
 use Rattle.polcert_cells.specs.SameCells.{HasSameCells}
+use Rattle.polcert_check.proofs.Certificates.{controller_is}
 use Rattle.polcert_check.proofs.EveryHorizon.{promised}
 use Rattle.polcert_check.proofs.SameAnswers as answers
 use Rattle.polcert_check.proofs.SameModels as models_same
+use Rattle.polcert_check.proofs.StartSums.{start_promise}
 use Rattle.polcert_answer.specs.Headline.{Certificate, controller, IsCertified, AreRewardsCertified}
 use Rattle.polcert_answer.specs.Lines.{IsVerdictLine}
 use Rattle.polcert_answer.specs.Answer.{HasGraph, IsGraphRefused, AreVectorsRefused, IsAnswer}
@@ -143,6 +145,12 @@ module _ {model graph vectors : List ℕ} (m : Meaning) (g : PolicyGraph) (v : P
       → (c : Certificate model graph vectors) → IsVerdictLine c.meaning (controller c) c.values verdict line
   line_of_each verdict line is = of_each m g v has are (λ n h w. IsVerdictLine n (of_parts n h w) w verdict line) (λ n same. line_for m n same g v verdict line is)
 
+  pub best_of_each : (n : ℕ) → IsBestStart m v n → (c : Certificate model graph vectors) → IsBestStart c.meaning c.values n
+  best_of_each n best = of_each m g v has are (λ o h w. IsBestStart o w n) (λ o same. models_same.same_best_start m o same v n best)
+
+  pub worth_of_each : (n : ℕ) (worth : ℤ) → IsStartWorth m v n worth → (c : Certificate model graph vectors) → IsStartWorth c.meaning c.values n worth
+  worth_of_each n worth is = of_each m g v has are (λ o h w. IsStartWorth o w n worth) (λ o same. models_same.same_worth m o same v n worth is)
+
   pub constant_of_each : (by : ℤ) → IsLeastConstant (of_parts m g v) v by → (c : Certificate model graph vectors) → IsLeastConstant (controller c) c.values by
   constant_of_each by least = of_each m g v has are (λ n h w. IsLeastConstant (of_parts n h w) w by)
       (λ n same. answers.same_least_constant (table_of m) (table_of n) g v (models_same.same_cells m n same) (proper_graph m g has) (fits_of vectors m g v has are) by least)
@@ -182,3 +190,16 @@ yes_certified model graph vectors answer = certified answer.0 (horizons answer.1
 -- and the rewards alone
 pub yes_rewarded : (model graph vectors : List ℕ) → IsAnswer model graph vectors (Ok Yes) → AreRewardsCertified model graph vectors
 yes_rewarded model graph vectors answer = rewards_certified (horizons answer.1)
+
+-- and from the start no less is expected than a node is worth there
+pub started : {model graph vectors : List ℕ} → ((c : Certificate model graph vectors) → IsVerdict (controller c) Yes) → (c : Certificate model graph vectors)
+    (k n : ℕ) (worth : ℤ) → n < nodes c.policy → IsStartWorth c.meaning c.values n worth → StartPromise c.meaning (controller c) k n worth
+started {model} {graph} {vectors} passes c k n worth nl is =
+    let has : HasGraph model graph c.meaning c.policy = record { is_model = c.is_model; is_graph = c.is_graph } in
+    let proper = controller_is (table_of c.meaning) c.policy c.values (fits_of vectors c.meaning c.policy c.values has c.are_vectors)
+    (table_rows c.meaning c.is_model.denotes.rows) (proper_graph c.meaning c.policy has) in
+    start_promise c.meaning (controller c) refl proper (passes c) n worth nl is k
+
+pub yes_started : (model graph vectors : List ℕ) → IsAnswer model graph vectors (Ok Yes) → (c : Certificate model graph vectors)
+    (k n : ℕ) (worth : ℤ) → n < nodes c.policy → IsStartWorth c.meaning c.values n worth → StartPromise c.meaning (controller c) k n worth
+yes_started model graph vectors answer = started answer.1

@@ -1,5 +1,5 @@
 -- The answer to three texts: a refusal of the first that is none of its kind, or else the verdict.
-use Rattle.std.specs.Prelude.{ℕ, List, Result, Ok, Err}
+use Rattle.std.specs.Prelude.{◌≡◌, ℕ, List, Result, Ok, Err}
 use Rattle.polcert_format.specs.declared.fault.ModelFault.{ModelFault}
 use Rattle.polcert_format.specs.declared.fault.ModelFault.TheVariants as models
 use Rattle.polcert_cells.specs.Meaning.{Meaning, states_of, actions_of, observations_of}
@@ -62,3 +62,15 @@ IsFault model graph vectors (Vectors fault) = AreVectorsRefused model graph faul
 abbrev pub IsAnswer : List ℕ → List ℕ → List ℕ → Result Verdict Fault → Type 0
 IsAnswer model graph vectors (Ok verdict) = Certificate model graph vectors × ((c : Certificate model graph vectors) → IsVerdict (controller c) verdict)
 IsAnswer model graph vectors (Err fault) = IsFault model graph vectors fault
+
+-- want of memory, which may be answered to any text
+abbrev pub IsWantOfMemory : Fault → Type 0
+IsWantOfMemory (Model models.Memory) = Unit {0}
+IsWantOfMemory (Graph graphs.Memory) = Unit {0}
+IsWantOfMemory (Vectors values.Memory) = Unit {0}
+IsWantOfMemory _ = ⊥
+
+-- the answer is this verdict, but for want of memory
+abbrev pub IsButForMemory : Verdict → Result Verdict Fault → Type 0
+IsButForMemory verdict (Ok answered) = answered ≡ verdict
+IsButForMemory verdict (Err fault) = IsWantOfMemory fault

@@ -1,9 +1,17 @@
--- Helper definitions of private functions: what is read of three sources. Nobody has to believe them.
-use Rattle.std.specs.Prelude.{ℕ, List}
+-- Helper definitions of private functions: what is read of three sources, and written of it. Nobody has to believe them.
+use Rattle.std.specs.Prelude.{◌≡◌, ℕ, ℤ, neg_ℤ, List}
 use Rattle.polcert_cells.specs.Meaning.{Meaning, states_of}
+use Rattle.polcert_cells.specs.Tables.{table_of}
 use Rattle.polcert_policy.specs.Graphs.{PolicyGraph}
-use Rattle.polcert_policy.specs.Vectors.{PolicyVectors}
+use Rattle.polcert_policy.specs.Vectors.{PolicyVectors, shifted_by}
 use Rattle.polcert_policy.specs.VectorText.{IsVectorsText}
+use Rattle.polcert_policy.specs.FullForm.{vectors_text}
+use Rattle.polcert_check.specs.declared.verdict.Verdict.{Verdict}
+use Rattle.polcert_check.specs.Horizon.{controller_of}
+use Rattle.polcert_check.specs.Lower.{IsLeastConstant}
+use Rattle.polcert_check.specs.Shortfall.{Passes}
+use Rattle.polcert_check.specs.Verdict.{IsVerdict}
+use Rattle.polcert_answer.specs.Lines.{IsVerdictLine}
 use Rattle.polcert_answer.specs.declared.fault.Fault.TheVariants.{Model, Graph, Vectors}
 use Rattle.polcert_answer.specs.declared.fault.RunFault.{RunFault}
 use Rattle.polcert_answer.specs.declared.fault.RunFault.TheVariants.{Text, ReadModel, ReadGraph, ReadVectors, Write, Lower}
@@ -19,6 +27,21 @@ pub record AreDenoted (of_model of_graph of_vectors : List ℕ → Type 0) (m : 
   pub vectors_read : of_vectors third
   pub has_graph : HasGraph first second m g
   pub are_vectors : IsVectorsText g (states_of m) third v
+
+-- what these denote has this verdict, and this is the verdict's line
+pub record IsAnswerLine (m : Meaning) (g : PolicyGraph) (v : PolicyVectors) (verdict : Verdict) (line : List ℕ) : Type 0 where
+  pub verdict_is : IsVerdict (controller_of (table_of m) g v) verdict
+  pub line_is : IsVerdictLine m (controller_of (table_of m) g v) v verdict line
+
+-- this is the least constant by which these vectors can be lowered to pass, and the text is the full form of the lowered ones,
+-- which reads back
+pub record AreLowered (m : Meaning) (g : PolicyGraph) (v : PolicyVectors) (by : ℤ) (text : List ℕ) : Type 0 where
+  pub lower : PolicyVectors
+  pub least : IsLeastConstant (controller_of (table_of m) g v) v by
+  pub shifted : lower ≡ shifted_by v (neg_ℤ by)
+  pub passes : Passes (controller_of (table_of m) g lower)
+  pub text_is : text ≡ vectors_text g lower
+  pub reads_back : IsVectorsText g (states_of m) text lower
 
 -- a fault of a model's text or of its source
 abbrev pub IsModelReadFault : RunFault → Type 0
@@ -46,3 +69,9 @@ IsReadFault ReadGraph = Unit {0}
 IsReadFault ReadVectors = Unit {0}
 IsReadFault Write = ⊥
 IsReadFault (Lower fault) = ⊥
+
+-- a fault of the sink or of lowering
+abbrev pub IsNoReadFault : RunFault → Type 0
+IsNoReadFault Write = Unit {0}
+IsNoReadFault (Lower fault) = Unit {0}
+IsNoReadFault _ = ⊥

@@ -1,5 +1,5 @@
 -- What runs from sources to sinks promise.
-use Rattle.std.specs.Prelude.{◌≡◌, ℕ, ℤ, neg_ℤ, List, Option, Ok}
+use Rattle.std.specs.Prelude.{◌≡◌, ℕ, ℤ, neg_ℤ, List, Option, Result, Ok}
 use Rattle.polcert_text.specs.Device.{HasFailed}
 use Rattle.polcert_text.specs.Source.{IsText}
 use Rattle.polcert_text.specs.Sink.{Takes, TakesFront}
@@ -14,12 +14,14 @@ use Rattle.polcert_check.specs.declared.verdict.Verdict.{Verdict}
 use Rattle.polcert_check.specs.declared.verdict.Verdict.TheVariants.{Yes}
 use Rattle.polcert_check.specs.Horizon.{Controller}
 use Rattle.polcert_check.specs.Lower.{HasLeastConstant, IsLeastConstant, IsNotLowered}
+use Rattle.polcert_check.specs.StartWorth.{IsBestStart, IsStartWorth, StartPromise}
+use Rattle.polcert_answer.specs.declared.fault.Fault.{Fault}
 use Rattle.polcert_answer.specs.declared.fault.Fault.TheVariants.{Model, Graph}
 use Rattle.polcert_answer.specs.declared.fault.RunFault.{RunFault}
 use Rattle.polcert_answer.specs.declared.fault.RunFault.TheVariants.{Text, ReadModel, ReadGraph, Write}
-use Rattle.polcert_answer.specs.Answer.{IsAnswer}
+use Rattle.polcert_answer.specs.Answer.{IsAnswer, IsButForMemory}
 use Rattle.polcert_answer.specs.Headline.{Certificate, controller, IsCertified, AreRewardsCertified}
-use Rattle.polcert_answer.specs.Lines.{summary_line, IsVerdictLine}
+use Rattle.polcert_answer.specs.Lines.{summary_line, yes_line, IsVerdictLine}
 
 -- ---- one source
 
@@ -114,13 +116,27 @@ module _ (of_model of_graph of_vectors : List ℕ → Type 0) where
     pub promise : IsCertified texts.model texts.graph texts.vectors
     pub rewards : AreRewardsCertified texts.model texts.graph texts.vectors
 
+  -- What the line of a yes says of the start is promised. The line names a node and a worth; and of whatever controller the
+  -- texts of the three sources denote: that node is worth most from the model's start, this is its worth there, rounded
+  -- down, and for every number of steps no less is expected from the start.
+  pub record HasStartPromise (line : List ℕ) : Type 0 where
+    pub texts : AreCertified
+    pub node : ℕ
+    pub worth : ℤ
+    pub is_line : line ≡ yes_line node worth
+    pub best : (c : Certificate texts.model texts.graph texts.vectors) → IsBestStart c.meaning c.values node
+    pub is_worth : (c : Certificate texts.model texts.graph texts.vectors) → IsStartWorth c.meaning c.values node worth
+    pub promise : (c : Certificate texts.model texts.graph texts.vectors) (k : ℕ) → StartPromise c.meaning (controller c) k node worth
+
   -- This is the least constant by which the vectors of the third source can be lowered to pass, and the text is the full
-  -- form of the vectors lowered by it. The answer to the first two texts and this one is yes, and the headline holds of them.
+  -- form of the vectors lowered by it. The answer to the first two texts and this one is yes, every answer to them is, but for
+  -- want of memory, and the headline holds of them.
   pub record HasLowered (by : ℤ) (text : List ℕ) : Type 0 where
     pub texts : AreCertified
     pub least : (c : Certificate texts.model texts.graph texts.vectors) → IsLeastConstant (controller c) c.values by
     pub is_text : (c : Certificate texts.model texts.graph texts.vectors) → text ≡ vectors_text c.policy (shifted_by c.values (neg_ℤ by))
     pub answer : IsAnswer texts.model texts.graph text (Ok Yes)
+    pub only_yes : (result : Result Verdict Fault) → IsAnswer texts.model texts.graph text result → IsButForMemory Yes result
     pub promise : IsCertified texts.model texts.graph text
     pub rewards : AreRewardsCertified texts.model texts.graph text
 

@@ -1,14 +1,58 @@
-//! A law of the definitions: the contract of a function with nothing to do.
-ghost use Rattle.std.specs.Prelude.{ℕ, List, Ok};
+//! Laws of the definitions, each the contract of a function with nothing to do.
+ghost use Rattle.std.specs.Prelude.{◌≡◌, ◌≢◌, ◌<◌, ℕ, ℤ, List, Ok, Err};
+ghost use Rattle.polcert_format.specs.declared.fault.ModelFault.{ModelFault};
+ghost use Rattle.polcert_model.specs.Refusals.{SaysOfText};
+ghost use Rattle.polcert_policy.specs.declared.fault.GraphFault.{GraphFault};
+ghost use Rattle.polcert_policy.specs.declared.fault.VectorFault.{VectorFault};
+ghost use Rattle.polcert_policy.specs.Graphs.{nodes};
+ghost use Rattle.polcert_check.specs.declared.verdict.Verdict.{Verdict};
 ghost use Rattle.polcert_check.specs.declared.verdict.Verdict.TheVariants.{Yes};
-ghost use Rattle.polcert_answer.specs.Answer.{IsAnswer};
-ghost use Rattle.polcert_answer.specs.Headline.{IsCertified, AreRewardsCertified};
+ghost use Rattle.polcert_check.specs.StartWorth.{IsStartWorth, StartPromise};
+ghost use Rattle.polcert_answer.specs.declared.fault.Fault.{Fault};
+ghost use Rattle.polcert_answer.specs.Answer.{IsAnswer, IsWantOfMemory};
+ghost use Rattle.polcert_answer.specs.Headline.{Certificate, controller, IsCertified, AreRewardsCertified};
+
+use crate::fault::Fault;
+use polcert_policy::{GraphFault, VectorFault};
 
 /// The answer yes is a certificate: where every pair of a node and a state passes one step, the promise holds for every
-/// number of steps, with the vectors at the end and for the rewards alone.
+/// number of steps, with the vectors at the end and for the rewards alone; and so it does from the start.
 pub fn yes_is_a_certificate()
     ensures promise { (model graph vectors : List ℕ) → IsAnswer model graph vectors (Ok Yes) →
         IsCertified model graph vectors }
     ensures rewards { (model graph vectors : List ℕ) → IsAnswer model graph vectors (Ok Yes) →
         AreRewardsCertified model graph vectors }
+
+    // From each node no less is expected from the start, with the vectors at the end, than the node is worth there.
+    ensures start { (model graph vectors : List ℕ) → IsAnswer model graph vectors (Ok Yes) →
+        (c : Certificate model graph vectors) (k n : ℕ) (worth : ℤ) → n < nodes c.policy →
+        IsStartWorth c.meaning c.values n worth → StartPromise c.meaning (controller c) k n worth }
+{}
+
+/// Three texts have one answer, want of memory aside: one verdict, or a refusal of one of them. The refusal of a graph or
+/// of vectors is one; that of a model is of its first wrong item or row.
+pub fn one_answer()
+    // There is one verdict, and no refusal beside it.
+    ensures verdict { (model graph vectors : List ℕ) (x y : Verdict) →
+        IsAnswer model graph vectors (Ok x) → IsAnswer model graph vectors (Ok y) → x ≡ y }
+    ensures no_refusal { (model graph vectors : List ℕ) (x : Verdict) (fault : Fault) →
+        IsAnswer model graph vectors (Ok x) → IsAnswer model graph vectors (Err fault) → IsWantOfMemory fault }
+
+    // Where the model is refused, the graph and the vectors are not, not even for want of memory; and where the graph is, the
+    // vectors are not.
+    ensures model_before_graph { (model graph vectors : List ℕ) (f : ModelFault) (g : GraphFault) → SaysOfText f →
+        IsAnswer model graph vectors (Err (Fault.Model f)) → IsAnswer model graph vectors (Err (Fault.Graph g)) → ⊥ }
+    ensures model_before_vectors { (model graph vectors : List ℕ) (f : ModelFault) (g : VectorFault) → SaysOfText f →
+        IsAnswer model graph vectors (Err (Fault.Model f)) → IsAnswer model graph vectors (Err (Fault.Vectors g)) → ⊥ }
+    ensures graph_before_vectors { (model graph vectors : List ℕ) (f : GraphFault) (g : VectorFault) →
+        f ≢ GraphFault.Memory →
+        IsAnswer model graph vectors (Err (Fault.Graph f)) → IsAnswer model graph vectors (Err (Fault.Vectors g)) → ⊥ }
+
+    // The graph is refused for one reason, at one place, and so are the vectors.
+    ensures one_graph_refusal { (model graph vectors : List ℕ) (f g : GraphFault) →
+        f ≢ GraphFault.Memory → g ≢ GraphFault.Memory →
+        IsAnswer model graph vectors (Err (Fault.Graph f)) → IsAnswer model graph vectors (Err (Fault.Graph g)) → f ≡ g }
+    ensures one_vectors_refusal { (model graph vectors : List ℕ) (f g : VectorFault) →
+        f ≢ VectorFault.Memory → g ≢ VectorFault.Memory →
+        IsAnswer model graph vectors (Err (Fault.Vectors f)) → IsAnswer model graph vectors (Err (Fault.Vectors g)) → f ≡ g }
 {}

@@ -14,6 +14,6 @@ mod texts;
 
 pub use answer::check_texts;
 pub use fault::{Fault, RunFault};
-pub use laws::yes_is_a_certificate;
+pub use laws::{one_answer, yes_is_a_certificate};
 pub use runs::{run_check, run_lower, run_model, run_print};
 pub use status::{status_of, status_of_verdict};

@@ -3,6 +3,7 @@ ghost use Rattle.std.specs.Prelude.{◌≡◌, ◌≢◌, ℕ, ℤ, List, Ok, On
 ghost use Rattle.polcert_text.specs.Device.{HasFailed};
 ghost use Rattle.polcert_text.specs.Sink.{Takes, TakesFront, WritesText};
 ghost use Rattle.polcert_text.specs.Source.{IsText, EachTextThatFits};
+ghost use Rattle.polcert_cells.specs.Tables.{table_of};
 ghost use Rattle.polcert_model.specs.Contents.{meaning};
 ghost use Rattle.polcert_model.specs.FullForm.{full_form};
 ghost use Rattle.polcert_model.specs.Refusals.{SaysOfText};
@@ -11,10 +12,12 @@ ghost use Rattle.polcert_policy.specs.Graphs.{nodes};
 ghost use Rattle.polcert_policy.specs.VectorText.{IsVectorsText};
 ghost use Rattle.polcert_check.specs.declared.verdict.Verdict.{Verdict};
 ghost use Rattle.polcert_check.specs.declared.verdict.Verdict.TheVariants.{Yes};
+ghost use Rattle.polcert_check.specs.Horizon.{Fits, controller_of};
 ghost use Rattle.polcert_answer.specs.Answer.{IsRefused, IsModelFault, IsGraphRefused, AreVectorsRefused};
-ghost use Rattle.polcert_answer.specs.Run.{SumsUp, BeginsToSumUp, Prints, BeginsToPrint, IsModelRunFault, IsNamedRightly, ReadsInOrder, text_of, HasVerdict, HavePromise, HasLowered, IsNotLowerable};
+ghost use Rattle.polcert_answer.specs.Reading.{IsAnswerLine, AreLowered, IsNoReadFault};
+ghost use Rattle.polcert_answer.specs.Run.{SumsUp, BeginsToSumUp, Prints, BeginsToPrint, IsModelRunFault, IsNamedRightly, ReadsInOrder, text_of, HasVerdict, HavePromise, HasStartPromise, HasLowered, IsWhy, IsNotLowerable};
 
-use crate::controller::{model_of_run, read_controller};
+use crate::controller::{Controller, model_of_run, read_controller};
 use crate::fault::{Fault, RunFault};
 use crate::lines::{write_summary, write_verdict};
 use polcert_check::{Verdict, check, lowered};
@@ -140,6 +143,12 @@ pub fn run_check<M: Source, G: Source, V: Source, W: Sink>(
     ensures promise { result ≡ Ok Yes → HavePromise (text_of M.reads model.old model.new)
         (text_of G.reads graph.old graph.new) (text_of V.reads vectors.old vectors.new) }
 
+    // And what the written line says of the start is promised, for every number of steps.
+    ensures start_promise { result ≡ Ok Yes → (line : List ℕ)
+        × HasStartPromise (text_of M.reads model.old model.new) (text_of G.reads graph.old graph.new)
+        (text_of V.reads vectors.old vectors.new) line
+        × Takes W.writes sink.old line sink.new }
+
     // No text that fits what was read of a source is a model's; or behind the first text a graph's; or behind the first
     // two the graph's vectors; and the fault is a right refusal of each of them.
     ensures model_refused { (fault : _) → IsErrOf result (RunFault.Text (Fault.Model fault))
@@ -171,6 +180,22 @@ pub fn run_check<M: Source, G: Source, V: Source, W: Sink>(
     ensures not_lowering { (fault : _) → IsErrOf result (RunFault.Lower fault) → ⊥ }
 {
     let read = read_controller(alloc, model, graph, vectors)?;
+    write_answer(&read, sink)
+}
+
+/// Checks what three texts denote, writes the line of the verdict, and answers the verdict.
+fn write_answer<W: Sink>(read: &Controller, sink: &mut W) -> Result<Verdict, RunFault>
+    requires fits { Fits (table_of (meaning read.now.model)) read.now.graph read.now.vectors }
+    ensures answered { IfOk result (λ verdict. (line : List ℕ)
+        × IsAnswerLine (meaning read.now.model) read.now.graph read.now.vectors verdict line
+        × Takes W.writes sink.old line sink.new) }
+    ensures begun { IsErrOf result RunFault.Write → (verdict : Verdict) × (line : List ℕ)
+        × IsAnswerLine (meaning read.now.model) read.now.graph read.now.vectors verdict line
+        × TakesFront W.writes sink.old line sink.new }
+    ensures write { IsNamedRightly (IsErrOf result RunFault.Write) (W.failures sink.old) (W.failures sink.new) }
+    ensures of_write { IfErr result (λ fault. fault ≡ RunFault.Write) }
+    ensures no_read { IfErr result IsNoReadFault }
+{
     let verdict = check(&read.model, &read.graph, &read.vectors);
     match write_verdict(&read.model, &read.graph, &read.vectors, verdict, sink) {
         Ok(()) => Ok(verdict),
@@ -234,12 +259,34 @@ pub fn run_lower<M: Source, G: Source, V: Source, W: Sink>(
     // With any other fault nothing was written.
     ensures untouched { (fault : RunFault) → IsErrOf result fault → fault ≢ RunFault.Write → sink.new ≡ sink.old }
 {
-    let read = read_controller(alloc, model, graph, vectors)?;
-    let (by, lower) = match lowered(alloc, &read.model, &read.graph, &read.vectors) {
+    let given = read_controller(alloc, model, graph, vectors)?;
+    write_lower_vectors(alloc, &given, sink)
+}
+
+/// Lowers the vectors of what three texts denote, writes them in full form, and answers the constant.
+fn write_lower_vectors<W: Sink>(
+    alloc: Global,
+    given: &Controller,
+    sink: &mut W,
+) -> Result<i64, RunFault>
+    requires fits { Fits (table_of (meaning given.now.model)) given.now.graph given.now.vectors }
+    ensures lowered { IfOk result (λ by. (text : List ℕ)
+        × AreLowered (meaning given.now.model) given.now.graph given.now.vectors by text
+        × Takes W.writes sink.old text sink.new) }
+    ensures not_lowered { (fault : _) → IsErrOf result (RunFault.Lower fault)
+        → IsWhy (controller_of (table_of (meaning given.now.model)) given.now.graph given.now.vectors) given.now.vectors fault }
+    ensures begun { IsErrOf result RunFault.Write → (by : ℤ) × (text : List ℕ)
+        × AreLowered (meaning given.now.model) given.now.graph given.now.vectors by text
+        × TakesFront W.writes sink.old text sink.new }
+    ensures write { IsNamedRightly (IsErrOf result RunFault.Write) (W.failures sink.old) (W.failures sink.new) }
+    ensures untouched { (fault : RunFault) → IsErrOf result fault → fault ≢ RunFault.Write → sink.new ≡ sink.old }
+    ensures no_read { IfErr result IsNoReadFault }
+{
+    let (by, lower) = match lowered(alloc, &given.model, &given.graph, &given.vectors) {
         Ok(found) => found,
         Err(fault) => return Err(RunFault::Lower(fault)),
     };
-    match write_lowered(&read.graph, &lower, sink) {
+    match write_lowered(&given.graph, &lower, sink) {
         Ok(()) => Ok(by),
         Err(_) => Err(RunFault::Write),
     }

@@ -1,30 +1,98 @@
-use Rattle.std.proofs.Common.{◌≡◌, ℤ, rules, to_z, of_z, w64, to_z-of_z, FitsSigned, refl, subst}
+use Rattle.std.proofs.Common.{refl}
 use Rattle.polcert_model.specs.Contents.{meaning}
-use Rattle.polcert_answer.proofs.Answering.{same_lower, has_lowered, not_lowerable}
+use Rattle.polcert_answer.specs.declared.fault.Fault.TheVariants.{Model, Graph, Vectors}
+use Rattle.polcert_answer.specs.declared.fault.RunFault.TheVariants.{Text, ReadModel, ReadGraph, ReadVectors, Write, Lower}
+use Rattle.polcert_answer.proofs.Denoted.{fits_of}
+use Rattle.polcert_answer.proofs.Answering.{has_lowered, lowered_of, not_lowerable}
+use Rattle.polcert_answer.proofs.Passing.{is_err, no_ok, of_fault, of_read, named_again, not_else, not_read, named_behind, written_in_order}
 use Rattle.polcert_answer.proofs.runs.run_lower.Goals as goal
 
-pub returns-in-Err-clause-not_lowered : goal.returns-in-Err-clause-not_lowered
-returns-in-Err-clause-not_lowered g c = λ fault same.
-    let d = c.in_ok-read.ensures.accepted in
-    let is_fault : c.in-Err.fault ≡ fault = same_lower _ _ _ refl same in
-    not_lowerable _ _ _ (meaning c.in_ok-read.read.model) c.in_ok-read.read.graph c.in_ok-read.read.vectors d fault (rw is_fault at c.in-Err.ensures.refused)
+pub write_lower_vectors-requires : goal.write_lower_vectors-requires
+write_lower_vectors-requires g c = record {
+  fits = fits_of _ (meaning c.in_ok-given.given.model) c.in_ok-given.given.graph c.in_ok-given.given.vectors c.in_ok-given.ensures.accepted.has_graph
+      c.in_ok-given.ensures.accepted.are_vectors;
+}
 
-pub returns-in-Ok-write_lowered-clause-lowered : goal.returns-in-Ok-write_lowered-clause-lowered
-returns-in-Ok-write_lowered-clause-lowered g c =
-    let d = c.in_ok-read.ensures.accepted in
-    let fits : FitsSigned w64 c.in-Ok.found.0 = search rules in
-    let back : to_z w64 (of_z w64 c.in-Ok.found.0) ≡ c.in-Ok.found.0 = to_z-of_z fits in
-    let has = has_lowered _ _ _ (meaning c.in_ok-read.read.model) c.in_ok-read.read.graph c.in_ok-read.read.vectors d c.in-Ok.found.0 c.in-Ok.found.1
-    c.in-Ok.ensures.least c.in-Ok.ensures.shifted c.in-Ok.ensures.passes c.in-Ok.ensures.fits_still.states c.in-Ok-write_lowered.ensures.reads_back in
-    (_, rw back has, c.in-Ok-write_lowered.ensures.written.ok)
+-- ---- the fault of a read is handed on
+
+pub returns-in_err-given-clause-not_lowered : goal.returns-in_err-given-clause-not_lowered
+returns-in_err-given-clause-not_lowered g c = λ fault same. absurd (not_else _ _ (is_err _ _ c.from_residual.ensures.1) c.in_err-given.ensures.of_reading (Lower fault) (λ of. of) same)
+
+pub returns-in_err-given-clause-lowered : goal.returns-in_err-given-clause-lowered
+returns-in_err-given-clause-lowered g c = no_ok _ _ (is_err _ _ c.from_residual.ensures.1) _
+
+pub returns-in_err-given-clause-model_refused : goal.returns-in_err-given-clause-model_refused
+returns-in_err-given-clause-model_refused g c = λ fault same. c.in_err-given.ensures.model_refused fault (of_read _ _ (is_err _ _ c.from_residual.ensures.1) _ same)
+
+pub returns-in_err-given-clause-graph_refused : goal.returns-in_err-given-clause-graph_refused
+returns-in_err-given-clause-graph_refused g c = λ fault same. c.in_err-given.ensures.graph_refused fault (of_read _ _ (is_err _ _ c.from_residual.ensures.1) _ same)
+
+pub returns-in_err-given-clause-vectors_refused : goal.returns-in_err-given-clause-vectors_refused
+returns-in_err-given-clause-vectors_refused g c = λ fault same. c.in_err-given.ensures.vectors_refused fault (of_read _ _ (is_err _ _ c.from_residual.ensures.1) _ same)
+
+pub returns-in_err-given-clause-model_read : goal.returns-in_err-given-clause-model_read
+returns-in_err-given-clause-model_read g c = named_again _ _ (is_err _ _ c.from_residual.ensures.1) ReadModel _ _ c.in_err-given.ensures.model_read
+
+pub returns-in_err-given-clause-graph_read : goal.returns-in_err-given-clause-graph_read
+returns-in_err-given-clause-graph_read g c = named_again _ _ (is_err _ _ c.from_residual.ensures.1) ReadGraph _ _ c.in_err-given.ensures.graph_read
+
+pub returns-in_err-given-clause-vectors_read : goal.returns-in_err-given-clause-vectors_read
+returns-in_err-given-clause-vectors_read g c = named_again _ _ (is_err _ _ c.from_residual.ensures.1) ReadVectors _ _ c.in_err-given.ensures.vectors_read
+
+pub returns-in_err-given-clause-write : goal.returns-in_err-given-clause-write
+returns-in_err-given-clause-write g c = record {
+  failed = λ named. absurd (not_else _ _ (is_err _ _ c.from_residual.ensures.1) c.in_err-given.ensures.of_reading Write (λ of. of) named);
+  passed_over = λ unnamed. refl;
+}
+
+pub returns-in_err-given-clause-begun : goal.returns-in_err-given-clause-begun
+returns-in_err-given-clause-begun g c = λ failed. absurd (not_else _ _ (is_err _ _ c.from_residual.ensures.1) c.in_err-given.ensures.of_reading Write (λ of. of) failed)
+
+pub returns-in_err-given-clause-in_order : goal.returns-in_err-given-clause-in_order
+returns-in_err-given-clause-in_order g c = of_fault _ _ (is_err _ _ c.from_residual.ensures.1) _ c.in_err-given.ensures.in_order
+
+pub returns-in_err-given-clause-untouched : goal.returns-in_err-given-clause-untouched
+returns-in_err-given-clause-untouched g c = λ fault same other. refl
+
+-- ---- all three texts are accepted
+
+pub returns-clause-lowered : goal.returns-clause-lowered
+returns-clause-lowered g c =
+    lowered_of _ _ _ (meaning c.in_ok-given.given.model) c.in_ok-given.given.graph c.in_ok-given.given.vectors c.in_ok-given.ensures.accepted _ c.write_lower_vectors.result c.write_lower_vectors.ensures.lowered
+
+pub returns-clause-not_lowered : goal.returns-clause-not_lowered
+returns-clause-not_lowered g c = λ fault same.
+    not_lowerable _ _ _ (meaning c.in_ok-given.given.model) c.in_ok-given.given.graph c.in_ok-given.given.vectors c.in_ok-given.ensures.accepted fault
+    (c.write_lower_vectors.ensures.not_lowered fault same)
+
+pub returns-clause-model_refused : goal.returns-clause-model_refused
+returns-clause-model_refused g c = λ fault same. absurd (not_read _ c.write_lower_vectors.ensures.no_read (Text (Model fault)) tt same)
+
+pub returns-clause-graph_refused : goal.returns-clause-graph_refused
+returns-clause-graph_refused g c = λ fault same. absurd (not_read _ c.write_lower_vectors.ensures.no_read (Text (Graph fault)) tt same)
+
+pub returns-clause-vectors_refused : goal.returns-clause-vectors_refused
+returns-clause-vectors_refused g c = λ fault same. absurd (not_read _ c.write_lower_vectors.ensures.no_read (Text (Vectors fault)) tt same)
+
+pub returns-clause-model_read : goal.returns-clause-model_read
+returns-clause-model_read g c = named_behind _ c.write_lower_vectors.ensures.no_read ReadModel tt _ _ _ c.in_ok-given.ensures.model_read
+
+pub returns-clause-graph_read : goal.returns-clause-graph_read
+returns-clause-graph_read g c = named_behind _ c.write_lower_vectors.ensures.no_read ReadGraph tt _ _ _ c.in_ok-given.ensures.graph_read
+
+pub returns-clause-vectors_read : goal.returns-clause-vectors_read
+returns-clause-vectors_read g c = named_behind _ c.write_lower_vectors.ensures.no_read ReadVectors tt _ _ _ c.in_ok-given.ensures.vectors_read
+
+pub returns-clause-write : goal.returns-clause-write
+returns-clause-write g c = c.write_lower_vectors.ensures.write
 
 pub returns-clause-begun : goal.returns-clause-begun
 returns-clause-begun g c = λ failed.
-    let d = c.in_ok-read.ensures.accepted in
-    let has = has_lowered _ _ _ (meaning c.in_ok-read.read.model) c.in_ok-read.read.graph c.in_ok-read.read.vectors d c.in-Ok.found.0 c.in-Ok.found.1
-    c.in-Ok.ensures.least c.in-Ok.ensures.shifted c.in-Ok.ensures.passes c.in-Ok.ensures.fits_still.states c.write_lowered.ensures.reads_back in
-    (c.in-Ok.found.0, _, has, c.in-Err-write_lowered.ensures.written.err)
+    let (by, text, is, took) = c.write_lower_vectors.ensures.begun failed in
+    (by, text, has_lowered _ _ _ (meaning c.in_ok-given.given.model) c.in_ok-given.given.graph c.in_ok-given.given.vectors c.in_ok-given.ensures.accepted by text is, took)
 
--- x
+pub returns-clause-in_order : goal.returns-clause-in_order
+returns-clause-in_order g c = written_in_order _ c.write_lower_vectors.ensures.no_read _ _ _ _
 
--- y
+pub returns-clause-untouched : goal.returns-clause-untouched
+returns-clause-untouched g c = c.write_lower_vectors.ensures.untouched
