@@ -37,9 +37,11 @@ impl Read for Pieces<'_> {
     }
 }
 
-/// Never ends.
+/// Never ends. It counts its reads.
 #[derive(Drop)]
-struct Endless;
+struct Endless {
+    reads: u64,
+}
 
 impl Source for Endless {
     ghost failures = { λ _. 0 };
@@ -47,6 +49,7 @@ impl Source for Endless {
     ghost reads = { λ s room answer t. Unit {0} };
 
     fn read(&mut self, piece: &mut [u8]) -> Result<usize, SourceFailed> {
+        self.reads = self.reads.saturating_add(1);
         for byte in piece.iter_mut() {
             *byte = b'1';
         }
@@ -81,15 +84,43 @@ fn fails_at_each_read(rt: HostRuntime) {
     }
 }
 
+/// A read has room for 4,096 bytes, and the third for as many as lead one past the limit.
 #[test]
 fn stops_past_the_limit(rt: HostRuntime) -> Result<(), Fail> {
-    let bytes = read_all(rt.alloc(), &mut Endless, 10_000)?;
+    let mut endless = Endless { reads: 0 };
+    let bytes = read_all(rt.alloc(), &mut endless, 10_000)?;
     assert_eq!(rt; bytes.len(), 10_001);
+    assert_eq!(rt; endless.reads, 3);
     let whole = read_all(rt.alloc(), &mut SliceSource::new(b"abc"), 3)?;
     assert_eq!(rt; whole.as_slice(), b"abc".as_slice());
     let front = read_all(rt.alloc(), &mut SliceSource::new(b"abcde"), 3)?;
     assert_eq!(rt; front.as_slice(), b"abcd".as_slice());
     Ok(())
+}
+
+/// One read of a slice, or of a reader of std, is one read of what is below, and leaves the piece behind what it gave as it was.
+/// The end is answered again, each time by one read.
+#[test]
+fn one_read_for_one_read(rt: HostRuntime) {
+    let mut slice = SliceSource::new(b"abc");
+    let mut piece = [b'.'; 6];
+    assert_eq!(rt; slice.read(&mut piece), Ok(3));
+    assert_eq!(rt; piece.as_slice(), b"abc...".as_slice());
+    assert_eq!(rt; slice.read(&mut piece), Ok(0));
+    assert_eq!(rt; piece.as_slice(), b"abc...".as_slice());
+
+    let mut source = ReaderSource::new(Pieces::new(b"abc", 2, Some(1)));
+    let mut piece = [b'.'; 6];
+    assert_eq!(rt; source.read(&mut piece), Ok(2));
+    assert_eq!(rt; piece.as_slice(), b"ab....".as_slice());
+    assert_eq!(rt; source.read(&mut piece), Err(SourceFailed));
+    assert_eq!(rt; piece.as_slice(), b"ab....".as_slice());
+    assert_eq!(rt; (source.failures, source.reader.reads), (1, 2));
+    assert_eq!(rt; source.read(&mut piece), Ok(1));
+    assert_eq!(rt; piece.as_slice(), b"cb....".as_slice());
+    assert_eq!(rt; source.read(&mut piece), Ok(0));
+    assert_eq!(rt; source.read(&mut piece), Ok(0));
+    assert_eq!(rt; (source.failures, source.reader.reads), (1, 5));
 }
 
 #[test]

@@ -45,9 +45,18 @@ impl Source for Pieces<'_> {
     }
 }
 
-/// Gives one byte without end.
+/// Gives one byte without end. It counts its reads.
 #[derive(Drop)]
-struct Endless(u8);
+struct Endless {
+    byte: u8,
+    reads: u64,
+}
+
+impl Endless {
+    fn new(byte: u8) -> Endless {
+        Endless { byte, reads: 0 }
+    }
+}
 
 impl Source for Endless {
     ghost failures = { λ _. 0 };
@@ -55,19 +64,22 @@ impl Source for Endless {
     ghost reads = { λ s room answer t. Unit {0} };
 
     fn read(&mut self, piece: &mut [u8]) -> Result<usize, SourceFailed> {
+        self.reads = self.reads.saturating_add(1);
         for byte in piece.iter_mut() {
-            *byte = self.0;
+            *byte = self.byte;
         }
         Ok(piece.len())
     }
 }
 
-/// The tokens of the source are these, and then comes this end. Two further calls answer the same, with no read.
+/// The tokens of the source are these, and then comes this end, in so many reads. Two further calls answer the same, with no
+/// read.
 fn assert_tokens(
     rt: &impl Abort,
     source: &mut Pieces<'_>,
     tokens: &[(TokenKind, u64, &[u8])],
     end: Option<StreamFault>,
+    reads: u64,
 ) {
     let mut found = StreamTokens::new(TEXT_LIMIT);
     for (kind, place, bytes) in tokens {
@@ -82,7 +94,7 @@ fn assert_tokens(
         }
     }
     assert_end(rt, &mut found, source, end);
-    let reads = source.reads;
+    assert_eq!(rt; source.reads, reads);
     assert_end(rt, &mut found, source, end);
     assert_end(rt, &mut found, source, end);
     assert_eq!(rt; source.reads, reads);
@@ -101,6 +113,7 @@ fn assert_end<S: Source>(
     }
 }
 
+/// 38 bytes.
 const MODEL: &[u8] = b"discount: 0.95 # a line\nT: * -1e-3 x_9";
 
 const MODEL_TOKENS: &[(TokenKind, u64, &[u8])] = &[
@@ -117,19 +130,39 @@ const MODEL_TOKENS: &[(TokenKind, u64, &[u8])] = &[
 
 #[test]
 fn any_pieces_give_the_same(rt: HostRuntime) {
-    for most in [1usize, 2, 3, 399, 400, 401, 4095, 4096, 4097] {
+    for (most, reads) in [
+        (1usize, 39u64),
+        (2, 20),
+        (3, 14),
+        (399, 2),
+        (400, 2),
+        (401, 2),
+        (4095, 2),
+        (4096, 2),
+        (4097, 2),
+    ] {
         assert_tokens(
             &rt,
             &mut Pieces::new(MODEL, most, false),
             MODEL_TOKENS,
             None,
+            reads,
         );
     }
 }
 
+/// What is glued is known with the eleventh byte.
 #[test]
 fn a_token_split_at_every_byte(rt: HostRuntime) {
-    for most in 1..8usize {
+    for (most, reads) in [
+        (1usize, 11u64),
+        (2, 6),
+        (3, 4),
+        (4, 3),
+        (5, 3),
+        (6, 2),
+        (7, 2),
+    ] {
         let glued = Some(StreamFault::Token(TokenFault::Glued(9)));
         assert_tokens(
             &rt,
@@ -139,6 +172,7 @@ fn a_token_split_at_every_byte(rt: HostRuntime) {
                 (TokenKind::Numeral, 1, b"12.5E-7"),
             ],
             glued,
+            reads,
         );
     }
 }
@@ -146,9 +180,10 @@ fn a_token_split_at_every_byte(rt: HostRuntime) {
 #[test]
 fn a_failed_read_is_no_end(rt: HostRuntime) {
     let failed = Some(StreamFault::Device);
-    for most in 1..5usize {
+    for (most, reads) in [(1usize, 6u64), (2, 4), (3, 3), (4, 3)] {
         let mut source = Pieces::new(b"ab 12", most, true);
-        assert_tokens(&rt, &mut source, &[(TokenKind::Name, 0, b"ab")], failed);
+        let name = (TokenKind::Name, 0, b"ab".as_slice());
+        assert_tokens(&rt, &mut source, &[name], failed, reads);
         assert_eq!(rt; source.failures, 1);
     }
 }
@@ -166,8 +201,8 @@ fn reads_no_further_than_it_must(rt: HostRuntime) {
             (TokenKind::Colon, 8, b":"),
         ],
         glued,
+        12,
     );
-    assert_eq!(rt; source.reads, 12);
     assert_eq!(rt; source.failures, 0);
 }
 
@@ -181,19 +216,28 @@ fn long_name(count: usize) -> [u8; 4500] {
     text
 }
 
+/// The name is read with the 4,500 bytes and their end; that it is too long is known with byte 4,496.
 #[test]
 fn a_name_at_the_end_of_the_buffer(rt: HostRuntime) {
-    for most in [1usize, 399, 4095, 4096, 4097] {
+    for (most, reads, reads_of_longer) in [
+        (1usize, 4501u64, 4496u64),
+        (399, 13, 12),
+        (4095, 3, 2),
+        (4096, 3, 2),
+        (4097, 3, 2),
+    ] {
         let text = long_name(400);
         assert_tokens(
             &rt,
             &mut Pieces::new(&text, most, false),
             &[(TokenKind::Name, 4095, &text[4095..4495])],
             None,
+            reads,
         );
         let longer = long_name(401);
         let too_long = Some(StreamFault::Token(TokenFault::TokenTooLong(4095)));
-        assert_tokens(&rt, &mut Pieces::new(&longer, most, false), &[], too_long);
+        let mut source = Pieces::new(&longer, most, false);
+        assert_tokens(&rt, &mut source, &[], too_long, reads_of_longer);
     }
 }
 
@@ -204,7 +248,7 @@ fn a_comment_longer_than_the_buffer(rt: HostRuntime) {
     text[10_000] = b'\n';
     text[10_001] = b':';
     text[10_002] = b'a';
-    for most in [1usize, 400, 4096] {
+    for (most, reads) in [(1usize, 10_004u64), (400, 27), (4096, 4)] {
         assert_tokens(
             &rt,
             &mut Pieces::new(&text, most, false),
@@ -213,25 +257,26 @@ fn a_comment_longer_than_the_buffer(rt: HostRuntime) {
                 (TokenKind::Name, 10_002, b"a"),
             ],
             None,
+            reads,
         );
     }
 }
 
+/// A read gives 4,096 bytes, and the byte at the limit comes with the third.
 #[test]
 fn a_source_that_never_ends(rt: HostRuntime) {
     let at_limit = Some(StreamFault::Token(TokenFault::TextTooLong(10_000)));
-    let mut blanks = StreamTokens::new(10_000);
-    assert_end(&rt, &mut blanks, &mut Endless(b' '), at_limit);
-    assert_end(&rt, &mut blanks, &mut Endless(b' '), at_limit);
-    let mut comment = StreamTokens::new(10_000);
-    assert_end(&rt, &mut comment, &mut Endless(b'#'), at_limit);
+    for byte in [b' ', b'#'] {
+        let mut source = Endless::new(byte);
+        let mut found = StreamTokens::new(10_000);
+        assert_end(&rt, &mut found, &mut source, at_limit);
+        assert_end(&rt, &mut found, &mut source, at_limit);
+        assert_eq!(rt; source.reads, 3);
+    }
     let too_long = Some(StreamFault::Token(TokenFault::TokenTooLong(0)));
-    assert_end(
-        &rt,
-        &mut StreamTokens::new(10_000),
-        &mut Endless(b'1'),
-        too_long,
-    );
+    let mut digits = Endless::new(b'1');
+    assert_end(&rt, &mut StreamTokens::new(10_000), &mut digits, too_long);
+    assert_eq!(rt; digits.reads, 1);
 }
 
 #[test]
@@ -244,6 +289,7 @@ fn a_token_ends_at_the_limit(rt: HostRuntime) {
     }
     let too_long = Some(StreamFault::Token(TokenFault::TextTooLong(3)));
     assert_end(&rt, &mut found, &mut source, too_long);
+    assert_eq!(rt; source.reads, 1);
     let mut found = StreamTokens::new(3);
     let mut source = Pieces::new(b"abc", 1, false);
     match found.next_token(&mut source) {
@@ -251,4 +297,6 @@ fn a_token_ends_at_the_limit(rt: HostRuntime) {
         _ => panic!(rt; "a token"),
     }
     assert_end(&rt, &mut found, &mut source, None);
+    assert_end(&rt, &mut found, &mut source, None);
+    assert_eq!(rt; source.reads, 4);
 }

@@ -69,13 +69,20 @@ fn a_full_slice_fails(rt: HostRuntime) {
     assert_eq!(rt; write_all(&mut sink, b""), Ok(()));
 }
 
-/// A writer of std that takes nothing.
+/// A writer of std that takes nothing at its first write, and counts its writes. The next would take all.
 #[derive(Drop)]
-struct Nothing;
+struct NothingFirst {
+    writes: u64,
+}
 
-impl Write for Nothing {
-    fn write(&mut self, _piece: &[u8]) -> io::Result<usize> {
-        Ok(0)
+impl Write for NothingFirst {
+    fn write(&mut self, piece: &[u8]) -> io::Result<usize> {
+        let number = self.writes;
+        self.writes = self.writes.saturating_add(1);
+        if number == 0 {
+            return Ok(0);
+        }
+        Ok(piece.len())
     }
 
     fn flush(&mut self) -> io::Result<()> {
@@ -90,18 +97,40 @@ fn writes_to_a_writer_of_std(rt: HostRuntime) -> Result<(), Fail> {
     assert_eq!(rt; sink.writer.as_slice(), b"a line".as_slice());
     assert_eq!(rt; sink.failures, 0);
 
-    let mut nothing = WriterSink::new(Nothing);
-    assert_eq!(rt; write_all(&mut nothing, b"a"), Err(SinkFailed));
-    assert_eq!(rt; write_all(&mut nothing, b"b"), Err(SinkFailed));
-    assert_eq!(rt; nothing.failures, 2);
-    assert_eq!(rt; write_all(&mut nothing, b""), Ok(()));
     Ok(())
 }
 
-/// Takes pieces whole, notes how long the first four were, and fails at the write of number `failing`, from 0 on.
+/// A write that took nothing failed: it is not tried again, though it would succeed then. Nothing is written in no write.
+#[test]
+fn a_write_of_nothing_fails(rt: HostRuntime) {
+    let mut sink = WriterSink::new(NothingFirst { writes: 0 });
+    assert_eq!(rt; write_all(&mut sink, b"a"), Err(SinkFailed));
+    assert_eq!(rt; (sink.failures, sink.writer.writes), (1, 1));
+    assert_eq!(rt; write_all(&mut sink, b""), Ok(()));
+    assert_eq!(rt; (sink.failures, sink.writer.writes), (1, 1));
+    assert_eq!(rt; write_all(&mut sink, b"b"), Ok(()));
+    assert_eq!(rt; (sink.failures, sink.writer.writes), (1, 2));
+}
+
+/// One write of a sink over a writer of std is one write of the writer, also of an empty piece, of which nothing is taken.
+#[test]
+fn one_write_for_one_write(rt: HostRuntime) {
+    let mut sink = WriterSink::new(NothingFirst { writes: 0 });
+    assert_eq!(rt; sink.write(b""), Ok(0));
+    assert_eq!(rt; (sink.failures, sink.writer.writes), (0, 1));
+    let mut sink = WriterSink::new(OneByte::new(rt.alloc(), 1));
+    assert_eq!(rt; sink.write(b"ab"), Ok(1));
+    assert_eq!(rt; sink.write(b"b"), Err(SinkFailed));
+    assert_eq!(rt; (sink.failures, sink.writer.writes), (1, 2));
+    assert_eq!(rt; sink.writer.taken.as_slice(), b"a".as_slice());
+}
+
+/// Takes pieces whole, notes how long the first four were, and counts its writes. The write of number `failing`, from 0 on,
+/// and the fifth fail; the next one would succeed.
 #[derive(Drop)]
 struct Pieces {
     lens: [usize; 4],
+    taken: usize,
     writes: usize,
     failing: usize,
     failures: u64,
@@ -111,6 +140,7 @@ impl Pieces {
     fn new(failing: usize) -> Pieces {
         Pieces {
             lens: [0; 4],
+            taken: 0,
             writes: 0,
             failing,
             failures: 0,
@@ -124,12 +154,14 @@ impl Sink for Pieces {
     ghost writes = { λ s answer t. Unit {0} };
 
     fn write(&mut self, piece: &[u8]) -> Result<usize, SinkFailed> {
-        if self.writes >= self.failing || self.writes >= 4 {
+        let number = self.writes;
+        self.writes = self.writes.saturating_add(1);
+        if number == self.failing || self.taken >= 4 {
             self.failures = self.failures.saturating_add(1);
             return Err(SinkFailed);
         }
-        self.lens[self.writes] = piece.len();
-        self.writes += 1;
+        self.lens[self.taken] = piece.len();
+        self.taken += 1;
         Ok(piece.len())
     }
 }
@@ -149,12 +181,11 @@ fn a_buffer_writes_whole_pieces(rt: HostRuntime) {
     let mut sink = Pieces::new(4);
     assert_eq!(rt; write_ten_thousand(&mut sink), Ok(()));
     assert_eq!(rt; sink.lens, [BUFFER_SIZE, BUFFER_SIZE, 1808, 0]);
-    assert_eq!(rt; sink.failures, 0);
+    assert_eq!(rt; (sink.failures, sink.writes), (0, 3));
     for failing in 0..3usize {
         let mut sink = Pieces::new(failing);
         assert_eq!(rt; write_ten_thousand(&mut sink), Err(SinkFailed));
-        assert_eq!(rt; sink.writes, failing);
-        assert_eq!(rt; sink.failures, 1);
+        assert_eq!(rt; (sink.failures, sink.writes), (1, failing + 1));
     }
 }
 
