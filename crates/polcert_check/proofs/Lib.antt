@@ -32,3 +32,4 @@ pub mod Amounts
 pub mod Answering
 pub mod Greatest
 pub mod Passing
+pub mod Figures

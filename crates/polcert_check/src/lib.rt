@@ -20,8 +20,8 @@ mod worst;
 pub use examples::{a_missing_successor, minus_one_for_each_step, runs_of_four_steps};
 pub use fault::LowerFault;
 pub use laws::{
-    one_best_start, one_list_of_runs, one_lowering, one_verdict, promise_for_every_horizon,
-    same_cells_same_answers, same_models_same_answers,
+    amounts_fit, one_best_start, one_list_of_runs, one_lowering, one_verdict,
+    promise_for_every_horizon, same_cells_same_answers, same_models_same_answers,
 };
 pub use lower::{least_constant, lowered};
 pub use parts::fits;

@@ -22,7 +22,8 @@ pub(crate) fn amount_above<C: Cells>(cells: &C, value: i64, earned: i128, expect
     ensures { result ≡ pos ((C.table cells.now).t_scale * (C.table cells.now).o_scale * one) *ℤ value
         -ℤ (pos one *ℤ earned +ℤ pos (C.table cells.now).discount *ℤ expected) }
 {
-    let backing = weighed(1_000_000, earned) + weighed(u64::from(cells.discount()), expected);
+    let discount = u64::from(cells.discount());
+    let backing = weighed(1_000_000, earned) + weighed(discount, expected);
     scaled_value(cells.t_scale(), cells.o_scale(), value) - backing
 }
 

@@ -4,6 +4,7 @@ ghost use Rattle.polcert_text.specs.Device.{HasFailed};
 ghost use Rattle.polcert_text.specs.Source.{IsText, EachTextThatFits};
 ghost use Rattle.polcert_text.specs.Cut.{Lexeme};
 ghost use Rattle.polcert_text.specs.Reading.{lexeme_of};
+ghost use Rattle.polcert_policy.specs.ReadFailures.{EndsInFailure};
 ghost use Rattle.polcert_policy.specs.Words.{minus_kind, is_joined};
 ghost use Rattle.polcert_cells.specs.Elements.{most_actions, most_observations};
 ghost use Rattle.polcert_policy.specs.Graphs.{IsGraph, most_nodes};
@@ -292,6 +293,9 @@ pub fn read_graph_from<S: Source>(
     ensures refused { (fault : GraphFault) → IsErrOf result (SourceFault.Refused fault)
         → EachTextThatFits S.reads source.old source.new (IsRefusedGraphText actions observations fault) }
     ensures device { IsErrOf result SourceFault.Device → HasFailed (S.failures source.old) (S.failures source.new) }
+
+    // The source isn't read again behind the read that failed.
+    ensures device_last { IsErrOf result SourceFault.Device → EndsInFailure S.reads source.old source.new }
     ensures same_count { (result ≢ Err SourceFault.Device) → S.failures source.new ≡ S.failures source.old }
 {
     let mut tokens = StreamTokens::new(TEXT_LIMIT);

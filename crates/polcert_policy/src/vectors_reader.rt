@@ -4,6 +4,7 @@ ghost use Rattle.polcert_text.specs.Device.{HasFailed};
 ghost use Rattle.polcert_text.specs.Source.{IsText, EachTextThatFits};
 ghost use Rattle.polcert_text.specs.Cut.{Lexeme};
 ghost use Rattle.polcert_text.specs.Reading.{lexeme_of};
+ghost use Rattle.polcert_policy.specs.ReadFailures.{EndsInFailure};
 ghost use Rattle.polcert_policy.specs.Words.{numeral_kind, minus_kind};
 ghost use Rattle.polcert_policy.specs.Graphs.{PolicyGraph, IsProperGraph};
 ghost use Rattle.polcert_cells.specs.Elements.{most_states};
@@ -235,6 +236,9 @@ pub fn read_vectors_from<S: Source>(
     ensures refused { (fault : VectorFault) → IsErrOf result (SourceFault.Refused fault)
         → EachTextThatFits S.reads source.old source.new (IsRefusedVectorsText graph.now states fault) }
     ensures device { IsErrOf result SourceFault.Device → HasFailed (S.failures source.old) (S.failures source.new) }
+
+    // The source isn't read again behind the read that failed.
+    ensures device_last { IsErrOf result SourceFault.Device → EndsInFailure S.reads source.old source.new }
     ensures same_count { (result ≢ Err SourceFault.Device) → S.failures source.new ≡ S.failures source.old }
 {
     let mut tokens = StreamTokens::new(TEXT_LIMIT);

@@ -4,13 +4,26 @@ use polcert_policy::{Graph, GraphFault, VectorFault, Vectors, read_graph_from, r
 use polcert_text::{Source, SourceFailed, SourceFault, TokenFault};
 use std::alloc::Global;
 
-/// Gives bytes in pieces of at most `most`, and then fails or ends.
+/// Gives bytes in pieces of at most `most`, and then fails or ends. It counts its reads.
 #[derive(Drop)]
 struct Pieces<'a> {
     rest: &'a [u8],
     most: usize,
     fails: bool,
     failures: u64,
+    reads: u64,
+}
+
+impl<'a> Pieces<'a> {
+    fn new(rest: &'a [u8], most: usize, fails: bool) -> Pieces<'a> {
+        Pieces {
+            rest,
+            most,
+            fails,
+            failures: 0,
+            reads: 0,
+        }
+    }
 }
 
 impl Source for Pieces<'_> {
@@ -19,6 +32,7 @@ impl Source for Pieces<'_> {
     ghost reads = { λ s room answer t. Unit {0} };
 
     fn read(&mut self, piece: &mut [u8]) -> Result<usize, SourceFailed> {
+        self.reads = self.reads.saturating_add(1);
         let count = self.rest.len().min(piece.len()).min(self.most);
         if count == 0 && self.fails {
             self.failures = self.failures.saturating_add(1);
@@ -31,38 +45,24 @@ impl Source for Pieces<'_> {
     }
 }
 
+/// 27 bytes.
 const GRAPH: &[u8] = b"0 1 1 - # the first\n1 0 0 X";
 
-/// The graph over two actions and two observations, in pieces of so many bytes.
-fn graph_of(
-    alloc: Global,
-    text: &[u8],
-    most: usize,
-    fails: bool,
-) -> Result<Graph, SourceFault<GraphFault>> {
-    let mut source = Pieces {
-        rest: text,
-        most,
-        fails,
-        failures: 0,
-    };
-    read_graph_from(alloc, &mut source, 2, 2)
-}
+/// 19 bytes.
+const VECTORS: &[u8] = b"1\n-1.5 2\n\n0\n0 0.25\n";
 
-/// The count of nodes, and the action and the successors of the first, or how the text is refused.
-fn first_node(
-    alloc: Global,
-    text: &[u8],
-    most: usize,
-    fails: bool,
-) -> Result<(usize, usize, Option<usize>, Option<usize>), SourceFault<GraphFault>> {
-    match graph_of(alloc, text, most, fails) {
+/// The count of nodes, and the action and the successors of the first.
+type Node = (usize, usize, Option<usize>, Option<usize>);
+
+/// The first node of the graph over two actions and two observations, or how the text is refused.
+fn first_node(alloc: Global, source: &mut Pieces<'_>) -> Result<Node, SourceFault<GraphFault>> {
+    match read_graph_from(alloc, source, 2, 2) {
         Ok(graph) => Ok(node_of(&graph)),
         Err(fault) => Err(fault),
     }
 }
 
-fn node_of(graph: &Graph) -> (usize, usize, Option<usize>, Option<usize>) {
+fn node_of(graph: &Graph) -> Node {
     if 0 < graph.nodes() && graph.observations() == 2 {
         (
             graph.nodes(),
@@ -75,23 +75,15 @@ fn node_of(graph: &Graph) -> (usize, usize, Option<usize>, Option<usize>) {
     }
 }
 
-/// The first value of the vectors of the graph over two states, or how the text is refused.
+/// The first value of the vectors of `GRAPH` over two states, or how the text is refused.
 fn first_value(
     alloc: Global,
-    text: &[u8],
-    most: usize,
-    fails: bool,
+    source: &mut Pieces<'_>,
 ) -> Option<Result<i64, SourceFault<VectorFault>>> {
-    let Ok(graph) = graph_of(alloc, GRAPH, most, false) else {
+    let Ok(graph) = read_graph_from(alloc, &mut Pieces::new(GRAPH, 4096, false), 2, 2) else {
         return None;
     };
-    let mut source = Pieces {
-        rest: text,
-        most,
-        fails,
-        failures: 0,
-    };
-    match read_vectors_from(alloc, &mut source, &graph, 2) {
+    match read_vectors_from(alloc, source, &graph, 2) {
         Ok(vectors) => Some(Ok(value_of(&vectors))),
         Err(fault) => Some(Err(fault)),
     }
@@ -105,42 +97,61 @@ fn value_of(vectors: &Vectors) -> i64 {
     }
 }
 
+/// Each byte is read once, and behind the last a read finds the end.
 #[test]
 fn the_same_in_any_pieces(rt: HostRuntime) {
-    for most in [1usize, 2, 3, 399, 400, 401, 4095, 4096, 4097] {
+    for (most, graph_reads, vector_reads) in [
+        (1usize, 28u64, 20u64),
+        (2, 15, 11),
+        (3, 10, 8),
+        (399, 2, 2),
+        (400, 2, 2),
+        (401, 2, 2),
+        (4095, 2, 2),
+        (4096, 2, 2),
+        (4097, 2, 2),
+    ] {
+        let mut source = Pieces::new(GRAPH, most, false);
         assert_eq!(rt;
-            first_node(rt.alloc(), GRAPH, most, false),
+            first_node(rt.alloc(), &mut source),
             Ok((2, 1, Some(1), None))
         );
-        assert_eq!(rt;
-            first_value(rt.alloc(), b"1\n-1.5 2\n\n0\n0 0.25\n", most, false),
-            Some(Ok(-1_500_000))
-        );
+        assert_eq!(rt; source.reads, graph_reads);
+        let mut source = Pieces::new(VECTORS, most, false);
+        assert_eq!(rt; first_value(rt.alloc(), &mut source), Some(Ok(-1_500_000)));
+        assert_eq!(rt; source.reads, vector_reads);
+    }
+}
+
+/// A text that is refused is read no further than to the token that is wrong, and a source that failed is not read again.
+#[test]
+fn refused_or_failed_graphs(rt: HostRuntime) {
+    let glued = SourceFault::Refused(GraphFault::Token(TokenFault::Glued(2)));
+    let early = SourceFault::Refused(GraphFault::Truncated(6));
+    for (text, fails, fault, failures, single_reads, whole_reads) in [
+        (b"0 1x 1 -".as_slice(), true, glued, 0u64, 4u64, 1u64),
+        (GRAPH, true, SourceFault::Device, 1, 28, 2),
+        (b"0 1 1\n", false, early, 0, 7, 2),
+    ] {
+        for (most, reads) in [(1usize, single_reads), (4096, whole_reads)] {
+            let mut source = Pieces::new(text, most, fails);
+            assert_eq!(rt; first_node(rt.alloc(), &mut source), Err(fault));
+            assert_eq!(rt; (source.failures, source.reads), (failures, reads));
+        }
     }
 }
 
 #[test]
-fn refused_or_failed(rt: HostRuntime) {
-    for most in [1usize, 4096] {
-        let refused = SourceFault::Refused(GraphFault::Token(TokenFault::Glued(2)));
-        assert_eq!(rt;
-            first_node(rt.alloc(), b"0 1x 1 -", most, true),
-            Err(refused)
-        );
-        assert_eq!(rt;
-            first_node(rt.alloc(), GRAPH, most, true),
-            Err(SourceFault::Device)
-        );
-        let early = SourceFault::Refused(GraphFault::Truncated(6));
-        assert_eq!(rt; first_node(rt.alloc(), b"0 1 1\n", most, false), Err(early));
-        assert_eq!(rt;
-            first_value(rt.alloc(), b"1 2", most, true),
-            Some(Err(SourceFault::Device))
-        );
-        let mismatch = SourceFault::Refused(VectorFault::ActionMismatch(0));
-        assert_eq!(rt;
-            first_value(rt.alloc(), b"0 2", most, true),
-            Some(Err(mismatch))
-        );
+fn refused_or_failed_vectors(rt: HostRuntime) {
+    let mismatch = SourceFault::Refused(VectorFault::ActionMismatch(0));
+    for (text, fault, failures, single_reads, whole_reads) in [
+        (b"1 2".as_slice(), SourceFault::Device, 1u64, 4u64, 2u64),
+        (b"0 2", mismatch, 0, 2, 1),
+    ] {
+        for (most, reads) in [(1usize, single_reads), (4096, whole_reads)] {
+            let mut source = Pieces::new(text, most, true);
+            assert_eq!(rt; first_value(rt.alloc(), &mut source), Some(Err(fault)));
+            assert_eq!(rt; (source.failures, source.reads), (failures, reads));
+        }
     }
 }

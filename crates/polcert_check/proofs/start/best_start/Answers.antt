@@ -1,8 +1,7 @@
-use Rattle.std.proofs.Common.{rules, arith, ◌≡◌, ℕ, ◌*◌, ◌+◌, ◌<◌, ◌≤◌, ◌⊎◌, ⊎_elim, ℤ, ◌≤ℤ◌, ◌<ℤ◌, unsigned_abs, FitsSigned, to_z, of_z, ◌∙◌}
+use Rattle.std.proofs.Common.{rules, arith, ◌≡◌, ℕ, ◌+◌, ◌<◌, ◌≤◌, ⊎_elim, ℤ, ◌≤ℤ◌, ◌<ℤ◌, FitsSigned, to_z, of_z, ◌∙◌}
 use mir.Syntax.{w128}
 use Rattle.std.proofs.lemmas.Bool.{cases_lt}
 use Rattle.std.proofs.lemmas.Int.{ints, to_z-of_z}
-use Rattle.polcert_text.specs.Numbers.{largest}
 use Rattle.polcert_check.specs.StartWorth.{IsFirstGreatest}
 use Rattle.polcert_check.proofs.Ring.{linear}
 use Rattle.polcert_check.proofs.start.best_start.Goals.{then-sum-greatest, else-sum-greatest}

@@ -2,7 +2,7 @@ use Rattle.std.proofs.Common.{◌≡◌, ◌∙◌, ◌++◌, ◌∷◌, ◌≤�
 use Rattle.polcert_text.specs.Cut.{text_limit}
 use Rattle.polcert_text.specs.Reading.{lexeme_of}
 use Rattle.polcert_text.specs.Source.{EachTextThatFits}
-use Rattle.polcert_text.proofs.StreamTaken.{none_taken, token_taken, place_grows, place_within}
+use Rattle.polcert_text.proofs.StreamTaken.{none_taken, token_taken, failed_since, place_grows, place_within}
 use Rattle.polcert_policy.specs.VectorText.{IsRefusedVectorsText}
 use Rattle.polcert_policy.specs.declared.fault.VectorFault.TheVariants as faults
 use Rattle.polcert_policy.proofs.VectorReadLaws.{possible_seen}
@@ -68,3 +68,23 @@ returns-in-Err-Token-clause-refused g c = λ fault is.
     subst (λ f. EachTextThatFits g.S.Source.reads c.args.source.now c.next_token.new.source (IsRefusedVectorsText c.args.graph.now c.args.states f)) same
     (vectors_refused_tokens _ _ _ c.args.graph.now _ _ was.0 c.loop-token.tokens c.loop-token.source c.in-Err-Token.fault new.ahead c.next_token.new.source c.loop-token.invariant.states was.1 gives.0
     (possible_seen c.args.graph.now was.0 r r.some_states was.2))
+
+pub returns-in-Err-Device-clause-device : goal.returns-in-Err-Device-clause-device
+returns-in-Err-Device-clause-device g c = λ is.
+    let was = c.loop-token.invariant.seen in
+    let fails = rw (c.in-Err-Device.is ∙ ap Err c.in-Err-Device.field-0-is) at c.next_token.follows.holds-at-none.answers in
+    failed_since _ _ _ _ was.0 c.loop-token.tokens c.loop-token.source c.next_token.new.source was.1 (fails.0 was.1.goes_on)
+
+pub returns-in-Err-Device-clause-device_last : goal.returns-in-Err-Device-clause-device_last
+returns-in-Err-Device-clause-device_last g c = λ is.
+    let was = c.loop-token.invariant.seen.1 in
+    let fails = rw (c.in-Err-Device.is ∙ ap Err c.in-Err-Device.field-0-is) at c.next_token.follows.holds-at-none.answers in
+    let failed = fails.0 was.goes_on in
+    record {
+      between = c.loop-token.source;
+      given = was.given;
+      is_whole = c.loop-token.tokens.ahead.is_whole;
+      was_read = was.was_read;
+      further = failed.given;
+      failed = failed.failed;
+    }
