@@ -115,19 +115,20 @@ fn item(kind: ItemFault, item: u64, place: u64) -> RunFault {
     RunFault::Text(Fault::Model(ModelFault::Item { kind, item, place }))
 }
 
+/// FIRST has 125 bytes. Each is read once, and behind the last a read finds the end.
 #[test]
 fn reads_in_pieces(rt: HostRuntime) {
-    for most in [1usize, 2, 3, 7] {
+    for (most, reads) in [(1usize, 126u64), (2, 64), (3, 43), (7, 19)] {
         let mut source = Pieces::new(FIRST, most, None);
         let mut sink = OneByte::new(None);
         assert_eq!(rt; run_model(rt.alloc(), &mut source, &mut sink), Ok(()));
         assert_eq!(rt; sink.taken(), LINE);
-        assert_eq!(rt; source.failures, 0);
+        assert_eq!(rt; (source.failures, source.reads), (0, reads));
         assert_eq!(rt; sink.failures, 0);
     }
 }
 
-/// FIRST comes a byte at a time, and then its end.
+/// FIRST comes a byte at a time, and then its end. The read that fails is the last.
 #[test]
 fn fails_at_each_read(rt: HostRuntime) {
     for failing in 0..=FIRST.len() as u64 {
@@ -135,7 +136,7 @@ fn fails_at_each_read(rt: HostRuntime) {
         let mut sink = OneByte::new(None);
         let result = run_model(rt.alloc(), &mut source, &mut sink);
         assert_eq!(rt; result, Err(RunFault::ReadModel));
-        assert_eq!(rt; source.failures, 1);
+        assert_eq!(rt; (source.failures, source.reads), (1, failing + 1));
         assert_eq!(rt; sink.taken().len(), 0);
     }
 }
@@ -173,6 +174,7 @@ fn a_failed_read_is_no_end(rt: HostRuntime) {
     let mut sink = OneByte::new(None);
     let result = run_model(rt.alloc(), &mut source, &mut sink);
     assert_eq!(rt; result, Err(RunFault::ReadModel));
+    assert_eq!(rt; source.reads, 2);
     assert_eq!(rt; status_of(&RunFault::ReadModel), 3);
     assert_eq!(rt; sink.taken().len(), 0);
 }
