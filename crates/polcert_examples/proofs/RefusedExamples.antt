@@ -2,6 +2,7 @@
 use Rattle.std.proofs.Common.{◌≡◌, ℕ, ◌≤◌, false, Some, List, [], ◌∷◌, pos, codes, refl, sym, subst, arith, lit≤}
 use Rattle.std.proofs.lemmas.List.Elements.{All-from_recursion}
 use Rattle.polcert_text.specs.Bytes.{class_of}
+use Rattle.polcert_text.specs.Cut.{Lexeme}
 use Rattle.polcert_text.specs.Numbers.{number_of, exponent_size, power_of, size_of, millionth}
 use Rattle.polcert_text.specs.declared.tokens.TokenFault.TheVariants.{Glued}
 use Rattle.polcert_format.specs.declared.fault.ItemFault.TheVariants.{Token, BeforeFirstItem, DuplicateLine, MissingLine, DiscountRange}
@@ -11,11 +12,12 @@ use Rattle.polcert_cells.specs.Numbers.{IsMillionths, none, unsigned, one}
 use Rattle.polcert_format.specs.Items.{Item, IsItem, IsDivided}
 use Rattle.polcert_format.specs.Text as texts
 use Rattle.polcert_format.specs.Text.{Known, nothing_known, IsInPreamble, IsComplete, IsRight, AreRight}
-use Rattle.polcert_format.specs.Reading.{IsWrong, CannotGoOn, IsPossible}
+use Rattle.polcert_format.specs.Forms.{right, start, IsFormless, IsPossible}
+use Rattle.polcert_format.specs.Reading.{IsWrong}
 use Rattle.polcert_format.specs.FirstWrong.{wrong_front, wrong_item, wrong_last, wrong_end, IsDecided, before_items, at_word, at_end}
 use Rattle.polcert_format.specs.Reasons.{unsigned as unsigned_number}
 use Rattle.polcert_format.specs.Misfits.{of_value}
-use Rattle.polcert_format.specs.Refusals.{IsItemRefusal, StopsInBody, possible, at_lexeme}
+use Rattle.polcert_format.specs.Refusals.{IsItemRefusal, StopsInBody, at_lexeme}
 use Rattle.polcert_examples.specs.RefusedExamples.{name_at, numeral_at, colon_at, empty_text, hello, twice, above_one, glued}
 use Rattle.polcert_cells.proofs.Basics.{one_some, same_head}
 use Rattle.polcert_cells.proofs.NumberLaws.{one_list}
@@ -162,17 +164,20 @@ glued_refused = record {
 colon_possible : IsPossible nothing_known Discount (colon_at 8 ∷ [])
 colon_possible = record {
   more = a_zero ∷ [];
-  after = record nothing_known { discount = Some 0 };
-  taken = texts.discount (let k : IsInPreamble nothing_known = record { no_start = refl; no_entry = refl } in k) refl refl (unsigned (zero_is false) none) (lit≤ tt);
+  form = right (texts.discount (let k : IsInPreamble nothing_known = record { no_start = refl; no_entry = refl } in k) refl refl (unsigned (zero_is false) none) (lit≤ tt));
 }
-
-two_stuck : CannotGoOn nothing_known Discount (colon_at 8 ∷ numeral_at 10 (codes "2") ∷ [])
-two_stuck further after (texts.discount {g = g} p e c n l) =
-    let r = numbers_go_on further (unsigned (two 10) none) n refl in
-    no_fraction g (sym (same_head r.joined)) l
 
 not_start : Discount ≡ Start → ⊥
 not_start e = cc
+
+two_wrong : (further : List Lexeme) (after : Known) → IsRight nothing_known Discount (colon_at 8 ∷ numeral_at 10 (codes "2") ∷ further) after → ⊥
+two_wrong further after (texts.discount {g = g} p e c n l) =
+    let r = numbers_go_on further (unsigned (two 10) none) n refl in
+    no_fraction g (sym (same_head r.joined)) l
+
+two_stuck : IsFormless nothing_known Discount (colon_at 8 ∷ numeral_at 10 (codes "2") ∷ [])
+two_stuck further (right {after} r) = two_wrong further after r
+two_stuck further (start s i c f) = not_start s
 
 pub above_one_stops : StopsInBody above_one DiscountRange 1 10
 above_one_stops = record {
@@ -188,8 +193,8 @@ above_one_stops = record {
   taken = colon_at 8 ∷ [];
   rest = numeral_at 10 (codes "2") ∷ [];
   whole = refl;
-  is_taken = possible colon_possible;
-  stops = at_lexeme two_stuck (of_value refl tt) (λ start range. absurd (not_start start));
+  possible = colon_possible;
+  stops = at_lexeme two_stuck (of_value refl tt);
   place_is = refl;
   clean = λ rest after. refl;
 }

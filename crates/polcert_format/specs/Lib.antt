@@ -1,5 +1,6 @@
 pub mod FirstNumber
 pub mod FirstWrong
+pub mod Forms
 pub mod FullForm
 pub mod Items
 pub mod KnownPreamble

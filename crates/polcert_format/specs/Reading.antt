@@ -29,9 +29,3 @@ IsWrong k t body = (after : Known) → IsRight k t body after → ⊥
 -- an item of this topic isn't right, however its body goes on
 abbrev pub CannotGoOn : Known → Topic → List Lexeme → Type 0
 CannotGoOn k t body = (more : List Lexeme) → IsWrong k t (body ++ more)
-
--- an item of this topic can be right with a body that begins so
-pub record IsPossible (k : Known) (t : Topic) (body : List Lexeme) : Type 0 where
-  pub more : List Lexeme
-  pub after : Known
-  pub taken : IsRight k t (body ++ more) after

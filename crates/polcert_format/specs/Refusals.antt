@@ -1,21 +1,21 @@
 -- Refusals: what is promised of each, and where those inside an item's body stand.
-use Rattle.std.specs.Prelude.{◌≡◌, ℕ, ◌+◌, ◌<◌, true, List, [], ◌∷◌, ◌++◌, length, Some, None}
+use Rattle.std.specs.Prelude.{◌≡◌, ℕ, ◌+◌, true, List, [], ◌∷◌, ◌++◌, length, Some, None}
 use Rattle.polcert_text.specs.Cut.{Lexeme}
 use Rattle.polcert_text.specs.declared.lexeme.TokenKind.TheVariants.{Numeral}
 use Rattle.polcert_format.specs.declared.fault.ItemFault.{ItemFault}
-use Rattle.polcert_format.specs.declared.fault.ItemFault.TheVariants.{Token, TextTooLong, ProbabilityRange}
+use Rattle.polcert_format.specs.declared.fault.ItemFault.TheVariants.{Token, TextTooLong}
 use Rattle.polcert_format.specs.declared.fault.ModelFault.{ModelFault}
 use Rattle.polcert_format.specs.declared.fault.ModelFault.TheVariants.{RowSum, Memory}
 use Rattle.polcert_format.specs.declared.fault.ModelFault.TheVariants as model_faults
 use Rattle.polcert_cells.specs.declared.words.Topic.{Topic}
-use Rattle.polcert_cells.specs.declared.words.Topic.TheVariants.{Start}
 use Rattle.polcert_cells.specs.Words.{topic}
 use Rattle.polcert_format.specs.Items.{Item, IsDivided}
 use Rattle.polcert_cells.specs.Preamble.{Preamble}
 use Rattle.polcert_cells.specs.Meaning.{Meaning, meaning_of}
 use Rattle.polcert_cells.specs.Rows.{IsFirstWrongRow}
 use Rattle.polcert_format.specs.Text.{Known, nothing_known, AreRight, IsRightText, IsModelText}
-use Rattle.polcert_format.specs.Reading.{IsWrong, CannotGoOn, IsPossible}
+use Rattle.polcert_format.specs.Forms.{IsFormless, IsPossible}
+use Rattle.polcert_format.specs.Reading.{IsWrong}
 use Rattle.polcert_format.specs.FirstNumber.{IsLateIn}
 use Rattle.polcert_format.specs.FirstWrong.{TextTokens, IsFirstWrong, LiesIn, IsDecided, word_place}
 use Rattle.polcert_format.specs.Reasons.{IsReason, is_sign}
@@ -52,24 +52,13 @@ abbrev pub place_or : List Lexeme → ℕ → ℕ
 place_or [] behind = behind
 place_or (l ∷ ls) behind = l.place
 
--- What was taken of an item is still possible. (Of a start item this isn't said: its first number is tested late, and the
--- sum of its numbers and the states that are left only at its end.)
-pub data IsTaken (k : Known) (t : Topic) (taken : List Lexeme) : Type 0 where
-  possible : IsPossible k t taken → IsTaken k t taken
-  in_start : t ≡ Start → IsTaken k t taken
-
--- Of a start item's first number, right behind its colon, no range is tested.
-abbrev pub IsDueAtOnce : Topic → List Lexeme → ItemFault → Type 0
-IsDueAtOnce t taken kind = t ≡ Start → kind ≡ ProbabilityRange → 1 < length taken
-
--- Behind the lexemes taken the item is no longer possible: with the next lexeme, with the next two as a sign and a
--- numeral, or, where nothing is left of it, as it is. The kind is so of what this place is for and of what stands there.
+-- Behind the lexemes taken the item hasn't even the form of one any more: with the next lexeme, or with the next two as a sign
+-- and a numeral. Or nothing is left of it, and it isn't right as it is. The kind is so of what this place is for and of what
+-- stands there.
 pub data Stops (k : Known) (t : Topic) (kind : ItemFault) (taken : List Lexeme) : List Lexeme → Type 0 where
-  at_lexeme : {l : Lexeme} {behind : List Lexeme} → CannotGoOn k t (taken ++ l ∷ []) → IsMisfit (wanted k t taken) l kind → IsDueAtOnce t taken kind
-      → Stops k t kind taken (l ∷ behind)
-  at_number : {sign l : Lexeme} {behind : List Lexeme} → is_sign sign.kind ≡ true → l.kind ≡ Numeral → IsTaken k t (taken ++ sign ∷ [])
-      → CannotGoOn k t (taken ++ sign ∷ l ∷ []) → IsOfValue kind → IsMisfit (wanted k t (taken ++ sign ∷ [])) l kind → IsDueAtOnce t taken kind
-      → Stops k t kind taken (sign ∷ l ∷ behind)
+  at_lexeme : {l : Lexeme} {behind : List Lexeme} → IsFormless k t (taken ++ l ∷ []) → IsMisfit (wanted k t taken) l kind → Stops k t kind taken (l ∷ behind)
+  at_number : {sign l : Lexeme} {behind : List Lexeme} → is_sign sign.kind ≡ true → l.kind ≡ Numeral → IsPossible k t (taken ++ sign ∷ [])
+      → IsFormless k t (taken ++ sign ∷ l ∷ []) → IsOfValue kind → IsMisfit (wanted k t (taken ++ sign ∷ [])) l kind → Stops k t kind taken (sign ∷ l ∷ behind)
   at_end : IsWrong k t taken → kind ≡ misfit (wanted k t taken) None → Stops k t kind taken []
 
 -- The place stands in the item where its lexemes so far are still possible, and with what stands there they aren't.
@@ -87,7 +76,7 @@ pub record StopsInBody (ts : TextTokens) (kind : ItemFault) (number place : ℕ)
   pub taken : List Lexeme
   pub rest : List Lexeme
   pub whole : item.body ≡ taken ++ rest
-  pub is_taken : IsTaken k t taken
+  pub possible : IsPossible k t taken
   pub stops : Stops k t kind taken rest
   pub place_is : place ≡ place_or rest (word_place after ts.end 0)
   pub clean : rest ≡ [] → after ≡ [] → ts.ending ≡ None
@@ -108,7 +97,7 @@ pub record IsLastTaken (ts : TextTokens) (number : ℕ) : Type 0 where
   pub t : Topic
   pub known : AreRight nothing_known before k
   pub topic_is : topic item.word ≡ Some t
-  pub is_taken : IsTaken k t item.body
+  pub possible : IsPossible k t item.body
 
 -- The tokens end before the first lexeme, or behind what is still possible.
 pub data EndsPossible (ts : TextTokens) (number : ℕ) : Type 0 where

@@ -1,12 +1,12 @@
 -- The first number of a start item: what is due of it behind the body that was taken is just what its reader has kept.
-use Rattle.std.proofs.Common.{◌≡◌, ◌∙◌, ℕ, suc, ◌+◌, ◌<◌, ◌++◌, ◌⊎◌, inl, inr, Bool, false, true, Option, Some, None, Result, Ok, Err, List, [], ◌∷◌, length, ℤ, refl, sym, ap, subst, arith}
+use Rattle.std.proofs.Common.{◌≡◌, ◌∙◌, ℕ, ◌+◌, ◌<◌, ◌++◌, ◌⊎◌, inl, inr, Bool, false, true, Option, Some, None, Result, Ok, Err, List, [], ◌∷◌, length, ℤ, refl, sym, ap, subst, arith}
 use Rattle.std.proofs.lemmas.List.{append-nil}
 use Rattle.polcert_text.specs.Cut.{Lexeme}
 use Rattle.polcert_text.specs.declared.lexeme.TokenKind.{TokenKind}
 use Rattle.polcert_text.specs.declared.lexeme.TokenKind.TheVariants.{Name, Numeral, Colon, Plus, Minus}
 use Rattle.polcert_text.specs.declared.number.NumberFault.{NumberFault}
 use Rattle.polcert_text.proofs.TextLaws.{one_exact_fault}
-use Rattle.polcert_cells.proofs.Basics.{cons≢nil, same_head, same_tail, true≢false}
+use Rattle.polcert_cells.proofs.Basics.{cons≢nil, one_some, same_head, same_tail, true≢false}
 use Rattle.polcert_cells.proofs.NumberLaws.{one_millionths}
 use Rattle.polcert_cells.specs.Numbers.{IsMillionths}
 use Rattle.polcert_format.specs.declared.fault.ItemFault.{ItemFault}
@@ -27,7 +27,7 @@ use Rattle.polcert_items.specs.declared.stop.ItemEnd.{ItemEnd}
 use Rattle.polcert_items.specs.declared.stop.ItemEnd.TheVariants as ends_of
 use Rattle.polcert_items.specs.NumberSteps.{IsSignAt, SignEnds}
 use Rattle.polcert_items.specs.NumberSteps as steps
-use Rattle.polcert_items.specs.StartSteps.{start_sign, pending, pending_of, IsValue, IsState, IsOutside, IsFraction, IsBehindColon, IsListBegun, IsWordBody, IsNumberBody, IsDigitsKept, IsFurtherBody, IsStartSeen, IsDue, IsDueNumber, IsDueValue, IsHeld, IsStop, due, at_once, IsEndDue, IsLateEnd, IsBehindNumber, StopsStart, first_number, token, IsRangeTested, IsBehindFirst}
+use Rattle.polcert_items.specs.StartSteps.{start_sign, pending, pending_of, IsValue, IsState, IsOutside, IsFraction, IsBehindColon, IsListBegun, IsWordBody, IsNumberBody, IsDigitsKept, IsFurtherBody, IsStartSeen, IsDue, IsDueNumber, IsDueValue, IsHeld, IsStop, due, at_once, IsEndDue, IsLateEnd, StopsStart, first_number, token}
 use Rattle.polcert_items.proofs.StartSeen.{begins_map, begins_more, digits_begin, digits_more}
 
 -- ---- what is due stands so in the whole body
@@ -73,29 +73,36 @@ begun_length body place Is ls (begins.unsigned c l whole kind p so) = subst (λ 
 begun_length body place Is ls (begins.plus c s l whole kind is p so) = subst (λ (b : List Lexeme). 1 + length ls < length b) (sym whole) (omega (arith))
 begun_length body place Is ls (begins.minus c s l whole kind is p so) = subst (λ (b : List Lexeme). 1 + length ls < length b) (sym whole) (omega (arith))
 
-longer : (sign : Option Sign) (body : List Lexeme) (n : ℕ) → 1 + suc n < length body → IsBehindNumber sign body
-longer None body n h = omega (arith, h)
-longer (Some sign) body n h = omega (arith, h)
+none≢some : {A : Type 0} {x : A} → None ≡ Some x → ⊥
+none≢some e = cc
 
--- a range is tested only behind the first number
-tested_behind : (count : ℕ) (body : List Lexeme) (r : StartReader) → IsStartSeen count body r → IsBehindFirst r → IsBehindNumber (start_sign r) body
-tested_behind count body (reader.Number f) s b = omega (arith, begun_length body f.place _ [] s.body_is.number)
-tested_behind count body (reader.Digits d) s b = omega (arith, begun_length body d.place (λ negative m. Unit {0}) [] (digits_begin count body d.place (IsDigitsKept count d) (λ negative m. Unit {0}) [] (λ m k. tt) s.body_is))
-tested_behind count body (reader.Probabilities n) s b =
-    let f = s.body_is in
-    longer n.sign body (length f.behind) (begun_length body f.place IsFraction (f.next ∷ f.behind) f.number)
-tested_behind count body reader.Form s b = absurd b
-tested_behind count body (reader.Colon c) s b = absurd b
-tested_behind count body (reader.List c) s b = absurd b
-tested_behind count body reader.Body s b = absurd b
-tested_behind count body reader.Every s b = absurd b
-tested_behind count body (reader.Only n) s b = absurd b
-tested_behind count body (reader.Sign x) s b = absurd b
+-- a refusal that is held back is due as soon as anything follows
+held_due : (r : StartReader) (l : Lexeme) (x : Refusal) → pending r ≡ Some x → IsDue r l x.kind x.place
+held_due (reader.Digits d) l x e = of d.value e
+  where
+    of : (v : Result ℤ NumberFault) → pending_of v d.place ≡ Some x → IsDueValue v d.place l x.kind x.place
+    of (Ok h) e = absurd (none≢some e)
+    of (Err f) e = subst (λ (r : Refusal). (r.kind ≡ Number f) × (r.place ≡ d.place)) (one_some refl e) (refl, refl)
+held_due reader.Form l x e = absurd (none≢some e)
+held_due (reader.Colon c) l x e = absurd (none≢some e)
+held_due (reader.List c) l x e = absurd (none≢some e)
+held_due reader.Body l x e = absurd (none≢some e)
+held_due reader.Every l x e = absurd (none≢some e)
+held_due (reader.Only s) l x e = absurd (none≢some e)
+held_due (reader.Sign s) l x e = absurd (none≢some e)
+held_due (reader.Number f) l x e = absurd (none≢some e)
+held_due (reader.Probabilities n) l x e = absurd (none≢some e)
 
-pub stops_start : (count : ℕ) (body : List Lexeme) (r : StartReader) (w : Wanted) (l : Lexeme) (kind : ItemFault) (place : ℕ) → IsStartSeen count body r → IsStop (IsDue r l) (start_sign r) w l kind place
-    → (kind ≡ ProbabilityRange → IsRangeTested r l) → StopsStart count body w l kind place
-stops_start count body r w l kind place s (due d) range = first_number (λ more ends. due_is_late count body more l ends r kind place s d)
-stops_start count body r w l kind place s (at_once m why) range = token (start_sign r) s.sign m why (λ e. tested_behind count body r s (range e).behind)
+pub stops_start : (count : ℕ) (body : List Lexeme) (r : StartReader) (w : Wanted) (l : Lexeme) (x : Refusal) → IsStartSeen count body r → ((y : Refusal) → IsDue r l y.kind y.place → x ≡ y)
+    → IsStop (IsDue r l) (start_sign r) w l x.kind x.place → StopsStart (pending r) count body w l x.kind x.place
+stops_start count body r w l x s same (due d) = first_number (λ more ends. due_is_late count body more l ends r x.kind x.place s d)
+stops_start count body r w l x s same (at_once m why) = of (pending r) refl
+  where
+    of : (held : Option Refusal) → pending r ≡ held → StopsStart (pending r) count body w l x.kind x.place
+    of None e = token (start_sign r) e s.sign m why
+    of (Some y) e =
+        let d : IsDue r l y.kind y.place = held_due r l y e in
+        first_number (λ more ends. due_is_late count body more l ends r x.kind x.place s (subst (λ (z : Refusal). IsDue r l z.kind z.place) (sym (same y d)) d))
 
 -- ---- what is due of a body that goes on so
 

@@ -3,13 +3,14 @@ use Rattle.std.proofs.Common.{◌≡◌, ◌∙◌, ℕ, ◌⊎◌, inl, inr, Bo
 use Rattle.polcert_text.specs.Cut.{Lexeme}
 use Rattle.polcert_items.specs.declared.elements_reader.ElementsReader.{ElementsReader}
 use Rattle.polcert_format.specs.declared.fault.ItemFault.{ItemFault}
-use Rattle.polcert_format.specs.declared.fault.ItemFault.TheVariants.{BadShape, BadCount, DuplicateName, Reset, WrongNumberCount, ProbabilityRange, StartSum, StartEmpty}
+use Rattle.polcert_format.specs.declared.fault.ItemFault.TheVariants.{BadShape, BadCount, DuplicateName, Reset, WrongNumberCount, StartSum, StartEmpty}
 use Rattle.polcert_items.specs.declared.item.ItemReader.{ItemReader}
 use Rattle.polcert_items.specs.declared.item.ItemReader.TheVariants as items
 use Rattle.polcert_items.specs.declared.number.Sign.{Sign}
 use Rattle.polcert_items.specs.declared.stop.ItemEnd.{ItemEnd}
 use Rattle.polcert_items.specs.declared.stop.ItemEnd.TheVariants as ends
 use Rattle.polcert_items.specs.declared.start_reader.StartReader.{StartReader}
+use Rattle.polcert_items.specs.declared.start_reader.StartReader.TheVariants as reader
 use Rattle.polcert_cells.specs.declared.words.Topic.TheVariants.{Start}
 use Rattle.polcert_cells.specs.declared.elements.Elements.{Elements}
 use Rattle.polcert_cells.specs.declared.elements.Elements.TheVariants.{Count}
@@ -23,14 +24,14 @@ use Rattle.polcert_format.specs.FirstNumber.{IsLate, states_known}
 use Rattle.polcert_items.proofs.FirstNumberLaws as laws
 use Rattle.polcert_items.proofs.PatternLaws.{if_err_map, each_refused_map}
 use Rattle.polcert_format.specs.Text.{Known}
-use Rattle.polcert_items.specs.LineSteps.{Takes, CannotTake}
+use Rattle.polcert_items.specs.LineSteps.{Takes, CannotTake, CannotEnd}
 use Rattle.polcert_format.specs.KnownPreamble.{preamble_in}
 use Rattle.polcert_items.specs.EntrySteps.{IfRefused}
 use Rattle.polcert_format.specs.Reasons.{is_sign, ends_in_sign, IsOfElements}
 use Rattle.polcert_items.specs.NumberSteps.{SignIs, SignEnds}
 use Rattle.polcert_items.specs.ElementSteps.{ElementsReason, AreElementsSeen}
-use Rattle.polcert_items.specs.StartSteps.{StartGoes, start_sign, IsStartSeen, IsStartReason, IsStartEndReason, IsStop, IsDue, IsHeld, IsRangeTested, IsEndDue, IsLateEnd, StopsStart}
-use Rattle.polcert_items.specs.ItemSteps.{ItemGoes, IsSeen, topic_in, IsItemReason, of_token, of_start, IsItemEndReason}
+use Rattle.polcert_items.specs.StartSteps.{StartGoes, StartGives, IfNotMemory, start_sign, pending, IsStartSeen, IsStartReason, IsStartEndReason, IsStop, IsDue, IsHeld, IsEndDue, IsLateEnd, StopsStart}
+use Rattle.polcert_items.specs.ItemSteps.{ItemGoes, ItemForms, IsSeen, topic_in, pending_in, IsItemReason, of_token, of_start, IsItemEndReason}
 use Rattle.polcert_items.proofs.ElementLaws.{repeated_name}
 
 -- ---- what is seen of the body
@@ -83,14 +84,29 @@ pub start_takes : (k : Known) (states : Elements) (item : ItemReader) (old new :
 start_takes k states item old new l known is takes =
     let t : Takes (StartGoes (preamble_in k).states) old l new = subst (λ s. Takes (StartGoes s) old l new) (sym (known_states k states known)) takes in
     let go : Takes (ItemGoes k) (items.Start old) l (items.Start new) =
-    record { back = λ ls next g. (g.0, (t.back ls g.0 g.1.0, g.1.1)); on = λ ls next g. (g.0, (t.on ls g.0 g.1.0, g.1.1)) } in
+    record { back = λ ls next g. (g.0, (t.back ls (Some g.0) g.1.0, g.1.1)); on = λ ls next g. (g.0, (t.on ls (Some g.0) g.1.0, g.1.1)) } in
     subst (λ i. Takes (ItemGoes k) i l (items.Start new)) (sym is) go
+
+-- and of its form
+pub start_forms : (k : Known) (states : Elements) (item : ItemReader) (old new : StartReader) (l : Lexeme) → k.states ≡ Some states → item ≡ items.Start old → Takes (StartGoes states) old l new
+    → IfStart (topic_in item) (Takes (ItemForms k) item l (items.Start new))
+start_forms k states item old new l known is takes =
+    let t : Takes (StartGoes (preamble_in k).states) old l new = subst (λ s. Takes (StartGoes s) old l new) (sym (known_states k states known)) takes in
+    let go : Takes (ItemForms k) (items.Start old) l (items.Start new) = record { back = λ ls none g. t.back ls None g; on = λ ls none g. t.on ls None g } in
+    subst (λ i. IfStart (topic_in i) (Takes (ItemForms k) i l (items.Start new))) (sym is) go
+
+pub start_formless : (k : Known) (states : Elements) (item : ItemReader) (old : StartReader) (l : Lexeme) → k.states ≡ Some states → item ≡ items.Start old → CannotTake (StartGoes states) old l
+    → IfStart (topic_in item) (CannotTake (ItemForms k) item l)
+start_formless k states item old l known is stuck =
+    let none : CannotTake (StartGoes (preamble_in k).states) old l = subst (λ s. CannotTake (StartGoes s) old l) (sym (known_states k states known)) stuck in
+    let go : CannotTake (ItemForms k) (items.Start old) l = λ ls any g. none ls None g in
+    subst (λ i. IfStart (topic_in i) (CannotTake (ItemForms k) i l)) (sym is) go
 
 pub start_stuck : (k : Known) (states : Elements) (item : ItemReader) (old : StartReader) (l : Lexeme) → k.states ≡ Some states → item ≡ items.Start old → CannotTake (StartGoes states) old l
     → CannotTake (ItemGoes k) item l
 start_stuck k states item old l known is stuck =
     let none : CannotTake (StartGoes (preamble_in k).states) old l = subst (λ s. CannotTake (StartGoes s) old l) (sym (known_states k states known)) stuck in
-    let go : CannotTake (ItemGoes k) (items.Start old) l = λ ls next g. none ls g.0 g.1.0 in
+    let go : CannotTake (ItemGoes k) (items.Start old) l = λ ls next g. none ls (Some g.0) g.1.0 in
     subst (λ i. CannotTake (ItemGoes k) i l) (sym is) go
 
 pub start_leads : (k : Known) (states : Elements) (item : ItemReader) (old new : StartReader) (l : Lexeme) → k.states ≡ Some states → item ≡ items.Start old
@@ -109,16 +125,30 @@ start_keeps k states new body known s = subst (λ e. IsStartSeen (count_of e) bo
 
 -- why it cannot go on
 pub start_stops : (k : Known) (states : Elements) (item : ItemReader) (old : StartReader) (body : List Lexeme) (l : Lexeme) (stop : Stop) → k.states ≡ Some states → item ≡ items.Start old
-    → IsSeen (states_known k) body item → IfRefused stop (λ r. IsStop (IsDue old l) (start_sign old) (start_wants (count_of states) old []) l r.kind r.place)
-    → IfRefused stop (λ r. r.kind ≡ ProbabilityRange → IsRangeTested old l)
-    → IfRefused stop (λ r. IfStart (topic_in item) (StopsStart (states_known k) body (item_wants k item []) l r.kind r.place))
-start_stops k states item old body l (stops.Refused r) known is s named range =
-    let go : StopsStart (count_of states) body (start_wants (count_of states) old []) l r.kind r.place =
-    laws.stops_start (count_of states) body old (start_wants (count_of states) old []) l r.kind r.place (start_seen k states item old body known is s) named range in
-    let here : StopsStart (states_known k) body (item_wants k (items.Start old) []) l r.kind r.place =
-    subst (λ e. StopsStart (count_of e) body (start_wants (count_of e) old []) l r.kind r.place) (sym (known_states k states known)) go in
-    subst (λ i. IfStart (topic_in i) (StopsStart (states_known k) body (item_wants k i []) l r.kind r.place)) (sym is) here
-start_stops k states item old body l stops.Memory known is s named range = tt
+    → IsSeen (states_known k) body item → ((x : Refusal) → IsDue old l x.kind x.place → stop ≡ stops.Refused x)
+    → IfRefused stop (λ r. IsStop (IsDue old l) (start_sign old) (start_wants (count_of states) old []) l r.kind r.place)
+    → IfRefused stop (λ r. IfStart (topic_in item) (StopsStart (pending_in item) (states_known k) body (item_wants k item []) l r.kind r.place))
+start_stops k states item old body l (stops.Refused r) known is s late named =
+    let go : StopsStart (pending old) (count_of states) body (start_wants (count_of states) old []) l r.kind r.place =
+    laws.stops_start (count_of states) body old (start_wants (count_of states) old []) l r (start_seen k states item old body known is s) (λ x d. same_refusal r x (late x d)) named in
+    let here : StopsStart (pending old) (states_known k) body (item_wants k (items.Start old) []) l r.kind r.place =
+    subst (λ e. StopsStart (pending old) (count_of e) body (start_wants (count_of e) old []) l r.kind r.place) (sym (known_states k states known)) go in
+    subst (λ i. IfStart (topic_in i) (StopsStart (pending_in i) (states_known k) body (item_wants k i []) l r.kind r.place)) (sym is) here
+  where
+    same_refusal : (a b : Refusal) → stops.Refused a ≡ stops.Refused b → a ≡ b
+    same_refusal a b e = cc
+start_stops k states item old body l stops.Memory known is s late named = tt
+
+-- the same of the result
+pub start_stops_in : (k : Known) (states : Elements) (item : ItemReader) (old : StartReader) (body : List Lexeme) (l : Lexeme) (result : Result Unit Stop) → k.states ≡ Some states → item ≡ items.Start old
+    → IsSeen (states_known k) body item → ((x : Refusal) → IsDue old l x.kind x.place → result ≡ Err (stops.Refused x))
+    → IfErr result (λ stop. IfRefused stop (λ r. IsStop (IsDue old l) (start_sign old) (start_wants (count_of states) old []) l r.kind r.place))
+    → IfErr result (λ stop. IfRefused stop (λ r. IfStart (topic_in item) (StopsStart (pending_in item) (states_known k) body (item_wants k item []) l r.kind r.place)))
+start_stops_in k states item old body l (Ok x) known is s late named = tt
+start_stops_in k states item old body l (Err stop) known is s late named = start_stops k states item old body l stop known is s (λ x d. same_stop (Err stop) (Err (stops.Refused x)) stop (stops.Refused x) refl refl (late x d)) named
+  where
+    same_stop : (x y : Result Unit Stop) (a b : Stop) → x ≡ Err a → y ≡ Err b → x ≡ y → a ≡ b
+    same_stop x y a b e f same = cc
 
 -- what is due of its first number is what is answered
 pub start_late : (k : Known) (states : Elements) (item : ItemReader) (old : StartReader) (body more : List Lexeme) (l : Lexeme) (ends : Bool) (late : Refusal) (result : Result Unit Stop)
@@ -133,10 +163,6 @@ start_late k states item old body more l ends late result known is s due answere
     of : IsDue old l late.kind late.place ⊎ IsHeld (count_of states) old l → IfErr result (λ stop. IfRefused stop (λ r. (r.kind ≡ late.kind) × (r.place ≡ late.place)))
     of (inl d) = subst (λ (x : Result Unit Stop). IfErr x (λ stop. IfRefused stop (λ r. (r.kind ≡ late.kind) × (r.place ≡ late.place)))) (sym (answered late d)) (refl, refl)
     of (inr h) = if_err_map result _ _ (λ stop x. each_refused_map stop (λ r none. absurd none) x) (held h)
-
-pub if_err_both : {T E : Type 0} (r : Result T E) (P Q R : E → Type 0) → ((e : E) → P e → Q e → R e) → IfErr r P → IfErr r Q → IfErr r R
-if_err_both (Ok v) P Q R f x y = tt
-if_err_both (Err e) P Q R f x y = f e x y
 
 pub start_ends : (k : Known) (states : Elements) (item : ItemReader) (r : StartReader) (e : ItemEnd) → k.states ≡ Some states → item ≡ items.Start r
     → IfAtEnd e (λ kind. kind ≡ misfit (start_wants (count_of states) r []) None) → IfAtEnd e (λ kind. kind ≡ misfit (item_wants k item []) None)
@@ -169,3 +195,34 @@ pub start_late_end : (k : Known) (states : Elements) (item : ItemReader) (r : St
 start_late_end k states item r body end late known is s l due =
     laws.late_at_end (count_of states) body r end late (start_seen k states item r body known is s)
     (subst (λ e. IsLate (count_of e) body true late.kind late.place) (known_states k states known) l) due
+
+-- where it cannot end at its end, no refusal of a number is held back
+pub start_unheld : (item : ItemReader) (r : StartReader) (e : ItemEnd) → item ≡ items.Start r → IsEndDue r e → IfAtEnd e (λ kind. pending_in item ≡ None)
+start_unheld item r e is due = subst (λ i. IfAtEnd e (λ kind. pending_in i ≡ None)) (sym is) (of e r due)
+  where
+    free : (kind : ItemFault) (r : StartReader) → IsEndDue r (ends.AtEnd kind) → pending r ≡ None
+    free kind (reader.Digits d) due = absurd due
+    free kind reader.Form due = refl
+    free kind (reader.Colon c) due = refl
+    free kind (reader.List c) due = refl
+    free kind reader.Body due = refl
+    free kind reader.Every due = refl
+    free kind (reader.Only s) due = refl
+    free kind (reader.Sign s) due = refl
+    free kind (reader.Number f) due = refl
+    free kind (reader.Probabilities n) due = refl
+
+    of : (e : ItemEnd) (r : StartReader) → IsEndDue r e → IfAtEnd e (λ kind. pending r ≡ None)
+    of (ends.AtEnd kind) r due = free kind r due
+    of (ends.At x) r due = tt
+    of ends.Memory r due = tt
+
+-- it cannot end as it is
+pub start_stuck_end : (k : Known) (states : Elements) (item : ItemReader) (r : StartReader) (e : ItemEnd) → k.states ≡ Some states → item ≡ items.Start r → IfNotMemory e (CannotEnd (StartGives states) r)
+    → IfNotMemory e (CannotEnd (ItemGoes k) item)
+start_stuck_end k states item r e known is none = subst (λ i. IfNotMemory e (CannotEnd (ItemGoes k) i)) (sym is) (of e (subst (λ s. IfNotMemory e (CannotEnd (StartGives s) r)) (sym (known_states k states known)) none))
+  where
+    of : (e : ItemEnd) → IfNotMemory e (CannotEnd (StartGives (preamble_in k).states) r) → IfNotMemory e (CannotEnd (ItemGoes k) (items.Start r))
+    of (ends.AtEnd kind) none = λ next g. none g.0 g.1.0
+    of (ends.At x) none = λ next g. none g.0 g.1.0
+    of ends.Memory none = tt

@@ -1,5 +1,6 @@
 pub mod ElementLaws
 pub mod FirstNumberLaws
+pub mod FormLaws
 pub mod ItemReading
 pub mod LineLaws
 pub mod ListLaws

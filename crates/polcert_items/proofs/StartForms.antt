@@ -21,10 +21,12 @@ use Rattle.polcert_cells.specs.declared.elements.Elements.{Elements}
 use Rattle.polcert_cells.specs.declared.elements.Elements.TheVariants.{Count, Names}
 use Rattle.polcert_cells.specs.Elements.{count_of, number_of, StandsFor, by_number, by_name}
 use Rattle.polcert_cells.specs.declared.shares.Shares.{Shares}
-use Rattle.polcert_cells.specs.Start.{all_states, single, included, IsStartBody, IsStart, plain, include, exclude}
+use Rattle.polcert_cells.specs.Start.{alike, all_states, single, included, IsStartBody, IsStart, plain, include, exclude}
 use Rattle.polcert_cells.specs.Start as forms
+use Rattle.polcert_format.specs.Forms.{IsStartBodyForm, IsStartForm}
+use Rattle.polcert_format.specs.Forms as shapes
 use Rattle.polcert_items.specs.LineSteps.{Takes, CannotTake, BehindColon}
-use Rattle.polcert_items.specs.StartSteps.{marked, chosen_with, listed, ListGoes, AreShares, NumbersGo, DigitsGo, state_number, first_of_more, StartGoes, Begins, AreDigits, IsState, IsValue}
+use Rattle.polcert_items.specs.StartSteps.{marked, picks, chosen_with, listed, AreAsked, AreLeft, ListGoes, AreShares, AreFormed, AreGiven, NumbersGo, DigitsGo, state_number, first_of_more, BodyGoes, FormGoes, StartGoes, StartGives, Begins, AreDigits, IsState, IsValue}
 use Rattle.polcert_items.specs.StartSteps as steps
 use Rattle.polcert_cells.proofs.Basics.{true≢false}
 use Rattle.polcert_cells.proofs.EntryLaws.{one_element}
@@ -39,43 +41,86 @@ use Rattle.polcert_text.specs.declared.number.NumberFault.{NumberFault}
 -- ---- the first token
 
 pub colon_begins : (states : Elements) (l : Lexeme) → l.kind ≡ Colon → Takes (StartGoes states) reader.Form l reader.Body
-colon_begins states l colon = record { back = λ ls v g. plain colon g; on = λ ls v g. on ls v g }
+colon_begins states l colon = record { back = λ ls asked g. back ls asked g; on = λ ls asked g. on ls asked g }
   where
-    on : (ls : List Lexeme) (v : Shares) → IsStart states (l ∷ ls) v → IsStartBody states ls v
-    on ls v (plain c a) = a
-    on ls v (include ms w d z p) = absurd (name_not_colon _ w.kind colon)
-    on ls v (exclude ms w d z p) = absurd (name_not_colon _ w.kind colon)
+    back : (ls : List Lexeme) (asked : Option Shares) → BodyGoes states ls asked → FormGoes states (l ∷ ls) asked
+    back ls None g = shapes.plain colon g
+    back ls (Some v) g = plain colon g
+
+    no_list : IsWord (codes "include") l ⊎ IsWord (codes "exclude") l → ⊥
+    no_list (inl w) = name_not_colon _ w.kind colon
+    no_list (inr w) = name_not_colon _ w.kind colon
+
+    of_form : (ls : List Lexeme) → IsStartForm states (l ∷ ls) → IsStartBodyForm states ls
+    of_form ls (shapes.plain c a) = a
+    of_form ls (shapes.listed ms w d z) = absurd (no_list w)
+
+    of_start : (ls : List Lexeme) (v : Shares) → IsStart states (l ∷ ls) v → IsStartBody states ls v
+    of_start ls v (plain c a) = a
+    of_start ls v (include ms w d z p) = absurd (no_list (inl w))
+    of_start ls v (exclude ms w d z p) = absurd (no_list (inr w))
+
+    on : (ls : List Lexeme) (asked : Option Shares) → FormGoes states (l ∷ ls) asked → BodyGoes states ls asked
+    on ls None g = of_form ls g
+    on ls (Some v) g = of_start ls v g
+
+-- a list of states behind its word has the form of one
+list_formed : (states : Elements) (choice : Choice) (l : Lexeme) → IsWord (codes "include") l ⊎ IsWord (codes "exclude") l → (ls : List Lexeme)
+    → BehindColon (ListGoes states choice (λ s. false)) ls None → IsStartForm states (l ∷ ls)
+list_formed states choice l word [] g = absurd g
+list_formed states choice l word (c ∷ ls) g = shapes.listed g.1.further word g.0 g.1.stand
+
+form_listed : (states : Elements) (choice : Choice) (l : Lexeme) → (l.kind ≡ Colon → ⊥) → (ls : List Lexeme) → IsStartForm states (l ∷ ls) → BehindColon (ListGoes states choice (λ s. false)) ls None
+form_listed states choice l other ls (shapes.plain c a) = absurd (other c)
+form_listed states choice l other ls (shapes.listed ms w d z) = (d, record { further = ms; stand = z; said = tt })
 
 pub include_begins : (states : Elements) (l : Lexeme) → IsWord (codes "include") l → Takes (StartGoes states) reader.Form l (reader.Colon Include)
-include_begins states l word = record { back = λ ls v g. back ls v g; on = λ ls v g. on ls v g }
+include_begins states l word = record { back = λ ls asked g. back ls asked g; on = λ ls asked g. on ls asked g }
   where
-    back : (ls : List Lexeme) (v : Shares) → BehindColon (ListGoes states Include (λ s. false)) ls v → IsStart states (l ∷ ls) v
-    back [] v g = absurd g
-    back (c ∷ ls) v g = subst (IsStart states (l ∷ c ∷ ls)) (sym g.1.shares_are) (include g.1.further word g.0 g.1.stand g.1.left)
+    to_start : (ls : List Lexeme) (v : Shares) → BehindColon (ListGoes states Include (λ s. false)) ls (Some v) → IsStart states (l ∷ ls) v
+    to_start [] v g = absurd g
+    to_start (c ∷ ls) v g = subst (IsStart states (l ∷ c ∷ ls)) (sym g.1.said.0) (include g.1.further word g.0 g.1.stand g.1.said.1)
 
-    on : (ls : List Lexeme) (v : Shares) → IsStart states (l ∷ ls) v → BehindColon (ListGoes states Include (λ s. false)) ls v
-    on ls v (plain c a) = absurd (name_not_colon _ word.kind c)
-    on ls v (include ms w d z p) = (d, record { further = ms; stand = z; shares_are = refl; left = p })
-    on ls v (exclude ms w d z p) = absurd (include_not_exclude _ word w)
+    back : (ls : List Lexeme) (asked : Option Shares) → BehindColon (ListGoes states Include (λ s. false)) ls asked → FormGoes states (l ∷ ls) asked
+    back ls None g = list_formed states Include l (inl word) ls g
+    back ls (Some v) g = to_start ls v g
+
+    of_start : (ls : List Lexeme) (v : Shares) → IsStart states (l ∷ ls) v → BehindColon (ListGoes states Include (λ s. false)) ls (Some v)
+    of_start ls v (plain c a) = absurd (name_not_colon _ word.kind c)
+    of_start ls v (include ms w d z p) = (d, record { further = ms; stand = z; said = (refl, p) })
+    of_start ls v (exclude ms w d z p) = absurd (include_not_exclude _ word w)
+
+    on : (ls : List Lexeme) (asked : Option Shares) → FormGoes states (l ∷ ls) asked → BehindColon (ListGoes states Include (λ s. false)) ls asked
+    on ls None g = form_listed states Include l (λ c. name_not_colon _ word.kind c) ls g
+    on ls (Some v) g = of_start ls v g
 
 pub exclude_begins : (states : Elements) (l : Lexeme) → IsWord (codes "exclude") l → Takes (StartGoes states) reader.Form l (reader.Colon Exclude)
-exclude_begins states l word = record { back = λ ls v g. back ls v g; on = λ ls v g. on ls v g }
+exclude_begins states l word = record { back = λ ls asked g. back ls asked g; on = λ ls asked g. on ls asked g }
   where
-    back : (ls : List Lexeme) (v : Shares) → BehindColon (ListGoes states Exclude (λ s. false)) ls v → IsStart states (l ∷ ls) v
-    back [] v g = absurd g
-    back (c ∷ ls) v g = subst (IsStart states (l ∷ c ∷ ls)) (sym g.1.shares_are) (exclude g.1.further word g.0 g.1.stand g.1.left)
+    to_start : (ls : List Lexeme) (v : Shares) → BehindColon (ListGoes states Exclude (λ s. false)) ls (Some v) → IsStart states (l ∷ ls) v
+    to_start [] v g = absurd g
+    to_start (c ∷ ls) v g = subst (IsStart states (l ∷ c ∷ ls)) (sym g.1.said.0) (exclude g.1.further word g.0 g.1.stand g.1.said.1)
 
-    on : (ls : List Lexeme) (v : Shares) → IsStart states (l ∷ ls) v → BehindColon (ListGoes states Exclude (λ s. false)) ls v
-    on ls v (plain c a) = absurd (name_not_colon _ word.kind c)
-    on ls v (include ms w d z p) = absurd (include_not_exclude _ w word)
-    on ls v (exclude ms w d z p) = (d, record { further = ms; stand = z; shares_are = refl; left = p })
+    back : (ls : List Lexeme) (asked : Option Shares) → BehindColon (ListGoes states Exclude (λ s. false)) ls asked → FormGoes states (l ∷ ls) asked
+    back ls None g = list_formed states Exclude l (inr word) ls g
+    back ls (Some v) g = to_start ls v g
+
+    of_start : (ls : List Lexeme) (v : Shares) → IsStart states (l ∷ ls) v → BehindColon (ListGoes states Exclude (λ s. false)) ls (Some v)
+    of_start ls v (plain c a) = absurd (name_not_colon _ word.kind c)
+    of_start ls v (include ms w d z p) = absurd (include_not_exclude _ w word)
+    of_start ls v (exclude ms w d z p) = (d, record { further = ms; stand = z; said = (refl, p) })
+
+    on : (ls : List Lexeme) (asked : Option Shares) → FormGoes states (l ∷ ls) asked → BehindColon (ListGoes states Exclude (λ s. false)) ls asked
+    on ls None g = form_listed states Exclude l (λ c. name_not_colon _ word.kind c) ls g
+    on ls (Some v) g = of_start ls v g
 
 -- ---- lists of states
 
-pub list_same : (states : Elements) (choice : Choice) (p q : ℕ → Bool) (ls : List Lexeme) (v : Shares) → ((s : ℕ) → p s ≡ q s) → ListGoes states choice p ls v → ListGoes states choice q ls v
-list_same states choice p q ls v e g =
+pub list_same : (states : Elements) (choice : Choice) (p q : ℕ → Bool) (ls : List Lexeme) (asked : Option Shares) → ((s : ℕ) → p s ≡ q s) → ListGoes states choice p ls asked
+    → ListGoes states choice q ls asked
+list_same states choice p q ls asked e g =
     let same : p ≡ q = λ i s. e s i in
-    subst (λ r. ListGoes states choice r ls v) same g
+    subst (λ r. ListGoes states choice r ls asked) same g
 
 equal_or_not : (a b : ℕ) → (a ≡ b) ⊎ (a ≡ b → ⊥)
 equal_or_not a b = grind arith
@@ -109,29 +154,23 @@ module _ (states : Elements) (choice : Choice) (old : ℕ → Bool) (l : Lexeme)
   more : (further : List ℕ) → chosen_with (λ k. old k || (s == k)) further ≡ chosen_with old (s ∷ further)
   more further = λ i k. or_assoc (old k) (s == k) (included further k) i
 
-  state_back : (ls : List Lexeme) (v : Shares) → ListGoes states choice (λ k. old k || (s == k)) ls v → ListGoes states choice old (l ∷ ls) v
-  state_back ls v g = record {
+  state_back : (ls : List Lexeme) (asked : Option Shares) → ListGoes states choice (λ k. old k || (s == k)) ls asked → ListGoes states choice old (l ∷ ls) asked
+  state_back ls asked g = record {
     further = s ∷ g.further;
     stand = (is, g.stand);
-    shares_are = g.shares_are ∙ ap (listed states choice) (more g.further);
-    left = subst (λ p. 0 < (listed states choice p).total) (more g.further) g.left;
+    said = subst (λ p. AreLeft (listed states choice p) asked) (more g.further) g.said;
   }
 
-  state_on : (ls : List Lexeme) (v : Shares) → ListGoes states choice old (l ∷ ls) v → ListGoes states choice (λ k. old k || (s == k)) ls v
-  state_on ls v g = at g.further g.stand g.shares_are g.left
+  state_on : (ls : List Lexeme) (asked : Option Shares) → ListGoes states choice old (l ∷ ls) asked → ListGoes states choice (λ k. old k || (s == k)) ls asked
+  state_on ls asked g = at g.further g.stand g.said
     where
-      at : (further : List ℕ) → AllZip (StandsFor states) (l ∷ ls) further → v ≡ listed states choice (chosen_with old further) → 0 < (listed states choice (chosen_with old further)).total
-          → ListGoes states choice (λ k. old k || (s == k)) ls v
-      at [] stand shares left = absurd stand
-      at (n ∷ ns) stand shares left =
+      at : (further : List ℕ) → AllZip (StandsFor states) (l ∷ ls) further → AreLeft (listed states choice (chosen_with old further)) asked
+          → ListGoes states choice (λ k. old k || (s == k)) ls asked
+      at [] stand said = absurd stand
+      at (n ∷ ns) stand said =
           let same : n ≡ s = one_element states l n s stand.0 is in
           let joined : chosen_with old (n ∷ ns) ≡ chosen_with (λ k. old k || (s == k)) ns = ap (λ m. chosen_with old (m ∷ ns)) same ∙ sym (more ns) in
-          record {
-            further = ns;
-            stand = stand.1;
-            shares_are = shares ∙ ap (listed states choice) joined;
-            left = subst (λ p. 0 < (listed states choice p).total) joined left;
-          }
+          record { further = ns; stand = stand.1; said = subst (λ p. AreLeft (listed states choice p) asked) joined said }
 
 pub list_takes : (states : Elements) (old : Chosen) (l : Lexeme) (s : ℕ) (marks : List Bool) → StandsFor states l s → s < length old.marks → marks ≡ slice_set old.marks s true
     → Takes (StartGoes states) (reader.List old) l (reader.List (record { choice = old.choice; marks = marks }))
@@ -148,6 +187,19 @@ list_stuck states old l none = λ ls v g. at ls g.further g.stand
     at : (ls : List Lexeme) (further : List ℕ) → AllZip (StandsFor states) (l ∷ ls) further → ⊥
     at ls [] stand = stand
     at ls (n ∷ ns) stand = none n stand.0
+
+-- a list ends with the shares of what was chosen, if they leave a state
+pub list_ends : (states : Elements) (chosen : Chosen) (v : Shares) → length chosen.marks ≡ count_of states → v ≡ alike (length chosen.marks) (picks chosen.choice (marked chosen.marks)) → 0 < v.total
+    → StartGives states (reader.List chosen) [] v
+list_ends states chosen v size is left =
+    let p : ℕ → Bool = marked chosen.marks in
+    let none_further : chosen_with p [] ≡ p = λ i s. no_other (p s) i in
+    let same : v ≡ listed states chosen.choice (chosen_with p []) = is ∙ ap (λ n. alike n (picks chosen.choice p)) size ∙ ap (listed states chosen.choice) (sym none_further) in
+    record { further = []; stand = tt; said = (same, subst (λ (s : Shares). 0 < s.total) same left) }
+  where
+    no_other : (b : Bool) → (b || false) ≡ b
+    no_other true = refl
+    no_other false = refl
 
 below_count : (s count n : ℕ) → count ≡ n → s < n → s < count
 below_count s count n e low = omega arith
@@ -182,15 +234,31 @@ module _ (states : Elements) (l : Lexeme) (name : l.kind ≡ Name) where
       minus : (k : TokenKind) → k ≡ Name → k ≡ Minus → ⊥
       minus k a b = cc
 
+  -- nothing stands behind a name
+  name_alone : (ls : List Lexeme) → IsStartBodyForm states (l ∷ ls) → ls ≡ []
+  name_alone ls (shapes.uniform w) = refl
+  name_alone ls (shapes.name n f) = refl
+  name_alone ls (shapes.state_number m n b) = refl
+  name_alone ls (shapes.one_number n) = absurd (no_numbers n)
+  name_alone ls (shapes.probabilities ps m n c s) = absurd (no_numbers n)
+
   pub uniform_begins : IsWord (codes "uniform") l → Takes (StartGoes states) reader.Body l reader.Every
-  uniform_begins word = record { back = λ ls v g. subst (λ xs. IsStartBody states (l ∷ xs) v) (sym g.0) (subst (IsStartBody states (l ∷ [])) (sym g.1) (forms.uniform word)); on = λ ls v g. on ls v g }
+  uniform_begins word = record { back = λ ls asked g. back ls asked g; on = λ ls asked g. on ls asked g }
     where
-      on : (ls : List Lexeme) (v : Shares) → IsStartBody states (l ∷ ls) v → (ls ≡ []) × (v ≡ all_states states)
-      on ls v (forms.uniform w) = (refl, refl)
-      on ls v (forms.name n f) = absurd (true≢false (ap is_reserved word.bytes ∙ uniform_is_reserved) n.free)
-      on ls v (forms.number m n b) = absurd (no_numeral n.kind)
-      on ls v (forms.only_state c n h) = absurd (no_numbers n)
-      on ls v (forms.probabilities ps m n c s) = absurd (no_numbers n)
+      back : (ls : List Lexeme) (asked : Option Shares) → (ls ≡ []) × AreAsked (all_states states) asked → BodyGoes states (l ∷ ls) asked
+      back ls None g = subst (λ xs. IsStartBodyForm states (l ∷ xs)) (sym g.0) (shapes.uniform word)
+      back ls (Some v) g = subst (λ xs. IsStartBody states (l ∷ xs) v) (sym g.0) (subst (IsStartBody states (l ∷ [])) (sym g.1) (forms.uniform word))
+
+      of_body : (ls : List Lexeme) (v : Shares) → IsStartBody states (l ∷ ls) v → (ls ≡ []) × (v ≡ all_states states)
+      of_body ls v (forms.uniform w) = (refl, refl)
+      of_body ls v (forms.name n f) = absurd (true≢false (ap is_reserved word.bytes ∙ uniform_is_reserved) n.free)
+      of_body ls v (forms.number m n b) = absurd (no_numeral n.kind)
+      of_body ls v (forms.only_state c n h) = absurd (no_numbers n)
+      of_body ls v (forms.probabilities ps m n c s) = absurd (no_numbers n)
+
+      on : (ls : List Lexeme) (asked : Option Shares) → BodyGoes states (l ∷ ls) asked → (ls ≡ []) × AreAsked (all_states states) asked
+      on ls None g = (name_alone ls g, tt)
+      on ls (Some v) g = of_body ls v g
 
   named_on : (s : ℕ) → StandsFor states l s → (IsWord (codes "uniform") l → ⊥) → (ls : List Lexeme) (v : Shares) → IsStartBody states (l ∷ ls) v → (ls ≡ []) × (v ≡ single states s)
   named_on s is other ls v (forms.uniform w) = absurd (other w)
@@ -203,39 +271,85 @@ module _ (states : Elements) (l : Lexeme) (name : l.kind ≡ Name) where
   named_back s (by_number w b) = absurd (no_numeral w.kind)
   named_back s (by_name n f) = forms.name n f
 
+  named_form : (s : ℕ) → StandsFor states l s → IsStartBodyForm states (l ∷ [])
+  named_form s (by_number w b) = absurd (no_numeral w.kind)
+  named_form s (by_name n f) = shapes.name n f
+
   pub name_begins : (s : ℕ) → StandsFor states l s → (IsWord (codes "uniform") l → ⊥) → Takes (StartGoes states) reader.Body l (reader.Only s)
-  name_begins s is other = record {
-    back = λ ls v g. subst (λ xs. IsStartBody states (l ∷ xs) v) (sym g.0) (subst (IsStartBody states (l ∷ [])) (sym g.1) (named_back s is));
-    on = λ ls v g. named_on s is other ls v g;
-  }
+  name_begins s is other = record { back = λ ls asked g. back ls asked g; on = λ ls asked g. on ls asked g }
+    where
+      back : (ls : List Lexeme) (asked : Option Shares) → (ls ≡ []) × AreAsked (single states s) asked → BodyGoes states (l ∷ ls) asked
+      back ls None g = subst (λ xs. IsStartBodyForm states (l ∷ xs)) (sym g.0) (named_form s is)
+      back ls (Some v) g = subst (λ xs. IsStartBody states (l ∷ xs) v) (sym g.0) (subst (IsStartBody states (l ∷ [])) (sym g.1) (named_back s is))
+
+      on : (ls : List Lexeme) (asked : Option Shares) → BodyGoes states (l ∷ ls) asked → (ls ≡ []) × AreAsked (single states s) asked
+      on ls None g = (name_alone ls g, tt)
+      on ls (Some v) g = named_on s is other ls v g
 
   pub name_stuck : ((s : ℕ) → StandsFor states l s → ⊥) → (IsWord (codes "uniform") l → ⊥) → CannotTake (StartGoes states) reader.Body l
-  name_stuck none other ls v (forms.uniform w) = other w
-  name_stuck none other ls v (forms.name {s = k} n f) = none k (by_name n f)
-  name_stuck none other ls v (forms.number m n b) = no_numeral n.kind
-  name_stuck none other ls v (forms.only_state c n h) = no_numbers n
-  name_stuck none other ls v (forms.probabilities ps m n c t) = no_numbers n
+  name_stuck none other ls asked g = stuck ls asked g
+    where
+      of_form : (ls : List Lexeme) → IsStartBodyForm states (l ∷ ls) → ⊥
+      of_form ls (shapes.uniform w) = other w
+      of_form ls (shapes.name {s = k} n f) = none k (by_name n f)
+      of_form ls (shapes.state_number m n b) = no_numeral n.kind
+      of_form ls (shapes.one_number n) = no_numbers n
+      of_form ls (shapes.probabilities ps m n c t) = no_numbers n
+
+      of_body : (ls : List Lexeme) (v : Shares) → IsStartBody states (l ∷ ls) v → ⊥
+      of_body ls v (forms.uniform w) = other w
+      of_body ls v (forms.name {s = k} n f) = none k (by_name n f)
+      of_body ls v (forms.number m n b) = no_numeral n.kind
+      of_body ls v (forms.only_state c n h) = no_numbers n
+      of_body ls v (forms.probabilities ps m n c t) = no_numbers n
+
+      stuck : (ls : List Lexeme) (asked : Option Shares) → BodyGoes states (l ∷ ls) asked → ⊥
+      stuck ls None g = of_form ls g
+      stuck ls (Some v) g = of_body ls v g
 
 -- a numeral or a sign that stands for no state begins numbers
 module _ (states : Elements) (l : Lexeme) (no_name : l.kind ≡ Name → ⊥) where
-  numbers_back : (ls : List Lexeme) (v : Shares) → NumbersGo states [] None ls v → IsStartBody states ls v
-  numbers_back ls v g = at g.further g.numbers g.shares
+  numbers_back : (ls : List Lexeme) (asked : Option Shares) → NumbersGo states [] None ls asked → BodyGoes states ls asked
+  numbers_back ls asked g = of asked g.further g.numbers g.given
     where
-      only : (hs : List ℤ) → AreNumbers ls hs → count_of states ≡ 1 → (hs ≡ pos 0 ∷ []) ⊎ (hs ≡ pos one ∷ []) → v ≡ all_states states → IsStartBody states ls v
-      only hs a c (inl e) s = subst (IsStartBody states ls) (sym s) (forms.only_state {h = pos 0} c (subst (AreNumbers ls) e a) (inl refl))
-      only hs a c (inr e) s = subst (IsStartBody states ls) (sym s) (forms.only_state {h = pos one} c (subst (AreNumbers ls) e a) (inr refl))
+      only : (v : Shares) (hs : List ℤ) → AreNumbers ls hs → count_of states ≡ 1 → (hs ≡ pos 0 ∷ []) ⊎ (hs ≡ pos one ∷ []) → v ≡ all_states states → IsStartBody states ls v
+      only v hs a c (inl e) s = subst (IsStartBody states ls) (sym s) (forms.only_state {h = pos 0} c (subst (AreNumbers ls) e a) (inl refl))
+      only v hs a c (inr e) s = subst (IsStartBody states ls) (sym s) (forms.only_state {h = pos one} c (subst (AreNumbers ls) e a) (inr refl))
 
-      at : (hs : List ℤ) → AreNumbers ls hs → AreShares states hs v → IsStartBody states ls v
-      at hs a (steps.only_state c e s) = only hs a c e s
-      at hs a (steps.probabilities ps m e c t s) = subst (IsStartBody states ls) (sym s) (forms.probabilities ps m (subst (AreNumbers ls) e a) c t)
+      at : (v : Shares) (hs : List ℤ) → AreNumbers ls hs → AreShares states hs v → IsStartBody states ls v
+      at v hs a (steps.only_state c e s) = only v hs a c e s
+      at v hs a (steps.probabilities ps m e c t s) = subst (IsStartBody states ls) (sym s) (forms.probabilities ps m (subst (AreNumbers ls) e a) c t)
 
-  numbers_on : ((s : ℕ) → 1 < count_of states → IsWhole l s → s < count_of states → ⊥) → (ls : List Lexeme) (v : Shares) → IsStartBody states (l ∷ ls) v → NumbersGo states [] None (l ∷ ls) v
-  numbers_on none ls v (forms.uniform w) = absurd (no_name w.kind)
-  numbers_on none ls v (forms.name n f) = absurd (no_name n.kind)
-  numbers_on none ls v (forms.number {s = k} m n b) = absurd (none k m n b)
-  numbers_on none ls v (forms.only_state {h} c n (inl e)) = record { further = h ∷ []; numbers = n; shares = steps.only_state c (inl (ap (λ x. x ∷ []) e)) refl }
-  numbers_on none ls v (forms.only_state {h} c n (inr e)) = record { further = h ∷ []; numbers = n; shares = steps.only_state c (inr (ap (λ x. x ∷ []) e)) refl }
-  numbers_on none ls v (forms.probabilities ps m n c t) = record { further = map pos ps; numbers = n; shares = steps.probabilities ps m refl c t refl }
+      formed : (hs : List ℤ) → AreNumbers ls hs → AreFormed states hs → IsStartBodyForm states ls
+      formed hs a (steps.alone h e) = shapes.one_number (subst (AreNumbers ls) e a)
+      formed hs a (steps.each ps m e c small) = shapes.probabilities ps m (subst (AreNumbers ls) e a) c small
+
+      of : (asked : Option Shares) (hs : List ℤ) → AreNumbers ls hs → AreGiven states hs asked → BodyGoes states ls asked
+      of None hs a given = formed hs a given
+      of (Some v) hs a given = at v hs a given
+
+  numbers_on : ((s : ℕ) → 1 < count_of states → IsWhole l s → s < count_of states → ⊥) → (ls : List Lexeme) (asked : Option Shares) → BodyGoes states (l ∷ ls) asked
+      → NumbersGo states [] None (l ∷ ls) asked
+  numbers_on none ls asked g = of ls asked g
+    where
+      of_form : (ls : List Lexeme) → IsStartBodyForm states (l ∷ ls) → NumbersGo states [] None (l ∷ ls) None
+      of_form ls (shapes.uniform w) = absurd (no_name w.kind)
+      of_form ls (shapes.name n f) = absurd (no_name n.kind)
+      of_form ls (shapes.state_number {s = k} m n b) = absurd (none k m n b)
+      of_form ls (shapes.one_number {h} n) = record { further = h ∷ []; numbers = n; given = steps.alone h refl }
+      of_form ls (shapes.probabilities ps m n c small) = record { further = map pos ps; numbers = n; given = steps.each ps m refl c small }
+
+      of_body : (ls : List Lexeme) (v : Shares) → IsStartBody states (l ∷ ls) v → NumbersGo states [] None (l ∷ ls) (Some v)
+      of_body ls v (forms.uniform w) = absurd (no_name w.kind)
+      of_body ls v (forms.name n f) = absurd (no_name n.kind)
+      of_body ls v (forms.number {s = k} m n b) = absurd (none k m n b)
+      of_body ls v (forms.only_state {h} c n (inl e)) = record { further = h ∷ []; numbers = n; given = steps.only_state c (inl (ap (λ x. x ∷ []) e)) refl }
+      of_body ls v (forms.only_state {h} c n (inr e)) = record { further = h ∷ []; numbers = n; given = steps.only_state c (inr (ap (λ x. x ∷ []) e)) refl }
+      of_body ls v (forms.probabilities ps m n c t) = record { further = map pos ps; numbers = n; given = steps.probabilities ps m refl c t refl }
+
+      of : (ls : List Lexeme) (asked : Option Shares) → BodyGoes states (l ∷ ls) asked → NumbersGo states [] None (l ∷ ls) asked
+      of ls None g = of_form ls g
+      of ls (Some v) g = of_body ls v g
 
   pub body_begins : ((s : ℕ) → 1 < count_of states → IsWhole l s → s < count_of states → ⊥) → (r : StartReader) → Begins (NumbersGo states [] None) l (StartGoes states r) → Takes (StartGoes states) reader.Body l r
   body_begins none r b = record {
@@ -281,24 +395,41 @@ module _ (states : Elements) (l : Lexeme) (digits : Digits) (are : AreDigits (co
   of_value h (Ok k) is v = ap Ok (one_millionths false l k h is v)
   of_value h (Err f) is v = absurd (exact_not_refused false l.bytes f h v.readable v.exact is.1)
 
-  back : (ls : List Lexeme) (v : Shares) → DigitsGo states digits ls v → IsStartBody states (l ∷ ls) v
-  back ls v (state_number s none e f) =
+  number_back : (ls : List Lexeme) (asked : Option Shares) (s : ℕ) → ls ≡ [] → digits.state ≡ Some s → AreAsked (single states s) asked → BodyGoes states (l ∷ ls) asked
+  number_back ls None s none e f =
+      let is = state_of s digits.state e are.state in
+      subst (λ xs. IsStartBodyForm states (l ∷ xs)) (sym none) (shapes.state_number are.more is.0 is.1)
+  number_back ls (Some v) s none e f =
       let is = state_of s digits.state e are.state in
       subst (λ xs. IsStartBody states (l ∷ xs) v) (sym none) (subst (IsStartBody states (l ∷ [])) (sym f) (forms.number are.more is.0 is.1))
-  back ls v (first_of_more h e g) =
-      numbers_back states l digits_no_name (l ∷ ls) v ((value_begins states [] l None h (value_of h digits.value e are.value)).back ls v g)
 
-  first_on : (ls : List Lexeme) (v : Shares) → NumbersGo states [] None (l ∷ ls) v → DigitsGo states digits ls v
-  first_on ls v g =
+  back : (ls : List Lexeme) (asked : Option Shares) → DigitsGo states digits ls asked → BodyGoes states (l ∷ ls) asked
+  back ls asked (state_number s none e f) = number_back ls asked s none e f
+  back ls asked (first_of_more h e g) =
+      numbers_back states l digits_no_name (l ∷ ls) asked ((value_begins states [] l None h (value_of h digits.value e are.value)).back ls asked g)
+
+  first_on : (ls : List Lexeme) (asked : Option Shares) → NumbersGo states [] None (l ∷ ls) asked → DigitsGo states digits ls asked
+  first_on ls asked g =
       let f = first_number None l ls g.further are.digits_are.0 g.numbers in
-      first_of_more f.first (of_value f.first digits.value are.value f.value) ((value_begins states [] l None f.first f.value).on ls v g)
+      first_of_more f.first (of_value f.first digits.value are.value f.value) ((value_begins states [] l None f.first f.value).on ls asked g)
 
-  on : (ls : List Lexeme) (v : Shares) → IsStartBody states (l ∷ ls) v → DigitsGo states digits ls v
-  on ls v (forms.uniform w) = absurd (digits_no_name w.kind)
-  on ls v (forms.name n f) = absurd (digits_no_name n.kind)
-  on ls v (forms.number {s = k} m n b) = state_number k refl (of_state k digits.state are.state n b) refl
-  on ls v (forms.only_state c n h) = absurd (omega (arith, c, are.more))
-  on ls v (forms.probabilities ps m n c t) = first_on ls v (record { further = map pos ps; numbers = n; shares = steps.probabilities ps m refl c t refl })
+  form_on : (ls : List Lexeme) → IsStartBodyForm states (l ∷ ls) → DigitsGo states digits ls None
+  form_on ls (shapes.uniform w) = absurd (digits_no_name w.kind)
+  form_on ls (shapes.name n f) = absurd (digits_no_name n.kind)
+  form_on ls (shapes.state_number {s = k} m n b) = state_number k refl (of_state k digits.state are.state n b) tt
+  form_on ls (shapes.one_number {h} n) = first_on ls None (record { further = h ∷ []; numbers = n; given = steps.alone h refl })
+  form_on ls (shapes.probabilities ps m n c small) = first_on ls None (record { further = map pos ps; numbers = n; given = steps.each ps m refl c small })
+
+  body_on : (ls : List Lexeme) (v : Shares) → IsStartBody states (l ∷ ls) v → DigitsGo states digits ls (Some v)
+  body_on ls v (forms.uniform w) = absurd (digits_no_name w.kind)
+  body_on ls v (forms.name n f) = absurd (digits_no_name n.kind)
+  body_on ls v (forms.number {s = k} m n b) = state_number k refl (of_state k digits.state are.state n b) refl
+  body_on ls v (forms.only_state c n h) = absurd (omega (arith, c, are.more))
+  body_on ls v (forms.probabilities ps m n c t) = first_on ls (Some v) (record { further = map pos ps; numbers = n; given = steps.probabilities ps m refl c t refl })
+
+  on : (ls : List Lexeme) (asked : Option Shares) → BodyGoes states (l ∷ ls) asked → DigitsGo states digits ls asked
+  on ls None g = form_on ls g
+  on ls (Some v) g = body_on ls v g
 
   pub digits_begin : Takes (StartGoes states) reader.Body l (reader.Digits digits)
   digits_begin = record { back = λ ls v g. back ls v g; on = λ ls v g. on ls v g }

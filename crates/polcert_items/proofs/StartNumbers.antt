@@ -24,7 +24,7 @@ use Rattle.polcert_cells.specs.declared.shares.Shares.{Shares}
 use Rattle.polcert_cells.specs.Start.{all_states, shares_of}
 use Rattle.polcert_items.specs.LineSteps.{Takes, CannotTake}
 use Rattle.polcert_items.specs.EntrySteps.{ProbabilitiesGo, IsFull, no_numbers}
-use Rattle.polcert_items.specs.StartSteps.{AreShares, only_state, probabilities, NumbersGo, DigitsGo, state_number, first_of_more, SharesGo, StartGoes, Begins, IsOutside, IsDueNumber, IsDueValue, IsStop, due, at_once}
+use Rattle.polcert_items.specs.StartSteps.{only_state, probabilities, alone, each, AreGiven, NumbersGo, DigitsGo, state_number, first_of_more, AreWhole, SharesGo, StartGoes, StartGives, Begins, IsOutside, IsDueNumber, IsDueValue, IsStop, due, at_once}
 use Rattle.polcert_format.specs.Misfits.{Wanted}
 use Rattle.polcert_cells.proofs.Basics.{true≢false, cons≢nil, same_head, same_tail}
 use Rattle.polcert_items.proofs.ListLaws.{all_none}
@@ -36,44 +36,43 @@ use Rattle.polcert_items.proofs.StepLaws.{sign_back, sign_on, value_back, value_
 module _ (states : Elements) (before : List ℤ) (l : Lexeme) where
   pub sign_begins : (s : Sign) → IsSignAt s l → Begins (NumbersGo states before None) l (NumbersGo states before (Some s))
   sign_begins s at = record {
-    back = λ ls v g. record { further = g.further; numbers = sign_back s l ls g.further at g.numbers; shares = g.shares };
-    on = λ ls v g. record { further = g.further; numbers = sign_on s l ls g.further at g.numbers; shares = g.shares };
+    back = λ ls asked g. record { further = g.further; numbers = sign_back s l ls g.further at g.numbers; given = g.given };
+    on = λ ls asked g. record { further = g.further; numbers = sign_on s l ls g.further at g.numbers; given = g.given };
   }
 
   pub value_begins : (sign : Option Sign) (h : ℤ) → IsMillionths (is_negative sign) l h → Begins (NumbersGo states before sign) l (NumbersGo states (before ++ h ∷ []) None)
   value_begins sign h is = record {
-    back = λ ls v g. record {
+    back = λ ls asked g. record {
       further = h ∷ g.further;
       numbers = value_back sign l ls h g.further is g.numbers;
-      shares = subst (λ hs. AreShares states hs v) (append_assoc before (h ∷ []) g.further) g.shares;
+      given = subst (λ hs. AreGiven states hs asked) (append_assoc before (h ∷ []) g.further) g.given;
     };
-    on = λ ls v g.
+    on = λ ls asked g.
         let b = value_on sign l ls h g.further is g.numbers in
         record {
           further = b.rest;
           numbers = b.numbers;
-          shares = subst (λ hs. AreShares states hs v) (ap (λ hs. before ++ hs) b.joined ∙ sym (append_assoc before (h ∷ []) b.rest)) g.shares;
+          given = subst (λ hs. AreGiven states hs asked) (ap (λ hs. before ++ hs) b.joined ∙ sym (append_assoc before (h ∷ []) b.rest)) g.given;
         };
   }
 
 -- ---- what follows from the shares
 
-small_ones : (ps : List ℕ) (n : ℕ) → sum ps ≤ n → All (λ p. p ≤ n) ps
+pub small_ones : (ps : List ℕ) (n : ℕ) → sum ps ≤ n → All (λ p. p ≤ n) ps
 small_ones [] n le = all_none (λ p. p ≤ n)
 small_ones (p ∷ ps) n le =
     let parts : sum (p ∷ ps) ≡ p + sum ps = sum_by-cons (λ x. x) p ps in
     All-cons (λ p. p ≤ n) p ps (omega (arith, parts)) (small_ones ps n (omega (arith, parts)))
 
 -- probabilities that begin with a number
-record Fractions (states : Elements) (h : ℤ) (further : List ℤ) (v : Shares) : Type 0 where
+record Fractions (states : Elements) (h : ℤ) (further : List ℤ) (asked : Option Shares) : Type 0 where
   pub first : ℕ
   pub rest : List ℕ
   pub first_is : h ≡ pos first
   pub rest_is : further ≡ map pos rest
   pub small : All (λ p. p ≤ one) (first ∷ rest)
   pub count : length (first ∷ rest) ≡ count_of states
-  pub total : sum (first ∷ rest) ≡ one
-  pub shares_are : v ≡ shares_of (first ∷ rest)
+  pub whole : AreWhole (first ∷ rest) asked
 
 -- a number between 0 and one
 pub record IsFraction (h : ℤ) (p : ℕ) : Type 0 where
@@ -90,40 +89,50 @@ below_outside h low p e small = let below : p < 0 = ltb-true p 0 (subst (λ x. l
 pub above_outside : (h : ℤ) → lt_z (pos one) h ≡ true → IsOutside h
 above_outside h high p e small = let above : one < p = ltb-true one p (subst (λ x. lt_z (pos one) x ≡ true) e high) in omega arith
 
-fractions : (states : Elements) (h : ℤ) (further : List ℤ) (v : Shares) (ps : List ℕ) → h ∷ further ≡ map pos ps → length ps ≡ count_of states → sum ps ≡ one → v ≡ shares_of ps → Fractions states h further v
-fractions states h further v [] e count total shares = absurd (cons≢nil e)
-fractions states h further v (p ∷ ps) e count total shares = record {
-  first = p;
-  rest = ps;
-  first_is = same_head e;
-  rest_is = same_tail e;
-  small = small_ones (p ∷ ps) one (omega (arith, total));
-  count = count;
-  total = total;
-  shares_are = shares;
-}
+fractions : (states : Elements) (h : ℤ) (further : List ℤ) (asked : Option Shares) (ps : List ℕ) → h ∷ further ≡ map pos ps → length ps ≡ count_of states → All (λ p. p ≤ one) ps → AreWhole ps asked
+    → Fractions states h further asked
+fractions states h further asked [] e count small whole = absurd (cons≢nil e)
+fractions states h further asked (p ∷ ps) e count small whole =
+    record { first = p; rest = ps; first_is = same_head e; rest_is = same_tail e; small = small; count = count; whole = whole }
 
--- with more than one state
-more_fractions : (states : Elements) (h : ℤ) (further : List ℤ) (v : Shares) → 1 < count_of states → AreShares states (h ∷ further) v → Fractions states h further v
-more_fractions states h further v more (only_state c e s) = absurd (omega (arith, c, more))
-more_fractions states h further v more (probabilities ps m e c t s) = fractions states h further v ps e c t s
+no_numeral : (l : Lexeme) (ls : List Lexeme) → AreNumbers (l ∷ ls) [] → ⊥
+no_numeral l ls a = at (l ∷ ls) [] a refl refl
+  where
+    at : (ms : List Lexeme) (hs : List ℤ) → AreNumbers ms hs → ms ≡ l ∷ ls → hs ≡ [] → ⊥
+    at ms hs numbers.none e f = cons≢nil (sym e)
+    at ms hs (numbers.unsigned v more) e f = cons≢nil f
+    at ms hs (numbers.plus s v more) e f = cons≢nil f
+    at ms hs (numbers.minus s v more) e f = cons≢nil f
 
-zero_small : 0 ≤ one
-zero_small = omega arith
+-- with another lexeme behind the first number there are more numbers, a probability for each of some states
+more_fractions : (states : Elements) (h : ℤ) (further : List ℤ) (l : Lexeme) (ls : List Lexeme) (asked : Option Shares) → AreNumbers (l ∷ ls) further → AreGiven states (h ∷ further) asked
+    → Fractions states h further asked
+more_fractions states h further l ls None a (alone k e) = absurd (no_numeral l ls (subst (AreNumbers (l ∷ ls)) (same_tail e) a))
+more_fractions states h further l ls None a (each ps m e c small) = fractions states h further None ps e c small tt
+more_fractions states h further l ls (Some v) a (only_state c (inl e) s) = absurd (no_numeral l ls (subst (AreNumbers (l ∷ ls)) (same_tail e) a))
+more_fractions states h further l ls (Some v) a (only_state c (inr e) s) = absurd (no_numeral l ls (subst (AreNumbers (l ∷ ls)) (same_tail e) a))
+more_fractions states h further l ls (Some v) a (probabilities ps m e c t s) = fractions states h further (Some v) ps e c (small_ones ps one (omega (arith, t))) (t, s)
 
-one_small : one ≤ one
-one_small = omega arith
-
-first_in_range : (states : Elements) (h : ℤ) (further : List ℤ) (v : Shares) → AreShares states (h ∷ further) v → IsOutside h → ⊥
-first_in_range states h further v (only_state c (inl e) s) out = out 0 (same_head e) zero_small
-first_in_range states h further v (only_state c (inr e) s) out = out one (same_head e) one_small
-first_in_range states h further v (probabilities ps m e c t s) out =
-    let f = fractions states h further v ps e c t s in
-    out f.first f.first_is (All-head (λ p. p ≤ one) f.first f.rest f.small)
+-- and there is more than one state
+more_given : (states : Elements) (h : ℤ) (further : List ℤ) (l : Lexeme) (ls : List Lexeme) (asked : Option Shares) → AreNumbers (l ∷ ls) further → AreGiven states (h ∷ further) asked
+    → 1 < count_of states
+more_given states h further l ls None a (alone k e) = absurd (no_numeral l ls (subst (AreNumbers (l ∷ ls)) (same_tail e) a))
+more_given states h further l ls None a (each ps m e c small) = m
+more_given states h further l ls (Some v) a (only_state c (inl e) s) = absurd (no_numeral l ls (subst (AreNumbers (l ∷ ls)) (same_tail e) a))
+more_given states h further l ls (Some v) a (only_state c (inr e) s) = absurd (no_numeral l ls (subst (AreNumbers (l ∷ ls)) (same_tail e) a))
+more_given states h further l ls (Some v) a (probabilities ps m e c t s) = m
 
 -- nothing goes on behind a number out of its range
 pub outside_stuck : (states : Elements) (f : FirstNumber) (l : Lexeme) → IsOutside f.value → CannotTake (StartGoes states) (reader.Number f) l
-outside_stuck states f l out = λ ls v g. first_in_range states f.value g.further v g.shares out
+outside_stuck states f l out = λ ls asked g.
+    let parts = more_fractions states f.value g.further l ls asked g.numbers g.given in
+    out parts.first parts.first_is (All-head (λ p. p ≤ one) parts.first parts.rest parts.small)
+
+-- nor behind the number of a single state
+pub single_stuck : (states : Elements) (f : FirstNumber) (l : Lexeme) → count_of states ≡ 1 → CannotTake (StartGoes states) (reader.Number f) l
+single_stuck states f l single = λ ls asked g.
+    let more : 1 < count_of states = more_given states f.value g.further l ls asked g.numbers g.given in
+    omega (arith, more, single)
 
 -- ---- a list of probabilities
 
@@ -146,54 +155,57 @@ pub more_states : (count n : ℕ) → n ≡ count → (n ≡ 1 → ⊥) → 1 �
 more_states count n same other some = omega arith
 
 module _ (states : Elements) (p : ℕ) (n : Numbers ℕ) (small : p ≤ one) (is : IsOneRead states p n) (more : 1 < count_of states) where
-  shares_from : (ls : List Lexeme) (v : Shares) → NumbersGo states (pos p ∷ []) None ls v → SharesGo n ls v
-  shares_from ls v g =
-      let f = more_fractions states (pos p) g.further v more g.shares in
+  shares_from : (l : Lexeme) (ls : List Lexeme) (asked : Option Shares) → NumbersGo states (pos p ∷ []) None (l ∷ ls) asked → SharesGo n (l ∷ ls) asked
+  shares_from l ls asked g =
+      let f = more_fractions states (pos p) g.further l ls asked g.numbers g.given in
       let same : f.first ≡ p = same_first f.first f.first_is in
       let whole : n.read ++ f.rest ≡ f.first ∷ f.rest = ap (λ r. r ++ f.rest) is.read ∙ ap (λ x. x ∷ f.rest) (sym same) in
       record {
         all = f.first ∷ f.rest;
         go = record {
           further = f.rest;
-          numbers = subst (λ s. AreNumbersBehind s ls (map pos f.rest)) (sym is.sign) (subst (AreNumbers ls) f.rest_is g.numbers);
+          numbers = subst (λ s. AreNumbersBehind s (l ∷ ls) (map pos f.rest)) (sym is.sign) (subst (AreNumbers (l ∷ ls)) f.rest_is g.numbers);
           small = All-tail (λ p. p ≤ one) f.first f.rest f.small;
           enough = ap length whole ∙ f.count ∙ sym is.needed;
           body_is = ap bodies.Probabilities (sym whole);
         };
-        total = f.total;
-        shares_are = f.shares_are;
+        whole = f.whole;
       }
     where
       same_first : (q : ℕ) → pos p ≡ pos q → q ≡ p
       same_first q e = cc
 
-  shares_to : (ls : List Lexeme) (v : Shares) → SharesGo n ls v → NumbersGo states (pos p ∷ []) None ls v
-  shares_to ls v g =
+  shares_to : (ls : List Lexeme) (asked : Option Shares) → SharesGo n ls asked → NumbersGo states (pos p ∷ []) None ls asked
+  shares_to ls asked g =
       let whole : g.all ≡ p ∷ g.go.further = same_body g.all (n.read ++ g.go.further) g.go.body_is ∙ ap (λ r. r ++ g.go.further) is.read in
       let count : length g.all ≡ count_of states = ap length (same_body g.all (n.read ++ g.go.further) g.go.body_is) ∙ g.go.enough ∙ is.needed in
       record {
         further = map pos g.go.further;
         numbers = subst (λ s. AreNumbersBehind s ls (map pos g.go.further)) is.sign g.go.numbers;
-        shares = probabilities g.all more (ap (map pos) (sym whole)) count g.total g.shares_are;
+        given = given asked g.all (ap (map pos) (sym whole)) count (subst (All (λ q. q ≤ one)) (sym whole) (All-cons (λ q. q ≤ one) p g.go.further small g.go.small)) g.whole;
       }
     where
       same_body : (xs ys : List ℕ) → bodies.Probabilities xs ≡ bodies.Probabilities ys → xs ≡ ys
       same_body xs ys e = cc
 
+      given : (asked : Option Shares) (ps : List ℕ) {hs : List ℤ} → hs ≡ map pos ps → length ps ≡ count_of states → All (λ q. q ≤ one) ps → AreWhole ps asked → AreGiven states hs asked
+      given None ps e c small w = each ps more e c small
+      given (Some v) ps e c small w = probabilities ps more e c w.0 w.1
+
 pub shares_take : (states : Elements) (old new : Numbers ℕ) (l : Lexeme) → Takes ProbabilitiesGo old l new → Takes (StartGoes states) (reader.Probabilities old) l (reader.Probabilities new)
 shares_take states old new l t = record {
-  back = λ ls v g. record { all = g.all; go = t.back ls (bodies.Probabilities g.all) g.go; total = g.total; shares_are = g.shares_are };
-  on = λ ls v g. record { all = g.all; go = t.on ls (bodies.Probabilities g.all) g.go; total = g.total; shares_are = g.shares_are };
+  back = λ ls asked g. record { all = g.all; go = t.back ls (bodies.Probabilities g.all) g.go; whole = g.whole };
+  on = λ ls asked g. record { all = g.all; go = t.on ls (bodies.Probabilities g.all) g.go; whole = g.whole };
 }
 
 pub shares_stuck : (states : Elements) (n : Numbers ℕ) (l : Lexeme) → CannotTake ProbabilitiesGo n l → CannotTake (StartGoes states) (reader.Probabilities n) l
 shares_stuck states n l none = λ ls v g. none ls (bodies.Probabilities g.all) g.go
 
-number_is : (states : Elements) (f : FirstNumber) (p : ℕ) → f.value ≡ pos p → (ls : List Lexeme) (v : Shares) → StartGoes states (reader.Number f) ls v → NumbersGo states (pos p ∷ []) None ls v
-number_is states f p e ls v g = subst (λ h. NumbersGo states (h ∷ []) None ls v) e g
+number_is : (states : Elements) (f : FirstNumber) (p : ℕ) → f.value ≡ pos p → (ls : List Lexeme) (asked : Option Shares) → StartGoes states (reader.Number f) ls asked → NumbersGo states (pos p ∷ []) None ls asked
+number_is states f p e ls asked g = subst (λ h. NumbersGo states (h ∷ []) None ls asked) e g
 
-is_number : (states : Elements) (f : FirstNumber) (p : ℕ) → f.value ≡ pos p → (ls : List Lexeme) (v : Shares) → NumbersGo states (pos p ∷ []) None ls v → StartGoes states (reader.Number f) ls v
-is_number states f p e ls v g = subst (λ h. NumbersGo states (h ∷ []) None ls v) (sym e) g
+is_number : (states : Elements) (f : FirstNumber) (p : ℕ) → f.value ≡ pos p → (ls : List Lexeme) (asked : Option Shares) → NumbersGo states (pos p ∷ []) None ls asked → StartGoes states (reader.Number f) ls asked
+is_number states f p e ls asked g = subst (λ h. NumbersGo states (h ∷ []) None ls asked) (sym e) g
 
 -- a second number follows the first one, or its sign
 pub number_takes : (states : Elements) (f : FirstNumber) (p : ℕ) (old new : Numbers ℕ) (l : Lexeme) → f.value ≡ pos p → p ≤ one → 1 < count_of states → IsOneRead states p old
@@ -202,13 +214,13 @@ number_takes states f p old new l e small more is t =
     let s = shares_take states old new l t in
     record {
       back = λ ls v g. is_number states f p e (l ∷ ls) v (shares_to states p old small is more (l ∷ ls) v (s.back ls v g));
-      on = λ ls v g. s.on ls v (shares_from states p old small is more (l ∷ ls) v (number_is states f p e (l ∷ ls) v g));
+      on = λ ls v g. s.on ls v (shares_from states p old small is more l ls v (number_is states f p e (l ∷ ls) v g));
     }
 
 pub number_stuck : (states : Elements) (f : FirstNumber) (p : ℕ) (old : Numbers ℕ) (l : Lexeme) → f.value ≡ pos p → p ≤ one → 1 < count_of states → IsOneRead states p old
     → CannotTake ProbabilitiesGo old l → CannotTake (StartGoes states) (reader.Number f) l
 number_stuck states f p old l e small more is none = λ ls v g.
-    shares_stuck states old l none ls v (shares_from states p old small is more (l ∷ ls) v (number_is states f p e (l ∷ ls) v g))
+    shares_stuck states old l none ls v (shares_from states p old small is more l ls v (number_is states f p e (l ∷ ls) v g))
 
 -- ---- digits alone
 
@@ -216,9 +228,9 @@ same_value : (h k : ℤ) (r : Result ℤ NumberFault) → r ≡ Ok h → r ≡ O
 same_value h k r e f = cc
 
 module _ (states : Elements) (digits : Digits) (l : Lexeme) where
-  on_digits : (h : ℤ) → digits.value ≡ Ok h → (ls : List Lexeme) (v : Shares) → DigitsGo states digits (l ∷ ls) v → NumbersGo states (h ∷ []) None (l ∷ ls) v
-  on_digits h is ls v (state_number s none e f) = absurd (cons≢nil none)
-  on_digits h is ls v (first_of_more k e g) = subst (λ x. NumbersGo states (x ∷ []) None (l ∷ ls) v) (same_value k h digits.value e is) g
+  on_digits : (h : ℤ) → digits.value ≡ Ok h → (ls : List Lexeme) (asked : Option Shares) → DigitsGo states digits (l ∷ ls) asked → NumbersGo states (h ∷ []) None (l ∷ ls) asked
+  on_digits h is ls asked (state_number s none e f) = absurd (cons≢nil none)
+  on_digits h is ls asked (first_of_more k e g) = subst (λ x. NumbersGo states (x ∷ []) None (l ∷ ls) asked) (same_value k h digits.value e is) g
 
   pub digits_take : (f : FirstNumber) (n : Numbers ℕ) → digits.value ≡ Ok f.value → Takes (StartGoes states) (reader.Number f) l (reader.Probabilities n)
       → Takes (StartGoes states) (reader.Digits digits) l (reader.Probabilities n)
@@ -232,15 +244,15 @@ module _ (states : Elements) (digits : Digits) (l : Lexeme) where
 
 -- ---- where the item ends
 
-pub number_ends : (states : Elements) (f : FirstNumber) (v : Shares) → count_of states ≡ 1 → (f.value ≡ pos 0) ⊎ (f.value ≡ pos one) → v ≡ all_states states → StartGoes states (reader.Number f) [] v
-number_ends states f v count is shares = record { further = []; numbers = numbers.none; shares = only_state count (whole is) shares }
+pub number_ends : (states : Elements) (f : FirstNumber) (v : Shares) → count_of states ≡ 1 → (f.value ≡ pos 0) ⊎ (f.value ≡ pos one) → v ≡ all_states states → StartGives states (reader.Number f) [] v
+number_ends states f v count is shares = record { further = []; numbers = numbers.none; given = only_state count (whole is) shares }
   where
     whole : (f.value ≡ pos 0) ⊎ (f.value ≡ pos one) → (f.value ∷ [] ≡ pos 0 ∷ []) ⊎ (f.value ∷ [] ≡ pos one ∷ [])
     whole (inl e) = inl (ap (λ h. h ∷ []) e)
     whole (inr e) = inr (ap (λ h. h ∷ []) e)
 
-pub shares_end : (states : Elements) (n : Numbers ℕ) (v : Shares) → IsFull n → sum n.read ≡ one → v ≡ shares_of n.read → StartGoes states (reader.Probabilities n) [] v
-shares_end states n v full total shares = record { all = n.read; go = full_probabilities n full; total = total; shares_are = shares }
+pub shares_end : (states : Elements) (n : Numbers ℕ) (v : Shares) → IsFull n → sum n.read ≡ one → v ≡ shares_of n.read → StartGives states (reader.Probabilities n) [] v
+shares_end states n v full total shares = record { all = n.read; go = full_probabilities n full; whole = (total, shares) }
 
 -- ---- reasons
 

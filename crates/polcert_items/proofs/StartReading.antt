@@ -4,12 +4,12 @@ use Rattle.polcert_text.specs.Cut.{Lexeme}
 use Rattle.polcert_cells.specs.declared.elements.Elements.{Elements}
 use Rattle.polcert_cells.specs.declared.shares.Shares.{Shares}
 use Rattle.polcert_cells.specs.Start.{IsStart}
-use Rattle.polcert_items.specs.StartSteps.{StartGoes, new_start, IsStartWithin, IsStartSeen}
+use Rattle.polcert_items.specs.StartSteps.{StartGives, new_start, IsStartWithin, IsStartSeen}
 
-pub new_start_on : (states : Elements) (ls : List Lexeme) (found : Shares) → IsStart states ls found → StartGoes states new_start ls found
+pub new_start_on : (states : Elements) (ls : List Lexeme) (found : Shares) → IsStart states ls found → StartGives states new_start ls found
 new_start_on states ls found a = a
 
-pub new_start_back : (states : Elements) (ls : List Lexeme) (found : Shares) → StartGoes states new_start ls found → IsStart states ls found
+pub new_start_back : (states : Elements) (ls : List Lexeme) (found : Shares) → StartGives states new_start ls found → IsStart states ls found
 new_start_back states ls found a = a
 
 pub new_start_within : (states : Elements) → IsStartWithin states new_start

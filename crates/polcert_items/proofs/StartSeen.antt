@@ -35,7 +35,7 @@ use Rattle.polcert_items.specs.declared.start_reader.Chosen.{Chosen}
 use Rattle.polcert_items.specs.declared.entry_reader.Numbers.{Numbers}
 use Rattle.polcert_items.proofs.StartForms.{test_different}
 use Rattle.polcert_items.specs.EntrySteps.{IsListReason, no_number, no_further}
-use Rattle.polcert_items.specs.StartSteps.{start_sign, pending_of, pending, IsValue, AreDigits, IsFormed, IsKept, IsNumberKept, IsBehindColon, IsListBegun, IsWordBody, IsFraction, IsStartSeen, IsReasonAt, IsInside, IsOutside, IsDueNumber, IsDueValue, IsStop, due, at_once, IsReasonIn, IsStartReason, IsStartEndKind, IfNotMemory, StartGoes}
+use Rattle.polcert_items.specs.StartSteps.{start_sign, pending_of, pending, IsValue, AreDigits, IsFormed, IsKept, IsNumberKept, IsBehindColon, IsListBegun, IsWordBody, IsFraction, IsStartSeen, IsReasonAt, IsInside, IsOutside, IsDueNumber, IsDueValue, IsStop, due, at_once, IsReasonIn, IsStartReason, IsStartEndKind, IfNotMemory, StartGives}
 
 none≢some : {A : Type 0} {x : A} → None ≡ Some x → ⊥
 none≢some e = cc
@@ -388,8 +388,8 @@ end_kind StartEmpty r = tt
 end_kind BadCount r = absurd r
 end_kind _ r = absurd r
 
-pub end_refused : (states : Elements) (old r : StartReader) (e : ItemEnd) → old ≡ r → IfNotMemory e (CannotEnd (StartGoes states) r) → IfNotMemory e (CannotEnd (StartGoes states) old)
-end_refused states old r e is none = subst (λ s. IfNotMemory e (CannotEnd (StartGoes states) s)) (sym is) none
+pub end_refused : (states : Elements) (old r : StartReader) (e : ItemEnd) → old ≡ r → IfNotMemory e (CannotEnd (StartGives states) r) → IfNotMemory e (CannotEnd (StartGives states) old)
+end_refused states old r e is none = subst (λ s. IfNotMemory e (CannotEnd (StartGives states) s)) (sym is) none
 
 may_be_digits : (count : ℕ) (l : Lexeme) → may_be_state count l.kind l.bytes ≡ true → IsDigits l
 may_be_digits count l e = (digits_numeral count l e, of l.kind e)

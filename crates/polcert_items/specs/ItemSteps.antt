@@ -31,7 +31,7 @@ use Rattle.polcert_items.specs.ElementSteps.{ElementsGo, IsElementsRead, AreElem
 use Rattle.polcert_format.specs.FirstNumber.{IsLate}
 use Rattle.polcert_format.specs.KnownPreamble.{preamble_in, indices_in}
 use Rattle.polcert_items.specs.EntrySteps.{EntryGoes, IsWithinIndices, entry_sign, AreSome}
-use Rattle.polcert_items.specs.StartSteps.{StartGoes, new_start, pending, IsStartWithin, IsStartSeen, IsReasonAt, IsStartReason}
+use Rattle.polcert_items.specs.StartSteps.{StartGoes, StartGives, new_start, pending, IsStartWithin, IsStartSeen, IsReasonAt, IsStartReason}
 use Rattle.polcert_items.specs.KnownView.{learned}
 
 -- the lexemes end the item, and this is known behind it
@@ -41,8 +41,13 @@ ItemGoes k (items.Values r) ls next = (b : Bool) × (ValuesGoes r ls b × (next 
 ItemGoes k (items.States r) ls next = (e : Elements) × (ElementsGo most_states r ls e × (next ≡ learned k (said.States e)))
 ItemGoes k (items.Actions r) ls next = (e : Elements) × (ElementsGo most_actions r ls e × (next ≡ learned k (said.Actions e)))
 ItemGoes k (items.Observations r) ls next = (e : Elements) × (ElementsGo most_observations r ls e × (next ≡ learned k (said.Observations e)))
-ItemGoes k (items.Start r) ls next = (found : Shares) × (StartGoes (preamble_in k).states r ls found × (next ≡ learned k (said.Start found)))
+ItemGoes k (items.Start r) ls next = (found : Shares) × (StartGives (preamble_in k).states r ls found × (next ≡ learned k (said.Start found)))
 ItemGoes k (items.Entry r) ls next = (e : Entry) × (EntryGoes (preamble_in k) r ls e × (next ≡ learned k (said.Entry e)))
+
+-- The lexemes give the item its form, whatever is decided at its end.
+abbrev pub ItemForms : Known → ItemReader → List Lexeme → Unit {0} → Type 0
+ItemForms k (items.Start r) ls none = StartGoes (preamble_in k).states r ls None
+ItemForms k item ls none = (next : Known) × ItemGoes k item ls next
 
 abbrev pub topic_in : ItemReader → Topic
 topic_in (items.Discount r) = Discount

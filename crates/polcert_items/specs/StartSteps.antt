@@ -1,6 +1,6 @@
 -- A start item, token by token: what is still to come of an item that was read so far.
 -- Nobody has to believe this: only contracts of private functions cite it.
-use Rattle.std.specs.Prelude.{◌≡◌, ℕ, ◌<◌, ◌≤◌, ◌==◌, ◌||◌, ◌⊎◌, Bool, true, false, not, Option, Some, None, Result, Ok, Err, List, [], ◌∷◌, ◌++◌, length, map, get_or, sum, ℤ, pos, codes, if◌then◌else◌}
+use Rattle.std.specs.Prelude.{◌≡◌, ℕ, ◌<◌, ◌≤◌, ◌==◌, ◌||◌, ◌⊎◌, Bool, true, false, not, Option, Some, None, Result, Ok, Err, List, [], ◌∷◌, ◌++◌, length, map, get_or, sum, ℤ, pos, All, codes, if◌then◌else◌}
 use Rattle.std.specs.List.{AllZip, list_all}
 use Rattle.polcert_text.specs.Cut.{Lexeme}
 use Rattle.polcert_text.specs.declared.number.NumberFault.{NumberFault}
@@ -12,6 +12,7 @@ use Rattle.polcert_cells.specs.declared.entry.Body.TheVariants as bodies
 use Rattle.polcert_items.specs.declared.entry_reader.Numbers.{Numbers}
 use Rattle.polcert_text.specs.declared.lexeme.TokenKind.TheVariants.{Name, Colon}
 use Rattle.polcert_format.specs.FirstNumber.{BeginsWithNumber, BeginsWithDigits, IsLate}
+use Rattle.polcert_format.specs.Forms.{IsStartBodyForm, IsStartForm}
 use Rattle.polcert_format.specs.Wants.{may_be_state}
 use Rattle.polcert_items.specs.declared.start_reader.Choice.{Choice}
 use Rattle.polcert_items.specs.declared.start_reader.Choice.TheVariants.{Include, Exclude}
@@ -55,47 +56,84 @@ chosen_with chosen further s = chosen s || included further s
 abbrev pub listed : Elements → Choice → (ℕ → Bool) → Shares
 listed states choice chosen = alike (count_of states) (picks choice chosen)
 
--- the lexemes are further states of a list, and some state is left
-pub record ListGoes (states : Elements) (choice : Choice) (chosen : ℕ → Bool) (ls : List Lexeme) (v : Shares) : Type 0 where
+-- What goes on is asked for some shares, or for none: then only for the form of the item, and nothing that is decided at its
+-- end has to hold.
+
+-- these are the shares that are asked for, if any are
+abbrev pub AreAsked : Shares → Option Shares → Type 0
+AreAsked found None = Unit {0}
+AreAsked found (Some v) = v ≡ found
+
+-- and they leave a state
+abbrev pub AreLeft : Shares → Option Shares → Type 0
+AreLeft found None = Unit {0}
+AreLeft found (Some v) = (v ≡ found) × (0 < found.total)
+
+-- the lexemes are further states of a list
+pub record ListGoes (states : Elements) (choice : Choice) (chosen : ℕ → Bool) (ls : List Lexeme) (asked : Option Shares) : Type 0 where
   pub further : List ℕ
   pub stand : AllZip (StandsFor states) ls further
-  pub shares_are : v ≡ listed states choice (chosen_with chosen further)
-  pub left : 0 < (listed states choice (chosen_with chosen further)).total
+  pub said : AreLeft (listed states choice (chosen_with chosen further)) asked
 
 -- all the numbers of a body, and the shares that they give
 pub data AreShares (states : Elements) (hs : List ℤ) (v : Shares) : Type 0 where
   only_state : count_of states ≡ 1 → (hs ≡ pos 0 ∷ []) ⊎ (hs ≡ pos one ∷ []) → v ≡ all_states states → AreShares states hs v
   probabilities : (ps : List ℕ) → 1 < count_of states → hs ≡ map pos ps → length ps ≡ count_of states → sum ps ≡ one → v ≡ shares_of ps → AreShares states hs v
 
+-- all the numbers of a body have its form: one alone, or a probability for each of some states
+pub data AreFormed (states : Elements) (hs : List ℤ) : Type 0 where
+  alone : (h : ℤ) → hs ≡ h ∷ [] → AreFormed states hs
+  each : (ps : List ℕ) → 1 < count_of states → hs ≡ map pos ps → length ps ≡ count_of states → All (λ p. p ≤ one) ps → AreFormed states hs
+
+abbrev pub AreGiven : Elements → List ℤ → Option Shares → Type 0
+AreGiven states hs None = AreFormed states hs
+AreGiven states hs (Some v) = AreShares states hs v
+
 -- behind these numbers, and a sign if there is one, the lexemes are the further numbers
-pub record NumbersGo (states : Elements) (before : List ℤ) (sign : Option Sign) (ls : List Lexeme) (v : Shares) : Type 0 where
+pub record NumbersGo (states : Elements) (before : List ℤ) (sign : Option Sign) (ls : List Lexeme) (asked : Option Shares) : Type 0 where
   pub further : List ℤ
   pub numbers : AreNumbersBehind sign ls further
-  pub shares : AreShares states (before ++ further) v
+  pub given : AreGiven states (before ++ further) asked
 
 -- Digits behind `start:`: the number of a state where nothing follows, or else the first of more numbers.
-pub data DigitsGo (states : Elements) (digits : Digits) (ls : List Lexeme) (v : Shares) : Type 0 where
-  state_number : (s : ℕ) → ls ≡ [] → digits.state ≡ Some s → v ≡ single states s → DigitsGo states digits ls v
-  first_of_more : (h : ℤ) → digits.value ≡ Ok h → NumbersGo states (h ∷ []) None ls v → DigitsGo states digits ls v
+pub data DigitsGo (states : Elements) (digits : Digits) (ls : List Lexeme) (asked : Option Shares) : Type 0 where
+  state_number : (s : ℕ) → ls ≡ [] → digits.state ≡ Some s → AreAsked (single states s) asked → DigitsGo states digits ls asked
+  first_of_more : (h : ℤ) → digits.value ≡ Ok h → NumbersGo states (h ∷ []) None ls asked → DigitsGo states digits ls asked
 
--- further probabilities, until there are enough, and they sum to one
-pub record SharesGo (n : Numbers ℕ) (ls : List Lexeme) (v : Shares) : Type 0 where
+-- the probabilities sum to one, and give these shares
+abbrev pub AreWhole : List ℕ → Option Shares → Type 0
+AreWhole all None = Unit {0}
+AreWhole all (Some v) = (sum all ≡ one) × (v ≡ shares_of all)
+
+-- further probabilities, until there are enough
+pub record SharesGo (n : Numbers ℕ) (ls : List Lexeme) (asked : Option Shares) : Type 0 where
   pub all : List ℕ
   pub go : ProbabilitiesGo n ls (bodies.Probabilities all)
-  pub total : sum all ≡ one
-  pub shares_are : v ≡ shares_of all
+  pub whole : AreWhole all asked
 
-abbrev pub StartGoes : Elements → StartReader → List Lexeme → Shares → Type 0
-StartGoes states reader.Form ls v = IsStart states ls v
-StartGoes states (reader.Colon choice) ls v = BehindColon (ListGoes states choice (λ s. false)) ls v
-StartGoes states (reader.List chosen) ls v = ListGoes states chosen.choice (marked chosen.marks) ls v
-StartGoes states reader.Body ls v = IsStartBody states ls v
-StartGoes states reader.Every ls v = (ls ≡ []) × (v ≡ all_states states)
-StartGoes states (reader.Only s) ls v = (ls ≡ []) × (v ≡ single states s)
-StartGoes states (reader.Sign sign) ls v = NumbersGo states [] (Some sign) ls v
-StartGoes states (reader.Number first) ls v = NumbersGo states (first.value ∷ []) None ls v
-StartGoes states (reader.Digits digits) ls v = DigitsGo states digits ls v
-StartGoes states (reader.Probabilities n) ls v = SharesGo n ls v
+abbrev pub BodyGoes : Elements → List Lexeme → Option Shares → Type 0
+BodyGoes states ls None = IsStartBodyForm states ls
+BodyGoes states ls (Some v) = IsStartBody states ls v
+
+abbrev pub FormGoes : Elements → List Lexeme → Option Shares → Type 0
+FormGoes states ls None = IsStartForm states ls
+FormGoes states ls (Some v) = IsStart states ls v
+
+abbrev pub StartGoes : Elements → StartReader → List Lexeme → Option Shares → Type 0
+StartGoes states reader.Form ls asked = FormGoes states ls asked
+StartGoes states (reader.Colon choice) ls asked = BehindColon (ListGoes states choice (λ s. false)) ls asked
+StartGoes states (reader.List chosen) ls asked = ListGoes states chosen.choice (marked chosen.marks) ls asked
+StartGoes states reader.Body ls asked = BodyGoes states ls asked
+StartGoes states reader.Every ls asked = (ls ≡ []) × AreAsked (all_states states) asked
+StartGoes states (reader.Only s) ls asked = (ls ≡ []) × AreAsked (single states s) asked
+StartGoes states (reader.Sign sign) ls asked = NumbersGo states [] (Some sign) ls asked
+StartGoes states (reader.Number first) ls asked = NumbersGo states (first.value ∷ []) None ls asked
+StartGoes states (reader.Digits digits) ls asked = DigitsGo states digits ls asked
+StartGoes states (reader.Probabilities n) ls asked = SharesGo n ls asked
+
+-- the lexemes end the item with these shares
+abbrev pub StartGives : Elements → StartReader → List Lexeme → Shares → Type 0
+StartGives states r ls v = StartGoes states r ls (Some v)
 
 -- before the first token
 abbrev pub new_start : StartReader
@@ -279,18 +317,6 @@ IsHeld count reader.Body l = (may_be_state count l.kind l.bytes ≡ true) ⊎ Is
 IsHeld count (reader.Sign sign) l = IsNumberHeld (Some sign) l
 IsHeld count _ l = ⊥
 
--- behind a first number
-abbrev pub IsBehindFirst : StartReader → Type 0
-IsBehindFirst (reader.Number first) = Unit {0}
-IsBehindFirst (reader.Digits digits) = Unit {0}
-IsBehindFirst (reader.Probabilities n) = Unit {0}
-IsBehindFirst _ = ⊥
-
--- a range is tested only where a number stands behind the first one
-pub record IsRangeTested (r : StartReader) (l : Lexeme) : Type 0 where
-  pub behind : IsBehindFirst r
-  pub number : begins_number l.kind ≡ true
-
 -- what each reason of a refusal stands at, in the body that is refused
 abbrev pub IsReasonIn : List Lexeme → ItemFault → ℕ → Type 0
 IsReasonIn body (Number fault) place = NumberStandsIn body place (IsRefusedNumber fault)
@@ -337,17 +363,11 @@ IsLateEnd (ends.At r) late = (r.kind ≡ late.kind) × (r.place ≡ late.place)
 IsLateEnd (ends.AtEnd kind) late = ⊥
 IsLateEnd ends.Memory late = Unit {0}
 
--- more than a colon, and a sign if one ends the body
-abbrev pub IsBehindNumber : Option Sign → List Lexeme → Type 0
-IsBehindNumber None body = 1 < length body
-IsBehindNumber (Some sign) body = 2 < length body
-
 -- Why a start item cannot go on with this lexeme behind the body, where this is wanted: for its first number, which is
--- refused late, or for the lexeme itself; and no range is tested at the first number.
-pub data StopsStart (count : ℕ) (body : List Lexeme) (w : Wanted) (l : Lexeme) (kind : ItemFault) (place : ℕ) : Type 0 where
-  first_number : ((more : List Lexeme) (ends : Bool) → IsLate count (body ++ l ∷ more) ends kind place) → StopsStart count body w l kind place
-  token : (sign : Option Sign) → SignEnds sign body → IsMisfit w l kind → IsReasonAt sign l kind place → (kind ≡ ProbabilityRange → IsBehindNumber sign body)
-      → StopsStart count body w l kind place
+-- refused late, or for the lexeme itself, where no refusal of that number is held back.
+pub data StopsStart (held : Option Refusal) (count : ℕ) (body : List Lexeme) (w : Wanted) (l : Lexeme) (kind : ItemFault) (place : ℕ) : Type 0 where
+  first_number : ((more : List Lexeme) (ends : Bool) → IsLate count (body ++ l ∷ more) ends kind place) → StopsStart held count body w l kind place
+  token : (sign : Option Sign) → held ≡ None → SignEnds sign body → IsMisfit w l kind → IsReasonAt sign l kind place → StopsStart held count body w l kind place
 
 -- this holds, or memory was wanting
 abbrev pub IfNotMemory : ItemEnd → Type 0 → Type 0
@@ -355,9 +375,9 @@ IfNotMemory ends.Memory P = Unit {0}
 IfNotMemory _ P = P
 
 -- what goes on behind one more lexeme is what went on from before it
-pub record Begins (Old : List Lexeme → Shares → Type 0) (l : Lexeme) (New : List Lexeme → Shares → Type 0) : Type 0 where
-  pub back : (ls : List Lexeme) (v : Shares) → New ls v → Old (l ∷ ls) v
-  pub on : (ls : List Lexeme) (v : Shares) → Old (l ∷ ls) v → New ls v
+pub record Begins (Old : List Lexeme → Option Shares → Type 0) (l : Lexeme) (New : List Lexeme → Option Shares → Type 0) : Type 0 where
+  pub back : (ls : List Lexeme) (asked : Option Shares) → New ls asked → Old (l ∷ ls) asked
+  pub on : (ls : List Lexeme) (asked : Option Shares) → Old (l ∷ ls) asked → New ls asked
 
 -- all that are above 0 are this number
 abbrev pub is_level_at : ℕ → List ℕ → Bool

@@ -4,7 +4,7 @@ ghost use Rattle.polcert_text.specs.Cut.{Lexeme};
 ghost use Rattle.polcert_text.specs.Reading.{lexeme_of};
 ghost use Rattle.polcert_items.specs.ElementSteps.{IsText};
 ghost use Rattle.polcert_items.specs.EntrySteps.{IfRefused};
-ghost use Rattle.polcert_items.specs.ItemSteps.{ItemGoes, IsItemWithin, IsItemReason, IsItemEndReason, topic_in, IsSeen, new_item, HasElements, pending_in};
+ghost use Rattle.polcert_items.specs.ItemSteps.{ItemGoes, ItemForms, IsItemWithin, IsItemReason, IsItemEndReason, topic_in, IsSeen, new_item, HasElements, pending_in};
 ghost use Rattle.polcert_items.specs.KnownView.{learned, IsSaidWithin};
 ghost use Rattle.polcert_items.specs.LineSteps.{Takes, CannotTake, CannotEnd};
 ghost use Rattle.polcert_format.specs.Misfits.{misfit, IsMisfit};
@@ -81,8 +81,12 @@ impl ItemReader {
         ensures kind { IfErr result (λ stop. IfRefused stop (λ r. IfNotStart (topic_in self.old)
             (IsMisfit (item_wants known.now self.old []) (lexeme_of token.entry) r.kind))) }
         ensures start { (body : List Lexeme) → IsSeen (states_known known.now) body self.old → IfErr result (λ stop. IfRefused stop (λ r.
-            IfStart (topic_in self.old) (StopsStart (states_known known.now) body (item_wants known.now self.old [])
-            (lexeme_of token.entry) r.kind r.place))) }
+            IfStart (topic_in self.old) (StopsStart (pending_in self.old) (states_known known.now) body
+            (item_wants known.now self.old []) (lexeme_of token.entry) r.kind r.place))) }
+        ensures formed { OnOk result (IfStart (topic_in self.old)
+            (Takes (ItemForms known.now) self.old (lexeme_of token.entry) self.new)) }
+        ensures formless { IfErr result (λ stop. IfRefused stop (λ r. IfStart (topic_in self.old)
+            (CannotTake (ItemForms known.now) self.old (lexeme_of token.entry)))) }
         ensures late { (body more : List Lexeme) (ends : Bool) (late : Refusal) → IsSeen (states_known known.now) body self.old →
             topic_in self.old ≡ Topic.Start →
             IsLate (states_known known.now) (body ++ lexeme_of token.entry ∷ more) ends late.kind late.place →
@@ -121,6 +125,7 @@ impl ItemReader {
             IsLate (states_known known.now) body true late.kind late.place → IfErr result (λ e. IsLateEnd e late) }
         ensures kind { HasElements known.now (topic_in self) → IfErr result (λ e.
             IfAtEnd e (λ kind. kind ≡ misfit (item_wants known.now self []) None)) }
+        ensures unheld { IfErr result (λ e. IfAtEnd e (λ kind. pending_in self ≡ None)) }
     {
         match self {
             ItemReader::Discount(reader) => Ok(Said::Discount(reader.end()?)),

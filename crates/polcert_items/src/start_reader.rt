@@ -14,7 +14,7 @@ ghost use Rattle.polcert_format.specs.Misfits.{misfit, IsMisfit, IsOfValue, begi
 ghost use Rattle.polcert_items.specs.NumberSteps.{IsMisplaced, SignIs};
 ghost use Rattle.polcert_format.specs.Reasons.{is_sign};
 ghost use Rattle.polcert_cells.specs.Start.{alike, all_states, single, shares_of, is_level, is_positive};
-ghost use Rattle.polcert_items.specs.StartSteps.{StartGoes, IsStartWithin, IsStartSeen, IsStartReason, IsStartEndReason, IfNotMemory, new_start, start_sign, pending, marked, AreUnmarked, picks, NumbersGo, Begins, IsFormed, IsKept, IsNumberKept, IsHeld, IsNumberHeld, IsReasonAt, IsInside, IsOutside, IsOutOfRange, IsDue, IsDueNumber, IsDueValue, IsAtEnd, IsEndDue, IsStop, AreDigits, first_above_0, is_level_at, level_share, refused, IsRangeTested};
+ghost use Rattle.polcert_items.specs.StartSteps.{StartGoes, StartGives, IsStartWithin, IsStartSeen, IsStartReason, IsStartEndReason, IfNotMemory, new_start, start_sign, pending, marked, AreUnmarked, picks, NumbersGo, Begins, IsFormed, IsKept, IsNumberKept, IsHeld, IsNumberHeld, IsReasonAt, IsInside, IsOutside, IsOutOfRange, IsDue, IsDueNumber, IsDueValue, IsAtEnd, IsEndDue, IsStop, AreDigits, first_above_0, is_level_at, level_share, refused};
 ghost use Rattle.polcert_format.specs.Wants.{number_end, numbers_want, start_body_wants};
 ghost use Rattle.polcert_items.specs.WantSteps.{Leads, number_wants, list_wants, start_wants, IfAtEnd};
 
@@ -114,8 +114,6 @@ impl StartReader {
             (start_wants (count_of states.now) self.old []) (lexeme_of token.entry) r.kind r.place)) }
         ensures held { IsHeld (count_of states.now) self.old (lexeme_of token.entry) → IfErr result (λ stop. IfRefused stop (λ r. ⊥)) }
         ensures late { (r : Refusal) → IsDue self.old (lexeme_of token.entry) r.kind r.place → result ≡ Err (Stop.Refused r) }
-        ensures range { IfErr result (λ stop. IfRefused stop (λ r.
-            r.kind ≡ ItemFault.ProbabilityRange → IsRangeTested self.old (lexeme_of token.entry))) }
     {
         match self {
             StartReader::Form => {
@@ -170,8 +168,8 @@ impl StartReader {
     pub fn end(self, alloc: Global, states: &Elements) -> Result<Shares, ItemEnd>
         requires count { IsCount most_states (count_of states.now) }
         requires within { IsStartWithin states.now self }
-        ensures said { IfOk result (StartGoes states.now self []) }
-        ensures refused { IfErr result (λ e. IfNotMemory e (CannotEnd (StartGoes states.now) self)) }
+        ensures said { IfOk result (StartGives states.now self []) }
+        ensures refused { IfErr result (λ e. IfNotMemory e (CannotEnd (StartGives states.now) self)) }
         ensures reason { (body : List Lexeme) → IsStartSeen (count_of states.now) body self → IfErr result (IsStartEndReason body) }
         ensures kind { IfErr result (λ e. IfAtEnd e (λ kind. kind ≡ misfit (start_wants (count_of states.now) self []) None)) }
         ensures due { IfErr result (IsEndDue self) }
@@ -247,9 +245,9 @@ impl Chosen {
     fn end(self, alloc: Global) -> Result<Shares, ItemEnd>
         requires { length self.marks ≤ most_states }
         ensures said { (states : AnyElements) → length self.marks ≡ count_of states →
-            IfOk result (StartGoes states (StartReader.List self) []) }
+            IfOk result (StartGives states (StartReader.List self) []) }
         ensures refused { (states : AnyElements) → length self.marks ≡ count_of states →
-            IfErr result (λ e. IfNotMemory e (CannotEnd (StartGoes states) (StartReader.List self))) }
+            IfErr result (λ e. IfNotMemory e (CannotEnd (StartGives states) (StartReader.List self))) }
         ensures reason { (body : List Lexeme) → IfErr result (IsStartEndReason body) }
         ensures kind { IfErr result (λ e. IfAtEnd e (λ kind. kind ≡ misfit Listed None)) }
         ensures at_end { IfErr result IsAtEnd }
@@ -320,7 +318,6 @@ fn begin_body(states: &Elements, token: Token<'_>) -> Result<StartReader, Refusa
     ensures leads { IfOk result (λ r. Leads (start_body_wants (count_of states.now))
         (lexeme_of token.entry) (start_wants (count_of states.now) r)) }
     ensures kind { IfErr result (λ r. IsMisfit StartBody (lexeme_of token.entry) r.kind) }
-    ensures range { IfErr result (λ r. r.kind ≢ ItemFault.ProbabilityRange) }
 {
     match token.kind {
         TokenKind::Name => begin_name(states, token),
@@ -344,7 +341,6 @@ fn begin_name(states: &Elements, token: Token<'_>) -> Result<StartReader, Refusa
     ensures leads { IfOk result (λ r. Leads (start_body_wants (count_of states.now))
         (lexeme_of token.entry) (start_wants (count_of states.now) r)) }
     ensures kind { IfErr result (λ r. IsMisfit StartBody (lexeme_of token.entry) r.kind) }
-    ensures range { IfErr result (λ r. r.kind ≢ ItemFault.ProbabilityRange) }
 {
     if is_word(&token, b"uniform") {
         return Ok(StartReader::Every);
@@ -365,7 +361,6 @@ fn begin_numeral(states: &Elements, token: Token<'_>) -> Result<StartReader, Ref
     ensures leads { IfOk result (λ r. Leads (start_body_wants (count_of states.now))
         (lexeme_of token.entry) (start_wants (count_of states.now) r)) }
     ensures kind { IfErr result (λ r. IsMisfit StartBody (lexeme_of token.entry) r.kind) }
-    ensures range { IfErr result (λ r. r.kind ≢ ItemFault.ProbabilityRange) }
 {
     match digits_of(states.count(), token) {
         Some(digits) => Ok(StartReader::Digits(digits)),
@@ -403,7 +398,6 @@ fn first_number(sign: Option<Sign>, token: Token<'_>) -> Result<StartReader, Ref
     ensures leads { (count : ℕ) → IfOk result (λ r. Leads (numbers_want (is_some sign) count) (lexeme_of token.entry) (start_wants count r)) }
     ensures kind { IfErr result (λ r. IsMisfit (number_wants sign) (lexeme_of token.entry) r.kind) }
     ensures number { IfErr result (λ r. (lexeme_of token.entry).kind ≡ TokenKind.Numeral → IsOfValue r.kind) }
-    ensures range { IfErr result (λ r. r.kind ≢ ItemFault.ProbabilityRange) }
 {
     match number_step(sign, token, Range::Reward)? {
         Step::Sign(sign) => Ok(StartReader::Sign(sign)),
@@ -431,8 +425,6 @@ impl FirstNumber {
             (number_end false (count_of states.now - 1)) (lexeme_of token.entry) r.kind r.place)) }
         ensures late { IsOutside self.value → begins_number (lexeme_of token.entry).kind ≡ true →
             result ≡ Err (Stop.Refused (refused ItemFault.ProbabilityRange self.place)) }
-        ensures range { IfErr result (λ stop. IfRefused stop (λ r.
-            r.kind ≡ ItemFault.ProbabilityRange → begins_number (lexeme_of token.entry).kind ≡ true)) }
     {
         match token.kind {
             TokenKind::Numeral | TokenKind::Plus | TokenKind::Minus => self.add(
@@ -484,8 +476,8 @@ impl FirstNumber {
     /// The shares where this number is all there is, behind `start:`.
     fn end(self, alloc: Global, states: &Elements) -> Result<Shares, ItemEnd>
         requires { IsCount most_states (count_of states.now) }
-        ensures said { IfOk result (StartGoes states.now (StartReader.Number self) []) }
-        ensures refused { IfErr result (λ e. IfNotMemory e (CannotEnd (StartGoes states.now) (StartReader.Number self))) }
+        ensures said { IfOk result (StartGives states.now (StartReader.Number self) []) }
+        ensures refused { IfErr result (λ e. IfNotMemory e (CannotEnd (StartGives states.now) (StartReader.Number self))) }
         ensures reason { (body : List Lexeme) → IfErr result (IsStartEndReason body) }
         ensures kind { IfErr result (λ e. IfAtEnd e (λ kind.
             kind ≡ misfit (number_end false (count_of states.now - 1)) None)) }
@@ -519,8 +511,6 @@ impl Digits {
             (number_end false (count_of states.now - 1)) (lexeme_of token.entry) r.kind r.place)) }
         ensures late { (r : Refusal) → IsDueValue self.value self.place (lexeme_of token.entry) r.kind r.place →
             result ≡ Err (Stop.Refused r) }
-        ensures range { IfErr result (λ stop. IfRefused stop (λ r.
-            r.kind ≡ ItemFault.ProbabilityRange → begins_number (lexeme_of token.entry).kind ≡ true)) }
     {
         match self.value {
             Ok(value) => {
@@ -548,8 +538,8 @@ impl Digits {
     fn end(self, alloc: Global, states: &Elements) -> Result<Shares, ItemEnd>
         requires count { IsCount most_states (count_of states.now) }
         requires within { IsStartWithin states.now (StartReader.Digits self) }
-        ensures said { IfOk result (StartGoes states.now (StartReader.Digits self) []) }
-        ensures refused { IfErr result (λ e. IfNotMemory e (CannotEnd (StartGoes states.now) (StartReader.Digits self))) }
+        ensures said { IfOk result (StartGives states.now (StartReader.Digits self) []) }
+        ensures refused { IfErr result (λ e. IfNotMemory e (CannotEnd (StartGives states.now) (StartReader.Digits self))) }
         ensures reason { (body : List Lexeme) → IsStartSeen (count_of states.now) body (StartReader.Digits self) → IfErr result (IsStartEndReason body) }
         ensures due { IfErr result (IsEndDue (StartReader.Digits self)) }
     {
@@ -566,9 +556,9 @@ impl Digits {
 /// The shares that a list of probabilities gives, if it is whole and sums to 1.
 fn end_probabilities(alloc: Global, numbers: Numbers<u32>) -> Result<Shares, ItemEnd>
     requires { numbers.needed ≤ most_states }
-    ensures said { (states : AnyElements) → IfOk result (StartGoes states (StartReader.Probabilities numbers) []) }
+    ensures said { (states : AnyElements) → IfOk result (StartGives states (StartReader.Probabilities numbers) []) }
     ensures refused { (states : AnyElements) →
-        IfErr result (λ e. IfNotMemory e (CannotEnd (StartGoes states) (StartReader.Probabilities numbers))) }
+        IfErr result (λ e. IfNotMemory e (CannotEnd (StartGives states) (StartReader.Probabilities numbers))) }
     ensures reason { (body : List Lexeme) → IfErr result (IsStartEndReason body) }
     ensures kind { HasRoom numbers → IfErr result (λ e. IfAtEnd e (λ kind. kind ≡ misfit (list_wants numbers []) None)) }
     ensures at_end { IfErr result IsAtEnd }

@@ -1,5 +1,5 @@
 -- What an item's reader holds is still possible: the item can go on, with `: *`, zeros and the like, to its end.
-use Rattle.std.proofs.Common.{◌≡◌, ◌∙◌, ℕ, zero, suc, ◌+◌, ◌-◌, ◌<◌, ◌≤◌, ◌==◌, ◌⊎◌, inl, inr, ⊎_elim, Bool, true, false, Option, Some, None, List, [], ◌∷◌, ◌++◌, length, drop, map, ℤ, pos, codes, refl, sym, ap, subst, arith, lit≤, length-append}
+use Rattle.std.proofs.Common.{◌≡◌, ◌∙◌, ℕ, zero, suc, ◌+◌, ◌-◌, ◌<◌, ◌≤◌, ◌==◌, ◌⊎◌, inl, inr, ⊎_elim, Bool, true, false, Option, Some, None, unwrap_or, Result, Ok, Err, List, [], ◌∷◌, ◌++◌, length, drop, map, ℤ, pos, codes, refl, sym, ap, subst, arith, lit≤, length-append}
 use Rattle.std.specs.List.{list_any}
 use Rattle.polcert_text.specs.Cut.{Lexeme}
 use Rattle.polcert_text.specs.declared.lexeme.TokenKind.TheVariants.{Name}
@@ -18,17 +18,24 @@ use Rattle.polcert_items.specs.declared.item.Said.TheVariants as said
 use Rattle.polcert_items.specs.declared.lines.DiscountReader.TheVariants as discount
 use Rattle.polcert_items.specs.declared.lines.ValuesReader.TheVariants as values
 use Rattle.polcert_items.specs.declared.number.Sign.{Sign}
-use Rattle.polcert_cells.specs.declared.words.Topic.TheVariants.{Start}
+use Rattle.polcert_text.specs.declared.number.NumberFault.{NumberFault}
+use Rattle.polcert_items.specs.declared.start_reader.Choice.{Choice}
+use Rattle.polcert_items.specs.declared.start_reader.StartReader.{StartReader}
+use Rattle.polcert_items.specs.declared.start_reader.StartReader.TheVariants as starts
+use Rattle.polcert_cells.specs.declared.elements.Elements.TheVariants.{Count}
 use Rattle.polcert_cells.specs.declared.elements.Elements.{Elements}
 use Rattle.polcert_cells.specs.Elements.{most_states, most_actions, most_observations}
 use Rattle.polcert_cells.specs.Entry as entries
 use Rattle.polcert_cells.specs.Entry.{forms, cells_in}
 use Rattle.polcert_cells.specs.Numbers as numbers
+use Rattle.polcert_cells.specs.Numbers.{AreNumbers}
+use Rattle.polcert_format.specs.Forms as shapes
 use Rattle.polcert_format.specs.Text.{Known}
 use Rattle.polcert_items.specs.NumberSteps.{AreNumbersBehind}
 use Rattle.polcert_format.specs.KnownPreamble.{preamble_in, indices_in}
 use Rattle.polcert_items.specs.EntrySteps.{IsFirstPlace, entry_with, ProbabilitiesGo, RewardsGo, StateGoes, HasRoom, awaited, IsStateWithin}
-use Rattle.polcert_items.specs.ItemSteps.{ItemGoes, IsItemWithin, topic_in}
+use Rattle.polcert_items.specs.ItemSteps.{ItemForms, IsItemWithin, pending_in}
+use Rattle.polcert_items.specs.StartSteps.{ListGoes, alone, first_of_more, StartGoes, IsStartWithin, pending, pending_of}
 use Rattle.polcert_cells.specs.Preamble.{Preamble, is_mdp, dimensions, named}
 use Rattle.polcert_format.specs.Wants.{least_written}
 use Rattle.polcert_items.specs.KnownView.{learned}
@@ -151,15 +158,19 @@ some_indices k Transition = omega arith
 some_indices k Observation = omega arith
 some_indices k Reward = omega arith
 
-probabilities_continue : (preamble : Preamble) (table : Table) (places : List Place) (n : Numbers ℕ) → HasRoom n → Continues preamble table places (states.Probabilities n)
-probabilities_continue preamble table places n room =
+-- zeros for the probabilities that lack
+probabilities_go : (n : Numbers ℕ) → HasRoom n
+    → ProbabilitiesGo n (zeros (n.needed - length n.read)) (bodies.Probabilities (n.read ++ nothings (n.needed - length n.read)))
+probabilities_go n room =
     let m = n.needed - length n.read in
     let all : length (n.read ++ nothings m) ≡ length n.read + length (nothings m) = length-append n.read (nothings m) in
     let rest = nothings_count m in
-    let body = bodies.Probabilities (n.read ++ nothings m) in
-    let go : ProbabilitiesGo n (zeros m) body =
-    record { further = nothings m; numbers = zeros_behind n.sign m (omega (arith, room)); small = nothings_in_range m; enough = omega (arith, all, rest, room); body_is = refl } in
-    record { more = zeros m; entry = entry_with table places body; goes = (body, (go, refl)) }
+    record { further = nothings m; numbers = zeros_behind n.sign m (omega (arith, room)); small = nothings_in_range m; enough = omega (arith, all, rest, room); body_is = refl }
+
+probabilities_continue : (preamble : Preamble) (table : Table) (places : List Place) (n : Numbers ℕ) → HasRoom n → Continues preamble table places (states.Probabilities n)
+probabilities_continue preamble table places n room =
+    let body = bodies.Probabilities (n.read ++ nothings (n.needed - length n.read)) in
+    record { more = zeros (n.needed - length n.read); entry = entry_with table places body; goes = (body, (probabilities_go n room, refl)) }
 
 rewards_continue : (preamble : Preamble) (table : Table) (places : List Place) (n : Numbers ℤ) → HasRoom n → Continues preamble table places (states.Rewards n)
 rewards_continue preamble table places n room =
@@ -182,29 +193,65 @@ state_continues k table places (states.Probabilities n) within = probabilities_c
 state_continues k table places (states.Rewards n) within = rewards_continue (preamble_in k) table places n within.1
 state_continues k table places (states.Word w) within = record { more = []; entry = entry_with table places _; goes = (refl, refl) }
 
+-- ---- start items
+
+-- a start item's reader that can go on to the form of one
+record StartContinues (elements : Elements) (r : StartReader) : Type 0 where
+  more : List Lexeme
+  goes : StartGoes elements r more None
+
+zero_number : AreNumbers (a_zero ∷ []) (pos 0 ∷ [])
+zero_number = numbers.unsigned (zero_is false) numbers.none
+
+no_states : (elements : Elements) (choice : Choice) (chosen : ℕ → Bool) → ListGoes elements choice chosen [] None
+no_states elements choice chosen = record { further = []; stand = tt; said = tt }
+
+start_continues : (elements : Elements) (r : StartReader) → IsStartWithin elements r → pending r ≡ None → StartContinues elements r
+start_continues elements starts.Form within free = record { more = a_colon ∷ a_zero ∷ []; goes = shapes.plain refl (shapes.one_number zero_number) }
+start_continues elements (starts.Colon choice) within free = record { more = a_colon ∷ []; goes = (refl, no_states elements choice (λ s. false)) }
+start_continues elements (starts.List chosen) within free = record { more = []; goes = no_states elements chosen.choice _ }
+start_continues elements starts.Body within free = record { more = a_zero ∷ []; goes = shapes.one_number zero_number }
+start_continues elements starts.Every within free = record { more = []; goes = (refl, tt) }
+start_continues elements (starts.Only s) within free = record { more = []; goes = (refl, tt) }
+start_continues elements (starts.Sign s) within free =
+    record { more = a_zero ∷ []; goes = record { further = pos 0 ∷ []; numbers = zero_behind (Some s); given = alone (pos 0) refl } }
+start_continues elements (starts.Number f) within free = record { more = []; goes = record { further = []; numbers = numbers.none; given = alone f.value refl } }
+start_continues elements (starts.Digits d) within free = of d.value refl
+  where
+    none≢some : {A : Type 0} {x : A} → Some x ≡ None → ⊥
+    none≢some e = cc
+
+    of : (v : Result ℤ NumberFault) → d.value ≡ v → StartContinues elements (starts.Digits d)
+    of (Ok h) e = record { more = []; goes = first_of_more h e (record { further = []; numbers = numbers.none; given = alone h refl }) }
+    of (Err f) e = absurd (none≢some (subst (λ v. pending_of v d.place ≡ None) e free))
+start_continues elements (starts.Probabilities n) within free =
+    record { more = zeros (n.needed - length n.read); goes = record { all = n.read ++ nothings (n.needed - length n.read); go = probabilities_go n within.room; whole = tt } }
+
 -- ---- items
 
--- an item's reader that can go on to the end of the item
+-- an item's reader that can go on to the form of the item
 pub record CanEnd (k : Known) (item : ItemReader) : Type 0 where
   pub more : List Lexeme
-  pub after : Known
-  pub goes : ItemGoes k item more after
+  pub forms : ItemForms k item more tt
 
-pub can_end : (k : Known) (item : ItemReader) → IsItemWithin k item → (topic_in item ≡ Start → ⊥) → CanEnd k item
-can_end k (items.Discount discount.Colon) within other =
-    record { more = a_colon ∷ a_zero ∷ []; after = learned k (said.Discount 0); goes = (0, ((refl, (zero_behind None, omega arith)), refl)) }
-can_end k (items.Discount (discount.Number sign)) within other =
-    record { more = a_zero ∷ []; after = learned k (said.Discount 0); goes = (0, ((zero_behind sign, omega arith), refl)) }
-can_end k (items.Discount (discount.Said d)) within other = record { more = []; after = learned k (said.Discount d); goes = (d, ((refl, refl), refl)) }
-can_end k (items.Values values.Colon) within other =
-    record { more = a_colon ∷ a_word (codes "reward") ∷ []; after = learned k (said.Costs false); goes = (false, ((refl, (refl, record { kind = refl; bytes = refl })), refl)) }
-can_end k (items.Values values.Word) within other =
-    record { more = a_word (codes "reward") ∷ []; after = learned k (said.Costs false); goes = (false, ((refl, record { kind = refl; bytes = refl }), refl)) }
-can_end k (items.Values (values.Said c)) within other = record { more = []; after = learned k (said.Costs c); goes = (c, ((refl, refl), refl)) }
-can_end k (items.States r) within other = let c = elements_can_end most_states (lit≤ tt) r within in record { more = c.0; after = learned k (said.States c.1.0); goes = (c.1.0, (c.1.1, refl)) }
-can_end k (items.Actions r) within other = let c = elements_can_end most_actions (lit≤ tt) r within in record { more = c.0; after = learned k (said.Actions c.1.0); goes = (c.1.0, (c.1.1, refl)) }
-can_end k (items.Observations r) within other = let c = elements_can_end most_observations (lit≤ tt) r within in record { more = c.0; after = learned k (said.Observations c.1.0); goes = (c.1.0, (c.1.1, refl)) }
-can_end k (items.Start r) within other = absurd (other refl)
-can_end k (items.Entry r) within other =
+pub can_end : (k : Known) (item : ItemReader) → IsItemWithin k item → pending_in item ≡ None → CanEnd k item
+can_end k (items.Discount discount.Colon) within free =
+    record { more = a_colon ∷ a_zero ∷ []; forms = (learned k (said.Discount 0), (0, ((refl, (zero_behind None, omega arith)), refl))) }
+can_end k (items.Discount (discount.Number sign)) within free =
+    record { more = a_zero ∷ []; forms = (learned k (said.Discount 0), (0, ((zero_behind sign, omega arith), refl))) }
+can_end k (items.Discount (discount.Said d)) within free = record { more = []; forms = (learned k (said.Discount d), (d, ((refl, refl), refl))) }
+can_end k (items.Values values.Colon) within free =
+    record { more = a_colon ∷ a_word (codes "reward") ∷ []; forms = (learned k (said.Costs false), (false, ((refl, (refl, record { kind = refl; bytes = refl })), refl))) }
+can_end k (items.Values values.Word) within free =
+    record { more = a_word (codes "reward") ∷ []; forms = (learned k (said.Costs false), (false, ((refl, record { kind = refl; bytes = refl }), refl))) }
+can_end k (items.Values (values.Said c)) within free = record { more = []; forms = (learned k (said.Costs c), (c, ((refl, refl), refl))) }
+can_end k (items.States r) within free = let c = elements_can_end most_states (lit≤ tt) r within in record { more = c.0; forms = (learned k (said.States c.1.0), (c.1.0, (c.1.1, refl))) }
+can_end k (items.Actions r) within free = let c = elements_can_end most_actions (lit≤ tt) r within in record { more = c.0; forms = (learned k (said.Actions c.1.0), (c.1.0, (c.1.1, refl))) }
+can_end k (items.Observations r) within free = let c = elements_can_end most_observations (lit≤ tt) r within in record { more = c.0; forms = (learned k (said.Observations c.1.0), (c.1.0, (c.1.1, refl))) }
+can_end k (items.Start r) within free =
+    let same : (preamble_in k).states ≡ within.0 = ap (λ o. unwrap_or o (Count 0)) within.1.0 in
+    let c = start_continues (preamble_in k).states r (subst (λ s. IsStartWithin s r) (sym same) within.1.1) free in
+    record { more = c.more; forms = c.goes }
+can_end k (items.Entry r) within free =
     let c = state_continues k r.table r.places r.state within in
-    record { more = c.more; after = learned k (said.Entry c.entry); goes = (c.entry, (c.goes, refl)) }
+    record { more = c.more; forms = (learned k (said.Entry c.entry), (c.entry, (c.goes, refl))) }

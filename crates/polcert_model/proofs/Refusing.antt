@@ -1,6 +1,6 @@
 -- What the reader of a text refuses within an item: each refusal is of the first wrong item, lies in it, and has its
 -- reason.
-use Rattle.std.proofs.Common.{◌≡◌, ◌∙◌, ℕ, ◌+◌, ◌<◌, arith, length-append, ◌⊎◌, inl, inr, true, false, Bool, Option, Some, None, List, [], ◌∷◌, ◌++◌, length, refl, sym, ap, subst}
+use Rattle.std.proofs.Common.{◌≡◌, ◌∙◌, ℕ, ◌+◌, true, false, Bool, Option, Some, None, List, [], ◌∷◌, ◌++◌, length, refl, sym, ap, subst}
 use Rattle.std.proofs.lemmas.List.{append_assoc, append-nil}
 use Rattle.polcert_text.specs.Cut.{Lexeme}
 use Rattle.polcert_text.specs.declared.lexeme.TokenKind.TheVariants.{Numeral}
@@ -20,20 +20,22 @@ use Rattle.polcert_cells.specs.Words.{topic, begins_item}
 use Rattle.polcert_format.specs.Items.{Item, IsDivided}
 use Rattle.polcert_format.specs.Text.{Known, nothing_known, IsRight, AreRight}
 use Rattle.polcert_format.specs.Order.{word_fault}
-use Rattle.polcert_format.specs.Reading.{IsWithinItem, IsWrong, CannotGoOn, IsPossible}
+use Rattle.polcert_format.specs.Forms.{HasForm, IsFormless, IsPossible}
+use Rattle.polcert_format.specs.Reading.{IsWithinItem, IsWrong, CannotGoOn}
 use Rattle.polcert_format.specs.FirstWrong.{TextTokens, AreTokensOf, IsFirstWrong, LiesIn, IsDecided, word_place, wrong_item, wrong_last}
 use Rattle.polcert_format.specs.Reasons.{IsReason, InItem, StandsIn, NumberStandsIn, IsRepeated, is_sign}
 use Rattle.polcert_format.specs.Reasons as reasons
-use Rattle.polcert_format.specs.Refusals.{place_or, IsTaken, IsDueAtOnce, Stops, StopsInBody, in_body, of_first_number}
+use Rattle.polcert_format.specs.Refusals.{place_or, Stops, StopsInBody, in_body, of_first_number}
 use Rattle.polcert_format.specs.Refusals as refusals
 use Rattle.polcert_items.specs.NumberSteps.{is_negative, number_place, IsSignAt, SignEnds}
 use Rattle.polcert_items.specs.NumberSteps as steps
 use Rattle.polcert_items.specs.LineSteps.{CannotTake, CannotEnd}
-use Rattle.polcert_items.specs.StartSteps.{IsReasonAt, IsReasonIn, IsStartReason, IsBehindNumber, StopsStart, first_number, token}
+use Rattle.polcert_items.specs.StartSteps.{IsReasonAt, IsReasonIn, IsStartReason, StopsStart, first_number, token}
 use Rattle.polcert_format.specs.FirstNumber.{IsLate, IsLateIn, ends_cleanly, states_known}
 use Rattle.polcert_format.proofs.FirstNumbers.{late_here}
 use Rattle.polcert_items.proofs.FirstNumberLaws.{late_at_fault, pending_is_late}
-use Rattle.polcert_items.specs.ItemSteps.{ItemGoes, topic_in, sign_in, pending_in, IsSeen, IsTokenReason, IsItemReason, IsEndReason}
+use Rattle.polcert_items.proofs.FormLaws.{nothing_pending, forms_stuck}
+use Rattle.polcert_items.specs.ItemSteps.{ItemGoes, ItemForms, topic_in, sign_in, pending_in, IsSeen, IsTokenReason, IsItemReason, IsEndReason}
 use Rattle.polcert_items.specs.ItemSteps as steps_of
 use Rattle.polcert_format.specs.Misfits.{misfit, IsOfValue, IsMisfit}
 use Rattle.polcert_format.specs.Wants.{wanted}
@@ -166,8 +168,8 @@ record Refused (ts : TextTokens) (n place : ℕ) (kind : ItemFault) : Type 0 whe
 
 -- a part of the body was taken, and there it stops
 stops_here : (ts : TextTokens) (kind : ItemFault) (n place : ℕ) (k : Known) (t : Topic) (body taken rest : List Lexeme) (h : Here ts n k t body) → body ≡ taken ++ rest
-    → IsTaken k t taken → Stops k t kind taken rest → place ≡ place_or rest (word_place h.after ts.end 0) → (rest ≡ [] → h.after ≡ [] → ts.ending ≡ None) → StopsInBody ts kind n place
-stops_here ts kind n place k t body taken rest h whole is_taken stops at clean = record {
+    → IsPossible k t taken → Stops k t kind taken rest → place ≡ place_or rest (word_place h.after ts.end 0) → (rest ≡ [] → h.after ≡ [] → ts.ending ≡ None) → StopsInBody ts kind n place
+stops_here ts kind n place k t body taken rest h whole possible stops at clean = record {
   before = h.before;
   item = item_here h;
   after = h.after;
@@ -180,7 +182,7 @@ stops_here ts kind n place k t body taken rest h whole is_taken stops at clean =
   taken = taken;
   rest = rest;
   whole = whole;
-  is_taken = is_taken;
+  possible = possible;
   stops = stops;
   place_is = at;
   clean = clean;
@@ -190,96 +192,81 @@ sign_kind : (sign : Sign) (s : Lexeme) → IsSignAt sign s → is_sign s.kind �
 sign_kind sign s (steps.plus kind negative place) = ap is_sign kind
 sign_kind sign s (steps.minus kind negative place) = ap is_sign kind
 
--- a start item's range is tested only behind its first number
-abbrev Tests : Topic → Option Sign → List Lexeme → ItemFault → Type 0
-Tests t sign body kind = t ≡ Start → kind ≡ ProbabilityRange → IsBehindNumber sign body
-
-taken_front : (k : Known) (t : Topic) (taken more : List Lexeme) → IsTaken k t (taken ++ more) → IsTaken k t taken
-taken_front k t taken more (refusals.possible p) = refusals.possible (possible_front k t taken more p)
-taken_front k t taken more (refusals.in_start e) = refusals.in_start e
-
-one_less : (before body : List Lexeme) (s : Lexeme) → body ≡ before ++ s ∷ [] → 2 < length body → 1 < length before
-one_less before body s e more =
-    let lengths : length body ≡ length before + 1 = ap length e ∙ length-append before (s ∷ []) in
-    omega (arith, lengths, more)
-
 number_stops : (ts : TextTokens) (kind : ItemFault) (n place : ℕ) (k : Known) (t : Topic) (sign : Option Sign) (body more : List Lexeme) (l : Lexeme) → Here ts n k t ((body ++ l ∷ []) ++ more)
-    → SignEnds sign body → place ≡ number_place sign l → l.kind ≡ Numeral → IsTaken k t body → CannotGoOn k t (body ++ l ∷ []) → IsOfValue kind → IsMisfit (wanted k t body) l kind → Tests t sign body kind
+    → SignEnds sign body → place ≡ number_place sign l → l.kind ≡ Numeral → IsPossible k t body → IsFormless k t (body ++ l ∷ []) → IsOfValue kind → IsMisfit (wanted k t body) l kind
     → StopsInBody ts kind n place
-number_stops ts kind n place k t None body more l h ends p numeral taken stuck value unfit tests =
-    stops_here ts kind n place k t ((body ++ l ∷ []) ++ more) body (l ∷ more) h (append_assoc body (l ∷ []) more) taken (refusals.at_lexeme stuck unfit tests) p (λ none. absurd (cons≢nil none))
-number_stops ts kind n place k t (Some sign) body more l h ends p numeral taken stuck value unfit tests =
+number_stops ts kind n place k t None body more l h ends p numeral taken stuck value unfit =
+    stops_here ts kind n place k t ((body ++ l ∷ []) ++ more) body (l ∷ more) h (append_assoc body (l ∷ []) more) taken (refusals.at_lexeme stuck unfit) p (λ none. absurd (cons≢nil none))
+number_stops ts kind n place k t (Some sign) body more l h ends p numeral taken stuck value unfit =
     let before = ends.0 in
     let s = ends.1.0 in
     let whole = ends.1.1.0 in
-    let signed : IsTaken k t (before ++ s ∷ []) = subst (IsTaken k t) whole taken in
-    let front : IsTaken k t before = taken_front k t before (s ∷ []) signed in
-    let pair : CannotGoOn k t (before ++ s ∷ l ∷ []) = subst (CannotGoOn k t) (ap (λ (b : List Lexeme). b ++ l ∷ []) whole ∙ append_assoc before (s ∷ []) (l ∷ [])) stuck in
+    let signed : IsPossible k t (before ++ s ∷ []) = subst (IsPossible k t) whole taken in
+    let front : IsPossible k t before = possible_front k t before (s ∷ []) signed in
+    let pair : IsFormless k t (before ++ s ∷ l ∷ []) = subst (IsFormless k t) (ap (λ (b : List Lexeme). b ++ l ∷ []) whole ∙ append_assoc before (s ∷ []) (l ∷ [])) stuck in
     let behind : IsMisfit (wanted k t (before ++ s ∷ [])) l kind = subst (λ b. IsMisfit (wanted k t b) l kind) whole unfit in
     stops_here ts kind n place k t ((body ++ l ∷ []) ++ more) before (s ∷ l ∷ more) h (signed_whole body before more s l whole) front
-    (refusals.at_number (sign_kind sign s ends.1.1.1) numeral signed pair value behind (λ start range. one_less before body s whole (tests start range))) (p ∙ sign_place sign s ends.1.1.1)
+    (refusals.at_number (sign_kind sign s ends.1.1.1) numeral signed pair value behind) (p ∙ sign_place sign s ends.1.1.1)
     (λ none. absurd (cons≢nil none))
 
 at_number : (ts : TextTokens) (n place : ℕ) (k : Known) (t : Topic) (sign : Option Sign) (body more : List Lexeme) (l : Lexeme) (kind : ItemFault) → Here ts n k t ((body ++ l ∷ []) ++ more)
-    → Rises 0 ts.lexemes ts.end → SignEnds sign body → IsTaken k t body → CannotGoOn k t (body ++ l ∷ []) → IsOfValue kind → IsMisfit (wanted k t body) l kind → Tests t sign body kind → l.kind ≡ Numeral
+    → Rises 0 ts.lexemes ts.end → SignEnds sign body → IsPossible k t body → IsFormless k t (body ++ l ∷ []) → IsOfValue kind → IsMisfit (wanted k t body) l kind → l.kind ≡ Numeral
     → place ≡ number_place sign l → IsReason ts n place kind → Refused ts n place kind
-at_number ts n place k t sign body more l kind h rises ends taken stuck value unfit tests numeral p reason = record {
+at_number ts n place k t sign body more l kind h rises ends taken stuck value unfit numeral p reason = record {
   lies = number_lies ts n place k t sign body more l h rises ends p;
   reason = reason;
-  stops = number_stops ts kind n place k t sign body more l h ends p numeral taken stuck value unfit tests;
+  stops = number_stops ts kind n place k t sign body more l h ends p numeral taken stuck value unfit;
 }
 
--- the reasons that are no range
-abbrev IsNoRange : ItemFault → Type 0
-IsNoRange ProbabilityRange = ⊥
-IsNoRange _ = Unit {0}
-
-untested : (t : Topic) (taken : List Lexeme) (kind : ItemFault) → IsNoRange kind → IsDueAtOnce t taken kind
-untested t taken kind other start range = absurd (subst IsNoRange range other)
-
-at_lexeme : (ts : TextTokens) (n place : ℕ) (k : Known) (t : Topic) (body more : List Lexeme) (l : Lexeme) (kind : ItemFault) → IsNoRange kind → Here ts n k t ((body ++ l ∷ []) ++ more)
-    → Rises 0 ts.lexemes ts.end → IsTaken k t body → CannotGoOn k t (body ++ l ∷ []) → IsMisfit (wanted k t body) l kind → place ≡ l.place → IsReason ts n place kind → Refused ts n place kind
-at_lexeme ts n place k t body more l kind other h rises taken stuck unfit p reason = record {
+at_lexeme : (ts : TextTokens) (n place : ℕ) (k : Known) (t : Topic) (body more : List Lexeme) (l : Lexeme) (kind : ItemFault) → Here ts n k t ((body ++ l ∷ []) ++ more)
+    → Rises 0 ts.lexemes ts.end → IsPossible k t body → IsFormless k t (body ++ l ∷ []) → IsMisfit (wanted k t body) l kind → place ≡ l.place → IsReason ts n place kind → Refused ts n place kind
+at_lexeme ts n place k t body more l kind h rises taken stuck unfit p reason = record {
   lies = lies_here ts n place k t ((body ++ l ∷ []) ++ more) body (l ∷ more) h rises (append_assoc body (l ∷ []) more) p;
   reason = reason;
-  stops = stops_here ts kind n place k t ((body ++ l ∷ []) ++ more) body (l ∷ more) h (append_assoc body (l ∷ []) more) taken (refusals.at_lexeme stuck unfit (untested t body kind other)) p (λ none. absurd (cons≢nil none));
+  stops = stops_here ts kind n place k t ((body ++ l ∷ []) ++ more) body (l ∷ more) h (append_assoc body (l ∷ []) more) taken (refusals.at_lexeme stuck unfit) p (λ none. absurd (cons≢nil none));
 }
 
 stands : (body more : List Lexeme) (l : Lexeme) (place : ℕ) (Is : Lexeme → Type 0) → place ≡ l.place → Is l → reasons.StandsIn ((body ++ l ∷ []) ++ more) place Is
 stands body more l place Is p so = record { before = body; lexeme = l; after = more; whole = append_assoc body (l ∷ []) more; place_is = p; holds = so }
 
 refused_here : (ts : TextTokens) (n place : ℕ) (k : Known) (t : Topic) (sign : Option Sign) (body more : List Lexeme) (l : Lexeme) (kind : ItemFault)
-    → Here ts n k t ((body ++ l ∷ []) ++ more) → Rises 0 ts.lexemes ts.end → SignEnds sign body → IsTaken k t body → CannotGoOn k t (body ++ l ∷ []) → IsMisfit (wanted k t body) l kind → Tests t sign body kind → IsTokenReason t sign body l kind place
+    → Here ts n k t ((body ++ l ∷ []) ++ more) → Rises 0 ts.lexemes ts.end → SignEnds sign body → IsPossible k t body → IsFormless k t (body ++ l ∷ []) → IsMisfit (wanted k t body) l kind → IsTokenReason t sign body l kind place
     → Refused ts n place kind
-refused_here ts n place k t sign body more l (Number fault) h rises ends taken stuck unfit tests m =
-    at_number ts n place k t sign body more l (Number fault) h rises ends taken stuck tt unfit tests m.1.0 m.0
+refused_here ts n place k t sign body more l (Number fault) h rises ends taken stuck unfit m =
+    at_number ts n place k t sign body more l (Number fault) h rises ends taken stuck tt unfit m.1.0 m.0
     (so_here ts n k t _ _ h (number_stands sign body more l place (reasons.IsRefusedNumber fault) ends m.0 m.1))
-refused_here ts n place k t sign body more l DiscountRange h rises ends taken stuck unfit tests m =
-    at_number ts n place k t sign body more l DiscountRange h rises ends taken stuck tt unfit tests m.2.1.kind m.1
+refused_here ts n place k t sign body more l DiscountRange h rises ends taken stuck unfit m =
+    at_number ts n place k t sign body more l DiscountRange h rises ends taken stuck tt unfit m.2.1.kind m.1
     (so_here ts n k t _ _ h (m.0, number_stands sign body more l place reasons.IsNoFraction ends m.1 m.2))
-refused_here ts n place k t sign body more l ProbabilityRange h rises ends taken stuck unfit tests m =
-    at_number ts n place k t sign body more l ProbabilityRange h rises ends taken stuck tt unfit tests m.1.1.1.kind m.1.0
+refused_here ts n place k t sign body more l ProbabilityRange h rises ends taken stuck unfit m =
+    at_number ts n place k t sign body more l ProbabilityRange h rises ends taken stuck tt unfit m.1.1.1.kind m.1.0
     (so_here ts n k t _ _ h (m.0, number_stands sign body more l place reasons.IsNoFraction ends m.1.0 m.1.1))
-refused_here ts n place k t sign body more l Reset h rises ends taken stuck unfit tests m =
-    at_lexeme ts n place k t body more l Reset tt h rises taken stuck unfit m.0 (so_here ts n k t _ _ h (stands body more l place _ m.0 m.1))
-refused_here ts n place k t sign body more l DuplicateName h rises ends taken stuck unfit tests m =
-    at_lexeme ts n place k t body more l DuplicateName tt h rises taken stuck unfit m.0
+refused_here ts n place k t sign body more l Reset h rises ends taken stuck unfit m =
+    at_lexeme ts n place k t body more l Reset h rises taken stuck unfit m.0 (so_here ts n k t _ _ h (stands body more l place _ m.0 m.1))
+refused_here ts n place k t sign body more l DuplicateName h rises ends taken stuck unfit m =
+    at_lexeme ts n place k t body more l DuplicateName h rises taken stuck unfit m.0
     (so_here ts n k t _ _ h (m.1, subst (λ b. IsRepeated b place) (sym (append_assoc body (l ∷ []) more)) (m.2 more)))
-refused_here ts n place k t sign body more l UnknownName h rises ends taken stuck unfit tests m =
-    at_lexeme ts n place k t body more l UnknownName tt h rises taken stuck unfit m.0 (so_here ts n k t _ _ h (stands body more l place _ m.0 m.1))
-refused_here ts n place k t sign body more l IndexOutOfRange h rises ends taken stuck unfit tests m =
-    at_lexeme ts n place k t body more l IndexOutOfRange tt h rises taken stuck unfit m.0 (so_here ts n k t _ _ h (stands body more l place _ m.0 m.1))
-refused_here ts n place k t sign body more l BadCount h rises ends taken stuck unfit tests m =
-    at_lexeme ts n place k t body more l BadCount tt h rises taken stuck unfit m.0 (so_here ts n k t _ _ h m.1)
-refused_here ts n place k t sign body more l BadShape h rises ends taken stuck unfit tests m = at_lexeme ts n place k t body more l BadShape tt h rises taken stuck unfit m tt
-refused_here ts n place k t sign body more l WrongNumberCount h rises ends taken stuck unfit tests m = at_lexeme ts n place k t body more l WrongNumberCount tt h rises taken stuck unfit m tt
-refused_here ts n place k t sign body more l _ h rises ends taken stuck unfit tests m = absurd m
+refused_here ts n place k t sign body more l UnknownName h rises ends taken stuck unfit m =
+    at_lexeme ts n place k t body more l UnknownName h rises taken stuck unfit m.0 (so_here ts n k t _ _ h (stands body more l place _ m.0 m.1))
+refused_here ts n place k t sign body more l IndexOutOfRange h rises ends taken stuck unfit m =
+    at_lexeme ts n place k t body more l IndexOutOfRange h rises taken stuck unfit m.0 (so_here ts n k t _ _ h (stands body more l place _ m.0 m.1))
+refused_here ts n place k t sign body more l BadCount h rises ends taken stuck unfit m =
+    at_lexeme ts n place k t body more l BadCount h rises taken stuck unfit m.0 (so_here ts n k t _ _ h m.1)
+refused_here ts n place k t sign body more l BadShape h rises ends taken stuck unfit m = at_lexeme ts n place k t body more l BadShape h rises taken stuck unfit m tt
+refused_here ts n place k t sign body more l WrongNumberCount h rises ends taken stuck unfit m = at_lexeme ts n place k t body more l WrongNumberCount h rises taken stuck unfit m tt
+refused_here ts n place k t sign body more l _ h rises ends taken stuck unfit m = absurd m
 
 -- the item doesn't go on with the lexeme
 stuck : (seen : List Lexeme) (r : TextReader) (w : IsItemRead seen r) (l : Lexeme) → CannotTake (ItemGoes r.known) w.item l
     → CannotGoOn r.known w.t (w.body ++ l ∷ [])
 stuck seen r w l none more after taken =
     none more after (w.read.on (l ∷ more) after (subst (λ b. IsRight r.known w.t b after) (append_assoc w.body (l ∷ []) more) taken))
+
+-- and hasn't even the form of one with it
+without_form : (seen : List Lexeme) (r : TextReader) (w : IsItemRead seen r) (l : Lexeme) → CannotTake (ItemGoes r.known) w.item l
+    → IfStart (topic_in w.item) (CannotTake (ItemForms r.known) w.item l) → IsFormless r.known w.t (w.body ++ l ∷ [])
+without_form seen r w l none formless more f =
+    forms_stuck r.known w.item l none formless more tt (w.read.forms (l ∷ more) (subst (HasForm r.known w.t) (append_assoc w.body (l ∷ []) more) f))
 
 -- what stands in a body stands in it with more behind
 stands_further : (body more : List Lexeme) (place : ℕ) (Is : Lexeme → Type 0) → StandsIn body place Is → StandsIn (body ++ more) place Is
@@ -403,23 +390,6 @@ pending_refused seen r f x w e text ts tokens same ending =
     pending_why count body (items.Observations s) x seen e = absurd (none≢some e)
     pending_why count body (items.Entry s) x seen e = absurd (none≢some e)
 
-is_start : (t : Topic) → (t ≡ Start) ⊎ (t ≡ Start → ⊥)
-is_start Start = inl refl
-is_start Discount = inr (λ e. cc)
-is_start Values = inr (λ e. cc)
-is_start States = inr (λ e. cc)
-is_start Actions = inr (λ e. cc)
-is_start Observations = inr (λ e. cc)
-is_start (Cells table) = inr (λ e. cc)
-
--- what was taken of the open item
-pub is_taken : (k : Known) (t : Topic) (body : List Lexeme) → ((t ≡ Start → ⊥) → IsPossible k t body) → IsTaken k t body
-is_taken k t body possible = of (is_start t)
-  where
-    of : (t ≡ Start) ⊎ (t ≡ Start → ⊥) → IsTaken k t body
-    of (inl start) = refusals.in_start start
-    of (inr other) = refusals.possible (possible other)
-
 -- the sign that waits for its numeral ends the body
 pub seen_sign : (count : ℕ) (body : List Lexeme) (item : ItemReader) → (topic_in item ≡ Start → ⊥) → IsSeen count body item → SignEnds (sign_in item) body
 seen_sign count body (items.Discount r) other s = s
@@ -457,10 +427,11 @@ start_token sign body l kind place m = m
 
 pub feed_refused : (seen : List Lexeme) (r : TextReader) (l : Lexeme) (kind : ItemFault) (place : ℕ) (w : IsItemRead seen r) → begins_item l ≡ false
     → CannotTake (ItemGoes r.known) w.item l → IsItemReason w.item w.body l kind place → IfNotStart (topic_in w.item) (IsMisfit (item_wants r.known w.item []) l kind)
-    → IfStart (topic_in w.item) (StopsStart (states_known r.known) w.body (item_wants r.known w.item []) l kind place)
+    → IfStart (topic_in w.item) (StopsStart (pending_in w.item) (states_known r.known) w.body (item_wants r.known w.item []) l kind place)
+    → IfStart (topic_in w.item) (CannotTake (ItemForms r.known) w.item l)
     → ((more : List Lexeme) (ends : Bool) (late : Refusal) → topic_in w.item ≡ Start → IsLate (states_known r.known) (w.body ++ l ∷ more) ends late.kind late.place → (kind ≡ late.kind) × (place ≡ late.place))
     → IsRefusedBehind (seen ++ l ∷ []) (model_faults.Item kind r.number place)
-feed_refused seen r l kind place w inner none reason unfit stops due text ts further tokens e =
+feed_refused seen r l kind place w inner none reason unfit stops formless due text ts further tokens e =
     let d = has_division further in
     let more : List Lexeme = d.0 in
     let behind = within_goes_on seen l r.known w.t w.body w.within inner in
@@ -490,28 +461,28 @@ feed_refused seen r l kind place w inner none reason unfit stops due text ts fur
     of_one more h other m =
         refused_so more h
         (refused_here ts r.number place r.known w.t (sign_in w.item) w.body more l kind h (tokens_rise text ts tokens) (seen_sign (states_known r.known) w.body w.item other w.read.seen)
-        (refusals.possible (w.read.possible (λ s. other (w.read.topic_is ∙ s)))) (stuck seen r w l none)
+        (w.read.possible (nothing_pending w.item other)) (without_form seen r w l none formless)
         (here_unfit r.known w.t w.body w.item (λ s. other (w.read.topic_is ∙ s)) w.read.wants l kind (subst (λ u. IfNotStart u (IsMisfit (item_wants r.known w.item []) l kind)) w.read.topic_is unfit))
-        (λ s range. absurd (other (w.read.topic_is ∙ s))) (subst (λ t. IsTokenReason t (sign_in w.item) w.body l kind place) w.read.topic_is m))
+        (subst (λ t. IsTokenReason t (sign_in w.item) w.body l kind place) w.read.topic_is m))
 
     of_start : (more : List Lexeme) (h : Here ts r.number r.known w.t ((w.body ++ l ∷ []) ++ more)) → w.t ≡ Start → IsStartReason (w.body ++ l ∷ []) kind place
-        → StopsStart (states_known r.known) w.body (wanted r.known w.t w.body) l kind place → Refuses ts (model_faults.Item kind r.number place)
+        → StopsStart (pending_in w.item) (states_known r.known) w.body (wanted r.known w.t w.body) l kind place → Refuses ts (model_faults.Item kind r.number place)
     of_start more h start m (first_number late) =
         start_refused text ts r.number place r.known w.t (w.body ++ l ∷ []) more kind tokens h w.read.may_stand
         (first_here ts r.number r.known w.t ((w.body ++ l ∷ []) ++ more) h (stuck seen r w l none more)) start m
         (subst (λ (b : List Lexeme). IsLate (states_known r.known) b (ends_cleanly h.after ts.ending) kind place) (sym (append_assoc w.body (l ∷ []) more)) (late more (ends_cleanly h.after ts.ending)))
         (is_due more h)
-    of_start more h start m (token sign ends misfits why range) =
+    of_start more h start m (token sign unheld ends misfits why) =
         refused_so more h
-        (refused_here ts r.number place r.known w.t sign w.body more l kind h (tokens_rise text ts tokens) ends (refusals.in_start start) (stuck seen r w l none) misfits (λ s. range)
+        (refused_here ts r.number place r.known w.t sign w.body more l kind h (tokens_rise text ts tokens) ends (w.read.possible unheld) (without_form seen r w l none formless) misfits
         (subst (λ t. IsTokenReason t sign w.body l kind place) (sym start) (start_token sign w.body l kind place why)))
 
     at : IsItemReason w.item w.body l kind place → (more : List Lexeme) → Here ts r.number r.known w.t ((w.body ++ l ∷ []) ++ more) → Refuses ts (model_faults.Item kind r.number place)
     at (steps_of.of_token other m) more h = of_one more h other m
     at (steps_of.of_start start m) more h =
-        let here_stops : StopsStart (states_known r.known) w.body (wanted r.known w.t w.body) l kind place =
-        subst (λ x. StopsStart (states_known r.known) w.body x l kind place) (wants_here r.known w.t w.body w.item w.read.wants)
-        (subst (λ u. IfStart u (StopsStart (states_known r.known) w.body (item_wants r.known w.item []) l kind place)) start stops) in
+        let here_stops : StopsStart (pending_in w.item) (states_known r.known) w.body (wanted r.known w.t w.body) l kind place =
+        subst (λ x. StopsStart (pending_in w.item) (states_known r.known) w.body x l kind place) (wants_here r.known w.t w.body w.item w.read.wants)
+        (subst (λ u. IfStart u (StopsStart (pending_in w.item) (states_known r.known) w.body (item_wants r.known w.item []) l kind place)) start stops) in
         of_start more h (sym w.read.topic_is ∙ start) m here_stops
 
 -- ---- an item that cannot end
@@ -560,9 +531,9 @@ due_at_end ts n place k t body fault at x w =
     )
 
 pub end_refused : (seen : List Lexeme) (r : TextReader) (kind : ItemFault) (place : ℕ) (w : IsItemRead seen r) → CannotEnd (ItemGoes r.known) w.item
-    → IsEndReason (topic_in w.item) kind → kind ≡ misfit (item_wants r.known w.item []) None
+    → IsEndReason (topic_in w.item) kind → kind ≡ misfit (item_wants r.known w.item []) None → pending_in w.item ≡ None
     → ((late : Refusal) → topic_in w.item ≡ Start → IsLate (states_known r.known) w.body true late.kind late.place → ⊥) → IsRefusedAt seen place (model_faults.Item kind r.number place)
-end_refused seen r kind place w none reason kinds undue text ts tokens ends =
+end_refused seen r kind place w none reason kinds unheld undue text ts tokens ends =
     let x = ends_here ts r.number place seen w.body r.known w.t w.within w.number_is ends in
     record {
       refusal = record {
@@ -572,17 +543,13 @@ end_refused seen r kind place w none reason kinds undue text ts tokens ends =
         decided = λ fault at y. absurd (free_here ts r.number r.known w.t (w.body ++ []) x.here_is w.read.may_stand fault at y);
       };
       placed = record {
-        stands = in_body (stops_here ts kind r.number place r.known w.t (w.body ++ []) w.body [] x.here_is refl (taken (is_start w.t)) stops x.place_is (λ nothing. x.clean));
+        stands = in_body (stops_here ts kind r.number place r.known w.t (w.body ++ []) w.body [] x.here_is refl (w.read.possible unheld) stops x.place_is (λ nothing. x.clean));
         late = λ fault at y.
             let found = due_at_end ts r.number place r.known w.t w.body fault at x y in
             absurd (undue (record { kind = fault; place = at }) (w.read.topic_is ∙ found.0) found.1);
       };
     }
   where
-    taken : (w.t ≡ Start) ⊎ (w.t ≡ Start → ⊥) → IsTaken r.known w.t w.body
-    taken (inl start) = refusals.in_start start
-    taken (inr other) = refusals.possible (w.read.possible other)
-
     stops : Stops r.known w.t kind w.body []
     stops =
         refusals.at_end (λ after right. none after (w.read.on [] after (subst (λ b. IsRight r.known w.t b after) (sym (append-nil w.body)) right)))

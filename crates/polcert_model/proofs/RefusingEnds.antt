@@ -21,7 +21,8 @@ use Rattle.polcert_format.specs.FirstNumber.{IsLateIn}
 use Rattle.polcert_format.proofs.FirstNumbers.{late_undecided}
 use Rattle.polcert_format.specs.FirstWrong.{TextTokens, AreTokensOf, LiesIn, IsDecided, wrong_front, wrong_fault, wrong_last, wrong_end, before_items, at_word, at_end}
 use Rattle.polcert_format.specs.Reasons.{IsReason}
-use Rattle.polcert_format.specs.Refusals.{IsItemRefusal, IsOfTokens, IsTaken, IsLastTaken, before_body, of_tokens}
+use Rattle.polcert_format.specs.Forms.{IsPossible}
+use Rattle.polcert_format.specs.Refusals.{IsItemRefusal, IsOfTokens, IsLastTaken, before_body, of_tokens}
 use Rattle.polcert_format.specs.Refusals as refusals
 use Rattle.polcert_model.specs.TextSteps.{IsNothingRead, IsItemRead, IsTextRead, AreItemsRead, IsRefusedBehind, Refuses, fault_kind, pending_at, tokens_end}
 use Rattle.polcert_model.specs.TextSteps as texts
@@ -32,7 +33,7 @@ use Rattle.polcert_format.proofs.OrderLaws.{wrong_at_word, not_complete, are_too
 use Rattle.polcert_format.proofs.PlaceLaws.{tokens_rise, fault_rises, lies_at_word, lies_before_items, lies_at_end, lies_at_fault, lies_at_once}
 use Rattle.polcert_format.proofs.DecidedLaws.{one_decided}
 use Rattle.polcert_format.proofs.Within.{item_begins}
-use Rattle.polcert_model.proofs.Refusing.{Here, item_here, here, first_here, free_here, due_at_fault, pending_refused, is_taken}
+use Rattle.polcert_model.proofs.Refusing.{Here, item_here, here, first_here, free_here, due_at_fault, pending_refused}
 
 -- ---- before the first item
 
@@ -199,8 +200,8 @@ in_item seen r f w text ts tokens e ending =
       decided = λ fault at x. absurd (free_here ts r.number r.known w.t (w.body ++ []) h w.read.may_stand fault at x);
     }
 
-last_taken : (seen : List Lexeme) (r : TextReader) (w : IsItemRead seen r) (ts : TextTokens) → ts.lexemes ≡ seen → IsLastTaken ts r.number
-last_taken seen r w ts e =
+last_taken : (seen : List Lexeme) (r : TextReader) (w : IsItemRead seen r) (ts : TextTokens) → ts.lexemes ≡ seen → pending_in w.item ≡ None → IsLastTaken ts r.number
+last_taken seen r w ts e unheld =
     let h : Here ts r.number r.known w.t (w.body ++ []) = here ts r.number seen w.body [] [] r.known w.t [] w.within (e ∙ sym (append-nil seen)) w.number_is empty_division in
     record {
       before = h.before;
@@ -211,7 +212,7 @@ last_taken seen r w ts e =
       t = w.t;
       known = h.taken;
       topic_is = h.topic_is;
-      is_taken = subst (IsTaken r.known w.t) (sym (append-nil w.body)) (is_taken r.known w.t w.body w.read.possible);
+      possible = subst (IsPossible r.known w.t) (sym (append-nil w.body)) (w.read.possible unheld);
     }
 
 pub fault_refused : (seen : List Lexeme) (r : TextReader) (f : TokenFault) → IsTextRead seen r → (text : List ℕ) (ts : TextTokens) → AreTokensOf text ts → ts.lexemes ≡ seen
@@ -231,7 +232,7 @@ fault_refused seen r f (texts.item w) text ts tokens e ending =
     of_pending None none = record {
       refusal = in_item seen r f w text ts tokens e ending;
       placed = record {
-        stands = of_tokens (fault_of_tokens f) (refusals.in_item (last_taken seen r w ts e));
+        stands = of_tokens (fault_of_tokens f) (refusals.in_item (last_taken seen r w ts e none));
         late = λ fault at x. absurd (none≢some (sym none ∙ due_at_fault ts r.number r.known w.t w.body w.item f fault at h refl ending w.read.topic_is w.read.seen x));
       };
     }

@@ -1,5 +1,5 @@
 -- An item as its reader goes on with it, from its word on: the same as what is right of it.
-use Rattle.std.proofs.Common.{ℕ, ◌≡◌, ◌∙◌, ◌≤◌, true, false, Option, Some, None, unwrap_or, List, [], ◌∷◌, ◌++◌, refl, sym, ap, subst, arith, append_assoc}
+use Rattle.std.proofs.Common.{ℕ, ◌≡◌, ◌∙◌, ◌≤◌, ◌⊎◌, inl, inr, true, false, Option, Some, None, unwrap_or, List, [], ◌∷◌, ◌++◌, refl, sym, ap, subst, arith, append_assoc}
 use Rattle.std.proofs.lemmas.List.Elements.{All-cons, All-nil}
 use Rattle.polcert_text.specs.Cut.{Lexeme}
 use Rattle.polcert_cells.specs.declared.entry.Entry.{Entry}
@@ -25,10 +25,14 @@ use Rattle.polcert_items.specs.LineSteps.{Takes}
 use Rattle.polcert_format.specs.KnownPreamble.{preamble_in}
 use Rattle.polcert_items.specs.EntrySteps.{IsEntryBehind, EntryGoes, AreSome}
 use Rattle.polcert_cells.specs.Start.{IsStart}
-use Rattle.polcert_items.specs.StartSteps.{new_start}
-use Rattle.polcert_items.specs.ItemSteps.{ItemGoes, IsItemWithin, topic_in, IsSeen, new_item, new_entry, HasElements}
+use Rattle.polcert_items.specs.StartSteps.{new_start, StartGives}
+use Rattle.polcert_cells.specs.declared.shares.Shares.{Shares}
+use Rattle.polcert_format.specs.Forms.{IsStartForm, HasForm}
+use Rattle.polcert_format.specs.Forms as shapes
+use Rattle.polcert_items.specs.ItemSteps.{ItemGoes, ItemForms, IsItemWithin, topic_in, IsSeen, new_item, new_entry, HasElements}
 use Rattle.polcert_format.specs.Wants.{wanted}
-use Rattle.polcert_items.specs.WantSteps.{Leads, item_wants}
+use Rattle.polcert_items.specs.WantSteps.{Leads, item_wants, IfStart}
+use Rattle.polcert_items.proofs.FormLaws.{is_start, start_form, right_forms, forms_take}
 use Rattle.polcert_format.specs.FirstNumber.{states_known}
 use Rattle.polcert_model.specs.TextSteps.{IsBodyRead}
 use Rattle.polcert_format.proofs.FirstPlaces.{entry_begins}
@@ -125,7 +129,7 @@ goes_taken k Observations body next free goes = observations_taken k body next f
 goes_taken k Start body next free goes = start_taken k body next free goes
 goes_taken k (Cells table) body next free goes = entry_taken k table body next free goes
 
--- ---- an item as it is read
+-- ---- its form
 
 new_topic : (t : Topic) → topic_in (new_item t) ≡ t
 new_topic Discount = refl
@@ -135,6 +139,45 @@ new_topic Actions = refl
 new_topic Observations = refl
 new_topic Start = refl
 new_topic (Cells table) = refl
+
+-- what goes on to the form of an item has it
+forms_formed : (k : Known) (t : Topic) (body : List Lexeme) → word_fault k t ≡ None → ItemForms k (new_item t) body tt → HasForm k t body
+forms_formed k Discount body free g = shapes.right (goes_taken k Discount body g.0 free g.1)
+forms_formed k Values body free g = shapes.right (goes_taken k Values body g.0 free g.1)
+forms_formed k States body free g = shapes.right (goes_taken k States body g.0 free g.1)
+forms_formed k Actions body free g = shapes.right (goes_taken k Actions body g.0 free g.1)
+forms_formed k Observations body free g = shapes.right (goes_taken k Observations body g.0 free g.1)
+forms_formed k Start body free g =
+    let stands = start_may_stand k free in
+    shapes.start refl stands.0 stands.1.1 (subst (λ s. IsStartForm s body) (same_states k stands.1.0 stands.1.1) g)
+forms_formed k (Cells table) body free g = shapes.right (goes_taken k (Cells table) body g.0 free g.1)
+
+-- and what has it goes on so
+formed_forms : (k : Known) (t : Topic) (body : List Lexeme) → HasForm k t body → ItemForms k (new_item t) body tt
+formed_forms k t body f = of (is_start t)
+  where
+    states_form : (found : Shares) → StartGives (preamble_in k).states new_start body found → IsStartForm (preamble_in k).states body
+    states_form found goes = start_form (preamble_in k).states body found (new_start_back (preamble_in k).states body found goes)
+
+    of_start : (u : Topic) → u ≡ Start → HasForm k u body → ItemForms k (new_item u) body tt
+    of_start Start e (shapes.right {after} r) = let g = taken_goes k Start body after r in states_form g.0 g.1.0
+    of_start Start e (shapes.start {p} s i c form) = subst (λ s. IsStartForm s body) (sym (same_states k p c)) form
+    of_start Discount e h = cc
+    of_start Values e h = cc
+    of_start States e h = cc
+    of_start Actions e h = cc
+    of_start Observations e h = cc
+    of_start (Cells table) e h = cc
+
+    of : (t ≡ Start) ⊎ (t ≡ Start → ⊥) → ItemForms k (new_item t) body tt
+    of (inl e) = of_start t e f
+    of (inr other) = other_form f
+      where
+        other_form : HasForm k t body → ItemForms k (new_item t) body tt
+        other_form (shapes.right {after} r) = right_forms k (new_item t) body after (λ e. other (sym (new_topic t) ∙ e)) (taken_goes k t body after r)
+        other_form (shapes.start s i c form) = absurd (other s)
+
+-- ---- an item as it is read
 
 pub new_within : (k : Known) (t : Topic) → word_fault k t ≡ None → IsItemWithin k (new_item t)
 new_within k Discount free = tt
@@ -174,16 +217,21 @@ item_begun k t free =
       seen = new_seen (states_known k) t;
       back = λ ls next goes. goes_taken k t ls next free goes;
       on = λ ls next taken. taken_goes k t ls next taken;
-      possible = λ other.
-          let last = can_end k (new_item t) within (λ e. other (sym (new_topic t) ∙ e)) in
-          record { more = last.more; after = last.after; taken = goes_taken k t last.more last.after free last.goes };
+      formed = λ ls g. forms_formed k t ls free g;
+      forms = λ ls f. formed_forms k t ls f;
+      possible = λ unheld.
+          let last = can_end k (new_item t) within unheld in
+          record { more = last.more; form = forms_formed k t last.more free last.forms };
       wants = new_wants k t;
     }
 
 -- one lexeme more
 pub item_goes_on : (k : Known) (t : Topic) (body : List Lexeme) (old new : ItemReader) (l : Lexeme) → IsBodyRead k t body old → topic_in new ≡ topic_in old → IsItemWithin k new
-    → Takes (ItemGoes k) old l new → IsSeen (states_known k) (body ++ l ∷ []) new → Leads (item_wants k old) l (item_wants k new) → IsBodyRead k t (body ++ l ∷ []) new
-item_goes_on k t body old new l r same within takes seen leads =
+    → Takes (ItemGoes k) old l new → IfStart (topic_in old) (Takes (ItemForms k) old l new) → IsSeen (states_known k) (body ++ l ∷ []) new → Leads (item_wants k old) l (item_wants k new) → IsBodyRead k t (body ++ l ∷ []) new
+item_goes_on k t body old new l r same within takes of_form seen leads =
+    let form : Takes (ItemForms k) old l new = forms_take k old new l same takes of_form in
+    let formed : (ls : List Lexeme) → ItemForms k new ls tt → HasForm k t ((body ++ l ∷ []) ++ ls) =
+    λ ls g. subst (HasForm k t) (sym (append_assoc body (l ∷ []) ls)) (r.formed (l ∷ ls) (form.back ls tt g)) in
     record {
       may_stand = r.may_stand;
       topic_is = same ∙ r.topic_is;
@@ -191,11 +239,9 @@ item_goes_on k t body old new l r same within takes seen leads =
       seen = seen;
       back = λ ls next goes. subst (λ x. IsRight k t x next) (sym (append_assoc body (l ∷ []) ls)) (r.back (l ∷ ls) next (takes.back ls next goes));
       on = λ ls next taken. takes.on ls next (r.on (l ∷ ls) next (subst (λ x. IsRight k t x next) (append_assoc body (l ∷ []) ls) taken));
-      possible = λ other.
-          let last = can_end k new within (λ e. other (sym (same ∙ r.topic_is) ∙ e)) in
-          let on : IsRight k t ((body ++ l ∷ []) ++ last.more) last.after =
-          subst (λ x. IsRight k t x last.after) (sym (append_assoc body (l ∷ []) last.more)) (r.back (l ∷ last.more) last.after (takes.back last.more last.after last.goes)) in
-          record { more = last.more; after = last.after; taken = on };
+      formed = formed;
+      forms = λ ls f. form.on ls tt (r.forms (l ∷ ls) (subst (HasForm k t) (append_assoc body (l ∷ []) ls) f));
+      possible = λ unheld. let last = can_end k new within unheld in record { more = last.more; form = formed last.more last.forms };
       wants = λ ls. ap (wanted k t) (append_assoc body (l ∷ []) ls) ∙ r.wants (l ∷ ls) ∙ leads.same ls;
     }
 

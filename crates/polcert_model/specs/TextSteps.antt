@@ -13,17 +13,17 @@ use Rattle.polcert_items.specs.declared.item.ItemReader.{ItemReader}
 use Rattle.polcert_items.specs.declared.number.Refusal.{Refusal}
 use Rattle.polcert_model.specs.declared.reader.TextReader.{TextReader}
 use Rattle.polcert_cells.specs.declared.words.Topic.{Topic}
-use Rattle.polcert_cells.specs.declared.words.Topic.TheVariants.{Start}
 use Rattle.polcert_cells.specs.Words.{begins_item}
 use Rattle.polcert_format.specs.Text.{Known, nothing_known, IsRight}
 use Rattle.polcert_format.specs.Order.{word_fault}
-use Rattle.polcert_format.specs.Reading.{AreRightItems, IsWithinItem, IsPossible}
+use Rattle.polcert_format.specs.Forms.{HasForm, IsPossible}
+use Rattle.polcert_format.specs.Reading.{AreRightItems, IsWithinItem}
 use Rattle.polcert_format.specs.FirstNumber.{states_known}
 use Rattle.polcert_format.specs.FirstWrong.{TextTokens, AreTokensOf}
 use Rattle.polcert_format.specs.Refusals.{IsRefusal, IsPlacedRight}
 use Rattle.polcert_format.specs.Wants.{wanted}
 use Rattle.polcert_items.specs.WantSteps.{item_wants}
-use Rattle.polcert_items.specs.ItemSteps.{ItemGoes, IsItemWithin, IsSeen, topic_in, pending_in}
+use Rattle.polcert_items.specs.ItemSteps.{ItemGoes, ItemForms, IsItemWithin, IsSeen, topic_in, pending_in}
 use Rattle.polcert_items.specs.KnownView.{IsWholeRead}
 
 -- the item's body so far, and what its reader makes of what is still to come of it
@@ -34,7 +34,9 @@ pub record IsBodyRead (k : Known) (t : Topic) (body : List Lexeme) (item : ItemR
   pub seen : IsSeen (states_known k) body item
   pub back : (ls : List Lexeme) (next : Known) → ItemGoes k item ls next → IsRight k t (body ++ ls) next
   pub on : (ls : List Lexeme) (next : Known) → IsRight k t (body ++ ls) next → ItemGoes k item ls next
-  pub possible : (t ≡ Start → ⊥) → IsPossible k t body
+  pub formed : (ls : List Lexeme) → ItemForms k item ls tt → HasForm k t (body ++ ls)
+  pub forms : (ls : List Lexeme) → HasForm k t (body ++ ls) → ItemForms k item ls tt
+  pub possible : pending_in item ≡ None → IsPossible k t body
   pub wants : (ls : List Lexeme) → wanted k t (body ++ ls) ≡ item_wants k item ls
 
 -- within an item, behind right ones

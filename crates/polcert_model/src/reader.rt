@@ -1,6 +1,7 @@
 //! A model's text, read item by item.
 ghost use Rattle.std.specs.Prelude.{None, IfOk, IfErr, IsErrOf, ◌≡◌, ◌≢◌, ◌+◌, ◌<◌, ◌≤◌, ◌^◌, ◌++◌, ◌∷◌, [], ℕ, Some, false, List, MatchResult};
 ghost use Rattle.polcert_text.specs.Device.{HasFailed};
+ghost use Rattle.polcert_text.specs.ReadFailures.{EndsInFailure};
 ghost use Rattle.polcert_text.specs.Source.{IsText, EachTextThatFits};
 ghost use Rattle.polcert_text.specs.Cut.{Lexeme};
 ghost use Rattle.polcert_text.specs.Reading.{lexeme_of};
@@ -210,6 +211,7 @@ fn read_items_from<S: Source>(
     ensures refused { (fault : ModelFault) → IsErrOf result (SourceFault.Refused fault)
         → EachTextThatFits S.reads source.old source.new (IsRefusedModelText fault) }
     ensures device { IsErrOf result SourceFault.Device → HasFailed (S.failures source.old) (S.failures source.new) }
+    ensures device_last { IsErrOf result SourceFault.Device → EndsInFailure S.reads source.old source.new }
     ensures same_count { (result ≢ Err SourceFault.Device) → S.failures source.new ≡ S.failures source.old }
 {
     let mut tokens = StreamTokens::new(TEXT_LIMIT);
@@ -243,6 +245,7 @@ fn read_text_from<S: Source>(
     ensures refused { (fault : ModelFault) → IsErrOf result (SourceFault.Refused fault)
         → EachTextThatFits S.reads source.old source.new (IsRefusedModelText fault) }
     ensures device { IsErrOf result SourceFault.Device → HasFailed (S.failures source.old) (S.failures source.new) }
+    ensures device_last { IsErrOf result SourceFault.Device → EndsInFailure S.reads source.old source.new }
     ensures same_count { (result ≢ Err SourceFault.Device) → S.failures source.new ≡ S.failures source.old }
 {
     let mut reader = TextReader::new(alloc);
@@ -300,6 +303,7 @@ pub fn read_model_from<S: Source>(
     ensures refused { (fault : ModelFault) → IsErrOf result (SourceFault.Refused fault)
         → EachTextThatFits S.reads source.old source.new (IsRefusedModelText fault) }
     ensures device { IsErrOf result SourceFault.Device → HasFailed (S.failures source.old) (S.failures source.new) }
+    ensures device_last { IsErrOf result SourceFault.Device → EndsInFailure S.reads source.old source.new }
     ensures same_count { (result ≢ Err SourceFault.Device) → S.failures source.new ≡ S.failures source.old }
 {
     let known = read_text_from(alloc, source)?;

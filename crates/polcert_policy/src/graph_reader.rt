@@ -4,7 +4,7 @@ ghost use Rattle.polcert_text.specs.Device.{HasFailed};
 ghost use Rattle.polcert_text.specs.Source.{IsText, EachTextThatFits};
 ghost use Rattle.polcert_text.specs.Cut.{Lexeme};
 ghost use Rattle.polcert_text.specs.Reading.{lexeme_of};
-ghost use Rattle.polcert_policy.specs.ReadFailures.{EndsInFailure};
+ghost use Rattle.polcert_text.specs.ReadFailures.{EndsInFailure};
 ghost use Rattle.polcert_policy.specs.Words.{minus_kind, is_joined};
 ghost use Rattle.polcert_cells.specs.Elements.{most_actions, most_observations};
 ghost use Rattle.polcert_policy.specs.Graphs.{IsGraph, most_nodes};

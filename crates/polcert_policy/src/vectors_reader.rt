@@ -4,7 +4,7 @@ ghost use Rattle.polcert_text.specs.Device.{HasFailed};
 ghost use Rattle.polcert_text.specs.Source.{IsText, EachTextThatFits};
 ghost use Rattle.polcert_text.specs.Cut.{Lexeme};
 ghost use Rattle.polcert_text.specs.Reading.{lexeme_of};
-ghost use Rattle.polcert_policy.specs.ReadFailures.{EndsInFailure};
+ghost use Rattle.polcert_text.specs.ReadFailures.{EndsInFailure};
 ghost use Rattle.polcert_policy.specs.Words.{numeral_kind, minus_kind};
 ghost use Rattle.polcert_policy.specs.Graphs.{PolicyGraph, IsProperGraph};
 ghost use Rattle.polcert_cells.specs.Elements.{most_states};

@@ -13,6 +13,7 @@ pub mod Millionths
 pub mod Lines
 pub mod Device
 pub mod Source
+pub mod ReadFailures
 pub mod Sink
 pub mod Buffer
 pub mod Memory

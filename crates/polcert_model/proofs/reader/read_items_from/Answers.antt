@@ -98,6 +98,20 @@ returns-in-Err-Device-clause-device g c = λ is.
     let gives = rw (c.in-Err-Device.is ∙ ap Err c.in-Err-Device.field-0-is) at c.next_token.follows.holds-at-none.answers in
     failed_since _ _ _ _ was.0 c.loop-token.tokens c.loop-token.source c.next_token.new.source was.1 (gives.0 was.1.goes_on)
 
+pub returns-in-Err-Device-clause-device_last : goal.returns-in-Err-Device-clause-device_last
+returns-in-Err-Device-clause-device_last g c = λ is.
+    let was = c.loop-token.invariant.seen.1 in
+    let fails = rw (c.in-Err-Device.is ∙ ap Err c.in-Err-Device.field-0-is) at c.next_token.follows.holds-at-none.answers in
+    let failed = fails.0 was.goes_on in
+    record {
+      between = c.loop-token.source;
+      given = was.given;
+      is_whole = c.loop-token.tokens.ahead.is_whole;
+      was_read = was.was_read;
+      further = failed.given;
+      failed = failed.failed;
+    }
+
 -- answers of one word: so a wrong body is refused at once
 
 pub returns-in-Err-Device-clause-read : goal.returns-in-Err-Device-clause-read
@@ -108,3 +122,6 @@ returns-in-Err-Device-clause-same_count g c = λ differs. absurd (differs refl)
 
 pub returns-in-Err-clause-device : goal.returns-in-Err-clause-device
 returns-in-Err-clause-device g c = λ is. absurd (cc)
+
+pub returns-in-Err-clause-device_last : goal.returns-in-Err-clause-device_last
+returns-in-Err-clause-device_last g c = λ is. absurd (cc)

@@ -2,7 +2,7 @@ use Rattle.std.proofs.Common.{subst}
 use Rattle.std.proofs.lemmas.Result.{err_from_is_err_and}
 use Rattle.polcert_cells.specs.Elements.{most_states, most_actions, most_observations}
 use Rattle.polcert_items.specs.ItemSteps.{IsItemWithin}
-use Rattle.polcert_items.proofs.ItemReading.{start_seen, start_end_reason, start_late_end, start_ends}
+use Rattle.polcert_items.proofs.ItemReading.{start_seen, start_end_reason, start_late_end, start_ends, start_unheld, start_stuck_end}
 use Rattle.polcert_items.proofs.item.ItemReader.end.Goals as goal
 
 pub returns-in_err-end-in-Start-clause-reason : goal.returns-in_err-end-in-Start-clause-reason
@@ -21,6 +21,16 @@ pub returns-in_err-end-in-Start-clause-kind : goal.returns-in_err-end-in-Start-c
 returns-in_err-end-in-Start-clause-kind c = λ some.
     let p = err_from_is_err_and c.from_residual-in_err-end-in-Start.result c.from_residual-in_err-end-in-Start.ensures.1 in
     rw (p.1, p.2) (start_ends c.args.known.now c.states.result.now c.args.self c.in-Start.reader _ c.states.ensures.states c.in-Start.is c.in_err-end-in-Start.ensures.kind)
+
+pub returns-in_err-end-in-Start-clause-refused : goal.returns-in_err-end-in-Start-clause-refused
+returns-in_err-end-in-Start-clause-refused c = λ some.
+    let p = err_from_is_err_and c.from_residual-in_err-end-in-Start.result c.from_residual-in_err-end-in-Start.ensures.1 in
+    rw (p.1, p.2) (start_stuck_end c.args.known.now c.states.result.now c.args.self c.in-Start.reader _ c.states.ensures.states c.in-Start.is c.in_err-end-in-Start.ensures.refused)
+
+pub returns-in_err-end-in-Start-clause-unheld : goal.returns-in_err-end-in-Start-clause-unheld
+returns-in_err-end-in-Start-clause-unheld c =
+    let p = err_from_is_err_and c.from_residual-in_err-end-in-Start.result c.from_residual-in_err-end-in-Start.ensures.1 in
+    rw (p.1, p.2) (start_unheld c.args.self c.in-Start.reader _ c.in-Start.is c.in_err-end-in-Start.ensures.due)
 
 pub returns-in_ok-end-in-States-clause-within : goal.returns-in_ok-end-in-States-clause-within
 returns-in_ok-end-in-States-clause-within c = c.in_ok-end-in-States.ensures.within most_states (subst (IsItemWithin c.args.known.now) c.in-States.is c.requires)

@@ -5,7 +5,7 @@ use Rattle.polcert_items.specs.EntrySteps.{entry_sign}
 use Rattle.polcert_items.specs.LineSteps.{discount_sign}
 use Rattle.polcert_items.specs.ItemSteps.{IsSeen}
 use Rattle.polcert_items.proofs.PatternLaws.{if_err_map, refused_map, each_refused_map, on_ok_map}
-use Rattle.polcert_items.proofs.ItemReading.{sign_ends, elements_seen, states_reason, actions_reason, observations_reason, start_reason, start_takes, start_stuck, start_leads, start_seen, start_keeps, start_stops, start_late, if_err_both}
+use Rattle.polcert_items.proofs.ItemReading.{sign_ends, elements_seen, states_reason, actions_reason, observations_reason, start_reason, start_takes, start_stuck, start_forms, start_formless, start_leads, start_seen, start_keeps, start_stops_in, start_late}
 use Rattle.polcert_items.proofs.item.ItemReader.feed.Goals as goal
 
 pub returns-in_ok-feed-in-Discount-clause-seen : goal.returns-in_ok-feed-in-Discount-clause-seen
@@ -73,8 +73,18 @@ returns-in-Start-clause-seen c = λ body s.
 
 pub returns-in-Start-clause-start : goal.returns-in-Start-clause-start
 returns-in-Start-clause-start c = λ body s.
-    if_err_both _ _ _ _ (λ stop named range. start_stops c.args.known.now c.states.result.now c.args.self.now c.in-Start.reader body (lexeme_of c.args.token) stop c.states.ensures.states c.in-Start.is s named range)
-    c.feed-in-Start.ensures.stops c.feed-in-Start.ensures.range
+    start_stops_in c.args.known.now c.states.result.now c.args.self.now c.in-Start.reader body (lexeme_of c.args.token) c.feed-in-Start.result c.states.ensures.states c.in-Start.is s
+    c.feed-in-Start.ensures.late c.feed-in-Start.ensures.stops
+
+pub returns-in-Start-clause-formed : goal.returns-in-Start-clause-formed
+returns-in-Start-clause-formed c =
+    on_ok_map _ (start_forms c.args.known.now c.states.result.now c.args.self.now c.in-Start.reader c.feed-in-Start.new.self (lexeme_of c.args.token) c.states.ensures.states c.in-Start.is)
+    c.feed-in-Start.ensures.takes
+
+pub returns-in-Start-clause-formless : goal.returns-in-Start-clause-formless
+returns-in-Start-clause-formless c =
+    if_err_map _ _ _ (λ stop h. refused_map stop (start_formless c.args.known.now c.states.result.now c.args.self.now c.in-Start.reader (lexeme_of c.args.token) c.states.ensures.states c.in-Start.is) h)
+    c.feed-in-Start.ensures.refused
 
 pub returns-in-Start-clause-late : goal.returns-in-Start-clause-late
 returns-in-Start-clause-late c = λ body more ends late s start due.

@@ -1,5 +1,5 @@
 use Rattle.std.proofs.Common.{[], sym, subst, IfOk}
-use Rattle.polcert_items.specs.StartSteps.{StartGoes, IsStartSeen, IsEndDue}
+use Rattle.polcert_items.specs.StartSteps.{StartGives, IsStartSeen, IsEndDue}
 use Rattle.polcert_items.specs.declared.start_reader.StartReader.TheVariants as reader
 use Rattle.polcert_items.proofs.PatternLaws.{if_err_map}
 use Rattle.polcert_items.proofs.StartSeen.{end_refused}
@@ -25,7 +25,7 @@ returns-in-Digits-clause-reason c = λ body seen. c.end-in-Digits.ensures.reason
 
 pub returns-in-Probabilities-clause-said : goal.returns-in-Probabilities-clause-said
 returns-in-Probabilities-clause-said c =
-    subst (λ s. IfOk c.end_probabilities.result (StartGoes c.args.states.now s [])) (sym c.in-Probabilities.is) (c.end_probabilities.ensures.said c.args.states.now)
+    subst (λ s. IfOk c.end_probabilities.result (StartGives c.args.states.now s [])) (sym c.in-Probabilities.is) (c.end_probabilities.ensures.said c.args.states.now)
 
 pub returns-in-Probabilities-clause-refused : goal.returns-in-Probabilities-clause-refused
 returns-in-Probabilities-clause-refused c =

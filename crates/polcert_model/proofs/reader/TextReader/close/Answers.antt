@@ -23,9 +23,10 @@ returns-in-Err-AtEnd-clause-items c = λ seen read text ts tokens ends.
     let refused = rw c.in-Err-AtEnd.field-0-is at c.in-Err-AtEnd.ensures.refused in
     let reason = rw c.in-Err-AtEnd.field-0-is at c.in-Err-AtEnd.ensures.reason in
     let kinds = rw c.in-Err-AtEnd.field-0-is at c.in-Err-AtEnd.ensures.kind in
+    let unheld = rw c.in-Err-AtEnd.field-0-is at c.in-Err-AtEnd.ensures.unheld in
     let undue = rw c.in-Err-AtEnd.field-0-is at c.in-Err-AtEnd.ensures.late in
     subst (Refuses ts) (sym c.fault.ensures)
-    (item_not_ended seen r c.in-Some.item c.in-Err-AtEnd.kind c.args.place read (sym c.take.ensures.value ∙ c.in-Some.is) refused reason kinds undue text ts tokens ends)
+    (item_not_ended seen r c.in-Some.item c.in-Err-AtEnd.kind c.args.place read (sym c.take.ensures.value ∙ c.in-Some.is) refused reason kinds unheld undue text ts tokens ends)
 
 pub returns-in-Err-At-clause-items : goal.returns-in-Err-At-clause-items
 returns-in-Err-At-clause-items c = λ seen read text ts tokens ends.
