@@ -4,7 +4,7 @@
     inputs.py FOLDER            writes all of them into FOLDER
     inputs.py FOLDER NAME ..    writes those
 
-Nothing here is a test: `tests/bench/run` times the program on them, and docs/GATE.md has the times.
+Nothing here is a test: `tests/bench/run` and `tests/bench/turns` time the program on them, and docs/SPEED.md has the times.
 """
 import os
 import random
@@ -144,6 +144,55 @@ def large_text(folder):
         out.write('O: * uniform\n')
 
 
+def six_decimals(out, head, generator, rows, columns):
+    """An entry like `matrix`, each number with all its six decimals."""
+    out.write(head + '\n')
+    for _ in range(rows):
+        out.write(' '.join(f'0.{share:06d}' for share in split(generator, columns)) + '\n')
+
+
+def matrices(folder):
+    """48 MB of matrices: six of T of 945 rows and columns."""
+    generator = random.Random(10)
+    with open(f'{folder}/matrices.POMDP', 'w') as out:
+        preamble(out, 945, 6, 1)
+        for action in range(6):
+            six_decimals(out, f'T: {action}', generator, 945, 945)
+        out.write('O: * uniform\n')
+
+
+def all_cells(folder):
+    """50 MB with a line for each of 2,000,000 cells of T."""
+    generator = random.Random(11)
+    with open(f'{folder}/cells.POMDP', 'w') as out:
+        preamble(out, 1000, 2, 1)
+        for action, state in pairs(2, 1000):
+            for column, share in enumerate(split(generator, 1000)):
+                out.write(f'T: {action} : {state} : {column} 0.{share:06d}\n')
+        out.write('O: * uniform\n')
+
+
+def comments(folder):
+    """50 MB of comment, in lines of 80 bytes, before a small model."""
+    line = '# ' + 'what a line of a comment may say '.ljust(77, '.') + '\n'
+    with open(f'{folder}/comments.POMDP', 'w') as out:
+        out.write(line * 625_000)
+        preamble(out, 2, 1, 1)
+        out.write('T: * identity\nO: * uniform\n')
+
+
+def long_vectors(folder):
+    """120 MB of vectors: 4,300 of 1,000 values of 25 decimals each, for a graph that stays where it is; every pair passes."""
+    generator = random.Random(12)
+    with open(f'{folder}/vectors.POMDP', 'w') as out:
+        preamble(out, 1000, 1, 1)
+        out.write('T: * identity\nO: * uniform\nR: * : * : * : * 1\n')
+    with open(f'{folder}/vectors.pg', 'w') as graph, open(f'{folder}/vectors.alpha', 'w') as vectors:
+        for node in range(4300):
+            graph.write(f'{node} 0 {node}\n')
+            vectors.write('0\n' + ' '.join(f'0.{generator.randrange(10 ** 25):025d}' for _ in range(1000)) + '\n\n')
+
+
 def everything_alike(folder):
     """`T: * uniform` over 16,000,000 cells, and 10,000 entries that cover everything with 0."""
     with open(f'{folder}/alike.POMDP', 'w') as out:
@@ -163,6 +212,10 @@ INPUTS = {
     'wide': sparse_check,
     'mdp': mdp_check,
     'large': large_text,
+    'matrices': matrices,
+    'cells': all_cells,
+    'comments': comments,
+    'vectors': long_vectors,
     'alike': everything_alike,
 }
 

@@ -58,6 +58,7 @@ impl<T: Drop> Sequence<T> {
     }
 
     /// How many items there are.
+    #[inline(always)]
     pub fn len(&self) -> usize
         ensures { result ≡ length self.now }
     {
@@ -72,6 +73,7 @@ impl<T: Drop> Sequence<T> {
     }
 
     /// Puts the item behind the others. Where memory is wanting the list stays as it was.
+    #[inline(always)]
     pub fn push(&mut self, item: T) -> Result<(), AllocError>
         ensures ok { OnOk result (self.new ≡ self.old ++ item ∷ []) }
         ensures err { OnErr result (self.new ≡ self.old) }

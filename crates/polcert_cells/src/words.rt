@@ -21,6 +21,7 @@ pub enum Topic {
 
 /// The topic of an item that begins with this word.
 #[tactic(auto, unfolding(crate::specs::Words::topic_of))]
+#[inline(always)]
 fn topic_of(word: &[u8]) -> Option<Topic>
     ensures { result ≡ topic_of word.now }
 {
@@ -62,6 +63,7 @@ fn is_same(word: &[u8], other: &[u8]) -> bool
 }
 
 /// The topic of the item that the token begins, if it begins one.
+#[inline(always)]
 pub fn begun_topic(token: &Token<'_>) -> Option<Topic>
     ensures { result ≡ topic (lexeme_of token.now) }
 {

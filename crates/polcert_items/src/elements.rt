@@ -12,6 +12,7 @@ use polcert_format::ItemFault;
 use polcert_text::{Token, TokenKind, whole_number};
 
 /// The number of the element that the token stands for: by its number, or by its name.
+#[inline(always)]
 pub fn element_of(token: Token<'_>, elements: &Elements) -> Result<usize, Refusal>
     requires few { count_of elements.now ≤ most_elements }
     requires text { IsText (lexeme_of token) }
@@ -27,6 +28,7 @@ pub fn element_of(token: Token<'_>, elements: &Elements) -> Result<usize, Refusa
     }
 }
 
+#[inline(always)]
 fn numbered(token: Token<'_>, elements: &Elements) -> Result<usize, Refusal>
     requires few { count_of elements.now ≤ most_elements }
     requires numeral { token.kind ≡ TokenKind.Numeral }

@@ -50,6 +50,7 @@ impl<T: Copy> Numbers<T> {
         }
     }
 
+    #[inline(always)]
     fn is_full(&self) -> bool
         ensures { IsTrue result ↔ IsFull self.now }
     {
@@ -72,6 +73,7 @@ impl<T: Copy> Numbers<T> {
 
 impl Numbers<u32> {
     /// Goes on with a token of a list of probabilities.
+    #[inline(always)]
     pub fn feed_probability(&mut self, token: Token<'_>) -> Result<(), Stop>
         requires { HasRoom self.old }
         ensures needed { self.new.needed ≡ self.old.needed }
@@ -101,6 +103,7 @@ impl Numbers<u32> {
 
 impl Numbers<i64> {
     /// Goes on with a token of a list of rewards.
+    #[inline(always)]
     fn feed_reward(&mut self, token: Token<'_>) -> Result<(), Stop>
         requires { HasRoom self.old }
         ensures room { OnOk result (HasRoom self.new) }
@@ -202,6 +205,7 @@ impl EntryReader {
     }
 
     /// Goes on behind a colon.
+    #[inline(always)]
     fn feed_place(&mut self, known: &Known, token: Token<'_>) -> Result<(), Stop>
         requires state { self.old.state ≡ EntryState.Place }
         requires within { length self.old.places < length (indices_in known.now self.old.table) }
@@ -245,6 +249,7 @@ impl EntryReader {
     }
 
     /// Goes on behind a place.
+    #[inline(always)]
     fn feed_body(&mut self, alloc: Global, known: &Known, token: Token<'_>) -> Result<(), Stop>
         requires state { self.old.state ≡ EntryState.Body }
         requires within { length self.old.places ≤ length (indices_in known.now self.old.table) }
@@ -392,6 +397,7 @@ fn begin_probabilities(alloc: Global, needed: usize, token: Token<'_>) -> Result
 }
 
 /// The place that the token is: `*`, or one of these elements.
+#[inline(always)]
 fn place_of(token: Token<'_>, elements: Option<&Elements>) -> Result<Place, Refusal>
     requires few { count_of (unwrap_or (option_copied elements) (Count 0)) ≤ most_elements }
     requires text { IsText (lexeme_of token) }
@@ -421,6 +427,7 @@ fn every(token: Token<'_>) -> Result<Place, Refusal>
 }
 
 /// How many indices the cells of a table have.
+#[inline(always)]
 fn indices_of(table: Table) -> usize
     ensures { (k : Known) → length (indices_in k table) ≡ result }
 {
@@ -431,6 +438,7 @@ fn indices_of(table: Table) -> usize
 }
 
 /// Whether numbers may stand behind so many places.
+#[inline(always)]
 fn takes_numbers(is_mdp: bool, table: Table, written: usize) -> bool
     ensures { IsTrue result ↔ (least_written is_mdp table ≤ written) }
 {

@@ -65,6 +65,7 @@ impl ItemReader {
     }
 
     /// Goes on with a token that begins no item.
+    #[inline(always)]
     pub fn feed(&mut self, alloc: Global, known: &Known, token: Token<'_>) -> Result<(), Stop>
         requires within { IsItemWithin known.now self.old }
         requires text { IsText (lexeme_of token) }

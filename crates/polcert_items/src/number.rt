@@ -44,6 +44,7 @@ pub enum Step {
 const ONE: i64 = 1_000_000;
 
 /// What the token says in a number's place, behind this sign.
+#[inline(always)]
 pub fn number_step(sign: Option<Sign>, token: Token<'_>, range: Range) -> Result<Step, Refusal>
     ensures step { IfOk result (IsStep range sign (lexeme_of token.entry)) }
     ensures refused { IfErr result (λ r. RefusesNumber range sign (lexeme_of token.entry) r.kind r.place) }
@@ -77,6 +78,7 @@ fn sign_step(
     }
 }
 
+#[inline(always)]
 fn numeral_step(sign: Option<Sign>, token: Token<'_>, range: Range) -> Result<Step, Refusal>
     requires { token.kind ≡ TokenKind.Numeral }
     ensures step { IfOk result (IsStep range sign (lexeme_of token.entry)) }
@@ -96,6 +98,7 @@ fn numeral_step(sign: Option<Sign>, token: Token<'_>, range: Range) -> Result<St
     }
 }
 
+#[inline(always)]
 fn is_negative(sign: Option<Sign>) -> bool
     ensures { result ≡ is_negative sign }
 {
@@ -106,6 +109,7 @@ fn is_negative(sign: Option<Sign>) -> bool
 }
 
 /// Where a number stands: at its sign, if it has one.
+#[inline(always)]
 pub fn number_place(sign: Option<Sign>, token: Token<'_>) -> u64
     ensures { result ≡ number_place sign (lexeme_of token.entry) }
 {
@@ -116,6 +120,7 @@ pub fn number_place(sign: Option<Sign>, token: Token<'_>) -> u64
 }
 
 /// Why the number may not stand in such a place, if it may not.
+#[inline(always)]
 fn range_fault(range: Range, value: i64) -> Option<ItemFault>
     ensures { MatchOption result (IsInRange range value) (λ kind. (IsInRange range value → ⊥) × IsRangeFault range kind) }
 {

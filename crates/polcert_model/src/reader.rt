@@ -55,6 +55,7 @@ impl TextReader {
     }
 
     /// Goes on with the next token.
+    #[inline(always)]
     fn take(&mut self, alloc: Global, token: Token<'_>) -> Result<(), ModelFault>
         requires read { (seen : List Lexeme) × IsTextRead seen self.old }
         requires few { self.old.number < 2 ^ 63 }
@@ -74,6 +75,7 @@ impl TextReader {
     }
 
     /// Goes on with a token that begins no item.
+    #[inline(always)]
     fn feed(&mut self, alloc: Global, token: Token<'_>) -> Result<(), ModelFault>
         requires read { (seen : List Lexeme) × IsTextRead seen self.old }
         requires text { IsTextToken (lexeme_of token) }

@@ -29,3 +29,6 @@ pub mod PrintedCut
 pub mod PrintedWords
 pub mod WrittenNumbers
 pub mod SomeCut
+pub mod Classes
+pub mod Runs
+pub mod Plain

@@ -4,6 +4,7 @@ use Rattle.std.specs.Prelude.{◌≡◌, ℕ, ◌+◌, Bool, true, false, Option
 use Rattle.polcert_text.specs.Fronts.{IsLongestLexeme, NoLexeme}
 use Rattle.polcert_text.specs.Scan.{state_through}
 use Rattle.polcert_text.specs.declared.lexeme.State.{State}
+use Rattle.polcert_text.specs.declared.lexeme.TokenKind.{TokenKind}
 use Rattle.polcert_text.specs.declared.lexeme.State.TheVariants.{Start, Point, Mark, Sign, Stuck}
 use Rattle.polcert_text.specs.declared.lexeme.Front.{Front}
 use Rattle.polcert_text.specs.declared.lexeme.LexemeScan.{LexemeScan}
@@ -33,3 +34,7 @@ pub record IsScanOf (read : List ℕ) (scan : LexemeScan) : Type 0 where
   pub state : state_through Start read ≡ scan.state
   pub longest : IsFrontOf read scan.longest
   pub behind : is_stuck scan.state ≡ false → scan.len ≡ front_len scan.longest + pending scan.state
+
+-- all that the scan was fed is a lexeme
+abbrev pub scan_at : State → TokenKind → ℕ → LexemeScan
+scan_at state kind len = record { state = state; len = len; longest = Some (record { kind = kind; len = len }) }

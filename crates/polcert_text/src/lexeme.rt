@@ -1,9 +1,13 @@
 //! A gap and a lexeme, read byte by byte.
-ghost use Rattle.std.specs.Prelude.{◌≡◌, ◌+◌, ◌<◌, ◌++◌, ◌∷◌, [], ℕ, List, length, take, true, false, ◌≤◌, ◌⊎◌};
-ghost use Rattle.polcert_text.specs.Fronts.{IsLongestGap};
-ghost use Rattle.polcert_text.specs.Scan.{gap_after, state_after, kind_at, is_numeral_kind};
+ghost use Rattle.std.specs.Prelude.{◌≡◌, ◌+◌, ◌<◌, ◌++◌, ◌∷◌, [], ℕ, List, length, take, true, false, ◌≤◌, ◌⊎◌, IfSome};
+ghost use Rattle.polcert_text.specs.Fronts.{IsLongestGap, IsLongestLexeme};
+ghost use Rattle.polcert_text.specs.Scan.{gap_after, gap_through, state_after, state_through, kind_at, is_numeral_kind, IsOpenGap};
+ghost use Rattle.polcert_text.specs.Bytes.{class_of};
 
-use crate::bytes::{ByteClass, class_of};
+use crate::bytes::{
+    ByteClass, class_of, is_surely_blank, is_surely_colon, is_surely_digit, is_surely_point,
+};
+use memchr::memchr;
 
 #[derive(Clone, Copy, Debug, PartialEq, Eq)]
 pub enum TokenKind {
@@ -24,6 +28,7 @@ pub enum Gap {
 }
 
 impl Gap {
+    #[inline(always)]
     pub fn after(self, class: ByteClass) -> Gap
         ensures { result ≡ gap_after self class }
     {
@@ -76,6 +81,7 @@ impl State {
     }
 
     /// Behind one more byte.
+    #[inline(always)]
     pub fn after(self, class: ByteClass) -> State
         ensures { result ≡ state_after self class }
     {
@@ -118,6 +124,7 @@ impl State {
     }
 
     /// Whether the bytes so far are a numeral.
+    #[inline(always)]
     pub fn is_numeral(self) -> bool
         ensures { result ≡ is_numeral_kind (kind_at self) }
     {
@@ -128,6 +135,7 @@ impl State {
         }
     }
 
+    #[inline(always)]
     pub fn kind(self) -> Option<TokenKind>
         ensures { result ≡ kind_at self }
     {
@@ -141,17 +149,37 @@ impl State {
 }
 
 /// How long the gap at the front of the bytes is.
+#[inline(always)]
 pub fn gap_len(bytes: &[u8]) -> usize
     ensures { IsLongestGap bytes.now result }
 {
-    let mut gap = Gap::Between;
-    for (i, byte) in bytes.iter().enumerate() {
-        gap = gap.after(class_of(*byte));
-        if let Gap::Ended = gap {
-            return i;
+    let mut at: usize = 0;
+    while at < bytes.len() {
+        if is_surely_blank(bytes[at]) {
+            at += 1;
+            continue;
+        }
+        match class_of(bytes[at]) {
+            ByteClass::Blank | ByteClass::LineEnd => at += 1,
+            ByteClass::Hash => at = comment_end(bytes, at + 1),
+            _ => return at,
         }
     }
-    bytes.len()
+    at
+}
+
+/// Where a comment ends whose `#` stands before `from`: behind the next line end, or where the bytes end.
+#[inline(never)]
+fn comment_end(bytes: &[u8], from: usize) -> usize
+    requires { from ≤ length bytes.now }
+    ensures within { (from ≤ result) × (result ≤ length bytes.now) }
+    ensures open { gap_through Gap.Between (take from bytes.now) ≡ Gap.Comment
+        → IsOpenGap result bytes.now }
+{
+    match memchr(b'\n', &bytes[from..]) {
+        Some(line) => from + line + 1,
+        None => bytes.len(),
+    }
 }
 
 /// The lexeme at the front of some bytes: its kind, and how long it is.
@@ -173,7 +201,7 @@ pub struct LexemeScan {
 }
 
 impl LexemeScan {
-    ghost use Rattle.polcert_text.specs.ScanOf.{IsScanOf, is_stuck, front_len};
+    ghost use Rattle.polcert_text.specs.ScanOf.{IsScanOf, is_stuck, front_len, scan_at};
 
     pub fn new() -> LexemeScan
         ensures { IsScanOf [] result }
@@ -186,6 +214,7 @@ impl LexemeScan {
     }
 
     /// After one more byte.
+    #[inline(always)]
     pub fn fed(self, byte: u8) -> LexemeScan
         requires { self.len < usize.MAX }
         ensures scan { (read : List ℕ) → IsScanOf read self → IsScanOf (read ++ byte ∷ []) result }
@@ -205,6 +234,7 @@ impl LexemeScan {
     }
 
     /// Whether no lexeme goes on, whatever bytes follow.
+    #[inline(always)]
     pub fn is_stuck(self) -> bool
         ensures { result ≡ is_stuck self.state }
     {
@@ -212,19 +242,61 @@ impl LexemeScan {
     }
 
     /// Goes on over bytes of which it was fed a front, up to the last or one that no lexeme goes on with.
+    #[inline(always)]
     pub fn through(self, bytes: &[u8]) -> LexemeScan
         requires fed { IsScanOf (take self.len bytes.now) self }
         ensures fed { IsScanOf (take result.len bytes.now) result }
         ensures all { is_stuck result.state ≡ false → result.len ≡ length bytes.now }
     {
         let mut scan = self;
-        for at in self.len..bytes.len() {
+        while scan.len < bytes.len() {
             if scan.is_stuck() {
                 return scan;
             }
-            scan = scan.fed(bytes[at]);
+            scan = scan.fed(bytes[scan.len]).along(bytes);
         }
         scan
+    }
+
+    /// Goes on over the digits, or the rest of a name, that it stands in.
+    #[inline(always)]
+    fn along(self, bytes: &[u8]) -> LexemeScan
+        requires fed { IsScanOf (take self.len bytes.now) self }
+        ensures fed { IsScanOf (take result.len bytes.now) result }
+        ensures on { self.len ≤ result.len }
+    {
+        match self.state {
+            State::Name => {
+                LexemeScan::whole(State::Name, TokenKind::Name, name_end(bytes, self.len))
+            }
+            State::Whole => {
+                LexemeScan::whole(
+                    State::Whole,
+                    TokenKind::Numeral,
+                    digits_end(bytes, self.len),
+                )
+            }
+            State::Fraction => {
+                LexemeScan::whole(
+                    State::Fraction,
+                    TokenKind::Numeral,
+                    digits_end(bytes, self.len),
+                )
+            }
+            _ => self,
+        }
+    }
+
+    /// A scan whose bytes so far are all a lexeme.
+    #[inline(always)]
+    fn whole(state: State, kind: TokenKind, len: usize) -> LexemeScan
+        ensures { result ≡ scan_at state kind len }
+    {
+        LexemeScan {
+            state,
+            len,
+            longest: Some(Front { kind, len }),
+        }
     }
 
     /// The longest lexeme at the front of what it was fed.
@@ -250,9 +322,93 @@ impl LexemeScan {
 }
 
 ghost use Rattle.polcert_text.specs.ScanOf.{IsFrontOf};
+ghost use Rattle.polcert_text.specs.Scan.{GoesOnWithDigits};
+ghost use Rattle.polcert_text.specs.declared.lexeme.State.{State};
+
+/// Where a name that the bytes before `from` begin ends.
+#[inline(always)]
+fn name_end(bytes: &[u8], from: usize) -> usize
+    requires { from ≤ length bytes.now }
+    ensures within { (from ≤ result) × (result ≤ length bytes.now) }
+    ensures same { state_through State.Start (take from bytes.now) ≡ State.Name
+        → state_through State.Start (take result bytes.now) ≡ State.Name }
+{
+    let mut at = from;
+    while at < bytes.len() {
+        match class_of(bytes[at]) {
+            ByteClass::Letter
+            | ByteClass::ExponentMark
+            | ByteClass::Digit
+            | ByteClass::Underscore
+            | ByteClass::Minus => at += 1,
+            _ => return at,
+        }
+    }
+    at
+}
+
+/// Where the digits from `from` on end.
+#[inline(always)]
+fn digits_end(bytes: &[u8], from: usize) -> usize
+    requires { from ≤ length bytes.now }
+    ensures within { (from ≤ result) × (result ≤ length bytes.now) }
+    ensures same { (state : State) → GoesOnWithDigits state → state_through State.Start (take from bytes.now) ≡ state
+        → state_through State.Start (take result bytes.now) ≡ state }
+{
+    let mut at = from;
+    while at < bytes.len() && is_surely_digit(bytes[at]) {
+        at += 1;
+    }
+    at
+}
+
+/// How long the numeral at the front is, where it is digits, perhaps with a point and digits, before a blank or a line end:
+/// those that most texts have, cut without a step for each byte. `None` says nothing.
+#[inline(always)]
+fn plain_numeral(bytes: &[u8]) -> Option<usize>
+    ensures { IfSome result (λ n. IsLongestLexeme bytes.now TokenKind.Numeral n) }
+{
+    if bytes.is_empty() || !is_surely_digit(bytes[0]) {
+        return None;
+    }
+    let point = digits_end(bytes, 1);
+    if point == bytes.len() {
+        return None;
+    }
+    if is_surely_blank(bytes[point]) {
+        return Some(point);
+    }
+    if !is_surely_point(bytes[point]) {
+        return None;
+    }
+    let end = digits_end(bytes, point + 1);
+    if end < bytes.len() && is_surely_blank(bytes[end]) {
+        return Some(end);
+    }
+    None
+}
 
 /// The longest lexeme at the front of the bytes, if one begins there.
+#[inline(always)]
 pub fn longest_lexeme(bytes: &[u8]) -> Option<Front>
+    ensures { IsFrontOf bytes.now result }
+{
+    match plain_numeral(bytes) {
+        Some(len) => Some(Front {
+            kind: TokenKind::Numeral,
+            len,
+        }),
+        None if bytes.len() > 1 && is_surely_colon(bytes[0]) => Some(Front {
+            kind: TokenKind::Colon,
+            len: 1,
+        }),
+        None => scanned_lexeme(bytes),
+    }
+}
+
+/// The longest lexeme at the front of the bytes, if one begins there, of any kind.
+#[inline(never)]
+fn scanned_lexeme(bytes: &[u8]) -> Option<Front>
     ensures { IsFrontOf bytes.now result }
 {
     LexemeScan::new().through(bytes).longest()

@@ -1,13 +1,13 @@
 //! The value of a numeral.
-ghost use Rattle.std.specs.Prelude.{◌≡◌, ◌+◌, ◌-◌, ◌*◌, ◌^◌, length, take, drop, if◌then◌else◌, ◌≤◌, ◌++◌, ◌∷◌, [], ℕ, List, MatchResult, IfOk, IfErr, min, true};
+ghost use Rattle.std.specs.Prelude.{◌≡◌, ◌+◌, ◌-◌, ◌*◌, ◌^◌, length, take, drop, if◌then◌else◌, ◌<◌, ◌≤◌, ◌++◌, ◌∷◌, [], ℕ, List, MatchResult, IfOk, IfErr, IfSome, min, get_or, true, false};
 ghost use Rattle.std.specs.List.{list_all, list_any};
 ghost use Rattle.std.specs.Str.Parse.{digits_value};
-ghost use Rattle.polcert_text.specs.Bytes.{is_digit};
+ghost use Rattle.polcert_text.specs.Bytes.{class_of, is_digit};
 ghost use Rattle.polcert_text.specs.Lexemes.{before, after, is_numeral};
 ghost use Rattle.polcert_text.specs.Numbers.{whole_of, fraction_of, exponent_of, is_lowering, without_sign, largest, signed, IsExact, IsFloor, IsReadable, IsRefused, IsRefusedExactly};
 ghost use Rattle.polcert_text.specs.Scaling.{separates, cap, is_nonzero, IsScaled, Measures, ceiling, rounded};
 
-use crate::bytes::{ByteClass, class_of};
+use crate::bytes::{ByteClass, class_of, is_surely_digit, is_surely_point};
 use crate::lexeme::State;
 use thiserror::Error;
 
@@ -69,6 +69,7 @@ impl Size {
 ///
 /// The first that holds: no numeral, more than 400 bytes or an exponent of more than 400 in size, a value beyond 10,000,000 in
 /// size, no whole number of millionths.
+#[inline]
 pub fn scaled_of(negative: bool, numeral: &[u8]) -> Result<i64, NumberFault>
     ensures value { IfOk result (λ h. IsReadable numeral.now × IsExact negative numeral.now h) }
     ensures fault { IfErr result (IsRefusedExactly negative numeral.now) }
@@ -85,6 +86,7 @@ pub fn scaled_of(negative: bool, numeral: &[u8]) -> Result<i64, NumberFault>
 /// # Errors
 ///
 /// Those of `scaled_of`, but for the last.
+#[inline]
 pub fn floor_of(negative: bool, numeral: &[u8]) -> Result<i64, NumberFault>
     ensures value { IfOk result (λ h. IsReadable numeral.now × IsFloor negative numeral.now h) }
     ensures fault { IfErr result (IsRefused numeral.now) }
@@ -93,6 +95,7 @@ pub fn floor_of(negative: bool, numeral: &[u8]) -> Result<i64, NumberFault>
     Ok(signed(negative, size.rounded(negative)))
 }
 
+#[inline(always)]
 fn signed(negative: bool, size: u64) -> i64
     requires { size ≤ largest }
     ensures { result ≡ signed negative size }
@@ -275,8 +278,73 @@ fn measured(whole: &[u8], fraction: &[u8], kept: usize) -> Size
     }
 }
 
+/// The number that the digits of `number` and those from `from` on spell, up to the first byte that is no digit or until it
+/// is too large, and where that is.
+#[inline(always)]
+fn digits_behind(number: u64, bytes: &[u8], from: usize) -> (u64, usize)
+    requires { from ≤ length bytes.now }
+    ensures within { (from ≤ result.1) × (result.1 ≤ length bytes.now) }
+    ensures digits { (k : ℕ) → from ≤ k → k < result.1 → class_of (get_or bytes.now k 0) ≡ ByteClass.Digit }
+    ensures value { (front : List ℕ) → number ≡ digits_value 10 front
+        → result.0 ≡ digits_value 10 (front ++ take (result.1 - from) (drop from bytes.now)) }
+{
+    let mut read = number;
+    let mut at = from;
+    while at < bytes.len() && is_surely_digit(bytes[at]) && read <= LARGEST {
+        read = read * 10 + u64::from(bytes[at] - b'0');
+        at += 1;
+    }
+    (read, at)
+}
+
+/// The size in millionths of a numeral of at most 20 bytes, with a point, at most six decimals and no exponent, where it is not
+/// too large: what most numerals are, measured in 64 bits. `None` says nothing.
+#[inline(always)]
+fn plain_size(numeral: &[u8]) -> Option<u64>
+    ensures { IfSome result (λ floor. IsReadable numeral.now × Measures numeral.now floor false × (floor ≤ largest)) }
+{
+    if numeral.len() > 20 {
+        return None;
+    }
+    let (whole, point) = digits_behind(0, numeral, 0);
+    if point == 0 || point == numeral.len() {
+        return None;
+    }
+    if !is_surely_point(numeral[point]) {
+        return None;
+    }
+    let (number, end) = digits_behind(whole, numeral, point + 1);
+    let decimals = numeral.len() - point - 1;
+    if end < numeral.len() || decimals > 6 || number > LARGEST {
+        return None;
+    }
+    let floor = with_zeros(number, 6 - decimals);
+    if floor > LARGEST {
+        return None;
+    }
+    Some(floor)
+}
+
 /// The size of a numeral in millionths, rounded down.
+#[inline(always)]
 fn size_of(numeral: &[u8]) -> Result<Size, NumberFault>
+    ensures value { MatchResult result
+        (λ size. IsReadable numeral.now × Measures numeral.now size.floor size.is_inexact)
+        (IsRefused numeral.now) }
+    ensures small { IfOk result (λ size. ceiling size.floor size.is_inexact ≤ largest) }
+{
+    match plain_size(numeral) {
+        Some(floor) => Ok(Size {
+            floor,
+            is_inexact: false,
+        }),
+        None => general_size(numeral),
+    }
+}
+
+/// The size of any numeral in millionths, rounded down.
+#[inline(never)]
+fn general_size(numeral: &[u8]) -> Result<Size, NumberFault>
     ensures value { MatchResult result
         (λ size. IsReadable numeral.now × Measures numeral.now size.floor size.is_inexact)
         (IsRefused numeral.now) }

@@ -1,7 +1,7 @@
 //! The tokens of a text, one after another.
 ghost use Rattle.std.specs.Prelude.{◌≡◌, ◌+◌, ◌<◌, ◌≤◌, ◌^◌, ◌++◌, ℕ, List, length, Option, MatchResult};
 
-use crate::bytes::{ByteClass, class_of};
+use crate::bytes::{ByteClass, class_of, is_surely_blank};
 use crate::lexeme::{Front, LONGEST_TOKEN, TokenKind, gap_len, longest_lexeme};
 use std::marker::Model;
 use thiserror::Error;
@@ -95,6 +95,7 @@ impl<'a> Tokens<'a> {
 
     /// The next token, a refusal, or `None` at the clean end. After a refusal or the end every further call
     /// answers the same.
+    #[inline(always)]
     pub fn next_token(&mut self) -> Option<Result<Token<'a>, TokenFault>>
         ensures { GivesNext self.old result self.new }
     {
@@ -135,6 +136,7 @@ ghost use Rattle.polcert_text.specs.ScanOf.{front_len};
 ghost use Rattle.polcert_text.specs.Streaming.{IsSeen};
 
 /// The token at the front of the bytes, which stand at `place`.
+#[inline(always)]
 fn token_at(bytes: &[u8], place: u64) -> Result<Token<'_>, TokenFault>
     requires { place + length bytes.now < 2 ^ 64 }
     ensures { MatchResult result (IsReadAt place bytes.now) (IsFaultAt place bytes.now) }
@@ -143,6 +145,7 @@ fn token_at(bytes: &[u8], place: u64) -> Result<Token<'_>, TokenFault>
 }
 
 /// The token whose lexeme was seen at the front of the bytes, which stand at `place`, whatever follows the bytes.
+#[inline(always)]
 pub fn token_of(front: Option<Front>, bytes: &[u8], place: u64) -> Result<Token<'_>, TokenFault>
     requires place { place + length bytes.now < 2 ^ 64 }
     requires within { front_len front ≤ length bytes.now }
@@ -168,14 +171,21 @@ pub fn token_of(front: Option<Front>, bytes: &[u8], place: u64) -> Result<Token<
 }
 
 /// Whether a lexeme is a numeral that a letter, `_` or a point follows directly.
+#[inline(always)]
 fn is_glued(kind: TokenKind, rest: &[u8]) -> bool
     ensures { result ≡ is_glued kind rest.now }
 {
     match (kind, rest) {
-        (TokenKind::Numeral, [byte, ..]) => matches!(
-            class_of(*byte),
-            ByteClass::Letter | ByteClass::ExponentMark | ByteClass::Underscore | ByteClass::Point
-        ),
+        (TokenKind::Numeral, [byte, ..]) => {
+            !is_surely_blank(*byte)
+                && matches!(
+                    class_of(*byte),
+                    ByteClass::Letter
+                        | ByteClass::ExponentMark
+                        | ByteClass::Underscore
+                        | ByteClass::Point
+                )
+        }
         _ => false,
     }
 }

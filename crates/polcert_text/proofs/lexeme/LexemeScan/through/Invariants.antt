@@ -1,9 +1,9 @@
-use Rattle.std.proofs.Common.{◌≡◌, take}
+use Rattle.std.proofs.Common.{length, ◌-◌, take}
 use Rattle.polcert_text.specs.ScanOf.{IsScanOf}
 use Rattle.polcert_text.proofs.lexeme.LexemeScan.through.Given as goal
 
-abbrev pub invariant-loop-at : goal.invariant-loop-at
-invariant-loop-at l = record {
-  at_is : l.at ≡ l.scan.len;
-  read : IsScanOf (take l.scan.len l.bytes) l.scan;
-}
+abbrev pub invariant-loop-scan : goal.invariant-loop-scan
+invariant-loop-scan l = IsScanOf (take l.scan.len l.bytes) l.scan
+
+abbrev pub decreases-loop-scan : goal.decreases-loop-scan
+decreases-loop-scan l = length l.bytes - l.scan.len

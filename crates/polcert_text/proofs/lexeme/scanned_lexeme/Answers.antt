@@ -1,5 +1,5 @@
 use Rattle.polcert_text.proofs.LexemeEnds.{scanned}
-use Rattle.polcert_text.proofs.lexeme.longest_lexeme.Goals as goal
+use Rattle.polcert_text.proofs.lexeme.scanned_lexeme.Goals as goal
 
 pub returns : goal.returns
 returns c = rw c.longest.ensures (scanned c.args.bytes.now c.through.result c.through.ensures.fed c.through.ensures.all)

@@ -1,0 +1,13 @@
+use Rattle.std.proofs.Common.{◌<◌, length, sym, arith}
+use Rattle.polcert_text.proofs.LexemeLaws.{state_step}
+use Rattle.polcert_text.proofs.lexeme.digits_end.Goals as goal
+
+pub loop-at-preserved : goal.loop-at-preserved
+loop-at-preserved c =
+    let inside : c.loop-at.at < length c.args.bytes.now = omega arith in
+    record {
+      low = omega arith;
+      high = omega arith;
+      same = λ state on was.
+          state_step _ _ state _ state inside (c.loop-at.invariant.same state on was) (sym (c.is_surely_digit.ensures c.if-is_surely_digit.true)) (sym on);
+    }

@@ -1,0 +1,15 @@
+use Rattle.std.proofs.Common.{◌<◌, length, sym, ap, ⊎_elim, arith}
+use Rattle.polcert_text.specs.Scan.{state_after}
+use Rattle.polcert_text.specs.declared.lexeme.State.TheVariants.{Name}
+use Rattle.polcert_text.proofs.LexemeLaws.{state_step}
+use Rattle.polcert_text.proofs.lexeme.name_end.Goals as goal
+
+pub loop-at-preserved : goal.loop-at-preserved
+loop-at-preserved c =
+    let inside : c.loop-at.at < length c.args.bytes.now = omega arith in
+    record {
+      low = omega arith;
+      high = omega arith;
+      same = λ was.
+          state_step _ _ Name _ Name inside (c.loop-at.invariant.same was) c.class_of.ensures (sym (⊎_elim (ap (state_after Name)) (⊎_elim (ap (state_after Name)) (⊎_elim (ap (state_after Name)) (⊎_elim (ap (state_after Name)) (ap (state_after Name))))) c.in-Letter.is));
+    }
