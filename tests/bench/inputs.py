@@ -98,16 +98,26 @@ def rewards(out, generator, action, states, behind):
         out.write(f'R: {action} : {start} : {behind} {generator.randrange(1, 10)}\n')
 
 
-def dense_check(folder):
+def dense_check(folder, name='dense'):
     """500 nodes over a dense model of 128 states, 4 actions and 32 observations; every pair passes."""
     generator = random.Random(3)
-    with open(f'{folder}/dense.POMDP', 'w') as out:
+    with open(f'{folder}/{name}.POMDP', 'w') as out:
         preamble(out, 128, 4, 32)
         for action in range(4):
             matrix(out, f'T: {action}', generator, 128, 128)
             matrix(out, f'O: {action}', generator, 128, 32)
             rewards(out, generator, action, 128, '* : *')
-    graph_and_vectors(folder, 'dense', 500, 128, 4, 32, 4)
+    graph_and_vectors(folder, name, 500, 128, 4, 32, 4)
+
+
+def single_reward_check(folder, lines=400_000):
+    """The same with so many lines of a reward for a single cell of R; every pair passes."""
+    dense_check(folder, 'singles')
+    generator = random.Random(11)
+    with open(f'{folder}/singles.POMDP', 'a') as out:
+        for _ in range(lines):
+            places = ' : '.join(str(generator.randrange(count)) for count in (4, 128, 128, 32))
+            out.write(f'R: {places} {generator.randrange(1, 10)}\n')
 
 
 def sparse_check(folder):
@@ -209,6 +219,7 @@ INPUTS = {
     'cells_rising': lambda folder: million_cells(folder, 'rising'),
     'cells_falling': lambda folder: million_cells(folder, 'falling'),
     'dense': dense_check,
+    'singles': single_reward_check,
     'wide': sparse_check,
     'mdp': mdp_check,
     'large': large_text,

@@ -7,3 +7,5 @@ pub mod StartLimits
 pub mod NameLaws
 pub mod SoundLaws
 pub mod EntryListLaws
+pub mod SparseLaws
+pub mod StepLaws

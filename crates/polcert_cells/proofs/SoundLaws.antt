@@ -1,5 +1,5 @@
 -- Facts of tables, rewards and starts that printing and reading a model rest on.
-use Rattle.std.proofs.Common.{◌≡◌, ◌∙◌, ℕ, ◌+◌, ◌*◌, ◌<◌, ◌≤◌, Bool, true, Option, Some, None, List, get_or, unwrap_or, ℤ, pos, unsigned_abs, FitsSigned, w64, length, refl, sym, arith}
+use Rattle.std.proofs.Common.{◌≡◌, ◌∙◌, ℕ, ◌*◌, ◌<◌, ◌≤◌, true, Option, Some, None, List, get_or, unwrap_or, ℤ, unsigned_abs, FitsSigned, w64, length, refl, sym, arith}
 use Rattle.std.specs.List.{range_with_len}
 use Rattle.std.proofs.lemmas.List.Recursion.{is_count_by}
 use Rattle.std.proofs.lemmas.List.FromFn.{get_or-map-range_with_len, length-range_with_len}

@@ -8,6 +8,8 @@ pub mod Start
 pub mod Meaning
 pub mod Rows
 pub mod Cursors
+pub mod Sparse
+pub mod LentRows
 pub mod Sound
 pub mod Tables
 pub mod Drafts

@@ -1,18 +1,22 @@
 //! What models say of their cells: elements, entries and their values, and what a check asks of a model.
 #![tactic(auto)]
 
+mod cell;
 mod elements;
 mod entries;
 mod entry;
 mod names;
+mod row;
 mod shares;
 mod table;
 mod words;
 
+pub use cell::Cell;
 pub use elements::{Elements, Kind, MOST_ACTIONS, MOST_ELEMENTS, MOST_OBSERVATIONS, MOST_STATES};
 pub use entries::{BodyRef, Entries, EntryRef};
 pub use entry::{Body, Entry, Place, Sequence, Table};
 pub use names::Names;
+pub use row::{Row, Step};
 pub use shares::Shares;
 pub use table::Cells;
 pub use words::{Topic, begun_topic, is_reserved, is_word};

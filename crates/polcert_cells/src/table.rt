@@ -2,7 +2,9 @@
 ghost use Rattle.std.specs.Prelude.{◌≡◌, ℕ, ◌<◌};
 ghost use Rattle.std.specs.Option.{ForSome};
 ghost use Rattle.polcert_cells.specs.Tables.{Table, IsProper, IsWithinLimits};
-ghost use Rattle.polcert_cells.specs.Cursors.{IsNext};
+ghost use Rattle.polcert_cells.specs.LentRows.{IsRowOf};
+
+use crate::Row;
 
 /// The cells of a model, its counts and its scales, as a check reads them.
 ///
@@ -58,35 +60,21 @@ pub trait Cells {
         requires observation { z < (table self.now).observations }
         ensures { result ≡ (table self.now).r a s e z };
 
-    /// The first end state, not before `from`, of a weight above 0 where action `a` is taken in state `s`, and that
-    /// weight. `from` may be any number.
-    fn next_t(&self, a: usize, s: usize, from: usize) -> Option<(usize, u64)>
+    /// The weights of all end states where action `a` is taken in state `s`, where they can be lent.
+    fn t_row(&self, a: usize, s: usize) -> Option<Row<'_>>
         requires action { a < (table self.now).actions }
         requires start { s < (table self.now).states }
-        ensures { IsNext ((table self.now).t a s) (table self.now).states from result }
+        ensures { ForSome result (IsRowOf ((table self.now).t a s) (table self.now).states) }
     {
-        for e in from..self.states() {
-            let weight = self.t(a, s, e);
-            if weight > 0 {
-                return Some((e, weight));
-            }
-        }
         None
     }
 
-    /// The first observation, not before `from`, of a weight above 0 where action `a` ends in state `e`, and that
-    /// weight. `from` may be any number.
-    fn next_o(&self, a: usize, e: usize, from: usize) -> Option<(usize, u64)>
+    /// The weights of all observations where action `a` ends in state `e`, where they can be lent.
+    fn o_row(&self, a: usize, e: usize) -> Option<Row<'_>>
         requires action { a < (table self.now).actions }
         requires end { e < (table self.now).states }
-        ensures { IsNext ((table self.now).o a e) (table self.now).observations from result }
+        ensures { ForSome result (IsRowOf ((table self.now).o a e) (table self.now).observations) }
     {
-        for z in from..self.observations() {
-            let weight = self.o(a, e, z);
-            if weight > 0 {
-                return Some((z, weight));
-            }
-        }
         None
     }
 

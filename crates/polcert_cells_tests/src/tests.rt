@@ -1,5 +1,5 @@
 //! Entries, what they are made of, and the letters of the tables.
-use polcert_cells::{Body, BodyRef, Entries, Entry, Place, Sequence, Table};
+use polcert_cells::{Body, BodyRef, Cell, Entries, Entry, Place, Row, Sequence, Table};
 use std::alloc::{AllocError, Global};
 use std::test::Fail;
 
@@ -107,4 +107,41 @@ fn entries_are_lent_as_they_were_put(rt: HostRuntime) -> Result<(), Fail> {
     assert_eq!(rt; lent.places, [Place::Every, Place::Only(2)].as_slice());
     assert_eq!(rt; probabilities(lent.body), Some([7].as_slice()));
     Ok(())
+}
+
+#[test]
+fn lent_rows_are_walked(rt: HostRuntime) {
+    let cells = [
+        Cell {
+            column: 1,
+            weight: 30,
+        },
+        Cell {
+            column: 4,
+            weight: 70,
+        },
+    ];
+    let both = [(1, 30), (4, 70)];
+    assert!(rt; has_steps(Row::Sparse(&cells), both.as_slice()));
+    assert!(rt; has_steps(Row::Filled(&[0, 30, 0, 0, 70, 0]), both.as_slice()));
+    assert!(rt; has_steps(Row::Single(cells[1]), [(4, 70)].as_slice()));
+    assert!(rt; has_steps(Row::Sparse(&[]), [].as_slice()));
+    assert!(rt; has_steps(Row::Filled(&[0, 0]), [].as_slice()));
+}
+
+/// Whether a walk over the row gives these weights with their columns, and then ends.
+fn has_steps(row: Row<'_>, weights: &[(usize, u64)]) -> bool {
+    let mut at = 0;
+    for (column, weight) in weights {
+        match row.step(at) {
+            Some(step) => {
+                if step.column != *column || step.weight != *weight {
+                    return false;
+                }
+                at = step.next;
+            }
+            None => return false,
+        }
+    }
+    row.step(at).is_none()
 }

@@ -3,6 +3,7 @@ ghost use Rattle.std.specs.Prelude.{◌≡◌, ◌*◌, ◌<◌, ◌≤◌, ◌+
 ghost use Rattle.polcert_check.specs.Rows.{most_sum};
 ghost use Rattle.polcert_check.specs.Factored.{reward_behind, reward_ahead, AreRewards};
 
+use crate::walk::{next_end, next_seen};
 use polcert_model::Cells;
 
 /// A weight times a number.
@@ -21,10 +22,11 @@ fn each_reward<C: Cells>(cells: &C, a: usize, s: usize, e: usize) -> i128
     ensures { result ≡ reward_behind (C.table cells.now) a s e }
 {
     let mut sum: i128 = 0;
-    let mut from = 0;
-    while let Some((z, weight)) = cells.next_o(a, e, from) {
-        sum += weighed(weight, cells.r(a, s, e, z) as i128);
-        from = z + 1;
+    let row = cells.o_row(a, e);
+    let mut at = 0;
+    while let Some(seen) = next_seen(cells, a, e, row, at) {
+        sum += weighed(seen.weight, cells.r(a, s, e, seen.column) as i128);
+        at = seen.next;
     }
     sum
 }
@@ -49,10 +51,11 @@ fn reward_ahead<C: Cells>(cells: &C, a: usize, s: usize) -> i128
     ensures { result ≡ reward_ahead (C.table cells.now) a s }
 {
     let mut sum: i128 = 0;
-    let mut from = 0;
-    while let Some((e, weight)) = cells.next_t(a, s, from) {
-        sum += weighed(weight, reward_behind(cells, a, s, e));
-        from = e + 1;
+    let row = cells.t_row(a, s);
+    let mut at = 0;
+    while let Some(end) = next_end(cells, a, s, row, at) {
+        sum += weighed(end.weight, reward_behind(cells, a, s, end.column));
+        at = end.next;
     }
     sum
 }

@@ -6,6 +6,7 @@ ghost use Rattle.polcert_check.specs.Rows.{IsController, ValuesAreWithin};
 ghost use Rattle.polcert_check.specs.Factored.{value_term, value_behind, IsLeastOf, Misses, IsMissedAt, IsAhead, IsLesser, AreEnds, AreWithin};
 
 use crate::earned::weighed;
+use crate::walk::{next_end, next_seen};
 use polcert_model::Cells;
 use polcert_policy::{Graph, Vectors};
 
@@ -84,17 +85,18 @@ fn end_of<C: Cells>(cells: &C, graph: &Graph, vectors: &Vectors, n: usize, e: us
     let a = graph.action(n);
     let mut worth: i128 = 0;
     let mut missing = None;
-    let mut from = 0;
-    while let Some((z, weight)) = cells.next_o(a, e, from) {
+    let row = cells.o_row(a, e);
+    let mut at = 0;
+    while let Some(seen) = next_seen(cells, a, e, row, at) {
         let sight = Sight {
             end: e,
-            observation: z,
-            weight,
+            observation: seen.column,
+            weight: seen.weight,
         };
         let step = one_end(cells, graph, vectors, n, sight);
         worth += step.worth;
         missing = lesser(missing, step.missing);
-        from = z + 1;
+        at = seen.next;
     }
     Steps { worth, missing }
 }
@@ -135,11 +137,12 @@ pub(crate) fn steps_ahead<C: Cells>(cells: &C, a: usize, s: usize, ends: Ends<'_
 {
     let mut worth: i128 = 0;
     let mut least = None;
-    let mut from = 0;
-    while let Some((e, weight)) = cells.next_t(a, s, from) {
-        worth += weighed(weight, ends.worths[e]);
-        least = lesser(least, ends.missing[e]);
-        from = e + 1;
+    let row = cells.t_row(a, s);
+    let mut at = 0;
+    while let Some(end) = next_end(cells, a, s, row, at) {
+        worth += weighed(end.weight, ends.worths[end.column]);
+        least = lesser(least, ends.missing[end.column]);
+        at = end.next;
     }
     Steps {
         worth,

@@ -8,6 +8,7 @@ ghost use Rattle.polcert_check.specs.Worst.{IsFirstLacking};
 ghost use Rattle.polcert_check.specs.Factored.{IsLeastOf, Misses, AreMissing};
 
 use crate::ends::lesser;
+use crate::walk::{next_end, next_seen};
 use polcert_cells::{Cells, MOST_STATES};
 use polcert_policy::{Graph, Vectors};
 
@@ -20,12 +21,13 @@ fn missing_behind<C: Cells>(cells: &C, graph: &Graph, n: usize, e: usize) -> Opt
     ensures { (v : PolicyVectors) → IsLeastOf (Misses (controller_of (C.table cells.now) graph.now v) n e (C.table cells.now).observations) result }
 {
     let a = graph.action(n);
-    let mut from = 0;
-    while let Some((z, _)) = cells.next_o(a, e, from) {
-        if graph.next(n, z).is_none() {
-            return Some(z);
+    let row = cells.o_row(a, e);
+    let mut at = 0;
+    while let Some(seen) = next_seen(cells, a, e, row, at) {
+        if graph.next(n, seen.column).is_none() {
+            return Some(seen.column);
         }
-        from = z + 1;
+        at = seen.next;
     }
     None
 }
@@ -60,10 +62,11 @@ fn lacking<C: Cells>(
 {
     let a = graph.action(n);
     let mut least = None;
-    let mut from = 0;
-    while let Some((e, _)) = cells.next_t(a, s, from) {
-        least = lesser(least, missing[e]);
-        from = e + 1;
+    let row = cells.t_row(a, s);
+    let mut at = 0;
+    while let Some(end) = next_end(cells, a, s, row, at) {
+        least = lesser(least, missing[end.column]);
+        at = end.next;
     }
     least
 }

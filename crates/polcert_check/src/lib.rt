@@ -15,6 +15,7 @@ mod rounded;
 mod shortfall;
 mod start;
 mod verdict;
+mod walk;
 mod worst;
 
 pub use examples::{a_missing_successor, minus_one_for_each_step, runs_of_four_steps};

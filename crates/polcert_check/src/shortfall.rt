@@ -7,6 +7,7 @@ ghost use Rattle.polcert_check.specs.Shortfall.{most_short, short};
 ghost use Rattle.polcert_check.specs.Rows.{IsController, ValuesAreWithin, most_scales, row_term, row_backing_of};
 
 use crate::ends::Sight;
+use crate::walk::{next_end, next_seen};
 use polcert_model::Cells;
 use polcert_policy::{Graph, Vectors};
 
@@ -70,15 +71,16 @@ fn row_backing<C: Cells>(
 {
     let a = graph.action(n);
     let mut sum: i128 = 0;
-    let mut from = 0;
-    while let Some((z, weight)) = cells.next_o(a, e, from) {
+    let row = cells.o_row(a, e);
+    let mut at = 0;
+    while let Some(seen) = next_seen(cells, a, e, row, at) {
         let sight = Sight {
             end: e,
-            observation: z,
-            weight,
+            observation: seen.column,
+            weight: seen.weight,
         };
         sum += cell_worth(cells, graph, vectors, n, s, sight);
-        from = z + 1;
+        at = seen.next;
     }
     sum
 }
@@ -114,11 +116,12 @@ pub fn amount_short<C: Cells>(
     prove!(nodes == vector_count);
     let mut backing: i128 = 0;
     let a = graph.action(n);
-    let mut from = 0;
-    while let Some((e, weight)) = cells.next_t(a, s, from) {
-        let row = row_backing(cells, graph, vectors, n, s, e);
-        backing += (weight as i128) * row;
-        from = e + 1;
+    let row = cells.t_row(a, s);
+    let mut at = 0;
+    while let Some(end) = next_end(cells, a, s, row, at) {
+        let behind = row_backing(cells, graph, vectors, n, s, end.column);
+        backing += (end.weight as i128) * behind;
+        at = end.next;
     }
     scaled_value(cells.t_scale(), cells.o_scale(), vectors.at(n, s)) - backing
 }

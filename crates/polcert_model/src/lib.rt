@@ -3,7 +3,9 @@
 
 mod reader;
 
-pub use polcert_cells::{Body, Cells, Entries, Entry, Kind, Place, Sequence, Table, Topic};
+pub use polcert_cells::{
+    Body, Cell, Cells, Entries, Entry, Kind, Place, Row, Sequence, Step, Table, Topic,
+};
 pub use polcert_examples::{
     decimals_of_thirds, first_text, full_forms, kinds_of_misfits, printed_lines, refused_texts,
     reward_order, reward_patterns, single_cells_behind_uniform, starts, tiger_problem,

@@ -8,9 +8,9 @@ use Rattle.std.proofs.lemmas.List.Elements.{All-nil, All-push}
 use Rattle.std.proofs.lemmas.Option.{slice_get-get_or, slice_get_within, get_or_from_slice_get, slice_get-map}
 use Rattle.polcert_cells.specs.declared.entry.Table.{Table}
 use Rattle.polcert_cells.specs.declared.entry.Entry.{Entry}
-use Rattle.polcert_rules.specs.declared.cell.Cell.{Cell}
+use Rattle.polcert_cells.specs.declared.cell.Cell.{Cell}
 use Rattle.polcert_rules.specs.declared.kept.Kept.{Kept}
-use Rattle.polcert_rules.specs.Sparse.{IsRow}
+use Rattle.polcert_cells.specs.Sparse.{IsRow}
 use Rattle.polcert_rules.specs.Merging.{weight_in}
 use Rattle.polcert_rules.specs.Sources.{IsKept, AreKept, IsFrom, IsKeptRow, Stays, AreBuilt}
 use Rattle.polcert_rules.proofs.BodyLaws.{line_within}

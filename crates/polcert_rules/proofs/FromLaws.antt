@@ -6,11 +6,10 @@ use Rattle.std.proofs.lemmas.Bool.{cases_lt, lt-ltb, le-ltb}
 use Rattle.std.proofs.lemmas.Option.{slice_get_within, get_or_from_slice_get}
 use Rattle.std.proofs.lemmas.Bool.Decides.{nat_tests}
 use Rattle.std.proofs.lemmas.List.Sorted.{IsPartitionedBy-ltb}
-use Rattle.polcert_cells.specs.Cursors.{IsNext}
-use Rattle.polcert_rules.specs.declared.cell.Cell.{Cell}
-use Rattle.polcert_rules.specs.Sparse.{weight_at, AreRising, IsSparse}
+use Rattle.polcert_cells.specs.declared.cell.Cell.{Cell}
+use Rattle.polcert_cells.specs.Sparse.{weight_at, AreRising, IsSparse}
 use Rattle.polcert_rules.specs.Merging.{from}
-use Rattle.polcert_rules.proofs.SparseLaws.{Climbs, climbs_from, weight_head, weight_tail, weight_below}
+use Rattle.polcert_cells.proofs.SparseLaws.{Climbs, climbs_from, weight_head, weight_tail, weight_below}
 
 in_order : (xs : List Cell) → AreRising xs → IsNonDecreasingBy (λ x. x.column) xs
 in_order xs up i j d le l = ⊎_elim
@@ -93,23 +92,3 @@ module _ (n column : ℕ) (xs : List Cell) (sparse : IsSparse n xs) where
 
   pub at_none : slice_get (from column xs) 0 ≡ None → 0 ≡ weight_at xs column
   at_none e = sym (none_from e column (omega arith))
-
-  pub next_some : (x : Cell) → slice_get (from column xs) 0 ≡ Some x → IsNext (weight_at xs) n column (Some (x.column, x.weight))
-  next_some x e = at (from column xs) refl e climbs
-    where
-      at : (ys : List Cell) → from column xs ≡ ys → slice_get ys 0 ≡ Some x → Climbs column n ys → IsNext (weight_at xs) n column (Some (x.column, x.weight))
-      at [] f g h = cc
-      at (y ∷ ys) f g h =
-          let head : y ≡ x = cc in
-          let here : Climbs column n (x ∷ ys) = subst (λ (z : Cell). Climbs column n (z ∷ ys)) head h in
-          let all : from column xs ≡ x ∷ ys = f ∙ ap (λ (z : Cell). z ∷ ys) head in
-          let low = here.0 in (
-            here.0,
-            here.1,
-            sym (sym (from_weight column x.column xs here.0) ∙ ap (λ zs. weight_at zs x.column) all ∙ weight_head x ys x.column refl),
-            here.2,
-            λ i m l. sym (from_weight column i xs m) ∙ ap (λ zs. weight_at zs i) all ∙ weight_tail x ys i (λ j. omega arith) ∙ weight_below (x.column + 1) n i ys here.3 (omega arith),
-          )
-
-  pub next_none : slice_get (from column xs) 0 ≡ None → IsNext (weight_at xs) n column None
-  next_none e = λ i m l. none_from e i m

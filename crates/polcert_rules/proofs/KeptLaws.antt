@@ -13,13 +13,13 @@ use Rattle.polcert_cells.specs.declared.entry.Entry.{Entry}
 use Rattle.polcert_cells.specs.Cells.{value_or}
 use Rattle.polcert_cells.specs.Numbers.{one}
 use Rattle.polcert_cells.specs.Sound.{Fills}
-use Rattle.polcert_rules.specs.declared.cell.Cell.{Cell}
+use Rattle.polcert_cells.specs.declared.cell.Cell.{Cell}
 use Rattle.polcert_rules.specs.declared.shape.Shape.{Shape}
 use Rattle.polcert_rules.specs.declared.kept.Source.{Source}
 use Rattle.polcert_rules.specs.declared.kept.Source.TheVariants.{Cells}
 use Rattle.polcert_rules.specs.declared.kept.Kept.{Kept}
 use Rattle.polcert_rules.specs.Given.{IsWithin, FitsShape, number_for, given_by, given}
-use Rattle.polcert_rules.specs.Sparse.{weight_at, IsRow}
+use Rattle.polcert_cells.specs.Sparse.{weight_at, IsRow}
 use Rattle.polcert_rules.specs.Merging.{given_at}
 use Rattle.polcert_rules.specs.Sources.{line_in, line_of, source_of, IsFrom, IsWhole, IsKept, AreKept, IsKeptRow, IsMadeOf, IsBehind, Stays}
 

@@ -6,7 +6,6 @@ pub mod Building
 pub mod Covering
 pub mod Cells
 pub mod RowNumbers
-pub mod SparseLaws
 pub mod BodyLaws
 pub mod MergeLaws
 pub mod NewerCells
@@ -19,7 +18,6 @@ pub mod FormLaws
 pub mod SoundRows
 pub mod Matching
 pub mod BuiltLaws
-pub mod RowFacts
 pub mod RewardLists
 pub mod RewardKeys
 pub mod RewardRules

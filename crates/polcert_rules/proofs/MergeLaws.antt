@@ -1,10 +1,10 @@
 -- Newer cells over a row.
 use Rattle.std.proofs.Common.{◌≡◌, ◌∙◌, ℕ, ◌+◌, ◌<◌, ◌≤◌, Bool, true, false, cond, eqb, ltb, List, [], ◌∷◌, ◌++◌, refl, sym, ap, subst, arith}
 use Rattle.std.proofs.lemmas.Bool.Decides.{nat_tests}
-use Rattle.polcert_rules.specs.declared.cell.Cell.{Cell}
-use Rattle.polcert_rules.specs.Sparse.{weight_at, IsRow}
+use Rattle.polcert_cells.specs.declared.cell.Cell.{Cell}
+use Rattle.polcert_cells.specs.Sparse.{weight_at, IsRow}
 use Rattle.polcert_rules.specs.Merging.{before, behind, with_cell, merged, weight_over, Rises}
-use Rattle.polcert_rules.proofs.SparseLaws.{Climbs, climbs_lower, climbs_from, sparse_from, weight_head, weight_tail, weight_below}
+use Rattle.polcert_cells.proofs.SparseLaws.{Climbs, climbs_lower, climbs_from, sparse_from, weight_head, weight_tail, weight_below}
 
 -- ---- the cells before a column and behind it
 climbs_before : (low n k : ℕ) (base rest : List Cell) → Climbs low n base → low ≤ k → Climbs k n rest → Climbs low n (before k base ++ rest)

@@ -1,6 +1,5 @@
 -- The reward of a cell by the rules is what the last entry that covers it gives.
-use Rattle.std.proofs.Common.{◌≡◌, ◌∙◌, ℕ, zero, suc, ◌<◌, ◌≤◌, ◌==◌, Bool, true, false, cond, Option, Some, None, List, [], ◌∷◌, length, map, get_or, Contains, ℤ, pos, refl, sym, ap, subst, arith}
-use Rattle.std.specs.Option.{IsSomeAnd}
+use Rattle.std.proofs.Common.{◌≡◌, ◌∙◌, ℕ, zero, suc, ◌<◌, ◌≤◌, ◌==◌, Bool, true, false, cond, Option, Some, None, List, [], ◌∷◌, length, map, get_or, refl, sym, ap, arith}
 use Rattle.polcert_cells.specs.declared.entry.Entry.{Entry}
 use Rattle.polcert_cells.specs.declared.entry.Table.TheVariants.{Reward}
 use Rattle.polcert_cells.specs.Elements.{count_of, most_states, most_actions, most_observations}
@@ -8,7 +7,7 @@ use Rattle.polcert_cells.specs.Preamble.{Preamble, rewarded, dimensions}
 use Rattle.polcert_cells.specs.Cells.{reward}
 use Rattle.polcert_rules.specs.declared.reward_parts.RewardBody.{RewardBody}
 use Rattle.polcert_rules.specs.Keys.{AreIndices, Fits, table_key, most_places}
-use Rattle.polcert_rules.specs.Newest.{IsNewest, IsLastNumber}
+use Rattle.polcert_rules.specs.Newest.{IsNewest}
 use Rattle.polcert_rules.specs.Rewards.{RewardRules, AreRewardsOf}
 use Rattle.polcert_rules.specs.RewardSearch.{AreWithin, IsLastBody}
 use Rattle.polcert_rules.specs.RewardAt.{body_of, given, given_by, reward_in, reward_at}

@@ -1,19 +1,14 @@
 -- Where an entry of R is about an action and a start state.
-use Rattle.std.proofs.Common.{◌≡◌, ◌∙◌, ℕ, zero, suc, ◌+◌, ◌-◌, ◌*◌, ◌^◌, ◌<◌, ◌≤◌, true, false, ◌&&◌, inl, inr, ⊎_elim, Some, None, List, [], ◌∷◌, length, take, Contains, refl, sym, ap, subst, arith, suc-mul, pos}
-use Rattle.std.specs.Prelude.{◌==◌}
-use Rattle.std.specs.List.{slice_get, list_any}
+use Rattle.std.proofs.Common.{◌≡◌, ◌∙◌, ℕ, zero, suc, ◌+◌, ◌-◌, ◌*◌, ◌^◌, ◌<◌, ◌≤◌, true, false, ◌&&◌, ⊎_elim, Some, None, List, [], ◌∷◌, length, take, Contains, refl, sym, ap, subst, arith, suc-mul, pos}
+use Rattle.std.specs.List.{slice_get}
 use Rattle.std.proofs.Math.Nat.{mul-le-mul_right}
 use Rattle.std.proofs.lemmas.Bool.{cases_lt}
 use Rattle.polcert_cells.specs.declared.entry.Table.{Table}
 use Rattle.polcert_cells.specs.declared.entry.Table.TheVariants.{Transition, Observation, Reward}
 use Rattle.polcert_cells.specs.declared.entry.Place.{Place}
 use Rattle.polcert_cells.specs.declared.entry.Place.TheVariants.{Every, Only}
-use Rattle.polcert_cells.specs.declared.entry.Body.{Body}
-use Rattle.polcert_cells.specs.declared.entry.Body.TheVariants.{Probabilities, Rewards, Uniform, Identity}
 use Rattle.polcert_cells.specs.declared.entry.Entry.{Entry}
 use Rattle.polcert_cells.specs.Preamble.{Preamble}
-use Rattle.polcert_cells.specs.Entry.{forms}
-use Rattle.polcert_cells.specs.Sound.{IsSoundEntry}
 use Rattle.polcert_cells.specs.Cells.{fits_place, fit_places, is_table, covers, reward}
 use Rattle.polcert_rules.specs.Meeting.{fits_at, meets_row}
 use Rattle.polcert_rules.specs.declared.rule.Rule.{Rule}

@@ -5,7 +5,6 @@ pub mod Merging
 pub mod Newest
 pub mod Rows
 pub mod Shapes
-pub mod Sparse
 pub mod RowTables
 pub mod Sources
 pub mod Matching

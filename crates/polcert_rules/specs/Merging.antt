@@ -3,7 +3,7 @@ use Rattle.std.specs.Prelude.{ℕ, ◌+◌, ◌<◌, ◌≤◌, ◌==◌, Bool, 
 use Rattle.polcert_cells.specs.declared.entry.Table.{Table}
 use Rattle.polcert_cells.specs.declared.entry.Entry.{Entry}
 use Rattle.polcert_cells.specs.Cells.{last_covering, value_or}
-use Rattle.polcert_rules.specs.declared.cell.Cell.{Cell}
+use Rattle.polcert_cells.specs.declared.cell.Cell.{Cell}
 use Rattle.polcert_rules.specs.declared.rule.Rule.{Rule}
 use Rattle.polcert_rules.specs.Newest.{entry_at}
 use Rattle.polcert_rules.specs.Given.{given}

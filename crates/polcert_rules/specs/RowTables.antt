@@ -5,8 +5,8 @@ use Rattle.polcert_cells.specs.declared.entry.Entry.{Entry}
 use Rattle.polcert_cells.specs.Elements.{count_of}
 use Rattle.polcert_cells.specs.Preamble.{Preamble, columns}
 use Rattle.polcert_cells.specs.Cells.{weight}
-use Rattle.polcert_rules.specs.declared.cell.Cell.{Cell}
-use Rattle.polcert_rules.specs.Sparse.{IsRow}
+use Rattle.polcert_cells.specs.declared.cell.Cell.{Cell}
+use Rattle.polcert_cells.specs.Sparse.{IsRow}
 
 -- the counts of a table, the number of the row of each action and state, action by action, and the rows by their numbers
 pub record RowTable : Type 0 where

@@ -8,7 +8,7 @@ use Rattle.polcert_cells.specs.declared.entry.Entry.{Entry}
 use Rattle.polcert_cells.specs.Cells.{value_or, last_covering}
 use Rattle.polcert_cells.specs.Numbers.{one}
 use Rattle.polcert_cells.specs.Meaning.{sum_below}
-use Rattle.polcert_rules.specs.declared.cell.Cell.{Cell}
+use Rattle.polcert_cells.specs.declared.cell.Cell.{Cell}
 use Rattle.polcert_rules.specs.declared.rule.Rule.{Rule}
 use Rattle.polcert_rules.specs.declared.shape.Shape.{Shape}
 use Rattle.polcert_rules.specs.declared.kept.Source.{Source}
@@ -17,7 +17,7 @@ use Rattle.polcert_rules.specs.declared.kept.Kept.{Kept}
 use Rattle.polcert_rules.specs.Newest.{IsRising, entry_at}
 use Rattle.polcert_rules.specs.Rows.{number_in}
 use Rattle.polcert_rules.specs.Given.{FitsShape}
-use Rattle.polcert_rules.specs.Sparse.{weight_at, IsSparse}
+use Rattle.polcert_cells.specs.Sparse.{weight_at, IsSparse}
 use Rattle.polcert_rules.specs.Merging.{given_at, is_newer, weight_in}
 
 -- ---- what a row is made of

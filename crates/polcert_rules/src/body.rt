@@ -4,10 +4,10 @@ ghost use Rattle.polcert_cells.specs.Numbers.{one};
 ghost use Rattle.polcert_cells.specs.Elements.{most_elements};
 ghost use Rattle.polcert_cells.specs.EntryLists.{entry_of};
 ghost use Rattle.polcert_rules.specs.Given.{IsWithin, FitsShape, given};
-ghost use Rattle.polcert_rules.specs.Sparse.{IsRow};
+ghost use Rattle.polcert_cells.specs.Sparse.{IsRow};
 
-use crate::{Cell, Shape};
-use polcert_cells::{BodyRef, EntryRef};
+use crate::Shape;
+use polcert_cells::{BodyRef, Cell, EntryRef};
 use std::alloc::{AllocError, Global};
 
 /// One, in millionths.

@@ -6,15 +6,15 @@ ghost use Rattle.polcert_cells.specs.EntryLists.{entry_of};
 ghost use Rattle.polcert_cells.specs.declared.entry.Table.{Table as T};
 ghost use Rattle.polcert_rules.specs.declared.shape.Shape.{Shape as S};
 ghost use Rattle.polcert_rules.specs.Given.{IsWithin};
-ghost use Rattle.polcert_rules.specs.Sparse.{weight_at, IsRow, IsSparse};
+ghost use Rattle.polcert_cells.specs.Sparse.{weight_at, IsRow, IsSparse};
 ghost use Rattle.polcert_rules.specs.Merging.{given_at, weight_in, weight_over, Rises};
 ghost use Rattle.polcert_rules.specs.Sources.{source_of, line_of, IsWhole, IsFrom, AreKept, AreNumbersOf, IsKeptRow, IsMadeOf, IsBehind, Stays, total};
 
 use crate::body::body_row;
 use crate::merging::merged;
 use crate::single::newer_cells;
-use crate::{Cell, Row, Shape};
-use polcert_cells::{BodyRef, Entries, EntryRef};
+use crate::{Row, Shape};
+use polcert_cells::{BodyRef, Cell, Entries, EntryRef};
 use std::alloc::{AllocError, Global};
 
 /// What a row is made of.

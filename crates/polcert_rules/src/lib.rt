@@ -3,7 +3,6 @@
 
 mod body;
 mod build;
-mod cell;
 mod index;
 mod kept;
 mod merging;
@@ -19,7 +18,6 @@ mod rule;
 mod shape;
 mod single;
 
-pub use cell::Cell;
 pub use index::Index;
 pub use reward_parts::{RewardBody, RewardShape};
 pub use rewards::Rewards;

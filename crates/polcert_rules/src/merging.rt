@@ -2,7 +2,7 @@
 ghost use Rattle.std.specs.Prelude.{◌≡◌, ◌++◌, IfOk, OnOk};
 ghost use Rattle.polcert_rules.specs.Merging.{merged, before, behind};
 
-use crate::Cell;
+use polcert_cells::Cell;
 use std::alloc::{AllocError, Global};
 
 /// Newer cells over a row, both rising by column: each hides the row's cell in its column, and one of weight 0 leaves

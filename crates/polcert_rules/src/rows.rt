@@ -2,19 +2,18 @@
 ghost use Rattle.std.specs.Prelude.{◌≡◌, ℕ, ◌<◌, IfOk, IsTrue, Some, slice_get};
 ghost use Rattle.polcert_cells.specs.Preamble.{Preamble};
 ghost use Rattle.polcert_cells.specs.Rows.{IsWeighted};
-ghost use Rattle.polcert_cells.specs.Cursors.{IsNext};
 ghost use Rattle.polcert_cells.specs.Meaning.{sum_below};
-ghost use Rattle.polcert_rules.specs.declared.cell.Cell.{Cell as C};
+ghost use Rattle.polcert_cells.specs.declared.cell.Cell.{Cell as C};
 ghost use Rattle.polcert_rules.specs.Newest.{IsIndexOf};
 ghost use Rattle.polcert_rules.specs.Shapes.{IsShapeOf, AreSound};
-ghost use Rattle.polcert_rules.specs.Sparse.{weight_at, IsSparse};
+ghost use Rattle.polcert_cells.specs.Sparse.{weight_at, IsSparse};
 ghost use Rattle.polcert_rules.specs.Merging.{from as cells_from};
 ghost use Rattle.polcert_rules.specs.RowTables.{AreRowsOf, row_at};
 ghost use Rattle.polcert_rules.specs.Sources.{IsKept};
 
 use crate::kept::{Kept, row_number};
-use crate::{Cell, Index, Shape};
-use polcert_cells::{Entries, Table};
+use crate::{Index, Shape};
+use polcert_cells::{Cell, Entries, Table};
 use std::alloc::{AllocError, Global};
 use std::marker::Model;
 
@@ -101,18 +100,6 @@ impl Rows {
                 0
             },
             None => 0,
-        }
-    }
-
-    /// The first column that is not before this one and has a weight above 0, and its weight.
-    pub fn next(&self, action: usize, state: usize, from: usize) -> Option<(usize, u64)>
-        requires action { action < self.now.actions }
-        requires state { state < self.now.states }
-        ensures { IsNext (weight_at (row_at self.now action state)) self.now.columns from result }
-    {
-        match cells_from(self.row(action, state), from).first() {
-            Some(cell) => Some((cell.column, cell.weight)),
-            None => None,
         }
     }
 

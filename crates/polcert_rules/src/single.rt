@@ -5,8 +5,8 @@ ghost use Rattle.polcert_rules.specs.declared.rule.Rule.{Rule as R};
 ghost use Rattle.polcert_rules.specs.Merging.{given_at, is_newer, newer_cells};
 ghost use Rattle.polcert_rules.specs.Sources.{IsNumber, IsColumnOf};
 
-use crate::{Cell, Rule};
-use polcert_cells::{BodyRef, Entries};
+use crate::Rule;
+use polcert_cells::{BodyRef, Cell, Entries};
 use std::alloc::{AllocError, Global};
 
 /// Of the cells of a row those that are newer than what covers the whole row, with their weights, 0 too.

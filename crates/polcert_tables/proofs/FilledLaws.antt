@@ -199,3 +199,10 @@ three_counted n a s e actions starts ends ea es ee h = rw (ea, es, ee) h
 
 pub four_counted : (n a s e z actions starts ends seen : ℕ) → a ≡ actions → s ≡ starts → e ≡ ends → z ≡ seen → n ≡ actions * starts * ends * seen → n ≡ a * s * e * z
 four_counted n a s e z actions starts ends seen ea es ee ez h = rw (ea, es, ee, ez) h
+
+-- a row ends within its table
+pub row_end : (a s actions starts ends : ℕ) → a < actions → s < starts → (a * starts + s) * ends + ends ≤ actions * starts * ends
+row_end a s actions starts ends al sl =
+    let before : a * starts + s < actions * starts = place_below a s actions starts al sl in
+    let up : a * starts + s + 1 ≤ actions * starts = omega arith in
+    omega (arith, mul-le-mul_right ends up)

@@ -11,7 +11,7 @@ use Rattle.polcert_cells.specs.Start.{all_states}
 use Rattle.polcert_cells.specs.Cells.{weight, reward}
 use Rattle.polcert_cells.specs.Meaning.{observation_weight, reward_index, IsSame, observations_of, o_scale, sum_below}
 use Rattle.polcert_cells.specs.Drafts as drafts
-use Rattle.polcert_rules.specs.Sparse.{weight_at}
+use Rattle.polcert_cells.specs.Sparse.{weight_at}
 use Rattle.polcert_rules.specs.RowTables.{RowTable, row_at, AreRowsOf}
 use Rattle.polcert_rules.specs.Rewards.{AreRewardsOf}
 use Rattle.polcert_rules.specs.RewardAt.{reward_at}

@@ -9,7 +9,7 @@ use Rattle.polcert_cells.specs.Preamble.{Preamble, is_mdp}
 use Rattle.polcert_cells.specs.Start.{all_states}
 use Rattle.polcert_cells.specs.Meaning.{Meaning, reward_index}
 use Rattle.polcert_cells.specs.Drafts.{Draft}
-use Rattle.polcert_rules.specs.Sparse.{weight_at}
+use Rattle.polcert_cells.specs.Sparse.{weight_at}
 use Rattle.polcert_rules.specs.RowTables.{RowTable, row_at, AreRowsOf}
 use Rattle.polcert_rules.specs.Rewards.{RewardRules, AreRewardsOf}
 use Rattle.polcert_rules.specs.RewardAt.{reward_at}

@@ -7,7 +7,7 @@ ghost use Rattle.polcert_tables.specs.Filled.{AreTransitions, AreObservations, A
 ghost use Rattle.polcert_cells.specs.SameCells.{HasSameCells};
 
 use crate::Model;
-use polcert_cells::Cells;
+use polcert_cells::{Cells, Row};
 use std::alloc::{AllocError, Global};
 use std::marker;
 
@@ -84,6 +84,16 @@ impl Cells for DenseModel {
 
     fn r(&self, a: usize, s: usize, e: usize, z: usize) -> i64 {
         self.rewards[((a * self.states + s) * self.states + e) * self.observations + z]
+    }
+
+    fn t_row(&self, a: usize, s: usize) -> Option<Row<'_>> {
+        let start = (a * self.states + s) * self.states;
+        Some(Row::Filled(&self.transitions[start..start + self.states]))
+    }
+
+    fn o_row(&self, a: usize, e: usize) -> Option<Row<'_>> {
+        let start = (a * self.states + e) * self.observations;
+        Some(Row::Filled(&self.observed[start..start + self.observations]))
     }
 }
 

@@ -1,7 +1,7 @@
 //! A model whose rows aren't tested yet.
 ghost use Rattle.std.specs.Prelude.{◌≡◌, ◌<◌, ◌≤◌, option_map, false, pos, ℕ, IfOk, IsTrue};
 ghost use Rattle.std.specs.Option.{ForSome, option_copied};
-ghost use Rattle.polcert_cells.specs.Cursors.{IsNext};
+ghost use Rattle.polcert_cells.specs.LentRows.{IsRowOf};
 ghost use Rattle.polcert_cells.specs.Elements.{most_states, most_actions, most_observations, most_elements, count_of, name_of};
 ghost use Rattle.polcert_cells.specs.declared.entry.Table.TheVariants.{Transition};
 ghost use Rattle.polcert_cells.specs.Preamble.{Preamble, is_mdp, columns as columns_in};
@@ -12,7 +12,7 @@ ghost use Rattle.polcert_rules.specs.Newest.{IsIndexOf};
 ghost use Rattle.polcert_rules.specs.Shapes.{IsShapeOf, AreSound};
 ghost use Rattle.polcert_tables.specs.RowSums.{row_of};
 
-use polcert_cells::{Elements, Entries, Kind, Shares, Table};
+use polcert_cells::{Cell, Elements, Entries, Kind, Row, Shares, Table};
 use polcert_rules::{Index, RewardShape, Rewards, Rows, Shape};
 use std::alloc::{AllocError, Global};
 use std::marker;
@@ -266,28 +266,27 @@ impl Draft {
         self.rewards.is_paid(a, s)
     }
 
-    /// The first end state, not before `from`, of a weight above 0 where action `a` is taken in state `s`, and that weight.
-    pub fn next_t(&self, a: usize, s: usize, from: usize) -> Option<(usize, u64)>
+    /// The weights of all end states where action `a` is taken in state `s`.
+    pub fn t_row(&self, a: usize, s: usize) -> Row<'_>
         requires action { a < actions_of (meaning self.now) }
         requires start { s < states_of (meaning self.now) }
-        ensures { IsNext ((meaning self.now).t a s) (states_of (meaning self.now)) from result }
+        ensures { IsRowOf ((meaning self.now).t a s) (states_of (meaning self.now)) result }
     {
-        self.transitions.next(a, s, from)
+        Row::Sparse(self.transitions.row(a, s))
     }
 
-    /// The first observation, not before `from`, of a weight above 0 where action `a` ends in state `e`, and that weight.
-    pub fn next_o(&self, a: usize, e: usize, from: usize) -> Option<(usize, u64)>
+    /// The weights of all observations where action `a` ends in state `e`.
+    pub fn o_row(&self, a: usize, e: usize) -> Row<'_>
         requires action { a < actions_of (meaning self.now) }
         requires end { e < states_of (meaning self.now) }
-        ensures { IsNext ((meaning self.now).o a e) (observations_of (meaning self.now)) from result }
+        ensures { IsRowOf ((meaning self.now).o a e) (observations_of (meaning self.now)) result }
     {
         match &self.observed {
-            Some(rows) => rows.next(a, e, from),
-            None => if from <= e {
-                Some((e, self.t_scale()))
-            } else {
-                None
-            },
+            Some(rows) => Row::Sparse(rows.row(a, e)),
+            None => Row::Single(Cell {
+                column: e,
+                weight: self.t_scale(),
+            }),
         }
     }
 

@@ -4,7 +4,7 @@ ghost use Rattle.polcert_tables.specs.Contents.{meaning};
 ghost use Rattle.polcert_cells.specs.Tables.{table_of};
 
 use crate::Model;
-use polcert_cells::Cells;
+use polcert_cells::{Cells, Row};
 
 impl Cells for Model {
     ghost table = { λ m. table_of (meaning m) };
@@ -57,12 +57,12 @@ impl Cells for Model {
         Model::r(self, a, s, e, z)
     }
 
-    fn next_t(&self, a: usize, s: usize, from: usize) -> Option<(usize, u64)> {
-        self.draft().next_t(a, s, from)
+    fn t_row(&self, a: usize, s: usize) -> Option<Row<'_>> {
+        Some(self.draft().t_row(a, s))
     }
 
-    fn next_o(&self, a: usize, e: usize, from: usize) -> Option<(usize, u64)> {
-        self.draft().next_o(a, e, from)
+    fn o_row(&self, a: usize, e: usize) -> Option<Row<'_>> {
+        Some(self.draft().o_row(a, e))
     }
 
     fn r_alike(&self, a: usize, s: usize, e: usize) -> Option<i64> {

@@ -1,7 +1,7 @@
 //! The cells of a model in filled tables.
 use crate::tests::numbers::{o, r, t};
 use crate::tests::texts::{GENERAL_FIRST, GENERAL_LAST, SINGLE, TIGER};
-use polcert_model::{Cells, Model, dense_of, read_model};
+use polcert_model::{Cells, Model, Row, dense_of, read_model};
 use std::alloc::Global;
 
 /// An entry of each form and each pattern, for single cells, rows and matrices.
@@ -133,11 +133,14 @@ fn is_row_alike<C: Cells, D: Cells>(first: &C, second: &D, a: usize, s: usize) -
         if t(first, a, s, column) != t(second, a, s, column) {
             return false;
         }
-        if next_t(first, a, s, column) != next_t(second, a, s, column) {
+        if lent_t(first, a, s, column) != lent_t(second, a, s, column) {
             return false;
         }
         for z in 0..first.observations() {
             if o(first, a, column, z) != o(second, a, column, z) {
+                return false;
+            }
+            if lent_o(first, a, column, z) != lent_o(second, a, column, z) {
                 return false;
             }
             if r(first, a, s, column, z) != r(second, a, s, column, z) {
@@ -148,10 +151,32 @@ fn is_row_alike<C: Cells, D: Cells>(first: &C, second: &D, a: usize, s: usize) -
     true
 }
 
-fn next_t<C: Cells>(cells: &C, a: usize, s: usize, from: usize) -> Option<(usize, u64)> {
+/// The first end state from a number on that has a weight above 0, and the weight, by the row that is lent.
+fn lent_t<C: Cells>(cells: &C, a: usize, s: usize, from: usize) -> Option<(usize, u64)> {
     if a < cells.actions() && s < cells.states() {
-        cells.next_t(a, s, from)
+        first_from(cells.t_row(a, s)?, from, cells.states())
     } else {
         None
     }
+}
+
+/// The same of observations behind an end state.
+fn lent_o<C: Cells>(cells: &C, a: usize, e: usize, from: usize) -> Option<(usize, u64)> {
+    if a < cells.actions() && e < cells.states() {
+        first_from(cells.o_row(a, e)?, from, cells.observations())
+    } else {
+        None
+    }
+}
+
+fn first_from(row: Row<'_>, from: usize, columns: usize) -> Option<(usize, u64)> {
+    let mut at = 0;
+    for _ in 0..columns {
+        let step = row.step(at)?;
+        if step.column >= from {
+            return Some((step.column, step.weight));
+        }
+        at = step.next;
+    }
+    None
 }

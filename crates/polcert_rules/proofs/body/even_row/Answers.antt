@@ -1,7 +1,7 @@
 use Rattle.std.proofs.Common.{ℕ, ◌+◌, List, subst, sym, refl, arith}
-use Rattle.polcert_rules.specs.declared.cell.Cell.{Cell}
-use Rattle.polcert_rules.specs.Sparse.{IsRow}
-use Rattle.polcert_rules.proofs.SparseLaws.{row_push}
+use Rattle.polcert_cells.specs.declared.cell.Cell.{Cell}
+use Rattle.polcert_cells.specs.Sparse.{IsRow}
+use Rattle.polcert_cells.proofs.SparseLaws.{row_push}
 use Rattle.polcert_rules.proofs.body.even_row.Goals as goal
 
 pub loop-column-preserved : goal.loop-column-preserved

@@ -1,4 +1,4 @@
-use Rattle.polcert_rules.specs.Sparse.{IsRow}
+use Rattle.polcert_cells.specs.Sparse.{IsRow}
 use Rattle.polcert_rules.proofs.body.even_row.Given as goal
 
 abbrev pub invariant-loop-column : goal.invariant-loop-column

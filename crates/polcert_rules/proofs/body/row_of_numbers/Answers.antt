@@ -1,7 +1,7 @@
 use Rattle.std.proofs.Common.{ℕ, ◌≡◌, ◌∙◌, ◌+◌, ◌*◌, List, length, slice_index, ap, subst, sym, refl, arith}
-use Rattle.polcert_rules.specs.declared.cell.Cell.{Cell}
-use Rattle.polcert_rules.specs.Sparse.{IsRow}
-use Rattle.polcert_rules.proofs.SparseLaws.{row_push, row_skip}
+use Rattle.polcert_cells.specs.declared.cell.Cell.{Cell}
+use Rattle.polcert_cells.specs.Sparse.{IsRow}
+use Rattle.polcert_cells.proofs.SparseLaws.{row_push, row_skip}
 use Rattle.polcert_rules.proofs.body.row_of_numbers.Goals as goal
 use Rattle.polcert_rules.proofs.body.row_of_numbers.Goals.{then-weight-gt0+in_ok-push, else-weight-gt0}
 

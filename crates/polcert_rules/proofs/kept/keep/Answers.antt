@@ -1,5 +1,5 @@
 use Rattle.std.proofs.Common.{◌∙◌, ◌<◌, ◌^◌, refl, ap, sym, subst, arith}
-use Rattle.polcert_rules.specs.Sparse.{weight_at}
+use Rattle.polcert_cells.specs.Sparse.{weight_at}
 use Rattle.polcert_rules.specs.Sources.{total}
 use Rattle.polcert_rules.proofs.SumLaws.{sum_is, sum_small}
 use Rattle.polcert_rules.proofs.kept.keep.Goals as goal

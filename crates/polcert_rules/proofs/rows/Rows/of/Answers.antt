@@ -1,6 +1,6 @@
 use Rattle.std.proofs.Common.{◌≡◌, ◌*◌, ap, arith}
 use Rattle.polcert_rules.proofs.BodyLaws.{line_within}
-use Rattle.polcert_rules.proofs.SparseLaws.{row_same}
+use Rattle.polcert_cells.proofs.SparseLaws.{row_same}
 use Rattle.polcert_rules.proofs.SoundRows.{row_numbers, weight_is}
 use Rattle.polcert_rules.proofs.BuiltLaws.{built_same, built_more, built_row}
 use Rattle.polcert_rules.proofs.rows.Rows.of.Goals as goal

@@ -1,0 +1,109 @@
+-- The steps of a walk over a row that is lent.
+use Rattle.std.proofs.Common.{◌≡◌, ◌∙◌, ℕ, zero, suc, ◌+◌, ◌<◌, ◌≤◌, Some, None, List, [], ◌∷◌, length, get_or, refl, sym, ap, arith, add-one, subst, Bor}
+use Rattle.std.specs.List.{slice_get}
+use Rattle.polcert_cells.specs.declared.cell.Cell.{Cell}
+use Rattle.polcert_cells.specs.declared.row.Row.{Row}
+use Rattle.polcert_cells.specs.declared.row.Row.TheVariants.{Sparse, Single}
+use Rattle.polcert_cells.specs.declared.row.Step.{Step}
+use Rattle.polcert_cells.specs.Cursors.{IsNext}
+use Rattle.polcert_cells.specs.Sparse.{weight_at, IsRow}
+use Rattle.polcert_cells.specs.LentRows.{AreWeights, IsRowOf, IsStep, behind_cells, IsFilledStep}
+use Rattle.polcert_cells.proofs.SparseLaws.{Climbs, climbs_from, weight_head, weight_tail, weight_below}
+
+behind_low : (low n : ℕ) (xs : List Cell) (k : ℕ) → Climbs low n xs → low ≤ behind_cells low xs k
+behind_low low n xs zero h = omega arith
+behind_low low n [] (suc k) h = omega arith
+behind_low low n (x ∷ xs) (suc k) h =
+    let first = h.0 in
+    let rest = behind_low (x.column + 1) n xs k h.3 in
+    omega (arith, rest)
+
+climbs_some : (low n : ℕ) (xs : List Cell) (k : ℕ) (x : Cell) → Climbs low n xs → slice_get xs k ≡ Some x
+    → IsNext (weight_at xs) n (behind_cells low xs k) (Some (x.column, x.weight)) × (behind_cells low xs (suc k) ≡ x.column + 1)
+climbs_some low n [] k x h e = absurd (cc)
+climbs_some low n (y ∷ ys) zero x h e =
+    let same : y ≡ x = cc in
+    let here : Climbs low n (x ∷ ys) = subst (λ (z : Cell). Climbs low n (z ∷ ys)) same h in
+    let low_here = here.0 in
+    subst (λ (z : Cell). IsNext (weight_at (z ∷ ys)) n low (Some (x.column, x.weight)) × (z.column + 1 ≡ x.column + 1)) (sym same) (
+      (
+        here.0,
+        here.1,
+        sym (weight_head x ys x.column refl),
+        here.2,
+        λ i m l. weight_tail x ys i (λ j. omega arith) ∙ weight_below (x.column + 1) n i ys here.3 (omega arith),
+      ),
+      refl,
+    )
+climbs_some low n (y ∷ ys) (suc k) x h e =
+    let rest = climbs_some (y.column + 1) n ys k x h.3 e in
+    let next = rest.0 in
+    let above = behind_low (y.column + 1) n ys k h.3 in
+    let low_x = next.0 in (
+      (
+        next.0,
+        next.1,
+        next.2 ∙ sym (weight_tail y ys x.column (λ j. omega (arith, above, low_x))),
+        next.3,
+        λ i m l. weight_tail y ys i (λ j. omega (arith, above, m)) ∙ next.4 i m l,
+      ),
+      rest.1,
+    )
+
+climbs_none : (low n : ℕ) (xs : List Cell) (k : ℕ) → Climbs low n xs → slice_get xs k ≡ None → (i : ℕ) → behind_cells low xs k ≤ i → weight_at xs i ≡ 0
+climbs_none low n [] k h e i m = refl
+climbs_none low n (y ∷ ys) zero h e i m = absurd (cc)
+climbs_none low n (y ∷ ys) (suc k) h e i m =
+    let above = behind_low (y.column + 1) n ys k h.3 in
+    weight_tail y ys i (λ j. omega (arith, above, m)) ∙ climbs_none (y.column + 1) n ys k h.3 e i m
+
+module _ (f : ℕ → ℕ) (n : ℕ) (xs : List Cell) (row : IsRow n f xs) where
+  pub sparse_some : (k : ℕ) (x : Cell) → slice_get xs k ≡ Some x → IsNext f n (behind_cells 0 xs k) (Some (x.column, x.weight)) × (behind_cells 0 xs (k + 1) ≡ x.column + 1)
+  sparse_some k x e =
+      let found = climbs_some 0 n xs k x (climbs_from n xs row.sparse) e in
+      let next = found.0 in
+      let high = next.1 in
+      ((next.0, next.1, next.2 ∙ row.each x.column next.1, next.3, λ i m l. sym (row.each i (omega arith)) ∙ next.4 i m l), rw add-one found.1)
+
+  pub sparse_none : (k : ℕ) → slice_get xs k ≡ None → IsNext f n (behind_cells 0 xs k) None
+  sparse_none k e i m l = sym (row.each i l) ∙ climbs_none 0 n xs k (climbs_from n xs row.sparse) e i m
+
+module _ (f : ℕ → ℕ) (n : ℕ) (weights : List ℕ) (are : AreWeights f n weights) where
+  pub filled_some : (from : ℕ) (s : Step) → IsFilledStep weights from (Some s) → IsNext f n from (Some (s.column, s.weight)) × (s.next ≡ s.column + 1)
+  filled_some from s (next, behind) =
+      let high : s.column < n = rw (sym are.size) next.1 in
+      ((next.0, high, next.2 ∙ are.each s.column high, next.3, λ i m l. sym (are.each i (omega arith)) ∙ next.4 i m l), behind)
+
+  pub filled_none : (from : ℕ) → IsFilledStep weights from None → IsNext f n from None
+  filled_none from none i m l = sym (are.each i l) ∙ none i m (rw are.size l)
+
+-- ---- the same of a row, by what it is
+module _ (f : ℕ → ℕ) (n : ℕ) (row : Row) (is : IsRowOf f n row) (at : ℕ) where
+  pub step_sparse : (cells : Bor (List Cell)) (x : Cell) (s : Step) → row ≡ Sparse cells → slice_get cells.now at ≡ Some x → s ≡ record { column = x.column; weight = x.weight; next = at + 1 } → IsStep f n (Some row) at (Some s)
+  step_sparse cells x s e found same =
+      subst (λ (t : Step). IsStep f n (Some row) at (Some t)) (sym same)
+      (subst (λ (r : Row). IsRowOf f n r → IsStep f n (Some r) at (Some (record { column = x.column; weight = x.weight; next = at + 1 }))) (sym e)
+      (λ h. sparse_some f n cells.now h at x found) is)
+
+  pub end_sparse : (cells : Bor (List Cell)) → row ≡ Sparse cells → slice_get cells.now at ≡ None → IsStep f n (Some row) at None
+  end_sparse cells e none =
+      subst (λ (r : Row). IsRowOf f n r → IsStep f n (Some r) at None) (sym e) (λ h. sparse_none f n cells.now h at none) is
+
+  pub end_single : (x : Cell) → row ≡ Single x → (at ≡ 0 → ⊥) → IsStep f n (Some row) at None
+  end_single x e apart =
+      subst (λ (r : Row). IsRowOf f n r → IsStep f n (Some r) at None) (sym e) (λ h. sparse_none f n (x ∷ []) h at (beyond at apart)) is
+    where
+      beyond : (k : ℕ) → (k ≡ 0 → ⊥) → slice_get (x ∷ []) k ≡ None
+      beyond zero d = absurd (d refl)
+      beyond (suc k) d = refl
+
+-- ---- what `get` says
+pub found_at : (xs : List Cell) (k : ℕ) (x : Cell) → k < length xs → ((d : Cell) → x ≡ get_or xs k d) → slice_get xs k ≡ Some x
+found_at [] k x l h = absurd (omega arith)
+found_at (y ∷ ys) zero x l h = ap Some (sym (h y))
+found_at (y ∷ ys) (suc k) x l h = found_at ys k x (omega arith) h
+
+pub none_at : (xs : List Cell) (k : ℕ) → length xs ≤ k → slice_get xs k ≡ None
+none_at [] k l = refl
+none_at (y ∷ ys) zero l = absurd (omega arith)
+none_at (y ∷ ys) (suc k) l = none_at ys k (omega arith)

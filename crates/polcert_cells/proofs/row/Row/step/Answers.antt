@@ -1,0 +1,15 @@
+use Rattle.polcert_cells.proofs.StepLaws.{step_sparse, end_sparse, end_single, found_at, none_at}
+use Rattle.polcert_cells.proofs.row.Row.step.Goals as goal
+
+pub returns-in-Some : goal.returns-in-Some
+returns-in-Some c = λ f count is.
+    let found = c.in-Some.ensures.lookup in
+    step_sparse f count c.args.self.now is c.args.at c.in-Sparse.cells c.in-Some.cell.now c.step_of.result c.in-Sparse.is (found_at c.in-Sparse.cells.now c.args.at c.in-Some.cell.now found.3.0 found.3.1) c.step_of.ensures
+
+pub returns-in-None : goal.returns-in-None
+returns-in-None c = λ f count is.
+    let none = c.in-None.ensures.lookup in
+    end_sparse f count c.args.self.now is c.args.at c.in-Sparse.cells c.in-Sparse.is (none_at c.in-Sparse.cells.now c.args.at none.3)
+
+pub returns-else-at-eq0 : goal.returns-else-at-eq0
+returns-else-at-eq0 c = λ f count is. end_single f count c.args.self.now is c.args.at c.in-Single.cell c.in-Single.is c.if-at-eq0.false

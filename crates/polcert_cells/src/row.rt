@@ -1,0 +1,74 @@
+//! Rows that are lent, to be walked from one weight above 0 to the next.
+ghost use Rattle.std.specs.Prelude.{◌≡◌, ℕ, ◌+◌, ◌<◌, ◌≤◌, slice_index};
+ghost use Rattle.polcert_cells.specs.LentRows.{IsRowOf, IsStep, IsFilledStep};
+
+use crate::Cell;
+
+/// A row of T or O, as it is kept: whoever walks it begins at the place 0 and goes on at the place that each step names.
+#[derive(Clone, Copy)]
+pub enum Row<'a> {
+    /// The weights above 0 with their columns, in order.
+    Sparse(&'a [Cell]),
+    /// The weight of each column, 0 too.
+    Filled(&'a [u64]),
+    /// The only weight above 0.
+    Single(Cell),
+}
+
+/// A weight above 0 of a row, its column, and the place where the walk goes on.
+#[derive(Clone, Copy)]
+pub struct Step {
+    pub column: usize,
+    pub weight: u64,
+    pub next: usize,
+}
+
+impl Row<'_> {
+    /// The first weight above 0 at this place of the row or behind it.
+    #[inline]
+    pub fn step(&self, at: usize) -> Option<Step>
+        ensures { (f : ℕ → ℕ) (count : ℕ) → IsRowOf f count self.now → IsStep f count (Some self.now) at result }
+    {
+        match self {
+            Row::Sparse(cells) => match cells.get(at) {
+                Some(cell) => Some(step_of(*cell, at + 1)),
+                None => None,
+            },
+            Row::Filled(weights) => filled_step(weights, at),
+            Row::Single(cell) => if at == 0 {
+                Some(step_of(*cell, 1))
+            } else {
+                None
+            },
+        }
+    }
+}
+
+/// A step to this cell.
+fn step_of(cell: Cell, next: usize) -> Step
+    ensures { result ≡ record { column = cell.column; weight = cell.weight; next = next } }
+{
+    Step {
+        column: cell.column,
+        weight: cell.weight,
+        next,
+    }
+}
+
+/// The first weight above 0 of a filled row from a column on.
+#[inline(never)]
+fn filled_step(weights: &[u64], from: usize) -> Option<Step>
+    ensures { IsFilledStep weights.now from result }
+{
+    for column in from..weights.len() {
+        let weight = weights[column];
+        if weight > 0 {
+            return Some(Step {
+                column,
+                weight,
+                next: column + 1,
+            });
+        }
+    }
+    None
+}

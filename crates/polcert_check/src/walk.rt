@@ -1,0 +1,88 @@
+//! Walks over the rows of T and O: from one weight above 0 to the next.
+ghost use Rattle.std.specs.Prelude.{◌≡◌, ◌<◌, None};
+ghost use Rattle.std.specs.Option.{ForSome, option_copied};
+ghost use Rattle.polcert_cells.specs.LentRows.{IsRowOf, IsStep};
+
+use polcert_cells::{Cells, Row, Step};
+
+/// The next end state of a weight above 0 where action `a` is taken in state `s`, from a place of the row on. Where no row is
+/// lent, places are end states.
+#[inline(always)]
+pub(crate) fn next_end<C: Cells>(
+    cells: &C,
+    a: usize,
+    s: usize,
+    row: Option<Row<'_>>,
+    at: usize,
+) -> Option<Step>
+    requires action { a < (C.table cells.now).actions }
+    requires start { s < (C.table cells.now).states }
+    requires row { ForSome row (IsRowOf ((C.table cells.now).t a s) (C.table cells.now).states) }
+    ensures { IsStep ((C.table cells.now).t a s) (C.table cells.now).states row.entry at result }
+{
+    match row {
+        Some(row) => row.step(at),
+        None => end_from(cells, a, s, at),
+    }
+}
+
+/// The same, asked for state by state.
+#[inline(never)]
+fn end_from<C: Cells>(cells: &C, a: usize, s: usize, from: usize) -> Option<Step>
+    requires action { a < (C.table cells.now).actions }
+    requires start { s < (C.table cells.now).states }
+    ensures { IsStep ((C.table cells.now).t a s) (C.table cells.now).states None from result }
+{
+    for e in from..cells.states() {
+        let weight = cells.t(a, s, e);
+        if weight > 0 {
+            return Some(Step {
+                column: e,
+                weight,
+                next: e + 1,
+            });
+        }
+    }
+    None
+}
+
+/// The next observation of a weight above 0 where action `a` ends in state `e`, from a place of the row on. Where no row is
+/// lent, places are observations.
+#[inline(always)]
+pub(crate) fn next_seen<C: Cells>(
+    cells: &C,
+    a: usize,
+    e: usize,
+    row: Option<Row<'_>>,
+    at: usize,
+) -> Option<Step>
+    requires action { a < (C.table cells.now).actions }
+    requires end { e < (C.table cells.now).states }
+    requires row { ForSome row (IsRowOf ((C.table cells.now).o a e) (C.table cells.now).observations) }
+    ensures { IsStep ((C.table cells.now).o a e) (C.table cells.now).observations row.entry at result }
+{
+    match row {
+        Some(row) => row.step(at),
+        None => seen_from(cells, a, e, at),
+    }
+}
+
+/// The same, asked for observation by observation.
+#[inline(never)]
+fn seen_from<C: Cells>(cells: &C, a: usize, e: usize, from: usize) -> Option<Step>
+    requires action { a < (C.table cells.now).actions }
+    requires end { e < (C.table cells.now).states }
+    ensures { IsStep ((C.table cells.now).o a e) (C.table cells.now).observations None from result }
+{
+    for z in from..cells.observations() {
+        let weight = cells.o(a, e, z);
+        if weight > 0 {
+            return Some(Step {
+                column: z,
+                weight,
+                next: z + 1,
+            });
+        }
+    }
+    None
+}
