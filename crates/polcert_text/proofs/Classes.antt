@@ -1,8 +1,10 @@
 -- The classes of some bytes.
-use Rattle.std.proofs.Common.{◌≡◌, ◌∙◌, ℕ, zero, suc, ◌+◌, ◌-◌, ◌<◌, ◌≤◌, ◌&&◌, Bool, true, refl, sym, ap, arith, inl, inr}
+use Rattle.std.proofs.Common.{◌≡◌, ◌∙◌, ℕ, zero, suc, ◌+◌, ◌-◌, ◌<◌, ◌≤◌, ◌==◌, ◌&&◌, ◌||◌, Bool, true, false, cond, refl, sym, ap, subst, arith, inl, inr}
 use Rattle.std.specs.Prelude.{IsTrue}
 use Rattle.std.proofs.lemmas.Bool.{and_parts, cases_lt}
-use Rattle.polcert_text.specs.Bytes.{class_of, digit_class}
+use Rattle.std.specs.Char.{is_ascii_digit, is_ascii_alphabetic}
+use Rattle.std.proofs.lemmas.Bool.Decides.{nat_tests}
+use Rattle.polcert_text.specs.Bytes.{class_of, blank_class, hash_class, digit_class}
 use Rattle.polcert_text.specs.declared.bytes.ByteClass.{ByteClass}
 use Rattle.polcert_text.specs.declared.bytes.ByteClass.TheVariants as classes
 
@@ -45,7 +47,7 @@ all_digits : all_below (λ n. digit_class (class_of (48 + n))) 10 ≡ true
 unfolding class_of
 all_digits = refl
 
-is_digit_class : (c : ByteClass) → digit_class c ≡ true → c ≡ classes.Digit
+pub is_digit_class : (c : ByteClass) → digit_class c ≡ true → c ≡ classes.Digit
 is_digit_class classes.Digit h = refl
 is_digit_class _ h = cc
 
@@ -54,3 +56,36 @@ digit_between b low high =
     let n : ℕ = b - 48 in
     let same : 48 + n ≡ b = omega arith in
     ap class_of (sym same) ∙ is_digit_class (class_of (48 + n)) (all_below_at (λ n. digit_class (class_of (48 + n))) 10 n all_digits (omega arith))
+
+-- of the tests of `class_of`, in their order, the first three failed
+abbrev class_behind : (mark letter digit low point colon star plus minus : Bool) → ByteClass
+class_behind mark letter digit low point colon star plus minus = cond mark classes.ExponentMark (cond letter classes.Letter (cond digit classes.Digit (cond low classes.Underscore (cond point classes.Point (cond colon classes.Colon (cond star classes.Star (cond plus classes.Plus (cond minus classes.Minus classes.Other))))))))
+
+abbrev EndsGap : ByteClass → Type 0
+EndsGap c = (blank_class c ≡ false) × (hash_class c ≡ false)
+
+ends_behind : (mark letter digit low point colon star plus minus : Bool) → EndsGap (class_behind mark letter digit low point colon star plus minus)
+ends_behind true _ _ _ _ _ _ _ _ = (refl, refl)
+ends_behind false true _ _ _ _ _ _ _ = (refl, refl)
+ends_behind false false true _ _ _ _ _ _ = (refl, refl)
+ends_behind false false false true _ _ _ _ _ = (refl, refl)
+ends_behind false false false false true _ _ _ _ = (refl, refl)
+ends_behind false false false false false true _ _ _ = (refl, refl)
+ends_behind false false false false false false true _ _ = (refl, refl)
+ends_behind false false false false false false false true _ = (refl, refl)
+ends_behind false false false false false false false false true = (refl, refl)
+ends_behind false false false false false false false false false = (refl, refl)
+
+not_equal : (b n : ℕ) → n < b → (b == n) ≡ false
+not_equal b n h = grind (arith, nat_tests)
+
+not_blank : (b : ℕ) → 35 < b → (b == 9 || b == 13 || b == 32) ≡ false
+not_blank b h = simp (not_equal b 9 (omega arith), not_equal b 13 (omega arith), not_equal b 32 (omega arith))
+
+pub above_hash : (b : ℕ) → 35 < b → EndsGap (class_of b)
+unfolding class_of
+above_hash b h =
+    let rest : ByteClass = class_behind (b == 101 || b == 69) (is_ascii_alphabetic b) (is_ascii_digit b) (b == 95) (b == 46) (b == 58) (b == 42) (b == 43) (b == 45) in
+    let same : cond (b == 9 || b == 13 || b == 32) classes.Blank (cond (b == 10) classes.LineEnd (cond (b == 35) classes.Hash rest)) ≡ rest =
+    (λ i. cond (not_blank b h i) classes.Blank (cond (not_equal b 10 (omega arith) i) classes.LineEnd (cond (not_equal b 35 h i) classes.Hash rest))) in
+    subst EndsGap (sym same) (ends_behind (b == 101 || b == 69) (is_ascii_alphabetic b) (is_ascii_digit b) (b == 95) (b == 46) (b == 58) (b == 42) (b == 43) (b == 45))

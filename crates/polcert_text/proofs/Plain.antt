@@ -1,13 +1,16 @@
 -- A numeral of digits, a point and digits, read without its exponent.
-use Rattle.std.proofs.Common.{◌≡◌, ◌∙◌, ◌⊎◌, ⊎_elim, ℕ, zero, suc, ◌+◌, ◌-◌, ◌*◌, ◌^◌, ◌<◌, ◌≤◌, min, true, false, List, [], ◌∷◌, ◌++◌, length, take, drop, take_all, get_or, refl, sym, ap, length-append, arith}
-use Rattle.std.proofs.lemmas.List.{drop_all, length-take-le, length-drop, take_more, append_assoc, get_or-drop}
+use Rattle.std.proofs.Common.{◌≡◌, ◌∙◌, ◌⊎◌, ⊎_elim, ℕ, zero, suc, ◌+◌, ◌-◌, ◌*◌, ◌^◌, ◌<◌, ◌≤◌, min, Bool, true, false, List, [], ◌∷◌, ◌++◌, length, take, drop, take_all, get_or, refl, sym, ap, length-append, arith}
+use Rattle.std.proofs.Math.Seq.{take-append-add, drop-append-add}
+use Rattle.std.proofs.lemmas.List.{drop_all, length-take-le, length-drop, take_more, append_assoc, get_or-drop, drop-drop}
+use Rattle.std.proofs.lemmas.List.Folds.{list_all_at}
 use Rattle.std.proofs.lemmas.Int.Digits.{digits_value_push}
-use Rattle.std.specs.List.{list_any}
+use Rattle.std.specs.List.{list_all, list_any}
 use Rattle.std.specs.Str.Parse.{digits_value}
-use Rattle.polcert_text.specs.Bytes.{class_of, digit_class, mark_class, point_class, is_exponent_mark, is_point}
+use Rattle.polcert_text.specs.Bytes.{class_of, digit_class, is_digit, mark_class, point_class, is_exponent_mark, is_point}
 use Rattle.polcert_text.specs.Lexemes.{before, after, is_numeral}
 use Rattle.polcert_text.specs.Numbers.{whole_of, fraction_of, exponent_of, is_lowering, without_sign, exponent_size, largest, IsReadable}
-use Rattle.polcert_text.specs.Scaling.{cap, is_nonzero, Measures}
+use Rattle.polcert_text.specs.Scaling.{cap, is_nonzero, ceiling, Measures}
+use Rattle.polcert_text.proofs.Classes.{is_digit_class}
 use Rattle.polcert_text.specs.Scan.{state_after, state_through}
 use Rattle.polcert_text.specs.declared.bytes.ByteClass.TheVariants.{Digit, Point}
 use Rattle.polcert_text.specs.declared.lexeme.State.{State}
@@ -55,6 +58,39 @@ run bs from (suc n) state h on was digits =
     ap (λ k. state_through states.Start (take k bs)) next
     ∙ state_step bs (from + n) state Digit state (omega arith) before (sym (digits n (omega arith))) (sym on)
 
+not_false : (b : Bool) → (b ≡ false → ⊥) → b ≡ true
+not_false true h = refl
+not_false false h = absurd (h refl)
+
+digit_of_all : (xs : List ℕ) (n : ℕ) → n < length xs → list_all is_digit xs ≡ true → is_digit (get_or xs n 0) ≡ true
+digit_of_all xs n h all = not_false (is_digit (get_or xs n 0)) (λ none. let none_all = list_all_at is_digit xs n 0 h none in cc)
+
+pub at_or_behind : (k n : ℕ) → (k < n) ⊎ (n ≤ k)
+at_or_behind k n = grind arith
+
+-- as many as there are, or the first n
+take_fewer : (xs : List ℕ) (n k : ℕ) → k ≡ min (length xs) n → take n xs ≡ take k xs
+take_fewer xs n k e = ⊎_elim
+    (λ few. take_all n xs (omega arith) ∙ sym (take_all k xs (omega arith)))
+    (λ many. let same : n ≡ k = omega arith in ap (λ m. take m xs) same) (at_or_behind (length xs) n)
+
+drop_fewer : (xs : List ℕ) (n k : ℕ) → k ≡ min (length xs) n → drop n xs ≡ drop k xs
+drop_fewer xs n k e = ⊎_elim
+    (λ few. drop_all n xs (omega arith) ∙ sym (drop_all k xs (omega arith)))
+    (λ many. let same : n ≡ k = omega arith in ap (λ m. drop m xs) same) (at_or_behind (length xs) n)
+
+below_ceiling : (floor : ℕ) (is_inexact : Bool) → floor < largest → ceiling floor is_inexact ≤ largest
+below_ceiling floor true small = omega arith
+below_ceiling floor false small = omega arith
+
+-- behind `from` all are digits
+pub digits_at : (bs : List ℕ) (from k : ℕ) → list_all is_digit (drop from bs) ≡ true → from ≤ k → k < length bs → class_of (get_or bs k 0) ≡ Digit
+digits_at bs from k all low high =
+    let n : ℕ = k - from in
+    let place : from + n ≡ k = omega arith in
+    let here : is_digit (get_or (drop from bs) n 0) ≡ true = digit_of_all (drop from bs) n (omega (arith, length-drop from bs)) all in
+    is_digit_class (class_of (get_or bs k 0)) (ap is_digit (sym (get_or-drop from bs n 0 ∙ ap (λ i. get_or bs i 0) place)) ∙ here)
+
 module _ (bs : List ℕ) (p : ℕ) (plain : IsPlain bs p) where
   no_mark : (k : ℕ) → k < length bs → is_exponent_mark (get_or bs k 0) ≡ false
   no_mark k l =
@@ -90,24 +126,31 @@ module _ (bs : List ℕ) (p : ℕ) (plain : IsPlain bs p) where
   unfolding exponent_size
   no_exponent = ap (λ xs. digits_value 10 (without_sign xs)) exponent
 
-  pub plain_measures : (number floor : ℕ) → length bs ≤ 20 → length bs - p - 1 ≤ 6 → number ≡ digits_value 10 (take p bs ++ drop (p + 1) bs) → number ≤ largest
-      → ((n : ℕ) → number ≡ min cap n → floor ≡ min cap (n * 10 ^ (6 - (length bs - p - 1)))) → floor ≤ largest → IsReadable bs × Measures bs floor false × (floor ≤ largest)
-  plain_measures number floor short few value below zeros small =
+  -- what is kept: the digits before the point, and six behind it, or all
+  pub plain_measures : (number floor kept : ℕ) (is_inexact : Bool) → length bs ≤ 400 → kept ≡ min (length bs) (p + 7)
+      → number ≡ digits_value 10 (take p bs ++ take (kept - (p + 1)) (drop (p + 1) bs)) → number ≤ largest
+      → ((n : ℕ) → number ≡ min cap n → floor ≡ min cap (n * 10 ^ (p + 7 - kept))) → floor < largest
+      → is_inexact ≡ list_any is_nonzero (drop kept bs) → IsReadable bs × Measures bs floor is_inexact × (ceiling floor is_inexact ≤ largest)
+  plain_measures number floor kept is_inexact short kept_is value below zeros small inexact =
       let w : List ℕ = take p bs in
       let f : List ℕ = drop (p + 1) bs in
-      let kept : ℕ = p + 6 in
       let long_w : length w ≡ p = length-take-le p bs (omega (arith, plain.inside)) in
       let long_f : length f ≡ length bs - (p + 1) = length-drop (p + 1) bs in
       let long : length (w ++ f) ≡ p + (length bs - (p + 1)) = length-append w f ∙ (λ i. long_w i + long_f i) in
-      let none : drop kept (w ++ f) ≡ [] = drop_all kept (w ++ f) (omega (arith, long)) in
-      let all : take kept (w ++ f) ≡ w ++ f = take_all kept (w ++ f) (omega (arith, long)) in
-      let left : kept - length (w ++ f) ≡ 6 - (length bs - p - 1) = omega (arith, long, plain.inside) in
-      let size : ℕ = digits_value 10 (take kept (w ++ f)) * 10 ^ (kept - length (w ++ f)) in
-      let measures : Measures bs size false = parts_measure bs w f false 0 kept false numeral (omega arith) (sym whole) (sym fraction) (sym (ap is_lowering exponent)) (sym no_exponent) (omega arith) (omega (arith, long_w)) (sym (ap (list_any is_nonzero) none)) in
-      let size_is : size ≡ number * 10 ^ (6 - (length bs - p - 1)) = (λ i. digits_value 10 (all i) * 10 ^ left i) ∙ ap (λ n. n * 10 ^ (6 - (length bs - p - 1))) (sym value) in
+      let behind : p + 6 ≡ length w + 6 = omega (arith, long_w) in
+      let front : take (p + 6) (w ++ f) ≡ w ++ take (kept - (p + 1)) f =
+      ap (λ n. take n (w ++ f)) behind ∙ take-append-add w f 6 ∙ ap (λ xs. w ++ xs) (take_fewer f 6 (kept - (p + 1)) (omega (arith, long_f, kept_is, plain.inside))) in
+      let seventh : p + 1 + 6 ≡ p + 7 = omega arith in
+      let rest : drop (p + 6) (w ++ f) ≡ drop kept bs =
+      ap (λ n. drop n (w ++ f)) behind ∙ drop-append-add w f 6 ∙ drop-drop 6 (p + 1) bs ∙ ap (λ n. drop n bs) seventh ∙ drop_fewer bs (p + 7) kept kept_is in
+      let left : p + 6 - length (w ++ f) ≡ p + 7 - kept = omega (arith, long, kept_is, plain.inside) in
+      let size : ℕ = digits_value 10 (take (p + 6) (w ++ f)) * 10 ^ (p + 6 - length (w ++ f)) in
+      let measures : Measures bs size is_inexact = parts_measure bs w f false 0 (p + 6) is_inexact numeral short (sym whole) (sym fraction) (sym (ap is_lowering exponent)) (sym no_exponent) (omega arith) (omega (arith, long_w)) (inexact ∙ ap (list_any is_nonzero) (sym rest)) in
+      let size_is : size ≡ number * 10 ^ (p + 7 - kept) = (λ i. digits_value 10 (front i) * 10 ^ left i) ∙ ap (λ n. n * 10 ^ (p + 7 - kept)) (sym value) in
       let floor_is : floor ≡ min cap size = zeros number (omega arith) ∙ ap (min cap) (sym size_is) in
-      let exact = exact_floor bs size floor false measures floor_is small in
-      (record { numeral = numeral; short = omega arith; exponent = omega (arith, no_exponent); size = within bs floor false exact small }, exact, small)
+      let top = below_ceiling floor is_inexact small in
+      let exact = exact_floor bs size floor is_inexact measures floor_is top in
+      (record { numeral = numeral; short = short; exponent = omega (arith, no_exponent); size = within bs floor is_inexact exact top }, exact, top)
 
 pub below_or_at : (k n : ℕ) → k < n + 1 → (k < n) ⊎ (k ≡ n)
 below_or_at k n h = grind arith

@@ -1,63 +1,27 @@
--- Runs of bytes that leave a state as it is: digits, the rest of a name, a comment.
-use Rattle.std.proofs.Common.{◌≡◌, ◌∙◌, ◌⊎◌, ⊎_elim, ◌++◌, ℕ, zero, suc, ◌+◌, ◌-◌, ◌<◌, ◌≤◌, ◌==◌, ◌||◌, Bool, true, false, cond, Some, List, [], ◌∷◌, length, take, drop, take_all, get_or, refl, sym, ap, subst, arith}
+-- Runs of bytes that leave a state as it is: digits, the rest of a name, a comment; and the lexemes that end behind one.
+use Rattle.std.proofs.Common.{◌≡◌, ◌∙◌, ◌⊎◌, ⊎_elim, ◌++◌, ℕ, zero, suc, ◌+◌, ◌<◌, ◌≤◌, ◌==◌, ◌||◌, Bool, true, false, cond, Some, List, [], ◌∷◌, length, take, drop, take_all, append-nil, append_assoc, get_or, refl, sym, ap, subst, arith}
+use Rattle.std.proofs.Math.Seq.{take-add}
 use Rattle.std.proofs.lemmas.Bool.{eqb-true}
 use Rattle.std.proofs.lemmas.List.{length-take-le, take_more, take-append-drop}
 use Rattle.std.specs.Char.{is_ascii_digit, is_ascii_alphabetic}
-use Rattle.polcert_text.specs.Bytes.{class_of}
+use Rattle.polcert_text.specs.Bytes.{class_of, blank_class, hash_class}
 use Rattle.polcert_text.specs.Fronts.{IsLongestGap, IsLongestLexeme}
+use Rattle.polcert_text.specs.Gaps.{is_gap}
 use Rattle.polcert_text.specs.Lexemes.{kind_of}
-use Rattle.polcert_text.specs.Scan.{gap_after, gap_through, state_after, state_through, kind_at, IsOpenGap}
-use Rattle.polcert_text.specs.ScanOf.{pending, IsFrontOf, IsScanOf, scan_at}
+use Rattle.polcert_text.specs.Scan.{gap_after, gap_through, state_after, state_through, kind_at}
+use Rattle.polcert_text.specs.ScanOf.{pending, IsFrontOf, IsScanOf, scan_at, EndsWithin}
 use Rattle.polcert_text.specs.declared.bytes.ByteClass.{ByteClass}
 use Rattle.polcert_text.specs.declared.bytes.ByteClass.TheVariants as classes
 use Rattle.polcert_text.specs.declared.lexeme.TokenKind.{TokenKind}
-use Rattle.polcert_text.specs.declared.lexeme.TokenKind.TheVariants.{Numeral, Colon}
+use Rattle.polcert_text.specs.declared.lexeme.TokenKind.TheVariants.{Colon}
+use Rattle.polcert_text.specs.declared.lexeme.Front.{Front}
 use Rattle.polcert_text.specs.declared.lexeme.Gap.{Gap}
 use Rattle.polcert_text.specs.declared.lexeme.Gap.TheVariants.{Between, Comment, Ended}
 use Rattle.polcert_text.specs.declared.lexeme.State.{State}
-use Rattle.polcert_text.specs.declared.lexeme.State.TheVariants.{Start, Whole, Fraction, Single, Stuck}
-use Rattle.polcert_text.proofs.GapLaws.{gap_step, longest_gap_at, gap_until_open}
+use Rattle.polcert_text.specs.declared.lexeme.State.TheVariants.{Start, Name, Whole, Fraction, Single, Stuck}
+use Rattle.polcert_text.proofs.GapLaws.{longest_gap_at, gap_until_open, gap_through-append}
 use Rattle.polcert_text.proofs.LexemeLaws.{kind_of-through, front_keeps, front_whatever_follows, state_step}
-
-between-not_ended : (gap : Gap) → gap ≡ Between → gap ≡ Ended → ⊥
-between-not_ended Between e f = cc
-between-not_ended Comment e f = cc
-between-not_ended Ended e f = cc
-
-comment-not_ended : (gap : Gap) → gap ≡ Comment → gap ≡ Ended → ⊥
-comment-not_ended Between e f = cc
-comment-not_ended Comment e f = cc
-comment-not_ended Ended e f = cc
-
-pub open_between : (bs : List ℕ) (n : ℕ) → gap_through Between (take n bs) ≡ Between → IsOpenGap n bs
-open_between bs n e = record { unended = between-not_ended _ e; between = λ _. e }
-
--- a byte more that leaves the gap between lexemes
-pub open_step : (bs : List ℕ) (i : ℕ) (c : ByteClass) → i < length bs → IsOpenGap i bs → c ≡ class_of (get_or bs i 0) → gap_after Between c ≡ Between → IsOpenGap (i + 1) bs
-open_step bs i c h was class_is stays =
-    open_between bs (i + 1) (gap_step bs i Between c Between h (was.between h) class_is (sym stays))
-
-pub longest_all : (bs : List ℕ) (n : ℕ) → n ≡ length bs → IsOpenGap n bs → IsLongestGap bs n
-longest_all bs n e was = record {
-  within = omega arith;
-  gap = gap_until_open (take n bs) was.unended;
-  longest = λ k more h. absurd (omega arith);
-}
-
-pub longest_ended : (bs : List ℕ) (n : ℕ) (c : ByteClass) → n < length bs → IsOpenGap n bs → c ≡ class_of (get_or bs n 0) → gap_after Between c ≡ Ended → IsLongestGap bs n
-longest_ended bs n c h was class_is ends =
-    longest_gap_at bs n h (gap_until_open (take n bs) was.unended) (gap_step bs n Between c Ended h (was.between h) class_is (sym ends))
-
--- where a `#` stands
-pub comment_begins : (bs : List ℕ) (i : ℕ) (c : ByteClass) → i < length bs → IsOpenGap i bs → c ≡ class_of (get_or bs i 0) → c ≡ classes.Hash → gap_through Between (take (i + 1) bs) ≡ Comment
-comment_begins bs i c h was class_is is =
-    gap_step bs i Between c Comment h (was.between h) class_is (ap (gap_after Between) (sym is))
-
-pub ends_gap : (c : ByteClass) → (c ≡ classes.Blank → ⊥) → (c ≡ classes.LineEnd → ⊥) → (c ≡ classes.Hash → ⊥) → gap_after Between c ≡ Ended
-ends_gap classes.Blank b l h = absurd (b refl)
-ends_gap classes.LineEnd b l h = absurd (l refl)
-ends_gap classes.Hash b l h = absurd (h refl)
-ends_gap _ b l h = refl
+use Rattle.polcert_text.proofs.StreamLaws.{skipped_step}
 
 comment_stays : (c : ByteClass) → (c ≡ classes.LineEnd → ⊥) → gap_after Comment c ≡ Comment
 comment_stays classes.LineEnd h = absurd (h refl)
@@ -89,30 +53,54 @@ unfolding class_of
 line_end_at_10 = refl
 
 -- a comment goes on over bytes that are no line end
-pub comment_through : (bs : List ℕ) (from n : ℕ) → from + n ≤ length bs → gap_through Between (take from bs) ≡ Comment → ((k : ℕ) → k < n → (get_or bs (from + k) 0 == 10) ≡ true → ⊥) → gap_through Between (take (from + n) bs) ≡ Comment
-comment_through bs from zero h was none =
-    let same : from + 0 ≡ from = omega arith in
-    ap (λ k. gap_through Between (take k bs)) same ∙ was
-comment_through bs from (suc n) h was none =
-    let before = comment_through bs from n (omega arith) was (λ k l. none k (omega arith)) in
-    let stays = comment_stays (class_of (get_or bs (from + n) 0)) (λ is. none n (omega arith) (line_end_is (get_or bs (from + n) 0) is)) in
-    let next : from + suc n ≡ from + n + 1 = omega arith in
-    ap (λ k. gap_through Between (take k bs)) next
-    ∙ gap_step bs (from + n) Comment (class_of (get_or bs (from + n) 0)) Comment (omega arith) before refl (sym stays)
+comment_through : (bs : List ℕ) (n : ℕ) → n ≤ length bs → ((k : ℕ) → k < n → (get_or bs k 0 == 10) ≡ true → ⊥) → gap_through Comment (take n bs) ≡ Comment
+comment_through bs zero h none = refl
+comment_through bs (suc n) h none =
+    let before = comment_through bs n (omega arith) (λ k l. none k (omega arith)) in
+    let stays = comment_stays (class_of (get_or bs n 0)) (λ is. none n (omega arith) (line_end_is (get_or bs n 0) is)) in
+    let next : suc n ≡ n + 1 = omega arith in
+    ap (λ k. gap_through Comment (take k bs)) next ∙ skipped_step Comment bs n Comment Comment (omega arith) before (sym stays)
 
-pub comment_to_end : (bs : List ℕ) (from : ℕ) → from ≤ length bs → gap_through Between (take from bs) ≡ Comment → ((k : ℕ) → k < length bs - from → (get_or bs (from + k) 0 == 10) ≡ true → ⊥) → IsOpenGap (length bs) bs
-comment_to_end bs from h was none =
-    let n : ℕ = length bs - from in
-    let all : from + n ≡ length bs = omega arith in
-    let through = comment_through bs from n (omega arith) was none in
-    let at : gap_through Between (take (length bs) bs) ≡ Comment = ap (λ k. gap_through Between (take k bs)) (sym all) ∙ through in
-    record { unended = comment-not_ended _ at; between = λ below. absurd (omega arith) }
+pub comment_goes_on : (bs : List ℕ) → ((k : ℕ) → k < length bs → (get_or bs k 0 == 10) ≡ true → ⊥) → gap_through Comment (take (length bs) bs) ≡ Comment
+comment_goes_on bs none = comment_through bs (length bs) (omega arith) none
 
-pub comment_to_line : (bs : List ℕ) (from n : ℕ) → from + n < length bs → gap_through Between (take from bs) ≡ Comment → ((k : ℕ) → k < n → (get_or bs (from + k) 0 == 10) ≡ true → ⊥) → (get_or bs (from + n) 0 == 10) ≡ true → IsOpenGap (from + n + 1) bs
-comment_to_line bs from n h was none line =
-    let through = comment_through bs from n (omega arith) was none in
-    let is : class_of (get_or bs (from + n) 0) ≡ classes.LineEnd = ap class_of (eqb-true (get_or bs (from + n) 0) 10 line) ∙ line_end_at_10 in
-    open_between bs (from + n + 1) (gap_step bs (from + n) Comment (class_of (get_or bs (from + n) 0)) Between h through refl (sym (ap (gap_after Comment) is)))
+pub comment_ends : (bs : List ℕ) (n : ℕ) → n < length bs → ((k : ℕ) → k < n → (get_or bs k 0 == 10) ≡ true → ⊥) → (get_or bs n 0 == 10) ≡ true → gap_through Comment (take (n + 1) bs) ≡ Between
+comment_ends bs n h none line =
+    let is : class_of (get_or bs n 0) ≡ classes.LineEnd = ap class_of (eqb-true (get_or bs n 0) 10 line) ∙ line_end_at_10 in
+    skipped_step Comment bs n Comment Between h (comment_through bs n (omega arith) none) (sym (ap (gap_after Comment) is))
+
+-- a gap that goes on in the bytes behind a front
+pub gap_joined : (start : Gap) (bs : List ℕ) (at count : ℕ) (gap next : Gap) → gap_through start (take at bs) ≡ gap → gap_through gap (take count (drop at bs)) ≡ next → gap_through start (take (at + count) bs) ≡ next
+gap_joined start bs at count gap next was on =
+    ap (gap_through start) (take-add at count bs)
+    ∙ gap_through-append start (take at bs) (take count (drop at bs))
+    ∙ ap (λ g. gap_through g (take count (drop at bs))) was
+    ∙ on
+
+-- a gap that is neither in a comment nor ended
+pub in_between : (gap : Gap) → (gap ≡ Comment → ⊥) → (gap ≡ Ended → ⊥) → gap ≡ Between
+in_between Between c e = refl
+in_between Comment c e = absurd (c refl)
+in_between Ended c e = absurd (e refl)
+
+-- such a gap ends at a byte that is neither blank nor a `#`
+pub ends_between : (c : ByteClass) → blank_class c ≡ false → hash_class c ≡ false → gap_after Between c ≡ Ended
+ends_between classes.Blank b h = cc
+ends_between classes.LineEnd b h = cc
+ends_between classes.Hash b h = cc
+ends_between _ b h = refl
+
+below_or_all : (n m : ℕ) → n ≤ m → (n < m) ⊎ (n ≡ m)
+below_or_all n m h = grind arith
+
+-- where the gap from the start of the bytes stops is the longest
+pub longest_seen : (bs : List ℕ) (n : ℕ) (gap : Gap) → n ≤ length bs → gap_through Between (take n bs) ≡ gap → (gap ≡ Ended → ⊥) → (n < length bs → gap_after gap (class_of (get_or bs n 0)) ≡ Ended) → IsLongestGap bs n
+longest_seen bs n gap within read goes_on stops =
+    ⊎_elim (λ below. longest_gap_at bs n below is_front (skipped_step Between bs n gap Ended below read (sym (stops below))))
+    (λ all. record { within = within; gap = is_front; longest = λ k more h. absurd (omega arith) }) (below_or_all n (length bs) within)
+  where
+    is_front : is_gap (take n bs) ≡ true
+    is_front = gap_until_open (take n bs) (λ ended. goes_on (sym read ∙ ended))
 
 -- all that was read is a lexeme
 pub scan_whole : (bs : List ℕ) (n : ℕ) (state : State) (kind : TokenKind) → n ≤ length bs → state_through Start (take n bs) ≡ state → kind_at state ≡ Some kind → pending state ≡ 0 → IsScanOf (take n bs) (scan_at state kind n)
@@ -130,27 +118,36 @@ scan_whole bs n state kind h read is none =
     }
 
 -- a lexeme that the next byte ends
-pub lexeme_before : (bs : List ℕ) (n : ℕ) (state : State) (kind : TokenKind) → n < length bs → state_through Start (take n bs) ≡ state → kind_at state ≡ Some kind → pending state ≡ 0 → state_after state (class_of (get_or bs n 0)) ≡ Stuck → IsLongestLexeme bs kind n
-lexeme_before bs n state kind h read is none ends =
+pub ends_within : (bs : List ℕ) (n : ℕ) (state : State) (kind : TokenKind) → n < length bs → state_through Start (take n bs) ≡ state → kind_at state ≡ Some kind → pending state ≡ 0 → state_after state (class_of (get_or bs n 0)) ≡ Stuck → EndsWithin bs (record { kind = kind; len = n })
+ends_within bs n state kind h read is none ends =
     let b : ℕ = get_or bs n 0 in
+    let front : Front = record { kind = kind; len = n } in
     let whole = scan_whole bs n state kind (omega arith) read is none in
     let stuck : state_through Start (take (n + 1) bs) ≡ Stuck = state_step bs n state (class_of b) Stuck h read refl (sym ends) in
     let more : take (n + 1) bs ≡ take n bs ++ b ∷ [] = take_more bs n 0 h in
     let dead : state_through Start (take n bs ++ b ∷ []) ≡ Stuck = ap (state_through Start) (sym more) ∙ stuck in
-    let keeps : IsFrontOf (take n bs ++ b ∷ []) (Some (record { kind = kind; len = n })) = front_keeps (take n bs) b (Some (record { kind = kind; len = n })) whole.longest (kind_of-through (take n bs ++ b ∷ []) ∙ ap kind_at dead) in
-    let on : IsFrontOf ((take n bs ++ b ∷ []) ++ drop (n + 1) bs) (Some (record { kind = kind; len = n })) = front_whatever_follows (take n bs ++ b ∷ []) (drop (n + 1) bs) (Some (record { kind = kind; len = n })) keeps dead in
+    let keeps : IsFrontOf (take n bs ++ b ∷ []) (Some front) = front_keeps (take n bs) b (Some front) whole.longest (kind_of-through (take n bs ++ b ∷ []) ∙ ap kind_at dead) in
     let joined : (take n bs ++ b ∷ []) ++ drop (n + 1) bs ≡ bs = ap (λ xs. xs ++ drop (n + 1) bs) (sym more) ∙ take-append-drop (n + 1) bs in
-    subst (λ xs. IsLongestLexeme xs kind n) joined on
+    record {
+      within = h;
+      longest = λ tail.
+          let on : IsFrontOf ((take n bs ++ b ∷ []) ++ (drop (n + 1) bs ++ tail)) (Some front) = front_whatever_follows (take n bs ++ b ∷ []) (drop (n + 1) bs ++ tail) (Some front) keeps dead in
+          let all : (take n bs ++ b ∷ []) ++ (drop (n + 1) bs ++ tail) ≡ bs ++ tail = sym (append_assoc (take n bs ++ b ∷ []) (drop (n + 1) bs) tail) ∙ ap (λ xs. xs ++ tail) joined in
+          subst (λ xs. IsLongestLexeme xs kind n) all on;
+    }
 
--- a numeral that a blank follows
-pub numeral_before_blank : (bs : List ℕ) (n : ℕ) (state : State) → n < length bs → state_through Start (take n bs) ≡ state → kind_at state ≡ Some Numeral → pending state ≡ 0 → ((class_of (get_or bs n 0) ≡ classes.Blank) ⊎ (class_of (get_or bs n 0) ≡ classes.LineEnd)) → ((c : ByteClass) → ((c ≡ classes.Blank) ⊎ (c ≡ classes.LineEnd)) → state_after state c ≡ Stuck) → IsLongestLexeme bs Numeral n
-numeral_before_blank bs n state h read is none blank ends =
-    lexeme_before bs n state Numeral h read is none (ends (class_of (get_or bs n 0)) blank)
+-- with nothing behind the bytes
+pub ended_front : (bs : List ℕ) (front : Front) → EndsWithin bs front → IsFrontOf bs (Some front)
+ended_front bs front ends = subst (λ xs. IsLongestLexeme xs front.kind front.len) (append-nil bs) (ends.longest [])
 
 -- a colon that a byte follows
-pub colon_before : (bs : List ℕ) → 1 < length bs → class_of (get_or bs 0 0) ≡ classes.Colon → IsLongestLexeme bs Colon 1
-colon_before bs more colon =
-    lexeme_before bs 1 (Single Colon) Colon more (state_step bs 0 Start classes.Colon (Single Colon) (omega arith) refl (sym colon) refl) refl refl refl
+pub ended_colon : (bs : List ℕ) → 1 < length bs → class_of (get_or bs 0 0) ≡ classes.Colon → EndsWithin bs (record { kind = Colon; len = 1 })
+ended_colon bs more colon =
+    ends_within bs 1 (Single Colon) Colon more (state_step bs 0 Start classes.Colon (Single Colon) (omega arith) refl (sym colon) refl) refl refl refl
+
+-- the first byte of a name
+pub begins_name : (bs : List ℕ) (c : ByteClass) → 0 < length bs → c ≡ class_of (get_or bs 0 0) → ((c ≡ classes.Letter) ⊎ (c ≡ classes.ExponentMark)) → state_through Start (take 1 bs) ≡ Name
+begins_name bs c some is letter = state_step bs 0 Start c Name some refl is (sym (⊎_elim (ap (state_after Start)) (ap (state_after Start)) letter))
 
 pub ends_whole : (c : ByteClass) → ((c ≡ classes.Blank) ⊎ (c ≡ classes.LineEnd)) → state_after Whole c ≡ Stuck
 ends_whole c h = ⊎_elim (ap (state_after Whole)) (ap (state_after Whole)) h

@@ -1,10 +1,11 @@
 -- The lexeme that a stream scans, in pieces.
-use Rattle.std.proofs.Common.{◌≡◌, ◌∙◌, ◌-◌, ◌<◌, ◌≤◌, ◌⊎◌, inl, inr, ℕ, true, false, Option, List, [], ◌++◌, length, take, refl, sym, ap, subst, append-nil, Bool, arith}
+use Rattle.std.proofs.Common.{◌≡◌, ◌∙◌, ◌-◌, ◌<◌, ◌≤◌, ◌⊎◌, inl, inr, ℕ, true, false, Option, Some, List, [], ◌++◌, length, take, refl, sym, ap, subst, append-nil, Bool, arith}
 use Rattle.std.proofs.lemmas.List.{take-append-le, take-take, length-take}
-use Rattle.polcert_text.specs.ScanOf.{IsScanOf, is_stuck, front_len}
+use Rattle.polcert_text.specs.ScanOf.{IsScanOf, is_stuck, front_len, EndsWithin}
 use Rattle.polcert_text.specs.Stream.{Ahead}
 use Rattle.polcert_text.specs.Streaming.{visible, with_read, IsComplete, IsSeen, Fills, ReadsOn, ScansLexeme}
 use Rattle.polcert_text.specs.Lexemes.{is_empty}
+use Rattle.polcert_text.specs.declared.lexeme.Front.{Front}
 use Rattle.polcert_text.specs.declared.lexeme.LexemeScan.{LexemeScan}
 use Rattle.polcert_text.proofs.SeenLaws.{seen_stuck, seen_long, seen_all, seen_within}
 use Rattle.polcert_text.proofs.StreamLaws.{visible_len, reads_nothing, reads_fill}
@@ -25,6 +26,15 @@ scan_stays now new given scan is was =
     subst (λ xs. IsScanOf xs scan) (sym same) was
 
 module _ {S : Type 0} (reads : S → ℕ → Option (List ℕ) → S → Type 0) (failures : S → ℕ) where
+  -- a lexeme that ends within the bytes below the limit
+  pub lexeme_ended : (old : Ahead) (s : S) (front : Front) → old.place ≤ old.limit → EndsWithin (visible old) front → ScansLexeme reads failures old s (Some front) old s
+  lexeme_ended old s front below ends = record {
+    given = [];
+    reads_on = reads_nothing reads failures old s below;
+    within = omega (arith, ends.within);
+    seen = λ tail none. record { front_is = inl (ends.longest tail); apart = λ _. inr ends.within };
+  }
+
   -- within a lexeme
   pub record InLexeme (old : Ahead) (s : S) (scan : LexemeScan) (now : Ahead) (t : S) : Type 0 where
     pub given : List ℕ

@@ -1,7 +1,7 @@
 -- How far the bytes read so far have come in a gap, or in a lexeme.
 -- Nobody has to believe this: only contracts of private functions cite it, and the proofs show that it finds the
 -- longest fronts.
-use Rattle.std.specs.Prelude.{◌≡◌, ℕ, Bool, true, false, Option, Some, None, List, [], ◌∷◌, take, length, ◌<◌}
+use Rattle.std.specs.Prelude.{◌≡◌, ℕ, Bool, true, false, Option, Some, None, List, [], ◌∷◌}
 use Rattle.polcert_text.specs.Bytes.{class_of}
 use Rattle.polcert_text.specs.declared.bytes.ByteClass.{ByteClass}
 use Rattle.polcert_text.specs.declared.bytes.ByteClass.TheVariants as classes
@@ -103,11 +103,6 @@ kind_at _ = None
 abbrev pub is_numeral_kind : Option TokenKind → Bool
 is_numeral_kind (Some kinds.Numeral) = true
 is_numeral_kind _ = false
-
--- the first n bytes are a gap, and one that may go on; it stands between lines
-pub record IsOpenGap (n : ℕ) (bytes : List ℕ) : Type 0 where
-  pub unended : gap_through Between (take n bytes) ≡ Ended → ⊥
-  pub between : n < length bytes → gap_through Between (take n bytes) ≡ Between
 
 -- a digit changes nothing in this state
 abbrev pub GoesOnWithDigits : State → Type 0

@@ -1,6 +1,6 @@
 -- What a scan says of the bytes that it was fed.
 -- Nobody has to believe this: only contracts of private functions cite it.
-use Rattle.std.specs.Prelude.{◌≡◌, ℕ, ◌+◌, Bool, true, false, Option, Some, None, List, length, MatchOption}
+use Rattle.std.specs.Prelude.{◌≡◌, ℕ, ◌+◌, ◌<◌, ◌++◌, Bool, true, false, Option, Some, None, List, length, MatchOption}
 use Rattle.polcert_text.specs.Fronts.{IsLongestLexeme, NoLexeme}
 use Rattle.polcert_text.specs.Scan.{state_through}
 use Rattle.polcert_text.specs.declared.lexeme.State.{State}
@@ -38,3 +38,8 @@ pub record IsScanOf (read : List ℕ) (scan : LexemeScan) : Type 0 where
 -- all that the scan was fed is a lexeme
 abbrev pub scan_at : State → TokenKind → ℕ → LexemeScan
 scan_at state kind len = record { state = state; len = len; longest = Some (record { kind = kind; len = len }) }
+
+-- this lexeme is the longest at the front of the bytes, whatever follows them, and a byte stands behind it
+pub record EndsWithin (bytes : List ℕ) (front : Front) : Type 0 where
+  pub within : front.len < length bytes
+  pub longest : (tail : List ℕ) → IsLongestLexeme (bytes ++ tail) front.kind front.len

@@ -1,11 +1,12 @@
 //! A gap and a lexeme, read byte by byte.
-ghost use Rattle.std.specs.Prelude.{◌≡◌, ◌+◌, ◌<◌, ◌++◌, ◌∷◌, [], ℕ, List, length, take, true, false, ◌≤◌, ◌⊎◌, IfSome};
+ghost use Rattle.std.specs.Prelude.{◌≡◌, ◌+◌, ◌<◌, ◌++◌, ◌∷◌, [], ℕ, List, length, take, slice_index, true, false, ◌≤◌, ◌⊎◌, IfSome};
 ghost use Rattle.polcert_text.specs.Fronts.{IsLongestGap, IsLongestLexeme};
-ghost use Rattle.polcert_text.specs.Scan.{gap_after, gap_through, state_after, state_through, kind_at, is_numeral_kind, IsOpenGap};
+ghost use Rattle.polcert_text.specs.Scan.{gap_after, gap_through, state_after, state_through, kind_at, is_numeral_kind};
 ghost use Rattle.polcert_text.specs.Bytes.{class_of};
 
 use crate::bytes::{
     ByteClass, class_of, is_surely_blank, is_surely_colon, is_surely_digit, is_surely_point,
+    surely_ends_gap,
 };
 use memchr::memchr;
 
@@ -153,32 +154,56 @@ impl State {
 pub fn gap_len(bytes: &[u8]) -> usize
     ensures { IsLongestGap bytes.now result }
 {
+    let (len, _) = seen_gap(Gap::Between, bytes);
+    len
+}
+
+/// How many bytes go on the gap, and where the gap then stands.
+#[inline(always)]
+pub fn seen_gap(gap: Gap, bytes: &[u8]) -> (usize, Gap)
+    requires { gap ≡ Gap.Ended → ⊥ }
+    ensures within { result.0 ≤ length bytes.now }
+    ensures state { gap_through gap (take result.0 bytes.now) ≡ result.1 }
+    ensures open { result.1 ≡ Gap.Ended → ⊥ }
+    ensures stops { result.0 < length bytes.now
+        → gap_after result.1 (class_of (slice_index bytes.now result.0)) ≡ Gap.Ended }
+{
+    let mut gap = gap;
     let mut at: usize = 0;
     while at < bytes.len() {
+        if let Gap::Comment = gap {
+            let (count, next) = seen_comment(&bytes[at..]);
+            at += count;
+            gap = next;
+            continue;
+        }
         if is_surely_blank(bytes[at]) {
             at += 1;
             continue;
         }
-        match class_of(bytes[at]) {
-            ByteClass::Blank | ByteClass::LineEnd => at += 1,
-            ByteClass::Hash => at = comment_end(bytes, at + 1),
-            _ => return at,
+        if surely_ends_gap(bytes[at]) {
+            return (at, gap);
         }
+        match gap.after(class_of(bytes[at])) {
+            Gap::Ended => return (at, gap),
+            next => gap = next,
+        }
+        at += 1;
     }
-    at
+    (bytes.len(), gap)
 }
 
-/// Where a comment ends whose `#` stands before `from`: behind the next line end, or where the bytes end.
+/// How many bytes go on a comment, up to the end of its line and with it, and where the gap then stands.
 #[inline(never)]
-fn comment_end(bytes: &[u8], from: usize) -> usize
-    requires { from ≤ length bytes.now }
-    ensures within { (from ≤ result) × (result ≤ length bytes.now) }
-    ensures open { gap_through Gap.Between (take from bytes.now) ≡ Gap.Comment
-        → IsOpenGap result bytes.now }
+fn seen_comment(bytes: &[u8]) -> (usize, Gap)
+    requires { 0 < length bytes.now }
+    ensures within { (0 < result.0) × (result.0 ≤ length bytes.now) }
+    ensures state { gap_through Gap.Comment (take result.0 bytes.now) ≡ result.1 }
+    ensures open { result.1 ≡ Gap.Ended → ⊥ }
 {
-    match memchr(b'\n', &bytes[from..]) {
-        Some(line) => from + line + 1,
-        None => bytes.len(),
+    match memchr(b'\n', bytes) {
+        Some(line) => (line + 1, Gap::Between),
+        None => (bytes.len(), Gap::Comment),
     }
 }
 
@@ -321,7 +346,7 @@ impl LexemeScan {
     }
 }
 
-ghost use Rattle.polcert_text.specs.ScanOf.{IsFrontOf};
+ghost use Rattle.polcert_text.specs.ScanOf.{IsFrontOf, EndsWithin};
 ghost use Rattle.polcert_text.specs.Scan.{GoesOnWithDigits};
 ghost use Rattle.polcert_text.specs.declared.lexeme.State.{State};
 
@@ -332,6 +357,8 @@ fn name_end(bytes: &[u8], from: usize) -> usize
     ensures within { (from ≤ result) × (result ≤ length bytes.now) }
     ensures same { state_through State.Start (take from bytes.now) ≡ State.Name
         → state_through State.Start (take result bytes.now) ≡ State.Name }
+    ensures stops { result < length bytes.now
+        → state_after State.Name (class_of (slice_index bytes.now result)) ≡ State.Stuck }
 {
     let mut at = from;
     while at < bytes.len() {
@@ -362,30 +389,74 @@ fn digits_end(bytes: &[u8], from: usize) -> usize
     at
 }
 
-/// How long the numeral at the front is, where it is digits, perhaps with a point and digits, before a blank or a line end:
-/// those that most texts have, cut without a step for each byte. `None` says nothing.
+/// The lexeme at the front, where a byte behind it is there and ends it: a name, a colon, or a numeral of digits, perhaps with a
+/// point and digits, before a blank or a line end. Most are, and these are cut without a step for each byte. `None` says nothing.
 #[inline(always)]
-fn plain_numeral(bytes: &[u8]) -> Option<usize>
-    ensures { IfSome result (λ n. IsLongestLexeme bytes.now TokenKind.Numeral n) }
+pub fn ended_lexeme(bytes: &[u8]) -> Option<Front>
+    ensures { IfSome result (EndsWithin bytes.now) }
 {
-    if bytes.is_empty() || !is_surely_digit(bytes[0]) {
+    if bytes.len() < 2 {
         return None;
     }
+    if is_surely_digit(bytes[0]) {
+        return ended_numeral(bytes);
+    }
+    if is_surely_colon(bytes[0]) {
+        return Some(Front {
+            kind: TokenKind::Colon,
+            len: 1,
+        });
+    }
+    ended_name(bytes)
+}
+
+#[inline(always)]
+fn ended_numeral(bytes: &[u8]) -> Option<Front>
+    requires some { 0 < length bytes.now }
+    requires digit { class_of (slice_index bytes.now 0) ≡ ByteClass.Digit }
+    ensures { IfSome result (EndsWithin bytes.now) }
+{
     let point = digits_end(bytes, 1);
     if point == bytes.len() {
         return None;
     }
     if is_surely_blank(bytes[point]) {
-        return Some(point);
+        return Some(Front {
+            kind: TokenKind::Numeral,
+            len: point,
+        });
     }
     if !is_surely_point(bytes[point]) {
         return None;
     }
     let end = digits_end(bytes, point + 1);
     if end < bytes.len() && is_surely_blank(bytes[end]) {
-        return Some(end);
+        return Some(Front {
+            kind: TokenKind::Numeral,
+            len: end,
+        });
     }
     None
+}
+
+#[inline(always)]
+fn ended_name(bytes: &[u8]) -> Option<Front>
+    requires { 0 < length bytes.now }
+    ensures { IfSome result (EndsWithin bytes.now) }
+{
+    match class_of(bytes[0]) {
+        ByteClass::Letter | ByteClass::ExponentMark => {
+            let end = name_end(bytes, 1);
+            if end == bytes.len() {
+                return None;
+            }
+            Some(Front {
+                kind: TokenKind::Name,
+                len: end,
+            })
+        }
+        _ => None,
+    }
 }
 
 /// The longest lexeme at the front of the bytes, if one begins there.
@@ -393,15 +464,8 @@ fn plain_numeral(bytes: &[u8]) -> Option<usize>
 pub fn longest_lexeme(bytes: &[u8]) -> Option<Front>
     ensures { IsFrontOf bytes.now result }
 {
-    match plain_numeral(bytes) {
-        Some(len) => Some(Front {
-            kind: TokenKind::Numeral,
-            len,
-        }),
-        None if bytes.len() > 1 && is_surely_colon(bytes[0]) => Some(Front {
-            kind: TokenKind::Colon,
-            len: 1,
-        }),
+    match ended_lexeme(bytes) {
+        Some(front) => Some(front),
         None => scanned_lexeme(bytes),
     }
 }

@@ -9,6 +9,7 @@ ghost use Rattle.polcert_text.specs.Scaling.{separates, cap, is_nonzero, IsScale
 
 use crate::bytes::{ByteClass, class_of, is_surely_digit, is_surely_point};
 use crate::lexeme::State;
+use crate::whole::all_digits;
 use thiserror::Error;
 
 /// Why a numeral has no value here: the first of these that holds.
@@ -29,6 +30,9 @@ pub enum NumberFault {
 }
 
 const LONGEST: usize = 400;
+
+/// Longer numerals are rare, and measured the general way.
+const LONGEST_PLAIN: usize = 64;
 
 const LARGEST_EXPONENT: usize = 400;
 
@@ -278,51 +282,64 @@ fn measured(whole: &[u8], fraction: &[u8], kept: usize) -> Size
     }
 }
 
-/// The number that the digits of `number` and those from `from` on spell, up to the first byte that is no digit or until it
-/// is too large, and where that is.
+/// The number that the digits of `number` and those from `from` up to `until` spell, up to the first byte that is no digit or until
+/// it is too large, and where that is.
 #[inline(always)]
-fn digits_behind(number: u64, bytes: &[u8], from: usize) -> (u64, usize)
-    requires { from ≤ length bytes.now }
-    ensures within { (from ≤ result.1) × (result.1 ≤ length bytes.now) }
+fn digits_behind(number: u64, bytes: &[u8], from: usize, until: usize) -> (u64, usize)
+    requires range { from ≤ until }
+    requires within { until ≤ length bytes.now }
+    ensures within { (from ≤ result.1) × (result.1 ≤ until) }
     ensures digits { (k : ℕ) → from ≤ k → k < result.1 → class_of (get_or bytes.now k 0) ≡ ByteClass.Digit }
     ensures value { (front : List ℕ) → number ≡ digits_value 10 front
         → result.0 ≡ digits_value 10 (front ++ take (result.1 - from) (drop from bytes.now)) }
 {
     let mut read = number;
     let mut at = from;
-    while at < bytes.len() && is_surely_digit(bytes[at]) && read <= LARGEST {
+    while at < until && is_surely_digit(bytes[at]) && read <= LARGEST {
         read = read * 10 + u64::from(bytes[at] - b'0');
         at += 1;
     }
     (read, at)
 }
 
-/// The size in millionths of a numeral of at most 20 bytes, with a point, at most six decimals and no exponent, where it is not
-/// too large: what most numerals are, measured in 64 bits. `None` says nothing.
+/// Whether a digit isn't 0.
 #[inline(always)]
-fn plain_size(numeral: &[u8]) -> Option<u64>
-    ensures { IfSome result (λ floor. IsReadable numeral.now × Measures numeral.now floor false × (floor ≤ largest)) }
+fn has_nonzero(digits: &[u8]) -> bool
+    ensures { result ≡ list_any is_nonzero digits.now }
 {
-    if numeral.len() > 20 {
+    digits.iter().any(|digit| *digit != b'0')
+}
+
+/// The size of a numeral of digits, a point and digits, where it is not too large: what most numerals are, measured in 64 bits.
+/// `None` says nothing.
+#[inline(always)]
+fn plain_size(numeral: &[u8]) -> Option<Size>
+    ensures { IfSome result (λ size. IsReadable numeral.now × Measures numeral.now size.floor size.is_inexact
+        × (ceiling size.floor size.is_inexact ≤ largest)) }
+{
+    if numeral.len() > LONGEST_PLAIN {
         return None;
     }
-    let (whole, point) = digits_behind(0, numeral, 0);
+    let (whole, point) = digits_behind(0, numeral, 0, numeral.len());
     if point == 0 || point == numeral.len() {
         return None;
     }
     if !is_surely_point(numeral[point]) {
         return None;
     }
-    let (number, end) = digits_behind(whole, numeral, point + 1);
-    let decimals = numeral.len() - point - 1;
-    if end < numeral.len() || decimals > 6 || number > LARGEST {
+    let kept = numeral.len().min(point + 7);
+    let (number, end) = digits_behind(whole, numeral, point + 1, kept);
+    if end < kept || number > LARGEST {
         return None;
     }
-    let floor = with_zeros(number, 6 - decimals);
-    if floor > LARGEST {
+    let floor = with_zeros(number, point + 7 - kept);
+    if floor >= LARGEST || !all_digits(&numeral[kept..]) {
         return None;
     }
-    Some(floor)
+    Some(Size {
+        floor,
+        is_inexact: has_nonzero(&numeral[kept..]),
+    })
 }
 
 /// The size of a numeral in millionths, rounded down.
@@ -334,10 +351,7 @@ fn size_of(numeral: &[u8]) -> Result<Size, NumberFault>
     ensures small { IfOk result (λ size. ceiling size.floor size.is_inexact ≤ largest) }
 {
     match plain_size(numeral) {
-        Some(floor) => Ok(Size {
-            floor,
-            is_inexact: false,
-        }),
+        Some(size) => Ok(size),
         None => general_size(numeral),
     }
 }

@@ -6,8 +6,7 @@ ghost use Rattle.polcert_text.specs.ScanOf.{is_stuck, front_len};
 ghost use Rattle.polcert_text.specs.Stream.{Ahead};
 ghost use Rattle.polcert_text.specs.Streaming.{visible, skip, end_of, Fills, FailsAt, SkipsGapOrFails, ScansLexemeOrFails, IsComplete};
 
-use crate::bytes::class_of;
-use crate::lexeme::{Front, Gap, LexemeScan};
+use crate::lexeme::{Front, Gap, LexemeScan, ended_lexeme, seen_gap};
 use crate::window::Window;
 use crate::{Source, SourceFailed, TokenFault};
 use std::marker::Model;
@@ -49,6 +48,7 @@ impl StreamBytes {
     }
 
     /// The offset of the first byte in the text.
+    #[inline(always)]
     pub fn place(&self) -> u64
         ensures { result ≡ self.now.place }
     {
@@ -67,6 +67,7 @@ impl StreamBytes {
     }
 
     /// The bytes that stand below the limit.
+    #[inline(always)]
     pub fn visible(&self) -> &[u8]
         ensures bytes { result.now ≡ visible self.now }
         ensures below { self.now.place + length (visible self.now) ≤ self.now.limit }
@@ -82,6 +83,7 @@ impl StreamBytes {
     }
 
     /// Takes bytes off the front.
+    #[inline(always)]
     pub fn consume(&mut self, count: usize)
         requires { count ≤ length (visible self.old) }
         ensures { self.new ≡ skip count self.old }
@@ -106,6 +108,7 @@ impl StreamBytes {
     }
 
     /// Whether it takes a read to know what comes next, where the bytes so far go on a gap.
+    #[inline(always)]
     fn lacks_byte(&self) -> bool
         ensures lacks { result ≡ true → (length self.now.kept ≡ 0) × (self.now.is_whole ≡ false) }
         ensures has { result ≡ false → (self.now.is_whole ≡ true) ⊎ (0 < length self.now.kept) }
@@ -117,6 +120,7 @@ impl StreamBytes {
     }
 
     /// Takes the bytes that go on the gap off the front, and answers where the gap then stands.
+    #[inline(always)]
     fn skip_seen(&mut self, gap: Gap) -> Gap
         requires { gap ≡ Gap.Ended → ⊥ }
         ensures below { self.old.place ≤ self.old.limit }
@@ -130,6 +134,7 @@ impl StreamBytes {
     }
 
     /// Takes the gap off the front. True where a byte below the limit comes behind it.
+    #[inline(always)]
     pub fn skip_gap<S: Source>(&mut self, source: &mut S) -> Result<bool, SourceFailed>
         ensures { SkipsGapOrFails S.reads S.failures self.old source.old result self.new source.new }
     {
@@ -162,7 +167,19 @@ impl StreamBytes {
     }
 
     /// The lexeme at the front: the longest, or one that is too long.
+    #[inline(always)]
     pub fn scan_lexeme<S: Source>(&mut self, source: &mut S) -> Result<Option<Front>, SourceFailed>
+        ensures { ScansLexemeOrFails S.reads S.failures self.old source.old result self.new source.new }
+    {
+        match ended_lexeme(self.visible()) {
+            Some(front) => Ok(Some(front)),
+            None => self.scan_on(source),
+        }
+    }
+
+    /// The lexeme at the front, whatever it is, and where the bytes so far end.
+    #[inline(never)]
+    fn scan_on<S: Source>(&mut self, source: &mut S) -> Result<Option<Front>, SourceFailed>
         ensures { ScansLexemeOrFails S.reads S.failures self.old source.old result self.new source.new }
     {
         let mut scan = LexemeScan::new().through(self.visible());
@@ -175,24 +192,4 @@ impl StreamBytes {
         }
         Ok(scan.longest())
     }
-}
-
-/// How many bytes go on the gap, and where the gap then stands.
-fn seen_gap(gap: Gap, bytes: &[u8]) -> (usize, Gap)
-    requires { gap ≡ Gap.Ended → ⊥ }
-    ensures within { result.0 ≤ length bytes.now }
-    ensures state { gap_through gap (take result.0 bytes.now) ≡ result.1 }
-    ensures open { result.1 ≡ Gap.Ended → ⊥ }
-    ensures stops { result.0 < length bytes.now
-        → gap_after result.1 (class_of (slice_index bytes.now result.0)) ≡ Gap.Ended }
-{
-    let mut gap = gap;
-    for (i, byte) in bytes.iter().enumerate() {
-        let next = gap.after(class_of(*byte));
-        if let Gap::Ended = next {
-            return (i, gap);
-        }
-        gap = next;
-    }
-    (bytes.len(), gap)
 }

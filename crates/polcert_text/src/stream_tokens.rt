@@ -85,6 +85,7 @@ impl StreamTokens {
 
     /// The next token, or `None` at the clean end. It reads only where the next token needs a byte that the buffer
     /// lacks. After a fault or the end every further call answers the same, and reads nothing.
+    #[inline(always)]
     pub fn next_token<'t, S: Source>(
         &'t mut self,
         source: &mut S,
@@ -109,6 +110,7 @@ impl StreamTokens {
     }
 
     /// The token of this kind that was taken last.
+    #[inline(always)]
     fn current(&self, kind: TokenKind) -> Token<'_>
         ensures lexeme { lexeme_of result ≡ lent_lexeme self.now kind }
         ensures stop { result.stop ≡ result.place + length result.bytes.now }
@@ -124,6 +126,7 @@ impl StreamTokens {
     }
 
     /// Takes the next token, and answers its kind.
+    #[inline(always)]
     fn advance<S: Source>(&mut self, source: &mut S) -> Result<Option<TokenKind>, StreamFault>
         ensures { AnswersNext S.reads S.failures (lent_lexeme self.new) self.old source.old result self.new source.new }
     {
@@ -139,6 +142,7 @@ impl StreamTokens {
         result
     }
 
+    #[inline(always)]
     fn take_token<S: Source>(&mut self, source: &mut S) -> Result<Option<TokenKind>, StreamFault>
         requires { self.old.stop ≡ None }
         ensures next { TakesNext S.reads S.failures self.old source.old result self.new source.new }

@@ -37,6 +37,7 @@ impl Window {
     }
 
     /// The bytes, in the order in which they came.
+    #[inline(always)]
     pub fn as_bytes(&self) -> &[u8]
         ensures bytes { result.now ≡ self.now }
         ensures few { length self.now ≤ 4096 }
@@ -45,6 +46,7 @@ impl Window {
     }
 
     /// Takes bytes off the front.
+    #[inline(always)]
     pub fn consume(&mut self, count: usize)
         requires { count ≤ length self.old }
         ensures { self.new ≡ drop count self.old }

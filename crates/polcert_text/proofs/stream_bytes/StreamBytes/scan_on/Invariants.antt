@@ -1,6 +1,6 @@
 use Rattle.std.proofs.Common.{◌-◌, ◌+◌, length}
 use Rattle.polcert_text.proofs.StreamLexemes.{InLexeme}
-use Rattle.polcert_text.proofs.stream_bytes.StreamBytes.scan_lexeme.Given as goal
+use Rattle.polcert_text.proofs.stream_bytes.StreamBytes.scan_on.Given as goal
 
 abbrev pub invariant-loop-self : goal.invariant-loop-self
 invariant-loop-self g l = InLexeme g.S.Source.reads g.S.Source.failures l.fn.self l.fn.source l.scan l.self l.source
