@@ -1,5 +1,5 @@
 //! What a check asks of a model.
-ghost use Rattle.std.specs.Prelude.{◌≡◌, ℕ, ◌<◌};
+ghost use Rattle.std.specs.Prelude.{◌≡◌, ℕ, ◌<◌, ◌≤◌, length, pos, slice_index_or};
 ghost use Rattle.std.specs.Option.{ForSome};
 ghost use Rattle.polcert_cells.specs.Tables.{Table, IsProper, IsWithinLimits};
 ghost use Rattle.polcert_cells.specs.LentRows.{IsRowOf};
@@ -76,6 +76,19 @@ pub trait Cells {
         ensures { ForSome result (IsRowOf ((table self.now).o a e) (table self.now).observations) }
     {
         None
+    }
+
+    /// Fills in the reward of each observation where action `a` is taken in state `s` and ends in state `e`.
+    fn fill_rewards(&self, a: usize, s: usize, e: usize, rewards: &mut [i64])
+        requires action { a < (table self.now).actions }
+        requires start { s < (table self.now).states }
+        requires end { e < (table self.now).states }
+        requires room { (table self.now).observations ≤ length rewards.old }
+        ensures { (z : ℕ) → z < (table self.now).observations → slice_index_or rewards.new z (pos 0) ≡ (table self.now).r a s e z }
+    {
+        for z in 0..self.observations() {
+            rewards[z] = self.r(a, s, e, z);
+        }
     }
 
     /// The reward where action `a` is taken in state `s` and ends in state `e`, where it is known at once that it is the

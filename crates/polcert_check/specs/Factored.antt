@@ -18,6 +18,11 @@ reward_behind m a s e = sum_below (λ z. pos (m.o a e z) *ℤ m.r a s e z) m.obs
 abbrev pub reward_ahead : Table → ℕ → ℕ → ℤ
 reward_ahead m a s = sum_below (λ e. pos (m.t a s e) *ℤ reward_behind m a s e) m.states
 
+-- the list has the reward of each observation behind end state e
+pub record AreRewardsBehind (m : Table) (a s e : ℕ) (rewards : List ℤ) : Type 0 where
+  pub room : m.observations ≤ length rewards
+  pub each : (z : ℕ) → z < m.observations → slice_index_or rewards z (pos 0) ≡ m.r a s e z
+
 -- the first of the list are the rewards of action a at the first states
 abbrev pub AreRewards : Table → ℕ → List ℤ → ℕ → Type 0
 AreRewards m a sums count = (s : ℕ) → s < count → slice_index_or sums s (pos 0) ≡ reward_ahead m a s

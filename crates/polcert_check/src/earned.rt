@@ -1,10 +1,14 @@
 //! What an action earns at a state, added up once for all nodes that take it.
 ghost use Rattle.std.specs.Prelude.{◌≡◌, ◌*◌, ◌<◌, ◌≤◌, ◌+◌, pos, ◌*ℤ◌, unsigned_abs, length};
 ghost use Rattle.polcert_check.specs.Rows.{most_sum};
-ghost use Rattle.polcert_check.specs.Factored.{reward_behind, reward_ahead, AreRewards};
+ghost use Rattle.std.specs.Option.{ForSome};
+ghost use Rattle.polcert_check.specs.Factored.{reward_behind, reward_ahead, AreRewards, AreRewardsBehind};
 
 use crate::walk::{next_end, next_seen};
-use polcert_model::Cells;
+use polcert_cells::{Cells, MOST_OBSERVATIONS, Row};
+
+/// So many rewards are filled in about as fast as one is asked for.
+const FILLED_FOR_ONE: usize = 64;
 
 /// A weight times a number.
 pub(crate) fn weighed(weight: u64, number: i128) -> i128
@@ -14,34 +18,77 @@ pub(crate) fn weighed(weight: u64, number: i128) -> i128
     (weight as i128) * number
 }
 
-/// What each observation earns behind end state `e`, one by one.
-fn each_reward<C: Cells>(cells: &C, a: usize, s: usize, e: usize) -> i128
+/// The reward of one observation, filled in or asked for.
+#[inline(always)]
+fn reward_of<C: Cells>(
+    cells: &C,
+    a: usize,
+    s: usize,
+    e: usize,
+    z: usize,
+    filled: Option<&[i64]>,
+) -> i64
     requires action { a < (C.table cells.now).actions }
     requires start { s < (C.table cells.now).states }
     requires end { e < (C.table cells.now).states }
+    requires observation { z < (C.table cells.now).observations }
+    requires filled { ForSome filled (λ rewards. AreRewardsBehind (C.table cells.now) a s e rewards.now) }
+    ensures { result ≡ (C.table cells.now).r a s e z }
+{
+    match filled {
+        Some(rewards) => rewards[z],
+        None => cells.r(a, s, e, z),
+    }
+}
+
+/// What each observation earns behind end state `e`, one by one.
+fn each_reward<C: Cells>(cells: &C, a: usize, s: usize, e: usize, filled: Option<&[i64]>) -> i128
+    requires action { a < (C.table cells.now).actions }
+    requires start { s < (C.table cells.now).states }
+    requires end { e < (C.table cells.now).states }
+    requires filled { ForSome filled (λ rewards. AreRewardsBehind (C.table cells.now) a s e rewards.now) }
     ensures { result ≡ reward_behind (C.table cells.now) a s e }
 {
     let mut sum: i128 = 0;
     let row = cells.o_row(a, e);
     let mut at = 0;
     while let Some(seen) = next_seen(cells, a, e, row, at) {
-        sum += weighed(seen.weight, cells.r(a, s, e, seen.column) as i128);
+        let reward = reward_of(cells, a, s, e, seen.column, filled);
+        sum += weighed(seen.weight, reward as i128);
         at = seen.next;
     }
     sum
 }
 
-/// What action `a` earns in state `s` where the step ends in state `e`, without the weight of reaching `e`.
-fn reward_behind<C: Cells>(cells: &C, a: usize, s: usize, e: usize) -> i128
+/// Whether so many observations can be made behind end state `e` that it pays to fill in the rewards of all.
+fn is_crowded<C: Cells>(cells: &C, a: usize, e: usize) -> bool
+    requires action { a < (C.table cells.now).actions }
+    requires end { e < (C.table cells.now).states }
+{
+    match cells.o_row(a, e) {
+        Some(Row::Sparse(seen)) => seen.len() > cells.observations() / FILLED_FOR_ONE,
+        Some(Row::Single(_)) => false,
+        Some(Row::Filled(_)) | None => true,
+    }
+}
+
+/// What action `a` earns in state `s` where the step ends in state `e`, without the weight of reaching `e`. The rewards may be
+/// filled in on the way.
+fn reward_behind<C: Cells>(cells: &C, a: usize, s: usize, e: usize, rewards: &mut [i64]) -> i128
     requires action { a < (C.table cells.now).actions }
     requires start { s < (C.table cells.now).states }
     requires end { e < (C.table cells.now).states }
+    requires room { (C.table cells.now).observations ≤ length rewards.old }
     ensures { result ≡ reward_behind (C.table cells.now) a s e }
 {
-    match cells.r_alike(a, s, e) {
-        Some(reward) => weighed(cells.o_scale(), reward as i128),
-        None => each_reward(cells, a, s, e),
+    if let Some(reward) = cells.r_alike(a, s, e) {
+        return weighed(cells.o_scale(), reward as i128);
     }
+    if !is_crowded(cells, a, e) {
+        return each_reward(cells, a, s, e, None);
+    }
+    cells.fill_rewards(a, s, e, rewards);
+    each_reward(cells, a, s, e, Some(rewards))
 }
 
 /// What action `a` earns in state `s`, on the scale of the weights of one step.
@@ -50,11 +97,15 @@ fn reward_ahead<C: Cells>(cells: &C, a: usize, s: usize) -> i128
     requires start { s < (C.table cells.now).states }
     ensures { result ≡ reward_ahead (C.table cells.now) a s }
 {
+    let mut rewards = [0; MOST_OBSERVATIONS];
     let mut sum: i128 = 0;
     let row = cells.t_row(a, s);
     let mut at = 0;
     while let Some(end) = next_end(cells, a, s, row, at) {
-        sum += weighed(end.weight, reward_behind(cells, a, s, end.column));
+        sum += weighed(
+            end.weight,
+            reward_behind(cells, a, s, end.column, &mut rewards),
+        );
         at = end.next;
     }
     sum

@@ -27,3 +27,4 @@ pub mod RewardAlike
 pub mod RewardPaid
 pub mod RewardSound
 pub mod RewardAt
+pub mod NotedLaws

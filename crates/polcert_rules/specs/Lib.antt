@@ -11,3 +11,4 @@ pub mod Matching
 pub mod Rewards
 pub mod RewardSearch
 pub mod RewardAt
+pub mod Noting

@@ -7,6 +7,7 @@ mod index;
 mod kept;
 mod merging;
 mod newest;
+mod noting;
 mod part;
 mod reward_bodies;
 mod reward_parts;

@@ -1,5 +1,5 @@
 //! The rewards of a model, as rules.
-ghost use Rattle.std.specs.Prelude.{◌≡◌, ◌<◌, ◌≤◌, ◌+◌, ◌^◌, ◌↔◌, ℕ, List, [], ◌∷◌, map, All, Contains, pos, true, false, IfOk, Some, slice_get};
+ghost use Rattle.std.specs.Prelude.{◌≡◌, ◌<◌, ◌≤◌, ◌+◌, ◌^◌, ◌↔◌, ℕ, List, [], ◌∷◌, map, All, Contains, pos, true, false, IfOk, IsTrue, Some, slice_get, length, slice_index_or};
 ghost use Rattle.std.specs.Option.{ForSome};
 ghost use Rattle.polcert_rules.specs.declared.rule.Rule.{Rule as R};
 ghost use Rattle.polcert_cells.specs.declared.entry.Entry.{Entry as E};
@@ -15,11 +15,12 @@ ghost use Rattle.polcert_rules.specs.Rewards.{IsShapeOf, IsSmall, AreRewardsOf};
 ghost use Rattle.polcert_rules.specs.RewardSearch.{AreWithin, IsLastBody};
 
 use crate::newest::newest;
+use crate::noting::note;
 use crate::reward_bodies::{RewardBodies, behind, cell_in};
 use crate::reward_parts::{RewardBody, RewardShape};
 use crate::reward_search::some_begins;
 use crate::{Index, Rule};
-use polcert_cells::{Entries, Table};
+use polcert_cells::{Entries, MOST_OBSERVATIONS, Table};
 use std::alloc::{AllocError, Global};
 use std::marker::Model;
 
@@ -30,6 +31,9 @@ const MOST_PLACES: usize = 4;
 
 /// What a key goes on with, at least, where its last place is an index.
 const AN_INDEX: u64 = 2;
+
+/// How many observations rules are noted for: all that there may be, and behind them one that no entry names.
+const NOTED: usize = MOST_OBSERVATIONS + 1;
 
 /// The rewards that a list of entries gives: of each pattern of R the last entry, and its numbers, each as it is worth.
 #[derive(Drop)]
@@ -94,6 +98,37 @@ impl Rewards {
         self.at_cell(&[action, start, end, observation])
     }
 
+    /// Fills in the rewards of all observations where this action is taken in the start state and ends in the end state.
+    pub fn fill(&self, action: usize, start: usize, end: usize, rewards: &mut [i64])
+        requires action { action < self.now.shape.actions }
+        requires start { start < self.now.shape.states }
+        requires end { end < self.now.shape.states }
+        requires room { self.now.shape.observations ≤ length rewards.old }
+        ensures { (p : Preamble) (entries : List E) → AreRewardsOf p entries self.now → (z : ℕ) → z < self.now.shape.observations →
+            slice_index_or rewards.new z (pos 0) ≡ reward p entries (action ∷ start ∷ end ∷ z ∷ []) }
+    {
+        let count = self.shape.observations;
+        let mut noted = [None; NOTED];
+        note(
+            self.rules.as_slice(),
+            LOW,
+            MOST_PLACES,
+            &[action, start, end],
+            count + 1,
+            &mut noted,
+        );
+        let shared = noted[count];
+        let shared_body = self.body_of(shared);
+        for z in 0..count {
+            let body = if is_same(noted[z], shared) {
+                shared_body
+            } else {
+                self.body_of(noted[z])
+            };
+            rewards[z] = self.given(body, &[action, start, end, z]);
+        }
+    }
+
     /// The reward where it is known at once that it is the same for every observation: no entry names an observation
     /// where this action is taken in the start state and ends in the end state, and the last that covers these has a
     /// single number.
@@ -146,7 +181,17 @@ impl Rewards {
         ensures { (p : Preamble) (entries : List E) → AreRewardsOf p entries self.now →
             AreWithin (map count_of (dimensions p RewardTable)) indices.now → result ≡ reward p entries indices.now }
     {
-        match self.newest_body(indices) {
+        self.given(self.newest_body(indices), indices)
+    }
+
+    /// What the body of the last entry that covers the cell at these indices gives it; 0 where there is none.
+    fn given(&self, body: Option<RewardBody>, indices: &[usize]) -> i64
+        requires { AreIndices most_places indices.now }
+        ensures { (p : Preamble) (entries : List E) → AreRewardsOf p entries self.now →
+            AreWithin (map count_of (dimensions p RewardTable)) indices.now →
+            IsLastBody p.costs entries self.now.numbers indices.now body → result ≡ reward p entries indices.now }
+    {
+        match body {
             Some(body) => {
                 let left = behind(body.places as usize, indices);
                 let cell = cell_in(self.shape.states, self.shape.observations, left);
@@ -171,10 +216,30 @@ impl Rewards {
         ensures { (p : Preamble) (entries : List E) → AreRewardsOf p entries self.now →
             IsLastBody p.costs entries self.now.numbers indices.now result }
     {
-        match newest(self.rules.as_slice(), LOW, MOST_PLACES, indices) {
+        self.body_of(newest(self.rules.as_slice(), LOW, MOST_PLACES, indices))
+    }
+
+    /// The body of the rule of this number.
+    fn body_of(&self, number: Option<usize>) -> Option<RewardBody>
+        ensures { (indices : List ℕ) (p : Preamble) (entries : List E) → AreIndices most_places indices → AreRewardsOf p entries self.now →
+            IsNewest self.now.rules (Fits most_places (table_key RewardTable) indices) number →
+            IsLastBody p.costs entries self.now.numbers indices result }
+    {
+        match number {
             Some(number) => self.bodies.find(number),
             None => None,
         }
+    }
+}
+
+/// Whether two rules have one number, or there are none.
+fn is_same(one: Option<usize>, other: Option<usize>) -> bool
+    ensures { IsTrue result ↔ (one ≡ other) }
+{
+    match (one, other) {
+        (Some(m), Some(n)) => m == n,
+        (None, None) => true,
+        _ => false,
     }
 }
 

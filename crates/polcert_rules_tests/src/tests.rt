@@ -78,6 +78,22 @@ fn cells(alloc: Global, costs: bool, lines: &[(&[usize], &[i64])]) -> Option<[i6
     Some(all)
 }
 
+/// The same, filled in for each action, start state and end state.
+fn filled(alloc: Global, costs: bool, lines: &[(&[usize], &[i64])]) -> Option<[i64; CELLS]> {
+    let rewards = match rewards(alloc, costs, lines) {
+        Ok(rewards) => rewards,
+        Err(_) => return None,
+    };
+    let mut all = [0; CELLS];
+    for step in 0..CELLS / 2 {
+        let mut seen = [99; 3];
+        rewards.fill(step / 4, step / 2 % 2, step % 2, &mut seen);
+        all[step * 2] = seen[0];
+        all[step * 2 + 1] = seen[1];
+    }
+    Some(all)
+}
+
 /// Each of the 28 patterns alone, with the rewards of all cells: by action, start state, end state and observation.
 const PATTERNS: [(&[usize], &[i64], [i64; CELLS]); 28] = [
     (
@@ -230,6 +246,11 @@ fn each_pattern_alone(rt: HostRuntime) {
             Some(wanted),
             "{pattern:?}"
         );
+        assert_eq!(rt;
+            filled(rt.alloc(), false, &[(pattern, written)]),
+            Some(wanted),
+            "{pattern:?}"
+        );
     }
 }
 
@@ -245,24 +266,32 @@ const WIDE: (&[usize], &[i64]) = (&[ANY, 0, ANY, ANY], &[5]);
 
 const NARROW: (&[usize], &[i64]) = (&[1, ANY, 1], &[8, 9]);
 
+/// Lists of entries in which some hide others, with the rewards of all cells.
+const HIDDEN: [(&[(&[usize], &[i64])], [i64; CELLS]); 4] = [
+    (
+        &[WIDE, NARROW, (&[ANY, ANY, ANY, ANY], &[2]), NARROW],
+        [2, 2, 2, 2, 2, 2, 2, 2, 2, 2, 8, 9, 2, 2, 8, 9],
+    ),
+    (
+        &[WIDE, NARROW],
+        [5, 5, 5, 5, 0, 0, 0, 0, 5, 5, 8, 9, 0, 0, 8, 9],
+    ),
+    (
+        &[NARROW, WIDE],
+        [5, 5, 5, 5, 0, 0, 0, 0, 5, 5, 5, 5, 0, 0, 8, 9],
+    ),
+    (
+        &[(&[ANY, 0, 1, 1], &[7]), WIDE, (&[0, ANY, 0, 1], &[3])],
+        [5, 3, 5, 5, 0, 3, 0, 0, 5, 5, 5, 5, 0, 0, 0, 0],
+    ),
+];
+
 #[test]
 fn the_last_entry_hides(rt: HostRuntime) {
-    assert_eq!(rt;
-        cells(
-            rt.alloc(),
-            false,
-            &[WIDE, NARROW, (&[ANY, ANY, ANY, ANY], &[2]), NARROW]
-        ),
-        Some([2, 2, 2, 2, 2, 2, 2, 2, 2, 2, 8, 9, 2, 2, 8, 9])
-    );
-    assert_eq!(rt;
-        cells(rt.alloc(), false, &[WIDE, NARROW]),
-        Some([5, 5, 5, 5, 0, 0, 0, 0, 5, 5, 8, 9, 0, 0, 8, 9])
-    );
-    assert_eq!(rt;
-        cells(rt.alloc(), false, &[NARROW, WIDE]),
-        Some([5, 5, 5, 5, 0, 0, 0, 0, 5, 5, 5, 5, 0, 0, 8, 9])
-    );
+    for (lines, wanted) in HIDDEN {
+        assert_eq!(rt; cells(rt.alloc(), false, lines), Some(wanted), "{lines:?}");
+        assert_eq!(rt; filled(rt.alloc(), false, lines), Some(wanted), "{lines:?}");
+    }
 }
 
 fn alike_at(

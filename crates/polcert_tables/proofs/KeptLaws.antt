@@ -67,6 +67,10 @@ kept_same d k few h = record {
 pub mdp_reward : (k : Kept) (a s e z : ℕ) → is_mdp k.preamble ≡ true → (meaning k).r a s e z ≡ (meaning k).r a s e 0
 mdp_reward k a s e z mdp = ap (λ b. reward_at k.rewards a s e (cond b 0 z)) mdp ∙ sym (ap (λ b. reward_at k.rewards a s e (cond b 0 0)) mdp)
 
+-- where observations are named, a reward's last index is the observation
+pub observed_index : (p : Preamble) (z : ℕ) → is_mdp p ≡ false → reward_index p z ≡ z
+observed_index p z pomdp = ap (λ b. cond b 0 z) pomdp
+
 sum_of_none : (n k e : ℕ) → n ≤ e → sum_below (λ z. cond (e == z) k 0) n ≡ 0
 sum_of_none zero k e l = refl
 sum_of_none (suc n) k e l =

@@ -1,5 +1,5 @@
 //! A model whose rows aren't tested yet.
-ghost use Rattle.std.specs.Prelude.{◌≡◌, ◌<◌, ◌≤◌, option_map, false, pos, ℕ, IfOk, IsTrue};
+ghost use Rattle.std.specs.Prelude.{◌≡◌, ◌<◌, ◌≤◌, option_map, false, pos, ℕ, IfOk, IsTrue, length, slice_index_or};
 ghost use Rattle.std.specs.Option.{ForSome, option_copied};
 ghost use Rattle.polcert_cells.specs.LentRows.{IsRowOf};
 ghost use Rattle.polcert_cells.specs.Elements.{most_states, most_actions, most_observations, most_elements, count_of, name_of};
@@ -253,6 +253,33 @@ impl Draft {
         match &self.observations {
             None => Some(self.r(a, s, e, 0)),
             Some(_) => self.rewards.alike(a, s, e),
+        }
+    }
+
+    /// Fills in the reward of each observation where action `a` is taken in state `s` and ends in state `e`.
+    pub fn fill_rewards(&self, a: usize, s: usize, e: usize, rewards: &mut [i64])
+        requires action { a < actions_of (meaning self.now) }
+        requires start { s < states_of (meaning self.now) }
+        requires end { e < states_of (meaning self.now) }
+        requires room { observations_of (meaning self.now) ≤ length rewards.old }
+        ensures { (z : ℕ) → z < observations_of (meaning self.now) → slice_index_or rewards.new z (pos 0) ≡ (meaning self.now).r a s e z }
+    {
+        match &self.observations {
+            None => self.fill_each(a, s, e, rewards),
+            Some(_) => self.rewards.fill(a, s, e, rewards),
+        }
+    }
+
+    /// The same, one observation after the other.
+    fn fill_each(&self, a: usize, s: usize, e: usize, rewards: &mut [i64])
+        requires action { a < actions_of (meaning self.now) }
+        requires start { s < states_of (meaning self.now) }
+        requires end { e < states_of (meaning self.now) }
+        requires room { observations_of (meaning self.now) ≤ length rewards.old }
+        ensures { (z : ℕ) → z < observations_of (meaning self.now) → slice_index_or rewards.new z (pos 0) ≡ (meaning self.now).r a s e z }
+    {
+        for z in 0..self.observations() {
+            rewards[z] = self.r(a, s, e, z);
         }
     }
 

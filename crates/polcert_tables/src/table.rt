@@ -65,6 +65,10 @@ impl Cells for Model {
         Some(self.draft().o_row(a, e))
     }
 
+    fn fill_rewards(&self, a: usize, s: usize, e: usize, rewards: &mut [i64]) {
+        self.draft().fill_rewards(a, s, e, rewards);
+    }
+
     fn r_alike(&self, a: usize, s: usize, e: usize) -> Option<i64> {
         self.draft().r_alike(a, s, e)
     }

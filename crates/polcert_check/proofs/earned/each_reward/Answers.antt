@@ -9,20 +9,20 @@ pub overflow_add-sum : goal.overflow_add-sum
 overflow_add-sum g c =
     let m : Table = g.C.Cells.table c.args.cells.now in
     let fx : FitsSigned w128 c.weighed-sum.result = search rules in
-    let fh : FitsSigned w64 c.r.result = search rules in
-    let fh2 : FitsSigned w128 (to_z w64 (of_z w64 c.r.result)) = search rules in
+    let fh : FitsSigned w64 c.reward_of-reward.result = search rules in
+    let fh2 : FitsSigned w128 (to_z w64 (of_z w64 c.reward_of-reward.result)) = search rules in
     let next = c.in-Some.ensures.0 in
-    (reward_step m (g.met.C.Cells.is_proper c.args.cells.now) (g.met.C.Cells.is_within_limits c.args.cells.now) c.args.a c.args.s c.args.e (reached c.o_row-row.result c.loop-seen.at) c.in-Some.seen.column c.in-Some.seen.weight (to_z w128 c.loop-seen.sum-bits) c.weighed-sum.result c.r.result c.requires.action c.requires.start c.requires.end next.0 next.1 next.2 next.4 c.loop-seen.invariant.sum fx fh fh2 c.weighed-sum.ensures c.r.ensures).0
+    (reward_step m (g.met.C.Cells.is_proper c.args.cells.now) (g.met.C.Cells.is_within_limits c.args.cells.now) c.args.a c.args.s c.args.e (reached c.o_row-row.result c.loop-seen.at) c.in-Some.seen.column c.in-Some.seen.weight (to_z w128 c.loop-seen.sum-bits) c.weighed-sum.result c.reward_of-reward.result c.requires.action c.requires.start c.requires.end next.0 next.1 next.2 next.4 c.loop-seen.invariant.sum fx fh fh2 c.weighed-sum.ensures c.reward_of-reward.ensures).0
 
 pub loop-seen-preserved : goal.loop-seen-preserved
 loop-seen-preserved g c =
     let m : Table = g.C.Cells.table c.args.cells.now in
     let fx : FitsSigned w128 c.weighed-sum.result = search rules in
-    let fh : FitsSigned w64 c.r.result = search rules in
-    let fh2 : FitsSigned w128 (to_z w64 (of_z w64 c.r.result)) = search rules in
+    let fh : FitsSigned w64 c.reward_of-reward.result = search rules in
+    let fh2 : FitsSigned w128 (to_z w64 (of_z w64 c.reward_of-reward.result)) = search rules in
     let next = c.in-Some.ensures.0 in
     rw c.in-Some.ensures.1 (record {
-      sum = (reward_step m (g.met.C.Cells.is_proper c.args.cells.now) (g.met.C.Cells.is_within_limits c.args.cells.now) c.args.a c.args.s c.args.e (reached c.o_row-row.result c.loop-seen.at) c.in-Some.seen.column c.in-Some.seen.weight (to_z w128 c.loop-seen.sum-bits) c.weighed-sum.result c.r.result c.requires.action c.requires.start c.requires.end next.0 next.1 next.2 next.4 c.loop-seen.invariant.sum fx fh fh2 c.weighed-sum.ensures c.r.ensures).1;
+      sum = (reward_step m (g.met.C.Cells.is_proper c.args.cells.now) (g.met.C.Cells.is_within_limits c.args.cells.now) c.args.a c.args.s c.args.e (reached c.o_row-row.result c.loop-seen.at) c.in-Some.seen.column c.in-Some.seen.weight (to_z w128 c.loop-seen.sum-bits) c.weighed-sum.result c.reward_of-reward.result c.requires.action c.requires.start c.requires.end next.0 next.1 next.2 next.4 c.loop-seen.invariant.sum fx fh fh2 c.weighed-sum.ensures c.reward_of-reward.ensures).1;
       within = omega (arith, c.in-Some.ensures.0.1);
     })
 
