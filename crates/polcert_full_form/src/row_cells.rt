@@ -40,9 +40,7 @@ pub(crate) fn reward_row(
     ensures { (z : ℕ) → z < observations_of (meaning model.now) → get_or result z (pos 0) ≡ (meaning model.now).r action start end z }
 {
     let mut rewards = [0; MOST_OBSERVATIONS];
-    for observation in 0..model.observations() {
-        rewards[observation] = model.r(action, start, end, observation);
-    }
+    model.draft().fill_rewards(action, start, end, &mut rewards);
     rewards
 }
 
