@@ -144,6 +144,22 @@ def mdp_check(folder):
     graph_and_vectors(folder, 'mdp', 20, 1000, 16, 1000, 8)
 
 
+def many_nodes_check(folder):
+    """10,000 nodes over a model of 2 states, 3 actions and 2 observations; every pair passes."""
+    with open(f'{folder}/nodes.POMDP', 'w') as out:
+        preamble(out, 2, 3, 2)
+        out.write('T: * uniform\nO: * uniform\nR: * : * : * : * -1\n')
+    graph_and_vectors(folder, 'nodes', 10_000, 2, 3, 2, 13, value='-20')
+
+
+def many_actions_check(folder):
+    """One node over a model of 5 states, 1,000 actions and 2 observations; every pair passes."""
+    with open(f'{folder}/actions.POMDP', 'w') as out:
+        preamble(out, 5, 1000, 2)
+        out.write('T: * uniform\nO: * uniform\nR: * : * : * : * 1\n')
+    graph_and_vectors(folder, 'actions', 1, 5, 1000, 2, 14)
+
+
 def large_text(folder):
     """A text of some 50 MB: six matrices of T of 1,000,000 numbers each."""
     generator = random.Random(9)
@@ -222,6 +238,8 @@ INPUTS = {
     'singles': single_reward_check,
     'wide': sparse_check,
     'mdp': mdp_check,
+    'nodes': many_nodes_check,
+    'actions': many_actions_check,
     'large': large_text,
     'matrices': matrices,
     'cells': all_cells,

@@ -6,9 +6,10 @@ ghost use Rattle.polcert_check.specs.Rows.{IsController, ValuesAreWithin};
 ghost use Rattle.polcert_check.specs.Verdict.{IsVerdict};
 ghost use Rattle.polcert_check.specs.Factored.{node_or, or_verdict, IsActionVerdict};
 
+use crate::buffers::Buffers;
 use crate::pairs::{is_yes, visit};
 use crate::verdict::Verdict;
-use polcert_cells::{Cells, MOST_STATES};
+use polcert_model::Cells;
 use polcert_policy::{Graph, Vectors};
 
 /// The node that the verdict names, or this one where it is yes.
@@ -45,10 +46,9 @@ fn first_of_action<C: Cells>(
     requires limit { limit ≤ nodes graph.now }
     ensures { IsActionVerdict (controller_of (C.table cells.now) graph.now vectors.now) a limit result }
 {
-    let mut sums = [0; MOST_STATES];
-    let mut filled = 0;
+    let mut buffers = Buffers::new();
     for n in 0..limit {
-        let found = visit(cells, graph, vectors, a, n, &mut sums, &mut filled);
+        let found = visit(cells, graph, vectors, a, n, &mut buffers);
         if !is_yes(found) {
             return found;
         }

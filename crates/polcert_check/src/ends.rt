@@ -3,7 +3,7 @@ ghost use Rattle.std.specs.Prelude.{◌≡◌, ◌<◌, ◌≤◌, ◌+◌, pos,
 ghost use Rattle.polcert_policy.specs.Graphs.{nodes};
 ghost use Rattle.polcert_check.specs.Horizon.{Fits, controller_of, sum_below};
 ghost use Rattle.polcert_check.specs.Rows.{IsController, ValuesAreWithin};
-ghost use Rattle.polcert_check.specs.Factored.{value_term, value_behind, IsLeastOf, Misses, IsMissedAt, IsAhead, IsLesser, AreEnds, AreWithin};
+ghost use Rattle.polcert_check.specs.Factored.{value_term, value_behind, IsLeastOf, Misses, IsMissedAt, IsAhead, IsLesser, AreWithin};
 
 use crate::earned::weighed;
 use crate::walk::{next_end, next_seen};
@@ -73,7 +73,13 @@ fn one_end<C: Cells>(cells: &C, graph: &Graph, vectors: &Vectors, n: usize, sigh
 }
 
 /// What node `n` expects behind end state `e`, without the weight of reaching it.
-fn end_of<C: Cells>(cells: &C, graph: &Graph, vectors: &Vectors, n: usize, e: usize) -> Steps
+pub(crate) fn end_of<C: Cells>(
+    cells: &C,
+    graph: &Graph,
+    vectors: &Vectors,
+    n: usize,
+    e: usize,
+) -> Steps
     requires fits { Fits (C.table cells.now) graph.now vectors.now }
     requires node { n < nodes graph.now }
     requires end { e < (C.table cells.now).states }
@@ -99,30 +105,6 @@ fn end_of<C: Cells>(cells: &C, graph: &Graph, vectors: &Vectors, n: usize, e: us
         at = seen.next;
     }
     Steps { worth, missing }
-}
-
-/// Fills in what node `n` expects behind each end state.
-pub(crate) fn fill_ends<C: Cells>(
-    cells: &C,
-    graph: &Graph,
-    vectors: &Vectors,
-    n: usize,
-    worths: &mut [i128],
-    missing: &mut [Option<usize>],
-)
-    requires fits { Fits (C.table cells.now) graph.now vectors.now }
-    requires node { n < nodes graph.now }
-    requires room { (C.table cells.now).states ≤ length worths.old }
-    requires room_too { (C.table cells.now).states ≤ length missing.old }
-    requires proper { IsController (controller_of (C.table cells.now) graph.now vectors.now) }
-    requires values { ValuesAreWithin (controller_of (C.table cells.now) graph.now vectors.now) }
-    ensures { AreEnds (controller_of (C.table cells.now) graph.now vectors.now) n worths.new missing.new }
-{
-    for e in 0..cells.states() {
-        let end = end_of(cells, graph, vectors, n, e);
-        worths[e] = end.worth;
-        missing[e] = end.missing;
-    }
 }
 
 /// The steps of action `a` in state `s`, over what was filled in behind each end state.

@@ -2,6 +2,7 @@
 #![tactic(auto)]
 
 mod actions;
+mod buffers;
 mod earned;
 mod ends;
 mod examples;

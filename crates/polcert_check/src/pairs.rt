@@ -7,11 +7,12 @@ ghost use Rattle.polcert_check.specs.Rows.{IsController, ValuesAreWithin};
 ghost use Rattle.polcert_check.specs.declared.verdict.Verdict.TheVariants.{Yes};
 ghost use Rattle.polcert_check.specs.Factored.{reward_ahead, AreRewards, AreEnds, IsPairVerdict, IsNodeVerdict, IsVisit};
 
+use crate::buffers::Buffers;
 use crate::earned::{keep_reward, weighed};
-use crate::ends::{Ends, fill_ends, steps_ahead};
+use crate::ends::{Ends, steps_ahead};
 use crate::shortfall::scaled_value;
 use crate::verdict::Verdict;
-use polcert_cells::{Cells, MOST_STATES};
+use polcert_model::Cells;
 use polcert_policy::{Graph, Vectors};
 
 /// How far a value is above what it is backed by: what its action earns, and what its node expects.
@@ -114,28 +115,32 @@ fn at_node<C: Cells>(
     graph: &Graph,
     vectors: &Vectors,
     n: usize,
-    sums: &mut [i128],
-    filled: &mut usize,
+    buffers: &mut Buffers,
 ) -> Verdict
     requires fits { Fits (C.table cells.now) graph.now vectors.now }
     requires node { n < nodes graph.now }
     requires proper { IsController (controller_of (C.table cells.now) graph.now vectors.now) }
     requires values { ValuesAreWithin (controller_of (C.table cells.now) graph.now vectors.now) }
-    requires room { (C.table cells.now).states ≤ length sums.old }
-    requires within { filled.old ≤ (C.table cells.now).states }
-    requires kept { AreRewards (C.table cells.now) ((controller_of (C.table cells.now) graph.now vectors.now).action n) sums.old filled.old }
+    requires within { buffers.old.filled ≤ (C.table cells.now).states }
+    requires kept { AreRewards (C.table cells.now) ((controller_of (C.table cells.now) graph.now vectors.now).action n) buffers.old.sums buffers.old.filled }
     ensures verdict { IsNodeVerdict (controller_of (C.table cells.now) graph.now vectors.now) n result }
-    ensures within { filled.new ≤ (C.table cells.now).states }
-    ensures kept { AreRewards (C.table cells.now) ((controller_of (C.table cells.now) graph.now vectors.now).action n) sums.new filled.new }
+    ensures within { buffers.new.filled ≤ (C.table cells.now).states }
+    ensures kept { AreRewards (C.table cells.now) ((controller_of (C.table cells.now) graph.now vectors.now).action n) buffers.new.sums buffers.new.filled }
 {
-    let mut worths = [0; MOST_STATES];
-    let mut missing = [None; MOST_STATES];
-    fill_ends(cells, graph, vectors, n, &mut worths, &mut missing);
+    buffers.fill_ends(cells, graph, vectors, n);
     let ends = Ends {
-        worths: &worths,
-        missing: &missing,
+        worths: &buffers.worths,
+        missing: &buffers.missing,
     };
-    first_state(cells, graph, vectors, n, ends, sums, filled)
+    first_state(
+        cells,
+        graph,
+        vectors,
+        n,
+        ends,
+        &mut buffers.sums,
+        &mut buffers.filled,
+    )
 }
 
 /// The first state at which node `n` doesn't pass, if the node takes action `a`.
@@ -145,22 +150,20 @@ pub(crate) fn visit<C: Cells>(
     vectors: &Vectors,
     a: usize,
     n: usize,
-    sums: &mut [i128],
-    filled: &mut usize,
+    buffers: &mut Buffers,
 ) -> Verdict
     requires fits { Fits (C.table cells.now) graph.now vectors.now }
     requires node { n < nodes graph.now }
     requires proper { IsController (controller_of (C.table cells.now) graph.now vectors.now) }
     requires values { ValuesAreWithin (controller_of (C.table cells.now) graph.now vectors.now) }
-    requires room { (C.table cells.now).states ≤ length sums.old }
-    requires within { filled.old ≤ (C.table cells.now).states }
-    requires kept { AreRewards (C.table cells.now) a sums.old filled.old }
+    requires within { buffers.old.filled ≤ (C.table cells.now).states }
+    requires kept { AreRewards (C.table cells.now) a buffers.old.sums buffers.old.filled }
     ensures verdict { IsVisit (controller_of (C.table cells.now) graph.now vectors.now) a n result }
-    ensures within { filled.new ≤ (C.table cells.now).states }
-    ensures kept { AreRewards (C.table cells.now) a sums.new filled.new }
+    ensures within { buffers.new.filled ≤ (C.table cells.now).states }
+    ensures kept { AreRewards (C.table cells.now) a buffers.new.sums buffers.new.filled }
 {
     if graph.action(n) != a {
         return Verdict::Yes;
     }
-    at_node(cells, graph, vectors, n, sums, filled)
+    at_node(cells, graph, vectors, n, buffers)
 }

@@ -8,10 +8,11 @@ ghost use Rattle.polcert_check.specs.Rows.{IsController, ValuesAreWithin};
 ghost use Rattle.polcert_check.specs.Worst.{IsWorst, IsWorstOf, AtNode, AtVisit, OfAction};
 ghost use Rattle.polcert_check.specs.Factored.{reward_ahead, AreRewards, AreEnds};
 
+use crate::buffers::Buffers;
 use crate::earned::keep_reward;
-use crate::ends::{Ends, fill_ends, steps_ahead};
+use crate::ends::{Ends, steps_ahead};
 use crate::pairs::amount_above;
-use polcert_cells::{Cells, MOST_STATES};
+use polcert_model::Cells;
 use polcert_policy::{Graph, Vectors};
 
 /// The number itself, or 0 where it is below 0.
@@ -95,29 +96,33 @@ fn worst_node<C: Cells>(
     graph: &Graph,
     vectors: &Vectors,
     n: usize,
-    sums: &mut [i128],
-    filled: &mut usize,
+    buffers: &mut Buffers,
 ) -> u128
     requires fits { Fits (C.table cells.now) graph.now vectors.now }
     requires node { n < nodes graph.now }
     requires proper { IsController (controller_of (C.table cells.now) graph.now vectors.now) }
     requires values { ValuesAreWithin (controller_of (C.table cells.now) graph.now vectors.now) }
     requires none { NoneLacks (controller_of (C.table cells.now) graph.now vectors.now) }
-    requires room { (C.table cells.now).states ≤ length sums.old }
-    requires within { filled.old ≤ (C.table cells.now).states }
-    requires kept { AreRewards (C.table cells.now) ((controller_of (C.table cells.now) graph.now vectors.now).action n) sums.old filled.old }
+    requires within { buffers.old.filled ≤ (C.table cells.now).states }
+    requires kept { AreRewards (C.table cells.now) ((controller_of (C.table cells.now) graph.now vectors.now).action n) buffers.old.sums buffers.old.filled }
     ensures worst { IsWorstOf (controller_of (C.table cells.now) graph.now vectors.now) (AtNode n (C.table cells.now).states) result }
-    ensures within { filled.new ≤ (C.table cells.now).states }
-    ensures kept { AreRewards (C.table cells.now) ((controller_of (C.table cells.now) graph.now vectors.now).action n) sums.new filled.new }
+    ensures within { buffers.new.filled ≤ (C.table cells.now).states }
+    ensures kept { AreRewards (C.table cells.now) ((controller_of (C.table cells.now) graph.now vectors.now).action n) buffers.new.sums buffers.new.filled }
 {
-    let mut worths = [0; MOST_STATES];
-    let mut missing = [None; MOST_STATES];
-    fill_ends(cells, graph, vectors, n, &mut worths, &mut missing);
+    buffers.fill_ends(cells, graph, vectors, n);
     let ends = Ends {
-        worths: &worths,
-        missing: &missing,
+        worths: &buffers.worths,
+        missing: &buffers.missing,
     };
-    worst_state(cells, graph, vectors, n, ends, sums, filled)
+    worst_state(
+        cells,
+        graph,
+        vectors,
+        n,
+        ends,
+        &mut buffers.sums,
+        &mut buffers.filled,
+    )
 }
 
 /// The greatest shortfall of node `n` if it takes action `a`, else 0.
@@ -127,26 +132,24 @@ fn worst_visit<C: Cells>(
     vectors: &Vectors,
     a: usize,
     n: usize,
-    sums: &mut [i128],
-    filled: &mut usize,
+    buffers: &mut Buffers,
 ) -> u128
     requires fits { Fits (C.table cells.now) graph.now vectors.now }
     requires node { n < nodes graph.now }
     requires proper { IsController (controller_of (C.table cells.now) graph.now vectors.now) }
     requires values { ValuesAreWithin (controller_of (C.table cells.now) graph.now vectors.now) }
     requires none { NoneLacks (controller_of (C.table cells.now) graph.now vectors.now) }
-    requires room { (C.table cells.now).states ≤ length sums.old }
-    requires within { filled.old ≤ (C.table cells.now).states }
-    requires kept { AreRewards (C.table cells.now) a sums.old filled.old }
+    requires within { buffers.old.filled ≤ (C.table cells.now).states }
+    requires kept { AreRewards (C.table cells.now) a buffers.old.sums buffers.old.filled }
     ensures worst { IsWorstOf (controller_of (C.table cells.now) graph.now vectors.now)
         (AtVisit (controller_of (C.table cells.now) graph.now vectors.now) a n) result }
-    ensures within { filled.new ≤ (C.table cells.now).states }
-    ensures kept { AreRewards (C.table cells.now) a sums.new filled.new }
+    ensures within { buffers.new.filled ≤ (C.table cells.now).states }
+    ensures kept { AreRewards (C.table cells.now) a buffers.new.sums buffers.new.filled }
 {
     if graph.action(n) != a {
         return 0;
     }
-    worst_node(cells, graph, vectors, n, sums, filled)
+    worst_node(cells, graph, vectors, n, buffers)
 }
 
 /// The greatest shortfall of all nodes that take action `a`.
@@ -158,11 +161,10 @@ fn worst_of_action<C: Cells>(cells: &C, graph: &Graph, vectors: &Vectors, a: usi
     ensures { IsWorstOf (controller_of (C.table cells.now) graph.now vectors.now)
         (OfAction (controller_of (C.table cells.now) graph.now vectors.now) a (nodes graph.now)) result }
 {
-    let mut sums = [0; MOST_STATES];
-    let mut filled = 0;
+    let mut buffers = Buffers::new();
     let mut worst: u128 = 0;
     for n in 0..graph.nodes() {
-        let here = worst_visit(cells, graph, vectors, a, n, &mut sums, &mut filled);
+        let here = worst_visit(cells, graph, vectors, a, n, &mut buffers);
         worst = greater(worst, here);
     }
     worst
