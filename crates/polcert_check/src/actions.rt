@@ -39,6 +39,7 @@ fn first_of_action<C: Cells>(
     vectors: &Vectors,
     a: usize,
     limit: usize,
+    buffers: &mut Buffers,
 ) -> Verdict
     requires fits { Fits (C.table cells.now) graph.now vectors.now }
     requires proper { IsController (controller_of (C.table cells.now) graph.now vectors.now) }
@@ -46,9 +47,9 @@ fn first_of_action<C: Cells>(
     requires limit { limit ≤ nodes graph.now }
     ensures { IsActionVerdict (controller_of (C.table cells.now) graph.now vectors.now) a limit result }
 {
-    let mut buffers = Buffers::new();
+    buffers.clear();
     for n in 0..limit {
-        let found = visit(cells, graph, vectors, a, n, &mut buffers);
+        let found = visit(cells, graph, vectors, a, n, buffers);
         if !is_yes(found) {
             return found;
         }
@@ -64,9 +65,11 @@ pub(crate) fn first_failing<C: Cells>(cells: &C, graph: &Graph, vectors: &Vector
     let nodes = graph.nodes();
     let vector_count = vectors.nodes();
     prove!(nodes == vector_count);
+    let mut buffers = Buffers::new();
     let mut answer = Verdict::Yes;
     for a in 0..cells.actions() {
-        let found = first_of_action(cells, graph, vectors, a, node_or(nodes, answer));
+        let limit = node_or(nodes, answer);
+        let found = first_of_action(cells, graph, vectors, a, limit, &mut buffers);
         answer = or_verdict(found, answer);
     }
     answer

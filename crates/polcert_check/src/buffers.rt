@@ -1,16 +1,18 @@
-//! Room for what is added up for the nodes of an action.
-ghost use Rattle.std.specs.Prelude.{◌≡◌, ◌<◌, length};
-ghost use Rattle.polcert_cells.specs.Elements.{most_states};
+//! Room for what is added up for an action and for its nodes.
+ghost use Rattle.std.specs.Prelude.{◌≡◌, ◌<◌, ◌≤◌, length};
+ghost use Rattle.polcert_cells.specs.Elements.{most_states, most_observations};
 ghost use Rattle.polcert_policy.specs.Graphs.{nodes};
 ghost use Rattle.polcert_check.specs.Horizon.{Fits, controller_of};
 ghost use Rattle.polcert_check.specs.Rows.{IsController, ValuesAreWithin};
-ghost use Rattle.polcert_check.specs.Factored.{AreEnds};
+ghost use Rattle.polcert_check.specs.Factored.{AreEnds, AreRewards};
 
-use crate::ends::end_of;
-use polcert_cells::{Cells, MOST_STATES};
+use crate::earned::reward_ahead;
+use crate::ends::{Ends, end_of};
+use polcert_cells::{Cells, MOST_OBSERVATIONS, MOST_STATES};
 use polcert_policy::{Graph, Vectors};
 
-/// What an action earns, kept for all nodes that take it, and room for what each of these nodes expects.
+/// What an action earns, kept for all nodes that take it, and room for what each of these nodes expects. They are made once for
+/// all actions.
 #[derive(Drop)]
 pub(crate) struct Buffers {
     /// What the action earns at each of the first `filled` states.
@@ -19,9 +21,12 @@ pub(crate) struct Buffers {
     /// What a node expects behind each end state, and the least observation there for which it has no successor.
     pub worths: [i128; MOST_STATES],
     pub missing: [Option<usize>; MOST_STATES],
+    /// Room for the rewards of all observations.
+    rewards: [i64; MOST_OBSERVATIONS],
     ghost room_for_sums: { length sums ≡ most_states },
     ghost room_for_worths: { length worths ≡ most_states },
     ghost room_for_missing: { length missing ≡ most_states },
+    ghost room_for_rewards: { length rewards ≡ most_observations },
 }
 
 impl Buffers {
@@ -34,6 +39,44 @@ impl Buffers {
             filled: 0,
             worths: [0; MOST_STATES],
             missing: [None; MOST_STATES],
+            rewards: [0; MOST_OBSERVATIONS],
+        }
+    }
+
+    /// Goes on to another action, of which nothing is kept yet.
+    pub(crate) fn clear(&mut self)
+        ensures { self.new.filled ≡ 0 }
+    {
+        self.filled = 0;
+    }
+
+    /// Keeps what action `a` earns in state `s`, where it is kept for the states before.
+    pub(crate) fn keep_reward<C: Cells>(&mut self, cells: &C, a: usize, s: usize)
+        requires action { a < (C.table cells.now).actions }
+        requires start { s < (C.table cells.now).states }
+        requires before { s ≤ self.old.filled }
+        requires within { self.old.filled ≤ (C.table cells.now).states }
+        requires kept { AreRewards (C.table cells.now) a self.old.sums self.old.filled }
+        ensures here { s < self.new.filled }
+        ensures within { self.new.filled ≤ (C.table cells.now).states }
+        ensures kept { AreRewards (C.table cells.now) a self.new.sums self.new.filled }
+        ensures worths { self.new.worths ≡ self.old.worths }
+        ensures missing { self.new.missing ≡ self.old.missing }
+    {
+        if s >= self.filled {
+            self.sums[s] = reward_ahead(cells, a, s, &mut self.rewards);
+            self.filled = s + 1;
+        }
+    }
+
+    /// What was filled in behind each end state.
+    pub(crate) fn ends(&self) -> Ends<'_>
+        ensures worths { result.worths.now ≡ self.now.worths }
+        ensures missing { result.missing.now ≡ self.now.missing }
+    {
+        Ends {
+            worths: &self.worths,
+            missing: &self.missing,
         }
     }
 

@@ -2,10 +2,10 @@
 ghost use Rattle.std.specs.Prelude.{◌≡◌, ◌*◌, ◌<◌, ◌≤◌, ◌+◌, pos, ◌*ℤ◌, unsigned_abs, length};
 ghost use Rattle.polcert_check.specs.Rows.{most_sum};
 ghost use Rattle.std.specs.Option.{ForSome};
-ghost use Rattle.polcert_check.specs.Factored.{reward_behind, reward_ahead, AreRewards, AreRewardsBehind};
+ghost use Rattle.polcert_check.specs.Factored.{reward_behind, reward_ahead, AreRewardsBehind};
 
 use crate::walk::{next_end, next_seen};
-use polcert_cells::{Cells, MOST_OBSERVATIONS, Row};
+use polcert_cells::{Cells, Row};
 
 /// So many rewards are filled in about as fast as one is asked for.
 const FILLED_FOR_ONE: usize = 64;
@@ -91,47 +91,20 @@ fn reward_behind<C: Cells>(cells: &C, a: usize, s: usize, e: usize, rewards: &mu
     each_reward(cells, a, s, e, Some(rewards))
 }
 
-/// What action `a` earns in state `s`, on the scale of the weights of one step.
-fn reward_ahead<C: Cells>(cells: &C, a: usize, s: usize) -> i128
+/// What action `a` earns in state `s`, on the scale of the weights of one step. The rewards are room for those of all
+/// observations.
+pub(crate) fn reward_ahead<C: Cells>(cells: &C, a: usize, s: usize, rewards: &mut [i64]) -> i128
     requires action { a < (C.table cells.now).actions }
     requires start { s < (C.table cells.now).states }
+    requires room { (C.table cells.now).observations ≤ length rewards.old }
     ensures { result ≡ reward_ahead (C.table cells.now) a s }
 {
-    let mut rewards = [0; MOST_OBSERVATIONS];
     let mut sum: i128 = 0;
     let row = cells.t_row(a, s);
     let mut at = 0;
     while let Some(end) = next_end(cells, a, s, row, at) {
-        sum += weighed(
-            end.weight,
-            reward_behind(cells, a, s, end.column, &mut rewards),
-        );
+        sum += weighed(end.weight, reward_behind(cells, a, s, end.column, rewards));
         at = end.next;
     }
     sum
-}
-
-/// Keeps what action `a` earns in state `s`, where the first `filled` states are kept; answers how many are kept now.
-pub(crate) fn keep_reward<C: Cells>(
-    cells: &C,
-    a: usize,
-    s: usize,
-    sums: &mut [i128],
-    filled: usize,
-) -> usize
-    requires action { a < (C.table cells.now).actions }
-    requires start { s < (C.table cells.now).states }
-    requires room { (C.table cells.now).states ≤ length sums.old }
-    requires before { s ≤ filled }
-    requires within { filled ≤ (C.table cells.now).states }
-    requires kept { AreRewards (C.table cells.now) a sums.old filled }
-    ensures here { s < result }
-    ensures within { result ≤ (C.table cells.now).states }
-    ensures kept { AreRewards (C.table cells.now) a sums.new result }
-{
-    if s < filled {
-        return filled;
-    }
-    sums[s] = reward_ahead(cells, a, s);
-    s + 1
 }

@@ -8,7 +8,7 @@ ghost use Rattle.polcert_check.specs.declared.verdict.Verdict.TheVariants.{Yes};
 ghost use Rattle.polcert_check.specs.Factored.{reward_ahead, AreRewards, AreEnds, IsPairVerdict, IsNodeVerdict, IsVisit};
 
 use crate::buffers::Buffers;
-use crate::earned::{keep_reward, weighed};
+use crate::earned::weighed;
 use crate::ends::{Ends, steps_ahead};
 use crate::shortfall::scaled_value;
 use crate::verdict::Verdict;
@@ -82,26 +82,23 @@ fn first_state<C: Cells>(
     graph: &Graph,
     vectors: &Vectors,
     n: usize,
-    ends: Ends<'_>,
-    sums: &mut [i128],
-    filled: &mut usize,
+    buffers: &mut Buffers,
 ) -> Verdict
     requires fits { Fits (C.table cells.now) graph.now vectors.now }
     requires node { n < nodes graph.now }
     requires proper { IsController (controller_of (C.table cells.now) graph.now vectors.now) }
     requires values { ValuesAreWithin (controller_of (C.table cells.now) graph.now vectors.now) }
-    requires ends { AreEnds (controller_of (C.table cells.now) graph.now vectors.now) n ends.worths.now ends.missing.now }
-    requires room { (C.table cells.now).states ≤ length sums.old }
-    requires within { filled.old ≤ (C.table cells.now).states }
-    requires kept { AreRewards (C.table cells.now) ((controller_of (C.table cells.now) graph.now vectors.now).action n) sums.old filled.old }
+    requires ends { AreEnds (controller_of (C.table cells.now) graph.now vectors.now) n buffers.old.worths buffers.old.missing }
+    requires within { buffers.old.filled ≤ (C.table cells.now).states }
+    requires kept { AreRewards (C.table cells.now) ((controller_of (C.table cells.now) graph.now vectors.now).action n) buffers.old.sums buffers.old.filled }
     ensures verdict { IsNodeVerdict (controller_of (C.table cells.now) graph.now vectors.now) n result }
-    ensures within { filled.new ≤ (C.table cells.now).states }
-    ensures kept { AreRewards (C.table cells.now) ((controller_of (C.table cells.now) graph.now vectors.now).action n) sums.new filled.new }
+    ensures within { buffers.new.filled ≤ (C.table cells.now).states }
+    ensures kept { AreRewards (C.table cells.now) ((controller_of (C.table cells.now) graph.now vectors.now).action n) buffers.new.sums buffers.new.filled }
 {
     let a = graph.action(n);
     for s in 0..cells.states() {
-        *filled = keep_reward(cells, a, s, sums, *filled);
-        let found = at_pair(cells, graph, vectors, n, s, sums[s], ends);
+        buffers.keep_reward(cells, a, s);
+        let found = at_pair(cells, graph, vectors, n, s, buffers.sums[s], buffers.ends());
         if !is_yes(found) {
             return found;
         }
@@ -128,19 +125,7 @@ fn at_node<C: Cells>(
     ensures kept { AreRewards (C.table cells.now) ((controller_of (C.table cells.now) graph.now vectors.now).action n) buffers.new.sums buffers.new.filled }
 {
     buffers.fill_ends(cells, graph, vectors, n);
-    let ends = Ends {
-        worths: &buffers.worths,
-        missing: &buffers.missing,
-    };
-    first_state(
-        cells,
-        graph,
-        vectors,
-        n,
-        ends,
-        &mut buffers.sums,
-        &mut buffers.filled,
-    )
+    first_state(cells, graph, vectors, n, buffers)
 }
 
 /// The first state at which node `n` doesn't pass, if the node takes action `a`.

@@ -9,7 +9,6 @@ ghost use Rattle.polcert_check.specs.Worst.{IsWorst, IsWorstOf, AtNode, AtVisit,
 ghost use Rattle.polcert_check.specs.Factored.{reward_ahead, AreRewards, AreEnds};
 
 use crate::buffers::Buffers;
-use crate::earned::keep_reward;
 use crate::ends::{Ends, steps_ahead};
 use crate::pairs::amount_above;
 use polcert_model::Cells;
@@ -63,28 +62,25 @@ fn worst_state<C: Cells>(
     graph: &Graph,
     vectors: &Vectors,
     n: usize,
-    ends: Ends<'_>,
-    sums: &mut [i128],
-    filled: &mut usize,
+    buffers: &mut Buffers,
 ) -> u128
     requires fits { Fits (C.table cells.now) graph.now vectors.now }
     requires node { n < nodes graph.now }
     requires proper { IsController (controller_of (C.table cells.now) graph.now vectors.now) }
     requires values { ValuesAreWithin (controller_of (C.table cells.now) graph.now vectors.now) }
     requires none { NoneLacks (controller_of (C.table cells.now) graph.now vectors.now) }
-    requires ends { AreEnds (controller_of (C.table cells.now) graph.now vectors.now) n ends.worths.now ends.missing.now }
-    requires room { (C.table cells.now).states ≤ length sums.old }
-    requires within { filled.old ≤ (C.table cells.now).states }
-    requires kept { AreRewards (C.table cells.now) ((controller_of (C.table cells.now) graph.now vectors.now).action n) sums.old filled.old }
+    requires ends { AreEnds (controller_of (C.table cells.now) graph.now vectors.now) n buffers.old.worths buffers.old.missing }
+    requires within { buffers.old.filled ≤ (C.table cells.now).states }
+    requires kept { AreRewards (C.table cells.now) ((controller_of (C.table cells.now) graph.now vectors.now).action n) buffers.old.sums buffers.old.filled }
     ensures worst { IsWorstOf (controller_of (C.table cells.now) graph.now vectors.now) (AtNode n (C.table cells.now).states) result }
-    ensures within { filled.new ≤ (C.table cells.now).states }
-    ensures kept { AreRewards (C.table cells.now) ((controller_of (C.table cells.now) graph.now vectors.now).action n) sums.new filled.new }
+    ensures within { buffers.new.filled ≤ (C.table cells.now).states }
+    ensures kept { AreRewards (C.table cells.now) ((controller_of (C.table cells.now) graph.now vectors.now).action n) buffers.new.sums buffers.new.filled }
 {
     let a = graph.action(n);
     let mut worst: u128 = 0;
     for s in 0..cells.states() {
-        *filled = keep_reward(cells, a, s, sums, *filled);
-        let here = excess_at(cells, graph, vectors, n, s, sums[s], ends);
+        buffers.keep_reward(cells, a, s);
+        let here = excess_at(cells, graph, vectors, n, s, buffers.sums[s], buffers.ends());
         worst = greater(worst, here);
     }
     worst
@@ -110,19 +106,7 @@ fn worst_node<C: Cells>(
     ensures kept { AreRewards (C.table cells.now) ((controller_of (C.table cells.now) graph.now vectors.now).action n) buffers.new.sums buffers.new.filled }
 {
     buffers.fill_ends(cells, graph, vectors, n);
-    let ends = Ends {
-        worths: &buffers.worths,
-        missing: &buffers.missing,
-    };
-    worst_state(
-        cells,
-        graph,
-        vectors,
-        n,
-        ends,
-        &mut buffers.sums,
-        &mut buffers.filled,
-    )
+    worst_state(cells, graph, vectors, n, buffers)
 }
 
 /// The greatest shortfall of node `n` if it takes action `a`, else 0.
@@ -153,7 +137,13 @@ fn worst_visit<C: Cells>(
 }
 
 /// The greatest shortfall of all nodes that take action `a`.
-fn worst_of_action<C: Cells>(cells: &C, graph: &Graph, vectors: &Vectors, a: usize) -> u128
+fn worst_of_action<C: Cells>(
+    cells: &C,
+    graph: &Graph,
+    vectors: &Vectors,
+    a: usize,
+    buffers: &mut Buffers,
+) -> u128
     requires fits { Fits (C.table cells.now) graph.now vectors.now }
     requires proper { IsController (controller_of (C.table cells.now) graph.now vectors.now) }
     requires values { ValuesAreWithin (controller_of (C.table cells.now) graph.now vectors.now) }
@@ -161,10 +151,10 @@ fn worst_of_action<C: Cells>(cells: &C, graph: &Graph, vectors: &Vectors, a: usi
     ensures { IsWorstOf (controller_of (C.table cells.now) graph.now vectors.now)
         (OfAction (controller_of (C.table cells.now) graph.now vectors.now) a (nodes graph.now)) result }
 {
-    let mut buffers = Buffers::new();
+    buffers.clear();
     let mut worst: u128 = 0;
     for n in 0..graph.nodes() {
-        let here = worst_visit(cells, graph, vectors, a, n, &mut buffers);
+        let here = worst_visit(cells, graph, vectors, a, n, buffers);
         worst = greater(worst, here);
     }
     worst
@@ -180,9 +170,10 @@ pub(crate) fn worst_short<C: Cells>(cells: &C, graph: &Graph, vectors: &Vectors)
     let nodes = graph.nodes();
     let vector_count = vectors.nodes();
     prove!(nodes == vector_count);
+    let mut buffers = Buffers::new();
     let mut worst: u128 = 0;
     for a in 0..cells.actions() {
-        let here = worst_of_action(cells, graph, vectors, a);
+        let here = worst_of_action(cells, graph, vectors, a, &mut buffers);
         worst = greater(worst, here);
     }
     worst
