@@ -101,6 +101,70 @@ impl<T: Copy + Drop> Sequence<T> {
     }
 }
 
+/// The most places that an entry has: a reward's action, start state, end state and observation.
+const MOST_PLACES: usize = 4;
+
+/// The places of an entry, kept in the value itself. Contracts see them as a list.
+#[derive(Debug, Drop)]
+pub struct Places {
+    items: [Place; MOST_PLACES],
+    count: usize,
+}
+
+impl Model for Places {
+    ghost use Rattle.std.specs.Prelude.{List, take, ◌≤◌};
+    ghost use Rattle.polcert_cells.specs.declared.entry.Place.{Place as P};
+
+    ghost Value = { List P };
+
+    ghost view = { λ p. take p.count p.items };
+
+    ghost invariant = { λ p. p.count ≤ 4 };
+}
+
+impl Places {
+    /// No places.
+    #[inline(always)]
+    pub fn new() -> Places
+        ensures { result ≡ [] }
+    {
+        Places {
+            items: [Place::Every; MOST_PLACES],
+            count: 0,
+        }
+    }
+
+    /// How many places there are.
+    #[inline(always)]
+    pub fn len(&self) -> usize
+        ensures { result ≡ length self.now }
+    {
+        self.as_slice().len()
+    }
+
+    /// The places, first to last.
+    #[inline(always)]
+    pub fn as_slice(&self) -> &[Place]
+        ensures { result.now ≡ self.now }
+    {
+        &self.items[..self.count]
+    }
+
+    /// Puts the place behind the others. One more than an entry has counts as want of memory, and they stay as they were.
+    #[inline(always)]
+    pub fn push(&mut self, place: Place) -> Result<(), AllocError>
+        ensures ok { OnOk result (self.new ≡ self.old ++ place ∷ []) }
+        ensures err { OnErr result (self.new ≡ self.old) }
+    {
+        if self.count == MOST_PLACES {
+            return Err(AllocError);
+        }
+        self.items[self.count] = place;
+        self.count += 1;
+        Ok(())
+    }
+}
+
 /// What fills the cells that an entry's places leave open, row after row: numbers in millionths, or a word.
 #[derive(Debug, Drop)]
 pub enum Body {
@@ -118,6 +182,6 @@ pub enum Body {
 #[derive(Debug, Drop)]
 pub struct Entry {
     pub table: Table,
-    pub places: Sequence<Place>,
+    pub places: Places,
     pub body: Body,
 }

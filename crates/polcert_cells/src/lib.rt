@@ -14,7 +14,7 @@ mod words;
 pub use cell::Cell;
 pub use elements::{Elements, Kind, MOST_ACTIONS, MOST_ELEMENTS, MOST_OBSERVATIONS, MOST_STATES};
 pub use entries::{BodyRef, Entries, EntryRef};
-pub use entry::{Body, Entry, Place, Sequence, Table};
+pub use entry::{Body, Entry, Place, Places, Sequence, Table};
 pub use names::Names;
 pub use row::{Row, Step};
 pub use shares::Shares;

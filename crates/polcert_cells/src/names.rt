@@ -47,10 +47,8 @@ impl Names {
         ensures known { IfOk result (λ is_new. is_new ≡ false → (list_any (bytes_eq name.now) self.old ≡ true) × (self.new ≡ self.old)) }
         ensures err { OnErr result (self.new ≡ self.old) }
     {
-        match str::from_utf8(name) {
-            Ok(name) => Ok(self.set.insert(String::from_str(alloc, name)?)?),
-            Err(_) => Ok(false),
-        }
+        let name = text_of(name);
+        Ok(self.set.insert(String::from_str(alloc, name)?)?)
     }
 
     /// The number of this name.
@@ -58,10 +56,7 @@ impl Names {
         requires { IsAscii name.now }
         ensures { result ≡ position (bytes_eq name.now) self.now }
     {
-        match str::from_utf8(name) {
-            Ok(name) => self.set.get_index_of(name),
-            Err(_) => None,
-        }
+        self.set.get_index_of(text_of(name))
     }
 
     /// The name of this number.
@@ -70,4 +65,13 @@ impl Names {
     {
         Some(self.set.get_index(number)?.as_str())
     }
+}
+
+/// The name as text, which its bytes are: they are ASCII.
+#[inline(always)]
+fn text_of(name: &[u8]) -> &str
+    requires { IsAscii name.now }
+    ensures { result.now ≡ name.now }
+{
+    unsafe { str::from_utf8_unchecked(name) }
 }

@@ -1,5 +1,5 @@
 //! The words of a model's text.
-ghost use Rattle.std.specs.Prelude.{◌≡◌, ◌↔◌, IsTrue, bytes_eq};
+ghost use Rattle.std.specs.Prelude.{◌≡◌, ◌↔◌, IsTrue, bytes_eq, [], ◌∷◌};
 ghost use Rattle.std.specs.List.{list_any};
 ghost use Rattle.polcert_text.specs.Reading.{lexeme_of};
 ghost use Rattle.polcert_cells.specs.Words.{topic_of, is_reserved, inner_words, topic, IsWord};
@@ -43,23 +43,39 @@ fn topic_of(word: &[u8]) -> Option<Topic>
     if is_same(word, b"start") {
         return Some(Topic::Start);
     }
-    if is_same(word, b"T") {
+    if is_letter(word, b'T') {
         return Some(Topic::Cells(Table::Transition));
     }
-    if is_same(word, b"O") {
+    if is_letter(word, b'O') {
         return Some(Topic::Cells(Table::Observation));
     }
-    if is_same(word, b"R") {
+    if is_letter(word, b'R') {
         return Some(Topic::Cells(Table::Reward));
     }
     None
 }
 
+/// Whether the two are the same bytes. Most words are told apart by their lengths, without a call.
 #[inline(always)]
 fn is_same(word: &[u8], other: &[u8]) -> bool
     ensures { result ≡ bytes_eq word.now other.now }
 {
+    word.len() == other.len() && has_same_bytes(word, other)
+}
+
+#[inline(never)]
+fn has_same_bytes(word: &[u8], other: &[u8]) -> bool
+    ensures { result ≡ bytes_eq word.now other.now }
+{
     word == other
+}
+
+/// Whether the word is this letter.
+#[inline(always)]
+fn is_letter(word: &[u8], letter: u8) -> bool
+    ensures { result ≡ bytes_eq word.now (letter ∷ []) }
+{
+    word.len() == 1 && word[0] == letter
 }
 
 /// The topic of the item that the token begins, if it begins one.
@@ -99,7 +115,7 @@ pub fn is_word(token: &Token<'_>, word: &[u8]) -> bool
     ensures { IsTrue result ↔ IsWord word.now (lexeme_of token.now) }
 {
     match token.kind {
-        TokenKind::Name => token.bytes == word,
+        TokenKind::Name => is_same(token.bytes, word),
         _ => false,
     }
 }

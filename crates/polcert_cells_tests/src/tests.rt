@@ -1,5 +1,5 @@
 //! Entries, what they are made of, and the letters of the tables.
-use polcert_cells::{Body, BodyRef, Cell, Entries, Entry, Place, Row, Sequence, Table};
+use polcert_cells::{Body, BodyRef, Cell, Entries, Entry, Place, Places, Row, Sequence, Table};
 use std::alloc::{AllocError, Global};
 use std::test::Fail;
 
@@ -35,6 +35,17 @@ fn sequence_keeps_its_items(rt: HostRuntime) -> Result<(), Fail> {
     Ok(())
 }
 
+#[test]
+fn places_of_an_entry_are_four_at_most(rt: HostRuntime) -> Result<(), Fail> {
+    let four = [Place::Only(0), Place::Every, Place::Only(999), Place::Every];
+    let mut places = places_of(&four)?;
+    assert!(rt; places.len() == 4);
+    assert_eq!(rt; places.as_slice(), four.as_slice());
+    assert!(rt; places.push(Place::Only(1)).is_err());
+    assert_eq!(rt; places.as_slice(), four.as_slice());
+    Ok(())
+}
+
 /// A list of these items.
 fn sequence<T: Copy + Drop>(alloc: Global, items: &[T]) -> Result<Sequence<T>, AllocError> {
     let mut sequence = Sequence::new(alloc);
@@ -44,10 +55,18 @@ fn sequence<T: Copy + Drop>(alloc: Global, items: &[T]) -> Result<Sequence<T>, A
     Ok(sequence)
 }
 
-fn entry(alloc: Global, table: Table, places: &[Place], body: Body) -> Result<Entry, AllocError> {
+fn places_of(items: &[Place]) -> Result<Places, AllocError> {
+    let mut places = Places::new();
+    for place in items {
+        places.push(*place)?;
+    }
+    Ok(places)
+}
+
+fn entry(table: Table, places: &[Place], body: Body) -> Result<Entry, AllocError> {
     Ok(Entry {
         table,
-        places: sequence(alloc, places)?,
+        places: places_of(places)?,
         body,
     })
 }
@@ -58,14 +77,14 @@ fn entries(alloc: Global) -> Result<Entries, AllocError> {
     let two = [Place::Every, Place::Only(2)];
     let four = [Place::Only(0), Place::Every, Place::Every, Place::Only(999)];
     let mut entries = Entries::new(alloc);
-    entries.push(entry(alloc, Table::Transition, &one, Body::Identity)?)?;
+    entries.push(entry(Table::Transition, &one, Body::Identity)?)?;
     let numbers = Body::Probabilities(sequence(alloc, &[1_000_000, 0])?);
-    entries.push(entry(alloc, Table::Observation, &two, numbers)?)?;
+    entries.push(entry(Table::Observation, &two, numbers)?)?;
     let numbers = Body::Rewards(sequence(alloc, &[-5])?);
-    entries.push(entry(alloc, Table::Reward, &four, numbers)?)?;
-    entries.push(entry(alloc, Table::Transition, &one, Body::Uniform)?)?;
+    entries.push(entry(Table::Reward, &four, numbers)?)?;
+    entries.push(entry(Table::Transition, &one, Body::Uniform)?)?;
     let numbers = Body::Probabilities(sequence(alloc, &[7])?);
-    entries.push(entry(alloc, Table::Transition, &two, numbers)?)?;
+    entries.push(entry(Table::Transition, &two, numbers)?)?;
     Ok(entries)
 }
 

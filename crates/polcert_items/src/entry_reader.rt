@@ -26,7 +26,7 @@ use crate::known::Known;
 use crate::lines::colon;
 use crate::number::{Range, Refusal, Sign, Step, behind_numbers, misplaced, number_step};
 use crate::stop::Stop;
-use polcert_cells::{Body, Elements, Entry, Place, Sequence, Table, Topic, is_word};
+use polcert_cells::{Body, Elements, Entry, Place, Places, Sequence, Table, Topic, is_word};
 use polcert_format::ItemFault;
 use polcert_text::{Token, TokenKind};
 use std::alloc::Global;
@@ -156,18 +156,18 @@ pub enum EntryState {
 #[derive(Debug, Drop)]
 pub struct EntryReader {
     pub table: Table,
-    pub places: Sequence<Place>,
+    pub places: Places,
     pub state: EntryState,
 }
 
 impl EntryReader {
     /// Before the first token.
-    pub fn new(alloc: Global, table: Table) -> EntryReader
+    pub fn new(table: Table) -> EntryReader
         ensures { result ≡ record { table = table; places = []; state = EntryState.Colon } }
     {
         EntryReader {
             table,
-            places: Sequence::new(alloc),
+            places: Places::new(),
             state: EntryState::Colon,
         }
     }

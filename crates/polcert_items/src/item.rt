@@ -50,7 +50,7 @@ pub enum Said {
 
 impl ItemReader {
     /// The reader of an item of this topic.
-    pub fn new(alloc: Global, topic: Topic) -> ItemReader
+    pub fn new(topic: Topic) -> ItemReader
         ensures { result ≡ new_item topic }
     {
         match topic {
@@ -60,7 +60,7 @@ impl ItemReader {
             Topic::Actions => ItemReader::Actions(ElementsReader::Colon),
             Topic::Observations => ItemReader::Observations(ElementsReader::Colon),
             Topic::Start => ItemReader::Start(StartReader::new()),
-            Topic::Cells(table) => ItemReader::Entry(EntryReader::new(alloc, table)),
+            Topic::Cells(table) => ItemReader::Entry(EntryReader::new(table)),
         }
     }
 

@@ -4,7 +4,7 @@
 mod reader;
 
 pub use polcert_cells::{
-    Body, Cell, Cells, Entries, Entry, Kind, Place, Row, Sequence, Step, Table, Topic,
+    Body, Cell, Cells, Entries, Entry, Kind, Place, Places, Row, Sequence, Step, Table, Topic,
 };
 pub use polcert_examples::{
     decimals_of_thirds, first_text, full_forms, kinds_of_misfits, printed_lines, refused_texts,

@@ -68,7 +68,7 @@ impl TextReader {
         match begun_topic(&token) {
             Some(topic) => {
                 self.close(alloc, token.place)?;
-                self.open(alloc, topic, token.place)
+                self.open(topic, token.place)
             }
             None => self.feed(alloc, token),
         }
@@ -117,7 +117,7 @@ impl TextReader {
     }
 
     /// Begins an item at its word.
-    fn open(&mut self, alloc: Global, about: Topic, place: u64) -> Result<(), ModelFault>
+    fn open(&mut self, about: Topic, place: u64) -> Result<(), ModelFault>
         requires { self.old.number < 2 ^ 63 }
         ensures number { self.new.number ≡ self.old.number + 1 }
         ensures read { (seen : List Lexeme) (word : Lexeme) → AreItemsRead seen self.old → topic word ≡ Some about → word.place ≡ place → MatchResult result
@@ -128,7 +128,7 @@ impl TextReader {
         if let Some(kind) = self.known.word_fault(about) {
             return Err(self.fault(kind, place));
         }
-        self.item = Some(ItemReader::new(alloc, about));
+        self.item = Some(ItemReader::new(about));
         Ok(())
     }
 

@@ -2,7 +2,7 @@
 ghost use Rattle.std.specs.Prelude.{◌≡◌, ◌<◌, IfOk};
 ghost use Rattle.polcert_rules.specs.Keys.{AreDigits, digit, most_places};
 
-use polcert_cells::{Body, Entries, Entry, Place, Sequence, Table};
+use polcert_cells::{Body, Entries, Entry, Place, Places, Sequence, Table};
 use polcert_rules::{Index, RewardShape, Rewards};
 use std::alloc::{AllocError, Global};
 
@@ -28,10 +28,10 @@ fn place(element: usize) -> Place
 }
 
 /// The first four places of a pattern.
-fn places(alloc: Global, pattern: &[usize]) -> Result<Sequence<Place>, AllocError>
+fn places(pattern: &[usize]) -> Result<Places, AllocError>
     ensures { IfOk result (AreDigits most_places) }
 {
-    let mut places = Sequence::new(alloc);
+    let mut places = Places::new();
     for element in pattern {
         if places.len() < 4 {
             places.push(place(*element))?;
@@ -43,7 +43,7 @@ fn places(alloc: Global, pattern: &[usize]) -> Result<Sequence<Place>, AllocErro
 fn entry(alloc: Global, pattern: &[usize], written: &[i64]) -> Result<Entry, AllocError>
     ensures { IfOk result (λ entry. AreDigits most_places entry.places) }
 {
-    let places = places(alloc, pattern)?;
+    let places = places(pattern)?;
     let mut numbers = Sequence::new(alloc);
     for number in written {
         numbers.push(*number)?;
