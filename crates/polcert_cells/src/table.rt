@@ -78,7 +78,8 @@ pub trait Cells {
         None
     }
 
-    /// Fills in the reward of each observation where action `a` is taken in state `s` and ends in state `e`.
+    /// Fills in the reward of each observation, in millionths, where action `a` is taken in state `s` and ends in state `e`: by
+    /// observation, from the front. What stands behind them may change.
     fn fill_rewards(&self, a: usize, s: usize, e: usize, rewards: &mut [i64])
         requires action { a < (table self.now).actions }
         requires start { s < (table self.now).states }

@@ -98,7 +98,8 @@ impl Rewards {
         self.at_cell(&[action, start, end, observation])
     }
 
-    /// Fills in the rewards of all observations where this action is taken in the start state and ends in the end state.
+    /// Fills in the rewards of all observations, in millionths, where this action is taken in the start state and ends in the end
+    /// state: by observation, from the front. What stands behind them may change.
     pub fn fill(&self, action: usize, start: usize, end: usize, rewards: &mut [i64])
         requires action { action < self.now.shape.actions }
         requires start { start < self.now.shape.states }

@@ -256,7 +256,8 @@ impl Draft {
         }
     }
 
-    /// Fills in the reward of each observation where action `a` is taken in state `s` and ends in state `e`.
+    /// Fills in the reward of each observation, in millionths, where action `a` is taken in state `s` and ends in state `e`: by
+    /// observation, from the front. What stands behind them may change.
     pub fn fill_rewards(&self, a: usize, s: usize, e: usize, rewards: &mut [i64])
         requires action { a < actions_of (meaning self.now) }
         requires start { s < states_of (meaning self.now) }
