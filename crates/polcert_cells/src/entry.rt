@@ -154,6 +154,7 @@ impl Places {
     #[inline(always)]
     pub fn push(&mut self, place: Place) -> Result<(), AllocError>
         ensures ok { OnOk result (self.new ≡ self.old ++ place ∷ []) }
+        ensures full { OnErr result (length self.old ≡ 4) }
         ensures err { OnErr result (self.new ≡ self.old) }
     {
         if self.count == MOST_PLACES {
