@@ -219,6 +219,14 @@ def long_vectors(folder):
             vectors.write('0\n' + ' '.join(f'0.{generator.randrange(10 ** 25):025d}' for _ in range(1000)) + '\n\n')
 
 
+def alike_cells(folder):
+    """16 actions of 1,000 states, whose rows are all alike and are given cell by cell by 1,000 entries of 21 bytes."""
+    with open(f'{folder}/columns.POMDP', 'w') as out:
+        preamble(out, 1000, 16, 1)
+        out.writelines(f'T: * : * : {column} 0.001\n' for column in range(1000))
+        out.write('O: * uniform\n')
+
+
 def everything_alike(folder):
     """`T: * uniform` over 16,000,000 cells, and 10,000 entries that cover everything with 0."""
     with open(f'{folder}/alike.POMDP', 'w') as out:
@@ -245,6 +253,7 @@ INPUTS = {
     'cells': all_cells,
     'comments': comments,
     'vectors': long_vectors,
+    'columns': alike_cells,
     'alike': everything_alike,
 }
 

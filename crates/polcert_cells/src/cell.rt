@@ -1,7 +1,7 @@
 //! Cells of sparse rows.
 
 /// A column of a row, counted from 0, and its weight: in a row of n columns the scale is 1,000,000 * n.
-#[derive(Clone, Copy)]
+#[derive(Clone, Copy, Debug, PartialEq, Eq)]
 pub struct Cell {
     pub column: usize,
     pub weight: u64,

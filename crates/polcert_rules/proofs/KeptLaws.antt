@@ -21,7 +21,7 @@ use Rattle.polcert_rules.specs.declared.kept.Kept.{Kept}
 use Rattle.polcert_rules.specs.Given.{IsWithin, FitsShape, number_for, given_by, given}
 use Rattle.polcert_cells.specs.Sparse.{weight_at, IsRow}
 use Rattle.polcert_rules.specs.Merging.{given_at}
-use Rattle.polcert_rules.specs.Sources.{line_in, line_of, source_of, IsFrom, IsWhole, IsKept, AreKept, IsKeptRow, IsMadeOf, IsBehind, Stays}
+use Rattle.polcert_rules.specs.Sources.{line_in, line_of, source_of, IsFrom, IsWhole, IsKept, AreKept, IsKeptRow, IsMadeOf, HasCells, IsBehind, Stays}
 
 -- ---- lists
 pub at_number : {X : Type 0} (P : X → Type 0) (xs : List X) (n : ℕ) (x : X) → All P xs → slice_get xs n ≡ Some x → P x
@@ -79,6 +79,13 @@ module _ (columns : ℕ) (entries : List Entry) where
     row = m.row;
     is = m.is;
     each = at_number (λ (k : Kept). IsFrom columns entries k.source k.cells.items) kept n m.row all.1 m.is whole s (sym m.made);
+  }
+
+  pub alike_row : (cells : List Cell) (kept : List Kept) (f : ℕ → ℕ) (n : ℕ) → HasCells kept n cells → IsRow columns f cells → IsKeptRow columns f kept n
+  alike_row cells kept f n h r = record {
+    row = h.row;
+    is = h.is;
+    each = λ c l. ap (λ (xs : List Cell). weight_at xs c) h.same ∙ r.each c l;
   }
 
   pub behind_stays : (source : Source) (cells : List Cell) (old new : List Kept) → IsBehind columns source cells old new → Stays old new

@@ -95,6 +95,12 @@ pub record IsMadeOf (kept : List Kept) (number : ℕ) (source : Source) : Type 0
   pub is : slice_get kept number ≡ Some row
   pub made : row.source ≡ source
 
+-- the row of this number has these cells
+pub record HasCells (kept : List Kept) (number : ℕ) (cells : List Cell) : Type 0 where
+  pub row : Kept
+  pub is : slice_get kept number ≡ Some row
+  pub same : row.cells.items ≡ cells
+
 -- one row more is kept, behind the others
 pub record IsBehind (columns : ℕ) (source : Source) (cells : List Cell) (old new : List Kept) : Type 0 where
   pub row : Kept

@@ -1,5 +1,6 @@
 //! Rows that are kept once for many actions and states.
-ghost use Rattle.std.specs.Prelude.{◌≡◌, ℕ, ◌*◌, ◌<◌, ◌≤◌, ◌^◌, ◌↔◌, All, IfOk, OnOk, IfSome, IsTrue, length};
+ghost use Rattle.std.specs.Prelude.{◌≡◌, ℕ, ◌*◌, ◌<◌, ◌≤◌, ◌^◌, ◌↔◌, All, IfOk, OnOk, IfSome, IsTrue, Contains, length};
+ghost use Rattle.std.specs.Option.{ForSome};
 ghost use Rattle.polcert_cells.specs.Numbers.{one};
 ghost use Rattle.polcert_cells.specs.Elements.{most_elements};
 ghost use Rattle.polcert_cells.specs.EntryLists.{entry_of};
@@ -8,7 +9,7 @@ ghost use Rattle.polcert_rules.specs.declared.shape.Shape.{Shape as S};
 ghost use Rattle.polcert_rules.specs.Given.{IsWithin};
 ghost use Rattle.polcert_cells.specs.Sparse.{weight_at, IsRow, IsSparse};
 ghost use Rattle.polcert_rules.specs.Merging.{given_at, weight_in, weight_over, Rises};
-ghost use Rattle.polcert_rules.specs.Sources.{source_of, line_of, IsWhole, IsFrom, AreKept, AreNumbersOf, IsKeptRow, IsMadeOf, IsBehind, Stays, total};
+ghost use Rattle.polcert_rules.specs.Sources.{source_of, line_of, IsWhole, IsFrom, AreKept, AreNumbersOf, IsKeptRow, IsMadeOf, HasCells, IsBehind, Stays, total};
 
 use crate::body::body_row;
 use crate::merging::merged;
@@ -36,8 +37,8 @@ pub(crate) struct Kept {
     pub cells: Vec<Cell>,
 }
 
-/// The number under which the row of these entries is kept, of this action and state. A row without single cells is
-/// kept once where it is that of a neighbour, by the numbers of the rows before it.
+/// The number under which the row of these entries is kept, of this action and state. A row is kept once where it is that of a
+/// neighbour, by the numbers of the rows before it.
 pub(crate) fn row_number(
     alloc: Global,
     kept: &mut Vec<Kept>,
@@ -71,6 +72,7 @@ pub(crate) fn row_number(
         Ok(own_row(
             alloc,
             kept,
+            numbers,
             newer.as_slice(),
             entries,
             row.whole,
@@ -111,6 +113,7 @@ fn shared_row(
 fn own_row(
     alloc: Global,
     kept: &mut Vec<Kept>,
+    numbers: &[usize],
     newer: &[Cell],
     entries: &Entries,
     whole: Option<usize>,
@@ -119,6 +122,7 @@ fn own_row(
 ) -> Result<usize, AllocError>
     requires within { IsWithin shape }
     requires state { state < shape.states }
+    requires numbers { All (λ n. n < length kept.old.items) numbers.now }
     requires kept { AreKept shape.columns entries.now kept.old.items }
     requires whole { IsWhole shape entries.now whole }
     requires newer { Rises 0 shape.columns newer.now }
@@ -129,6 +133,9 @@ fn own_row(
 {
     let base = whole_row(alloc, entries, whole, state, shape)?;
     let cells = merged(alloc, base.as_slice(), newer)?;
+    if let Some(number) = alike(kept.as_slice(), numbers, shape.states, cells.as_slice()) {
+        return Ok(number);
+    }
     Ok(keep(kept, Source::Cells, cells, shape.columns)?)
 }
 
@@ -182,20 +189,56 @@ fn known(kept: &[Kept], numbers: &[usize], states: usize, source: Source) -> Opt
     requires numbers { All (λ n. n < length kept.now) numbers.now }
     ensures { IfSome result (λ n. IsMadeOf kept.now n source) }
 {
-    let count = numbers.len();
-    if count >= 1 {
-        let number = numbers[count - 1];
+    if let Some(number) = neighbour(numbers, 1) {
         if is_made_of(kept, number, source) {
             return Some(number);
         }
     }
-    if count >= states {
-        let number = numbers[count - states];
+    if let Some(number) = neighbour(numbers, states) {
         if is_made_of(kept, number, source) {
             return Some(number);
         }
     }
     None
+}
+
+/// The number of a row before this one that has these cells: of the state before, or of the action before.
+fn alike(kept: &[Kept], numbers: &[usize], states: usize, cells: &[Cell]) -> Option<usize>
+    requires some { 0 < states }
+    requires numbers { All (λ n. n < length kept.now) numbers.now }
+    ensures { IfSome result (λ n. HasCells kept.now n cells.now) }
+{
+    if let Some(number) = neighbour(numbers, 1) {
+        if has_cells(kept, number, cells) {
+            return Some(number);
+        }
+    }
+    if let Some(number) = neighbour(numbers, states) {
+        if has_cells(kept, number, cells) {
+            return Some(number);
+        }
+    }
+    None
+}
+
+/// Whether the row of this number has these cells.
+fn has_cells(kept: &[Kept], number: usize, cells: &[Cell]) -> bool
+    requires { number < length kept.now }
+    ensures { IsTrue result → HasCells kept.now number cells.now }
+{
+    kept[number].cells.as_slice() == cells
+}
+
+/// The number of the row so many before the one that comes next, where there is one.
+fn neighbour(numbers: &[usize], back: usize) -> Option<usize>
+    requires { 0 < back }
+    ensures { ForSome result (Contains numbers.now) }
+{
+    if back <= numbers.len() {
+        Some(numbers[numbers.len() - back])
+    } else {
+        None
+    }
 }
 
 /// Whether the row of this number is made of this.

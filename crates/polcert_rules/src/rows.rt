@@ -18,8 +18,8 @@ use std::alloc::{AllocError, Global};
 use std::marker::Model;
 
 /// The rows of T or O: of each action and state the columns with a weight above 0, in order, with their weights. In a
-/// table of n columns the scale is 1,000,000 * n. Rows that one entry gives alone are kept once where they are those of
-/// neighbours.
+/// table of n columns the scale is 1,000,000 * n. A row is kept once where it is that of the state before, or of the same state
+/// under the action before.
 #[derive(Drop)]
 pub struct Rows {
     shape: Shape,
