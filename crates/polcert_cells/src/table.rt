@@ -103,6 +103,17 @@ pub trait Cells {
         None
     }
 
+    /// The reward where action `a` is taken in state `s`, where it is known at once that it is the same for every end state and
+    /// every observation.
+    fn r_common(&self, a: usize, s: usize) -> Option<i64>
+        requires action { a < (table self.now).actions }
+        requires start { s < (table self.now).states }
+        ensures { ForSome result (λ h. (e z : ℕ) → e < (table self.now).states → z < (table self.now).observations →
+            (table self.now).r a s e z ≡ h) }
+    {
+        None
+    }
+
     // Rows sum to their scale.
     ghost is_proper: { (x : Self) → IsProper (table x) };
 

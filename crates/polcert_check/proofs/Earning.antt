@@ -1,5 +1,5 @@
 -- What an action earns at a state: the steps of its sums, and that they fit.
-use Rattle.std.proofs.Common.{◌≡◌, ℕ, suc, ◌+◌, ◌*◌, ◌<◌, ◌≤◌, ℤ, pos, ◌+ℤ◌, ◌*ℤ◌, unsigned_abs, FitsSigned, to_z, of_z, w64, sym, ap, ◌∙◌, arith, lit<}
+use Rattle.std.proofs.Common.{◌≡◌, ℕ, suc, ◌+◌, ◌*◌, ◌<◌, ◌≤◌, ℤ, pos, ◌+ℤ◌, ◌*ℤ◌, unsigned_abs, FitsSigned, to_z, of_z, w64, sym, ap, subst, ◌∙◌, arith, lit<}
 use mir.Syntax.{w128}
 use Rattle.std.proofs.lemmas.Int.{to_z-of_z}
 use Rattle.std.proofs.Math.IntN.{*ℤ_comm}
@@ -44,6 +44,25 @@ module _ (m : Table) (p : IsProper m) (limits : IsWithinLimits m) where
       ∙ ap (λ (x : ℤ). h *ℤ x) (sym (o_rows m p a e al el))
       ∙ sym (sum_below_scale h (λ z. pos (m.o a e z)) m.observations)
       ∙ sum_below_same _ _ m.observations (λ z zl. *ℤ_comm h (pos (m.o a e z)) ∙ ap (λ (x : ℤ). pos (m.o a e z) *ℤ x) (sym (same z zl)))
+
+  -- every end state and observation earns the same
+  pub common : (a s : ℕ) (h : ℤ) → a < m.actions → s < m.states → ((e z : ℕ) → e < m.states → z < m.observations → m.r a s e z ≡ h)
+      → pos m.t_scale *ℤ (pos m.o_scale *ℤ h) ≡ reward_ahead m a s
+  common a s h al sl same =
+      let x = pos m.o_scale *ℤ h in
+      *ℤ_comm (pos m.t_scale) x
+      ∙ ap (λ (y : ℤ). x *ℤ y) (sym (t_rows m p a s al sl))
+      ∙ sym (sum_below_scale x (λ e. pos (m.t a s e)) m.states)
+      ∙ sum_below_same _ _ m.states (λ e el. *ℤ_comm x (pos (m.t a s e)) ∙ ap (λ (y : ℤ). pos (m.t a s e) *ℤ y) (alike a s e h al el (λ z zl. same e z el zl)))
+
+  pub common_room : (a s : ℕ) (h : ℤ) → a < m.actions → s < m.states → ((e z : ℕ) → e < m.states → z < m.observations → m.r a s e z ≡ h)
+      → m.t_scale * unsigned_abs (pos m.o_scale *ℤ h) ≤ most_sum
+  common_room a s h al sl same =
+      let zl : 0 < m.observations = limits.observations.0 in
+      let small : unsigned_abs h ≤ largest = subst (λ (x : ℤ). unsigned_abs x ≤ largest) (same s 0 sl zl) (limits.r a s s 0 al sl sl zl) in
+      let behind : unsigned_abs (pos m.o_scale *ℤ h) ≤ m.o_scale * largest = abs-*ℤ_le (pos m.o_scale) h m.o_scale largest (omega arith) small in
+      let ahead : m.t_scale * unsigned_abs (pos m.o_scale *ℤ h) ≤ m.t_scale * (m.o_scale * largest) = mul-le-mul (omega arith) behind in
+      omega (arith, ahead, ahead_room m limits)
 
   -- one end state more
   pub weight_room : (a s e w : ℕ) (y : ℤ) → a < m.actions → s < m.states → e < m.states → w ≡ m.t a s e → unsigned_abs y ≤ m.o_scale * largest → w * unsigned_abs y ≤ most_sum

@@ -91,9 +91,8 @@ fn reward_behind<C: Cells>(cells: &C, a: usize, s: usize, e: usize, rewards: &mu
     each_reward(cells, a, s, e, Some(rewards))
 }
 
-/// What action `a` earns in state `s`, on the scale of the weights of one step. The rewards are room for those of all
-/// observations.
-pub(crate) fn reward_ahead<C: Cells>(cells: &C, a: usize, s: usize, rewards: &mut [i64]) -> i128
+/// What action `a` earns in state `s`, on the scale of the weights of one step, added up end state by end state.
+fn each_end<C: Cells>(cells: &C, a: usize, s: usize, rewards: &mut [i64]) -> i128
     requires action { a < (C.table cells.now).actions }
     requires start { s < (C.table cells.now).states }
     requires room { (C.table cells.now).observations ≤ length rewards.old }
@@ -107,4 +106,21 @@ pub(crate) fn reward_ahead<C: Cells>(cells: &C, a: usize, s: usize, rewards: &mu
         at = end.next;
     }
     sum
+}
+
+/// What action `a` earns in state `s`, on the scale of the weights of one step. The rewards are room for those of all
+/// observations.
+pub(crate) fn reward_ahead<C: Cells>(cells: &C, a: usize, s: usize, rewards: &mut [i64]) -> i128
+    requires action { a < (C.table cells.now).actions }
+    requires start { s < (C.table cells.now).states }
+    requires room { (C.table cells.now).observations ≤ length rewards.old }
+    ensures { result ≡ reward_ahead (C.table cells.now) a s }
+{
+    match cells.r_common(a, s) {
+        Some(reward) => {
+            let behind = weighed(cells.o_scale(), reward as i128);
+            weighed(cells.t_scale(), behind)
+        }
+        None => each_end(cells, a, s, rewards),
+    }
 }

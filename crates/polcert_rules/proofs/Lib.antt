@@ -24,6 +24,7 @@ pub mod RewardRules
 pub mod RewardCells
 pub mod RewardValues
 pub mod RewardAlike
+pub mod RewardCommon
 pub mod RewardPaid
 pub mod RewardSound
 pub mod RewardAt

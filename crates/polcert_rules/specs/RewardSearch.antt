@@ -1,6 +1,6 @@
 -- Rules that begin with places that fit, and what the newest rule of R gives.
 -- Nobody has to believe this file: only private functions cite it.
-use Rattle.std.specs.Prelude.{◌≡◌, ℕ, ◌+◌, ◌-◌, ◌^◌, ◌<◌, ◌≤◌, Bool, true, false, List, [], ◌∷◌, length, Option, Some, None, Contains, slice_get, ℤ}
+use Rattle.std.specs.Prelude.{◌≡◌, ℕ, ◌+◌, ◌-◌, ◌^◌, ◌<◌, ◌≤◌, Bool, true, false, ◌⊎◌, List, [], ◌∷◌, length, Option, Some, None, Contains, slice_get, ℤ}
 use Rattle.polcert_cells.specs.declared.entry.Table.TheVariants.{Reward}
 use Rattle.polcert_cells.specs.declared.entry.Place.{Place}
 use Rattle.polcert_cells.specs.declared.entry.Entry.{Entry}
@@ -29,6 +29,10 @@ abbrev pub AreWithin : List ℕ → List ℕ → Type 0
 AreWithin [] [] = Unit {0}
 AreWithin (count ∷ counts) (i ∷ indices) = (i < count) × AreWithin counts indices
 AreWithin _ _ = ⊥
+
+-- a body of so many places has one number behind an action and a start state: all places, or all but that of the only observation
+abbrev pub IsSingle : ℕ → ℕ → Type 0
+IsSingle observations places = (4 ≤ places) ⊎ ((places ≡ 3) × (observations ≡ 1))
 
 -- the body of the last entry of R that covers the cell
 abbrev pub IsLastBody : Bool → List Entry → List ℤ → List ℕ → Option RewardBody → Type 0

@@ -12,7 +12,7 @@ ghost use Rattle.polcert_rules.specs.Meeting.{meets_row};
 ghost use Rattle.polcert_rules.specs.Keys.{AreIndices, Fits, most_places, table_key};
 ghost use Rattle.polcert_rules.specs.Newest.{AreKeyed, IsIndexOf, IsNewest, IsLastNumber, IsRising};
 ghost use Rattle.polcert_rules.specs.Rewards.{IsShapeOf, IsSmall, AreRewardsOf};
-ghost use Rattle.polcert_rules.specs.RewardSearch.{AreWithin, IsLastBody};
+ghost use Rattle.polcert_rules.specs.RewardSearch.{AreWithin, IsLastBody, IsSingle};
 
 use crate::newest::newest;
 use crate::noting::note;
@@ -31,6 +31,9 @@ const MOST_PLACES: usize = 4;
 
 /// What a key goes on with, at least, where its last place is an index.
 const AN_INDEX: u64 = 2;
+
+/// What a key goes on with, at least, where one of its last two places is an index.
+const AN_END_OR_OBSERVATION: u64 = 1024 + 2;
 
 /// How many observations rules are noted for: all that there may be, and behind them one that no entry names.
 const NOTED: usize = MOST_OBSERVATIONS + 1;
@@ -160,6 +163,35 @@ impl Rewards {
         }
     }
 
+    /// The reward where it is known at once that it is the same for every end state and observation: no entry names one of these
+    /// where this action is taken in the start state, and the last that covers them has a single number.
+    pub fn common(&self, action: usize, start: usize) -> Option<i64>
+        requires action { action < self.now.shape.actions }
+        requires start { start < self.now.shape.states }
+        ensures { (p : Preamble) (entries : List E) → AreRewardsOf p entries self.now →
+            ForSome result (λ h. (end observation : ℕ) → end < self.now.shape.states → observation < self.now.shape.observations →
+            reward p entries (action ∷ start ∷ end ∷ observation ∷ []) ≡ h) }
+    {
+        let cell = [action, start, 0, 0];
+        if some_begins(
+            self.rules.as_slice(),
+            LOW,
+            MOST_PLACES,
+            &cell[..2],
+            AN_END_OR_OBSERVATION,
+        ) {
+            return None;
+        }
+        match self.newest_body(&cell) {
+            None => Some(0),
+            Some(body) => if is_single(body.places as usize, self.shape.observations) {
+                Some(self.bodies.number_at(body, 0))
+            } else {
+                None
+            },
+        }
+    }
+
     /// Whether any entry of R is about this action and start state. Where none is, all rewards are 0.
     pub fn is_paid(&self, action: usize, start: usize) -> bool
         requires action { action < self.now.shape.actions }
@@ -230,6 +262,17 @@ impl Rewards {
             Some(number) => self.bodies.find(number),
             None => None,
         }
+    }
+}
+
+/// Whether a body of so many places has one number behind an action and a start state, where there are so many observations.
+fn is_single(places: usize, observations: usize) -> bool
+    ensures { IsTrue result → IsSingle observations places }
+{
+    if places < MOST_PLACES {
+        places + 1 == MOST_PLACES && observations == 1
+    } else {
+        true
     }
 }
 

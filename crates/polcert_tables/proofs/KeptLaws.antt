@@ -139,6 +139,15 @@ module _ (k : Kept) (d : IsDraft k) where
       ∙ ap (λ (p : Preamble). reward d.items.preamble d.items.entries (a ∷ s ∷ e ∷ reward_index p z ∷ [])) (sym d.said.preamble)
       ∙ alike d.items.preamble d.items.entries d.said.rewards h is (reward_index k.preamble z) (draft_index z m)
 
+  pub draft_common : (a s : ℕ) (found : Option ℤ) → a < count_of k.preamble.actions → s < count_of k.preamble.states
+      → ((p : Preamble) (entries : List Entry) → AreRewardsOf p entries k.rewards
+      → ForSome found (λ h. (e z : ℕ) → e < k.rewards.shape.states → z < k.rewards.shape.observations → reward p entries (a ∷ s ∷ e ∷ z ∷ []) ≡ h))
+      → ForSome found (λ h. (e z : ℕ) → e < count_of k.preamble.states → z < count_of (observed k.preamble) → (meaning k).r a s e z ≡ h)
+  draft_common a s found i j common = λ h is e z l m.
+      (kept_same d.items k (few_in k d) d.said).r a s e z i j l m
+      ∙ ap (λ (p : Preamble). reward d.items.preamble d.items.entries (a ∷ s ∷ e ∷ reward_index p z ∷ [])) (sym d.said.preamble)
+      ∙ common d.items.preamble d.items.entries d.said.rewards h is e (reward_index k.preamble z) (subst (λ n. e < n) d.r_counts.states l) (draft_index z m)
+
   pub draft_unpaid : (a s : ℕ) → a < count_of k.preamble.actions → s < count_of k.preamble.states
       → ((p : Preamble) (entries : List Entry) → AreRewardsOf p entries k.rewards → (e z : ℕ) → reward p entries (a ∷ s ∷ e ∷ z ∷ []) ≡ pos 0)
       → (e z : ℕ) → e < count_of k.preamble.states → z < count_of (observed k.preamble) → (meaning k).r a s e z ≡ pos 0

@@ -256,6 +256,17 @@ impl Draft {
         }
     }
 
+    /// The reward where action `a` is taken in state `s`, where it is known at once that it is the same for every end state and
+    /// every observation.
+    pub fn r_common(&self, a: usize, s: usize) -> Option<i64>
+        requires action { a < actions_of (meaning self.now) }
+        requires start { s < states_of (meaning self.now) }
+        ensures { ForSome result (λ h. (e z : ℕ) → e < states_of (meaning self.now) → z < observations_of (meaning self.now) →
+            (meaning self.now).r a s e z ≡ h) }
+    {
+        self.rewards.common(a, s)
+    }
+
     /// Fills in the reward of each observation, in millionths, where action `a` is taken in state `s` and ends in state `e`: by
     /// observation, from the front. What stands behind them may change.
     pub fn fill_rewards(&self, a: usize, s: usize, e: usize, rewards: &mut [i64])

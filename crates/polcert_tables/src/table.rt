@@ -72,4 +72,8 @@ impl Cells for Model {
     fn r_alike(&self, a: usize, s: usize, e: usize) -> Option<i64> {
         self.draft().r_alike(a, s, e)
     }
+
+    fn r_common(&self, a: usize, s: usize) -> Option<i64> {
+        self.draft().r_common(a, s)
+    }
 }

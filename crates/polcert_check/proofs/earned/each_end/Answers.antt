@@ -5,7 +5,7 @@ use Rattle.polcert_text.specs.Numbers.{largest}
 use Rattle.polcert_cells.specs.Tables.{Table}
 use Rattle.polcert_check.proofs.Earning.{reward_part_le, weight_room, reward_ahead_step, reward_ahead_done}
 use Rattle.polcert_cells.specs.LentRows.{reached}
-use Rattle.polcert_check.proofs.earned.reward_ahead.Goals as goal
+use Rattle.polcert_check.proofs.earned.each_end.Goals as goal
 
 pub weighed-sum-requires : goal.weighed-sum-requires
 weighed-sum-requires g c =
