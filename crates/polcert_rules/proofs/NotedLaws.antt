@@ -50,7 +50,7 @@ later_of_later (Some m) (Some n) (Some k) = at (by_order m n) (by_order n k) (by
     at (inr a) (inr b) _ = ap (λ x. later x (Some k)) (later_left m n a) ∙ later_left m k (omega arith) ∙ sym (ap (later (Some m)) (later_left n k b) ∙ later_left m n a)
 
 -- ---- rule after rule
-only_one : (r y : Rule) → Contains (r ∷ []) y → r ≡ y
+pub only_one : (r y : Rule) → Contains (r ∷ []) y → r ≡ y
 only_one r y (zero, l, e) = e
 only_one r y (suc k, l, e) = absurd (omega arith)
 
@@ -94,7 +94,7 @@ noted_hit xs r P before old new n h e = record {
 }
 
 -- whether the last place of a rule fits
-same_or_not : (a b : ℕ) → (a ≡ b) ⊎ (a ≡ b → ⊥)
+pub same_or_not : (a b : ℕ) → (a ≡ b) ⊎ (a ≡ b → ⊥)
 same_or_not a b = ⊎_elim (λ l. inr (λ e. omega arith)) (λ g. ⊎_elim (λ l. inr (λ e. omega arith)) (λ h. inl (omega arith)) (cases_lt b a)) (cases_lt a b)
 
 pub last_or_not : (low z key : ℕ) → IsLastPlace low z key ⊎ (IsLastPlace low z key → ⊥)

@@ -48,9 +48,9 @@ impl Model for Rewards {
 
     ghost Value = { RewardRules };
 
-    ghost view = { λ r. reward_rules r.shape r.rules.items r.bodies.bodies.items r.bodies.numbers.items };
+    ghost view = { λ r. reward_rules r.shape r.rules.items r.bodies.first r.bodies.bodies.items r.bodies.numbers.items };
 
-    ghost invariant = { λ r. AreRewardRules (reward_rules r.shape r.rules.items r.bodies.bodies.items r.bodies.numbers.items) };
+    ghost invariant = { λ r. AreRewardRules (reward_rules r.shape r.rules.items r.bodies.first r.bodies.bodies.items r.bodies.numbers.items) };
 }
 
 impl Rewards {

@@ -1,7 +1,8 @@
-use Rattle.std.proofs.Common.{◌^◌, List, Contains, subst, sym}
+use Rattle.std.proofs.Common.{◌^◌, List, Contains, subst}
 use Rattle.polcert_cells.specs.declared.entry.Table.TheVariants.{Reward}
 use Rattle.polcert_rules.specs.declared.rule.Rule.{Rule}
 use Rattle.polcert_rules.specs.Keys.{table_key, most_places}
+use Rattle.polcert_rules.specs.Rewards.{AreBodiesOf}
 use Rattle.polcert_rules.proofs.RewardRules.{number_within, are_rewards}
 use Rattle.polcert_rules.proofs.rewards.Rewards.of.Goals as goal
 
@@ -19,6 +20,7 @@ invariant_of-result c = record {
 
 pub returns-clause-rewards : goal.returns-clause-rewards
 returns-clause-rewards c = λ p shape costs keyed sound.
-    are_rewards p c.args.entries.now c.args.shape c.args.costs c.args.index c.in_ok-rules.rules.items c.in_ok-bodies.bodies.bodies.items c.in_ok-bodies.bodies.numbers.items
+    are_rewards p c.args.entries.now c.args.shape c.args.costs c.args.index c.in_ok-rules.rules.items c.in_ok-bodies.bodies.first c.in_ok-bodies.bodies.bodies.items c.in_ok-bodies.bodies.numbers.items
     shape costs keyed sound c.requires.index c.in_ok-rules.ensures.kept
-    (λ r among. c.in_ok-bodies.ensures.some_body r (subst (λ (rules : List Rule). Contains rules r) (sym c.as_slice.ensures.value) among)) c.in_ok-bodies.ensures.in_order c.in_ok-bodies.ensures.bodies
+    (subst (λ (rules : List Rule). AreBodiesOf c.args.costs c.args.entries.now rules c.in_ok-bodies.bodies.first c.in_ok-bodies.bodies.numbers.items c.in_ok-bodies.bodies.bodies.items)
+    c.as_slice.ensures.value c.in_ok-bodies.ensures)
