@@ -100,7 +100,7 @@ fn behind_last(rules: &[Rule], limit: usize) -> usize
 }
 
 /// A number in half the bits. More numbers than these count as want of memory.
-fn in_half(number: usize) -> Result<u32, AllocError>
+pub(crate) fn in_half(number: usize) -> Result<u32, AllocError>
     ensures { IfOk result (λ n. n ≡ number) }
 {
     if number > u32::MAX as usize {
