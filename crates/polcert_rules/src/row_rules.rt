@@ -22,11 +22,14 @@ const EVERY: usize = 1;
 
 const INDICES: usize = 2;
 
+/// So many rules are few: they are searched at once.
+const FEW_RULES: usize = 64;
+
 /// How many places there are behind the first two.
 const PLACES_LEFT: usize = 2;
 
-/// The rules of R by their keys; and for each first place, by each second place, where the rules that have both may stand. No
-/// answer depends on where they may: only how soon it comes.
+/// The rules of R by their keys; and where they are not few, for each first place, by each second place, where the rules that
+/// have both may stand. No answer depends on where they may: only how soon it comes.
 #[derive(Drop)]
 pub(crate) struct RowRules {
     pub rules: Vec<Rule>,
@@ -47,6 +50,13 @@ impl RowRules {
         requires room { low + 1024 ^ 4 < 2 ^ 64 }
         ensures { IfOk result (λ kept. kept.rules.items ≡ rules.items) }
     {
+        if rules.len() <= FEW_RULES {
+            return Ok(RowRules {
+                rules,
+                seconds: 0,
+                spans: Vec::new(alloc),
+            });
+        }
         let firsts = shape.actions + INDICES;
         let seconds = shape.states + INDICES;
         let mut spans = Vec::with_capacity(alloc, firsts * seconds)?;
