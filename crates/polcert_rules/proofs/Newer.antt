@@ -52,19 +52,31 @@ newest_of_span rules part m low indices x a span n =
     (λ r c f. (span r).1 (c, fits_low m low indices r.key f, fits_high m low indices r.key a f)) n
 
 -- one place more: no place, `*`, or the index
+pub newest_of_three : (rules : List Rule) (m low i : ℕ) (indices : List ℕ) (here every only : Option ℕ) → IsNewest rules (λ k. k ≡ low) here
+    → IsNewest rules (Fits m (low + 1024 ^ m) indices) every → IsNewest rules (Fits m (low + (i + 2) * 1024 ^ m) indices) only
+    → IsNewest rules (Fits (suc m) low (i ∷ indices)) (later here (later every only))
+newest_of_three rules m low i indices here every only h e o =
+    let two = newest_of_two rules _ _ every only e o in
+    let three = newest_of_two rules _ _ here (later every only) h two in
+    newest_as rules (λ k. (k ≡ low) ⊎ (Fits m (low + 1024 ^ m) indices k ⊎ Fits m (low + (i + 2) * 1024 ^ m) indices k)) (Fits (suc m) low (i ∷ indices)) _
+    (λ k f. ⊎_elim (fits_here (suc m) low k (i ∷ indices)) (λ g. ⊎_elim (fits_every m low i indices k) (fits_only m low i indices k) g) f)
+    (λ k f. fits_next m low i indices k f) three
+
+-- from the parts that have the rules with these places
 pub newest_next : (rules evens onlys : List Rule) (m low i : ℕ) (indices : List ℕ) (here every only : Option ℕ) → AreIndices m indices
     → IsNewest rules (λ k. k ≡ low) here
     → IsSpan rules evens (low + 1024 ^ m) (1024 ^ m) → IsNewest evens (Fits m (low + 1024 ^ m) indices) every
     → IsSpan rules onlys (low + (i + 2) * 1024 ^ m) (1024 ^ m) → IsNewest onlys (Fits m (low + (i + 2) * 1024 ^ m) indices) only
     → IsNewest rules (Fits (suc m) low (i ∷ indices)) (later here (later every only))
 newest_next rules evens onlys m low i indices here every only a h spanned e spanned_only o =
-    let whole_e = newest_of_span rules evens m (low + 1024 ^ m) indices every a spanned e in
-    let whole_o = newest_of_span rules onlys m (low + (i + 2) * 1024 ^ m) indices only a spanned_only o in
-    let two = newest_of_two rules _ _ every only whole_e whole_o in
-    let three = newest_of_two rules _ _ here (later every only) h two in
-    newest_as rules (λ k. (k ≡ low) ⊎ (Fits m (low + 1024 ^ m) indices k ⊎ Fits m (low + (i + 2) * 1024 ^ m) indices k)) (Fits (suc m) low (i ∷ indices)) _
-    (λ k f. ⊎_elim (fits_here (suc m) low k (i ∷ indices)) (λ g. ⊎_elim (fits_every m low i indices k) (fits_only m low i indices k) g) f)
-    (λ k f. fits_next m low i indices k f) three
+    newest_of_three rules m low i indices here every only h
+    (newest_of_span rules evens m (low + 1024 ^ m) indices every a spanned e)
+    (newest_of_span rules onlys m (low + (i + 2) * 1024 ^ m) indices only a spanned_only o)
+
+-- the rule of the key itself, from the part that begins with it
+pub newest_here : (rules part : List Rule) (low size : ℕ) (here : Option ℕ) → 1 ≤ size → IsSpan rules part low size → IsNewest part (λ k. k ≡ low) here → IsNewest rules (λ k. k ≡ low) here
+newest_here rules part low size here some span n =
+    newest_of_part rules part (λ k. k ≡ low) here (λ r c. ((span r).0 c).0) (λ r c e. (span r).1 (c, omega (arith, e), omega (arith, e, some))) n
 
 pub newest_end : (rules : List Rule) (m low : ℕ) (here : Option ℕ) → IsNewest rules (λ k. k ≡ low) here → IsNewest rules (Fits m low []) here
 newest_end rules m low here n = newest_as rules (λ k. k ≡ low) (Fits m low []) here (λ k e. fits_here m low k [] e) (λ k f. fits_end m low k f) n
@@ -78,7 +90,7 @@ some_level (suc m) i indices a =
     (f, a.0, subst (λ k. AreIndices k indices) (sym e) a.1)
 
 -- the first rule has the lowest key
-after_first : (rules : List Rule) (x : Rule) → IsRising rules → slice_get rules 0 ≡ Some x → (r : Rule) → Contains rules r → (r ≡ x) ⊎ (x.key < r.key)
+pub after_first : (rules : List Rule) (x : Rule) → IsRising rules → slice_get rules 0 ≡ Some x → (r : Rule) → Contains rules r → (r ≡ x) ⊎ (x.key < r.key)
 after_first rules x up is r (k, l, e) = ⊎_elim
     (λ zero_at. let at : k ≡ 0 = omega arith in
     inl (sym e ∙ ap (λ i. get_or rules i r) at ∙ get_or_from_slice_get rules 0 x r is))

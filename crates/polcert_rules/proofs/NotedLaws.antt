@@ -8,7 +8,7 @@ use Rattle.polcert_rules.specs.Keys.{AreIndices, Fits}
 use Rattle.polcert_rules.specs.Newest.{IsNewest, later}
 use Rattle.polcert_rules.specs.Noting.{IsNoted, IsLastPlace}
 use Rattle.polcert_rules.proofs.Fitting.{fits_next, fits_here, fits_end, fits_every, fits_only}
-use Rattle.polcert_rules.proofs.Newer.{newest_as, newest_of_two, newest_deeper, is_deeper, IsSpan}
+use Rattle.polcert_rules.proofs.Newer.{newest_as, newest_of_two, newest_of_three, newest_deeper, is_deeper, IsSpan}
 
 -- ---- the later of two numbers
 pub later_none : (x : Option ℕ) → later x None ≡ x
@@ -50,7 +50,7 @@ later_of_later (Some m) (Some n) (Some k) = at (by_order m n) (by_order n k) (by
     at (inr a) (inr b) _ = ap (λ x. later x (Some k)) (later_left m n a) ∙ later_left m k (omega arith) ∙ sym (ap (later (Some m)) (later_left n k b) ∙ later_left m n a)
 
 -- ---- rule after rule
-only_one : (r y : Rule) → Contains (r ∷ []) y → r ≡ y
+pub only_one : (r y : Rule) → Contains (r ∷ []) y → r ≡ y
 only_one r y (zero, l, e) = e
 only_one r y (suc k, l, e) = absurd (omega arith)
 
@@ -94,7 +94,7 @@ noted_hit xs r P before old new n h e = record {
 }
 
 -- whether the last place of a rule fits
-same_or_not : (a b : ℕ) → (a ≡ b) ⊎ (a ≡ b → ⊥)
+pub same_or_not : (a b : ℕ) → (a ≡ b) ⊎ (a ≡ b → ⊥)
 same_or_not a b = ⊎_elim (λ l. inr (λ e. omega arith)) (λ g. ⊎_elim (λ l. inr (λ e. omega arith)) (λ h. inl (omega arith)) (cases_lt b a)) (cases_lt a b)
 
 pub last_or_not : (low z key : ℕ) → IsLastPlace low z key ⊎ (IsLastPlace low z key → ⊥)
@@ -136,6 +136,16 @@ noted_deeper rules evens onlys m low i rest z step here before first second afte
       newest = newest_deeper rules evens onlys m low i (rest ++ z ∷ []) step here n.found o.found d h spanned n.newest spanned_only o.newest;
       is = o.is ∙ ap (λ x. later x o.found) (n.is ∙ ap (λ x. later x n.found) e) ∙ later_of_later (later before here) n.found o.found ∙ later_of_later before here (later n.found o.found);
     }
+
+-- the same of all rules
+pub noted_of_three : (rules : List Rule) (m low i : ℕ) (indices : List ℕ) (here before first second after : Option ℕ)
+    → IsNewest rules (λ k. k ≡ low) here → first ≡ later before here → IsNoted rules (Fits m (low + 1024 ^ m) indices) first second
+    → IsNoted rules (Fits m (low + (i + 2) * 1024 ^ m) indices) second after → IsNoted rules (Fits (suc m) low (i ∷ indices)) before after
+noted_of_three rules m low i indices here before first second after h e n o = record {
+  found = later here (later n.found o.found);
+  newest = newest_of_three rules m low i indices here n.found o.found h n.newest o.newest;
+  is = o.is ∙ ap (λ x. later x o.found) (n.is ∙ ap (λ x. later x n.found) e) ∙ later_of_later (later before here) n.found o.found ∙ later_of_later before here (later n.found o.found);
+}
 
 -- where nothing was noted before, the newest is noted
 pub noted_first : (rules : List Rule) (P : ℕ → Type 0) (before after : Option ℕ) → before ≡ None → IsNoted rules P before after → IsNewest rules P after

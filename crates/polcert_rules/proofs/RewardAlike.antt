@@ -113,7 +113,7 @@ pub alike_some : (p : Preamble) (entries : List Entry) (rewards : RewardRules) (
 alike_some p entries rewards a s e y z b are unnamed ls le lz single last =
     let states = are.shape.states in
     let observations = are.shape.observations in
-    let here : IsLastBody p.costs entries rewards.numbers (a ∷ s ∷ e ∷ z ∷ []) (Some b) = (number_moved p entries rewards a s e y z (Some b.number) are unnamed last.0, last.1) in
+    let here : IsLastBody p.costs entries rewards.numbers (a ∷ s ∷ e ∷ z ∷ []) (Some b) = record { number = last.number; last = number_moved p entries rewards a s e y z (Some last.number) are unnamed last.last; body = last.body } in
     let none_left : drop b.places (a ∷ s ∷ e ∷ z ∷ []) ≡ [] = drop_all b.places (a ∷ s ∷ e ∷ z ∷ []) single in
     sym (body_reward p entries rewards (a ∷ s ∷ e ∷ z ∷ []) b are (λ n f. is_open p n a s e z f (omega arith) (omega arith) (omega arith)) here)
     ∙ ap (λ is. get_or rewards.numbers (b.start + cell_in rewards.shape.states rewards.shape.observations is) (pos 0)) none_left

@@ -1,5 +1,5 @@
 -- Where no entry names an end state or an observation.
-use Rattle.std.proofs.Common.{◌≡◌, ◌∙◌, ℕ, ◌+◌, ◌<◌, ◌≤◌, true, ◌&&◌, ◌⊎◌, inl, inr, Option, Some, None, List, [], ◌∷◌, drop, get_or, Contains, refl, sym, ap, subst, arith, pos}
+use Rattle.std.proofs.Common.{◌≡◌, ◌∙◌, ℕ, ◌+◌, ◌<◌, true, ◌&&◌, inl, inr, Option, Some, None, List, [], ◌∷◌, drop, get_or, refl, sym, ap, subst, arith, pos}
 use Rattle.std.specs.List.{slice_get}
 use Rattle.std.proofs.lemmas.List.{drop_all}
 use Rattle.polcert_cells.specs.declared.entry.Table.TheVariants.{Reward}
@@ -113,6 +113,6 @@ module _ (p : Preamble) (entries : List Entry) (rewards : RewardRules) (a s : �
   common_some e y f z b ls lf lz single last =
       let states = are.shape.states in
       let observations = are.shape.observations in
-      let here : IsLastBody p.costs entries rewards.numbers (a ∷ s ∷ f ∷ z ∷ []) (Some b) = (number_moved e y f z (Some b.number) last.0, last.1) in
+      let here : IsLastBody p.costs entries rewards.numbers (a ∷ s ∷ f ∷ z ∷ []) (Some b) = record { number = last.number; last = number_moved e y f z (Some last.number) last.last; body = last.body } in
       sym (body_reward p entries rewards (a ∷ s ∷ f ∷ z ∷ []) b are (λ n g. is_open p n a s f z g (omega arith) (omega arith) (omega arith)) here)
       ∙ ap (λ k. get_or rewards.numbers (b.start + k) (pos 0)) (only_cell b.places f z single lz)

@@ -160,6 +160,17 @@ begins_second rules evens onlys m low i indices least step every only d no_every
     (every_at rules evens m low i indices least step every d span a)
     (at_step rules onlys (m - 1) low (i + 2) indices least step only d.indices_are d.step_is span_only b))
 
+-- the same of all rules
+pub begins_first_of_all : (rules : List Rule) (m low i : ℕ) (indices : List ℕ) (least : ℕ) (every : Bool) → every ≡ true
+    → IsAnswer rules (Begins m (low + 1024 ^ m) indices least) every → IsAnswer rules (Begins (suc m) low (i ∷ indices) least) every
+begins_first_of_all rules m low i indices least every yes_every a = answer_first rules _ _ every yes_every (λ k b. begins_every m low i indices least k b) a
+
+pub begins_second_of_all : (rules : List Rule) (m low i : ℕ) (indices : List ℕ) (least : ℕ) (every only : Bool) → every ≡ false
+    → IsAnswer rules (Begins m (low + 1024 ^ m) indices least) every → IsAnswer rules (Begins m (low + (i + 2) * 1024 ^ m) indices least) only
+    → IsAnswer rules (Begins (suc m) low (i ∷ indices) least) only
+begins_second_of_all rules m low i indices least every only no_every a b =
+    answer_second rules _ _ (Begins (suc m) low (i ∷ indices) least) every only no_every (λ k x. begins_only m low i indices least k x) (λ k x. begins_next m low i indices least k x) a b
+
 pub begins_none : (rules part : List Rule) (m low least size : ℕ) (empty : Bool) → size ≡ 1024 ^ m
     → ((r : Rule) → Contains part r ↔ (Contains rules r × (low + least ≤ r.key) × (r.key < low + size))) → empty ≡ (length part == 0)
     → IsAnswer rules (Begins m low [] least) (not empty)

@@ -161,14 +161,14 @@ pub body_reward : (p : Preamble) (entries : List Entry) (rewards : RewardRules) 
     → ((n : ℕ) → IsForm n → IsOpen p n indices) → IsLastBody p.costs entries rewards.numbers indices (Some b)
     → get_or rewards.numbers (b.start + cell_in rewards.shape.states rewards.shape.observations (drop b.places indices)) (pos 0) ≡ reward p entries indices
 body_reward p entries rewards indices b a opens last =
-    let entry = last.0.0.0 in
-    let found = last.0.0.1 in
-    let t = covered_table Reward indices entry last.0.0.2 in
-    let s = keyed_at (IsSoundEntry p) entries b.number entry a.sound found in
+    let entry = last.last.0.0 in
+    let found = last.last.0.1 in
+    let t = covered_table Reward indices entry last.last.0.2 in
+    let s = keyed_at (IsSoundEntry p) entries last.number entry a.sound found in
     ap (λ c. get_or rewards.numbers (b.start + cell_in c rewards.shape.observations (drop b.places indices)) (pos 0)) (sym a.shape.states)
     ∙ ap (λ c. get_or rewards.numbers (b.start + cell_in (count_of p.states) c (drop b.places indices)) (pos 0)) (sym a.shape.observations)
-    ∙ entry_number p entry rewards.numbers b indices t s (last.1 entry found) opens
-    ∙ ap (value_or (pos 0) (reward_of p indices)) (sym found) ∙ sym (number_reward p entries indices (Some b.number) last.0)
+    ∙ entry_number p entry rewards.numbers b indices t s (last.body entry found) opens
+    ∙ ap (value_or (pos 0) (reward_of p indices)) (sym found) ∙ sym (number_reward p entries indices (Some last.number) last.last)
 
 pub no_reward : (p : Preamble) (entries : List Entry) (indices : List ℕ) → IsLastNumber entries Reward indices None → pos 0 ≡ reward p entries indices
 no_reward p entries indices last = sym (number_reward p entries indices None last)

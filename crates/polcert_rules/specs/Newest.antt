@@ -1,5 +1,5 @@
 -- The index of a list of entries, and what it finds.
-use Rattle.std.specs.Prelude.{◌≡◌, ℕ, ◌+◌, ◌<◌, ◌≤◌, ◌==◌, List, [], ◌∷◌, max, Option, Some, None, All, AllPairs, Contains, slice_get, true, nat_le, if◌then◌else◌}
+use Rattle.std.specs.Prelude.{◌≡◌, ℕ, ◌+◌, ◌<◌, ◌≤◌, ◌==◌, List, [], ◌∷◌, length, take, drop, max, Option, Some, None, All, AllPairs, Contains, slice_get, true, nat_le, if◌then◌else◌}
 use Rattle.polcert_cells.specs.declared.entry.Table.{Table}
 use Rattle.polcert_cells.specs.declared.entry.Entry.{Entry}
 use Rattle.polcert_cells.specs.Cells.{covers}
@@ -9,6 +9,12 @@ use Rattle.polcert_rules.specs.Keys.{key_of, AreDigits, most_places}
 -- each key once, and the keys rise
 abbrev pub IsRising : List Rule → Type 0
 IsRising rules = AllPairs (λ x y. x.key < y.key) rules
+
+-- so many rules in front have keys below this one, and the others have not
+pub record IsCut (rules : List Rule) (key place : ℕ) : Type 0 where
+  pub within : place ≤ length rules
+  pub front : (r : Rule) → Contains (take place rules) r → r.key < key
+  pub rest : (r : Rule) → Contains (drop place rules) r → key ≤ r.key
 
 -- a rule is an entry, by its number and its key
 abbrev pub IsEntry : List Entry → Rule → Type 0

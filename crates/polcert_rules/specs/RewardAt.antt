@@ -1,15 +1,10 @@
 -- The reward of a cell, by the rules: what the body of the newest rule that fits its indices gives it, or 0.
-use Rattle.std.specs.Prelude.{ℕ, ◌+◌, ◌==◌, List, [], ◌∷◌, Option, Some, None, drop, get_or, ℤ, pos, if◌then◌else◌}
+use Rattle.std.specs.Prelude.{ℕ, ◌+◌, List, [], ◌∷◌, Option, Some, None, drop, get_or, ℤ, pos}
 use Rattle.polcert_cells.specs.declared.entry.Table.TheVariants.{Reward}
 use Rattle.polcert_rules.specs.declared.reward_parts.RewardBody.{RewardBody}
 use Rattle.polcert_rules.specs.Keys.{table_key, most_places}
 use Rattle.polcert_rules.specs.Matching.{newest_in}
-use Rattle.polcert_rules.specs.Rewards.{RewardRules, cell_in}
-
--- the body of this number
-abbrev pub body_of : ℕ → List RewardBody → Option RewardBody
-body_of number [] = None
-body_of number (b ∷ bs) = if b.number == number then Some b else body_of number bs
+use Rattle.polcert_rules.specs.Rewards.{RewardRules, body_at, cell_in}
 
 -- what a body gives the cell at these indices
 abbrev pub given : RewardRules → List ℕ → Option RewardBody → ℤ
@@ -19,7 +14,7 @@ given rewards indices (Some b) = get_or rewards.numbers (b.start + cell_in rewar
 -- what the rule of this number gives it
 abbrev pub given_by : RewardRules → List ℕ → Option ℕ → ℤ
 given_by rewards indices None = pos 0
-given_by rewards indices (Some number) = given rewards indices (body_of number rewards.bodies)
+given_by rewards indices (Some number) = given rewards indices (body_at rewards.first rewards.bodies number)
 
 abbrev pub reward_in : RewardRules → List ℕ → ℤ
 reward_in rewards indices = given_by rewards indices (newest_in most_places (table_key Reward) rewards.rules indices)

@@ -34,8 +34,12 @@ AreWithin _ _ = ⊥
 abbrev pub IsSingle : ℕ → ℕ → Type 0
 IsSingle observations places = (4 ≤ places) ⊎ ((places ≡ 3) × (observations ≡ 1))
 
--- the body of the last entry of R that covers the cell
+-- the body is that of the last entry of R that covers the cell
+pub record IsBodyOfLast (costs : Bool) (entries : List Entry) (numbers : List ℤ) (indices : List ℕ) (b : RewardBody) : Type 0 where
+  pub number : ℕ
+  pub last : IsLastNumber entries Reward indices (Some number)
+  pub body : (e : Entry) → slice_get entries number ≡ Some e → IsBodyOf costs e numbers b
+
 abbrev pub IsLastBody : Bool → List Entry → List ℤ → List ℕ → Option RewardBody → Type 0
 IsLastBody costs entries numbers indices None = IsLastNumber entries Reward indices None
-IsLastBody costs entries numbers indices (Some b) =
-    IsLastNumber entries Reward indices (Some b.number) × ((e : Entry) → slice_get entries b.number ≡ Some e → IsBodyOf costs e numbers b)
+IsLastBody costs entries numbers indices (Some b) = IsBodyOfLast costs entries numbers indices b

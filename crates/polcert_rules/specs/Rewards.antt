@@ -1,8 +1,8 @@
 -- The rewards of a model as rules: what is seen of them, and what ties them to the entries that they come from.
 -- Nobody has to believe this file: what rewards are made from and what they answer are stated by the entries alone.
-use Rattle.std.specs.Prelude.{◌≡◌, ℕ, ◌+◌, ◌*◌, ◌^◌, ◌<◌, ◌≤◌, ◌↔◌, Bool, List, [], ◌∷◌, length, All, Contains, slice_get, Some, ℤ, if◌then◌else◌}
+use Rattle.std.specs.Prelude.{◌≡◌, ℕ, ◌+◌, ◌-◌, ◌*◌, ◌^◌, ◌<◌, ◌≤◌, ◌↔◌, Bool, List, [], ◌∷◌, length, All, Contains, slice_get, Option, Some, ℤ, if◌then◌else◌}
 use Rattle.std.specs.Int.{w64, int_wrapping_neg}
-use Rattle.std.specs.List.Sorted.{IsNonDecreasingBy}
+use Rattle.std.specs.Option.{IsSomeAnd}
 use Rattle.polcert_cells.specs.declared.entry.Table.TheVariants.{Reward}
 use Rattle.polcert_cells.specs.declared.entry.Body.{Body}
 use Rattle.polcert_cells.specs.declared.entry.Body.TheVariants.{Rewards}
@@ -28,10 +28,12 @@ pub record IsSmall (shape : RewardShape) : Type 0 where
   pub states : shape.states ≤ most_states
   pub observations : shape.observations ≤ most_observations
 
--- the rules of R by their keys, the bodies of their entries by their numbers, and the numbers of all bodies
+-- the rules of R by their keys, the bodies of their entries by the entries' numbers, from the first of these on, and the
+-- numbers of all bodies
 pub record RewardRules : Type 0 where
   pub shape : RewardShape
   pub rules : List Rule
+  pub first : ℕ
   pub bodies : List RewardBody
   pub numbers : List ℤ
 
@@ -60,9 +62,14 @@ pub record IsBodyOf (costs : Bool) (entry : Entry) (numbers : List ℤ) (body : 
   pub places : body.places ≡ length entry.places
   pub numbers_are : (k : ℕ) (h : ℤ) → slice_get (rewards_in entry.body) k ≡ Some h → slice_get numbers (body.start + k) ≡ Some (worth costs h)
 
--- each body is that of the entry of its number
-abbrev pub AreBodiesOf : Bool → List Entry → List ℤ → List RewardBody → Type 0
-AreBodiesOf costs entries numbers bodies = (b : RewardBody) → Contains bodies b → (e : Entry) → slice_get entries b.number ≡ Some e → IsBodyOf costs e numbers b
+-- the body of the entry of this number, where the first of the bodies is that of the entry `first`
+abbrev pub body_at : ℕ → List RewardBody → ℕ → Option RewardBody
+body_at first bodies number = slice_get bodies (number - first)
+
+-- the entry of each rule has its body
+abbrev pub AreBodiesOf : Bool → List Entry → List Rule → ℕ → List ℤ → List RewardBody → Type 0
+AreBodiesOf costs entries rules first numbers bodies =
+    (r : Rule) → Contains rules r → (e : Entry) → slice_get entries r.number ≡ Some e → IsSomeAnd (body_at first bodies r.number) (IsBodyOf costs e numbers)
 
 -- The rules are those of R in an index of the entries, and each has the body of its entry.
 pub record AreRewardsOf (p : Preamble) (entries : List Entry) (rewards : RewardRules) : Type 0 where
@@ -72,9 +79,7 @@ pub record AreRewardsOf (p : Preamble) (entries : List Entry) (rewards : RewardR
   pub index : List Rule
   pub index_is : IsIndexOf entries index
   pub rules : (r : Rule) → Contains rewards.rules r ↔ (Contains index r × (table_key Reward ≤ r.key) × (r.key < table_key Reward + 1024 ^ most_places))
-  pub some_body : (r : Rule) → Contains rewards.rules r → (b : RewardBody) × Contains rewards.bodies b × (b.number ≡ r.number)
-  pub in_order : IsNonDecreasingBy (λ b. b.number) rewards.bodies
-  pub bodies : AreBodiesOf p.costs entries rewards.numbers rewards.bodies
+  pub bodies : AreBodiesOf p.costs entries rewards.rules rewards.first rewards.numbers rewards.bodies
 
 -- the number of a cell in a body, by the indices that are left for it, in a table with so many rows and columns
 abbrev pub cell_in : ℕ → ℕ → List ℕ → ℕ
@@ -83,5 +88,5 @@ cell_in rows columns (row ∷ column ∷ []) = row * columns + column
 cell_in rows columns (column ∷ []) = column
 cell_in rows columns _ = 0
 
-abbrev pub reward_rules : RewardShape → List Rule → List RewardBody → List ℤ → RewardRules
-reward_rules shape rules bodies numbers = record { shape = shape; rules = rules; bodies = bodies; numbers = numbers }
+abbrev pub reward_rules : RewardShape → List Rule → ℕ → List RewardBody → List ℤ → RewardRules
+reward_rules shape rules first bodies numbers = record { shape = shape; rules = rules; first = first; bodies = bodies; numbers = numbers }

@@ -14,6 +14,7 @@ mod reward_parts;
 mod reward_search;
 mod rewards;
 mod row;
+mod row_rules;
 mod rows;
 mod rule;
 mod shape;

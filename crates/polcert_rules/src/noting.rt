@@ -78,7 +78,7 @@ fn note_rule(rule: Rule, low: u64, count: usize, noted: &mut [Option<usize>])
 }
 
 /// Notes a number, if one, for each of the first numbers.
-fn note_all(noted: &mut [Option<usize>], count: usize, number: Option<usize>)
+pub(crate) fn note_all(noted: &mut [Option<usize>], count: usize, number: Option<usize>)
     requires { count ≤ length noted.old }
     ensures { (z : ℕ) → z < count → slice_index_or noted.new z None ≡ later (slice_index_or noted.old z None) number }
 {

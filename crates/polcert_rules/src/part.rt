@@ -1,28 +1,20 @@
 //! Parts of a list of rules in the order of their keys.
-ghost use Rattle.std.specs.Prelude.{◌≡◌, ◌<◌, ◌≤◌, ◌↔◌, Contains};
+ghost use Rattle.std.specs.Prelude.{◌≡◌, ◌<◌, ◌≤◌, ◌↔◌, Contains, IsTrue};
 ghost use Rattle.polcert_rules.specs.declared.rule.Rule.{Rule as R};
-ghost use Rattle.polcert_rules.specs.Newest.{IsRising};
+ghost use Rattle.polcert_rules.specs.Newest.{IsRising, IsCut};
 
 use crate::Rule;
+use crate::reward_bodies::in_half;
+use std::alloc::AllocError;
 
-/// The rules from this key on.
-fn from(rules: &[Rule], low: u64) -> &[Rule]
-    requires { IsRising rules.now }
-    ensures rising { IsRising result.now }
-    ensures kept { (r : R) → Contains result.now r ↔ (Contains rules.now r × (low ≤ r.key)) }
-{
-    let start = rules.partition_point(|rule| rule.key < low);
-    &rules[start..]
-}
+/// How many rules are looked through before all of them are.
+const NEAR: usize = 16;
 
-/// The rules before this key.
-fn before(rules: &[Rule], high: u64) -> &[Rule]
-    requires { IsRising rules.now }
-    ensures rising { IsRising result.now }
-    ensures kept { (r : R) → Contains result.now r ↔ (Contains rules.now r × (r.key < high)) }
-{
-    let end = rules.partition_point(|rule| rule.key < high);
-    &rules[..end]
+/// Where a part of a list of rules may begin, and where it may end.
+#[derive(Clone, Copy)]
+pub(crate) struct RuleSpan {
+    pub start: u32,
+    pub end: u32,
 }
 
 /// The rules from one key on and before another.
@@ -32,4 +24,121 @@ pub(crate) fn between(rules: &[Rule], low: u64, high: u64) -> &[Rule]
     ensures kept { (r : R) → Contains result.now r ↔ (Contains rules.now r × (low ≤ r.key) × (r.key < high)) }
 {
     before(from(rules, low), high)
+}
+
+/// The same, at once where they stand where they may.
+pub(crate) fn between_at(rules: &[Rule], low: u64, high: u64, span: RuleSpan) -> &[Rule]
+    requires { IsRising rules.now }
+    ensures rising { IsRising result.now }
+    ensures kept { (r : R) → Contains result.now r ↔ (Contains rules.now r × (low ≤ r.key) × (r.key < high)) }
+{
+    let front = before_at(rules, high, span.end as usize);
+    from_at(front, low, span.start as usize)
+}
+
+/// Where the rules from one key on and before another stand. More rules than there are such numbers count as want of memory.
+pub(crate) fn span_of(rules: &[Rule], low: u64, high: u64) -> Result<RuleSpan, AllocError> {
+    Ok(RuleSpan {
+        start: in_half(rules.partition_point(|rule| rule.key < low))?,
+        end: in_half(rules.partition_point(|rule| rule.key < high))?,
+    })
+}
+
+/// The rules from this key on.
+fn from(rules: &[Rule], low: u64) -> &[Rule]
+    requires { IsRising rules.now }
+    ensures rising { IsRising result.now }
+    ensures kept { (r : R) → Contains result.now r ↔ (Contains rules.now r × (low ≤ r.key)) }
+{
+    if none_below(rules, low) {
+        return rules;
+    }
+    let start = rules.partition_point(|rule| rule.key < low);
+    &rules[start..]
+}
+
+/// The same, at once where the rules before this place are those before the key.
+fn from_at(rules: &[Rule], low: u64, place: usize) -> &[Rule]
+    requires { IsRising rules.now }
+    ensures rising { IsRising result.now }
+    ensures kept { (r : R) → Contains result.now r ↔ (Contains rules.now r × (low ≤ r.key)) }
+{
+    if is_cut(rules, low, place) {
+        return &rules[place..];
+    }
+    from(rules, low)
+}
+
+/// The rules before this key.
+fn before(rules: &[Rule], high: u64) -> &[Rule]
+    requires { IsRising rules.now }
+    ensures rising { IsRising result.now }
+    ensures kept { (r : R) → Contains result.now r ↔ (Contains rules.now r × (r.key < high)) }
+{
+    let near = near(rules, high);
+    let end = near.partition_point(|rule| rule.key < high);
+    &near[..end]
+}
+
+/// The same, at once where these are the rules before this place.
+fn before_at(rules: &[Rule], high: u64, place: usize) -> &[Rule]
+    requires { IsRising rules.now }
+    ensures rising { IsRising result.now }
+    ensures kept { (r : R) → Contains result.now r ↔ (Contains rules.now r × (r.key < high)) }
+{
+    if is_cut(rules, high, place) {
+        return &rules[..place];
+    }
+    before(rules, high)
+}
+
+/// All rules before this key, and maybe more: few where it is known at once that these are few.
+fn near(rules: &[Rule], high: u64) -> &[Rule]
+    requires { IsRising rules.now }
+    ensures rising { IsRising result.now }
+    ensures kept { (r : R) → (Contains result.now r × (r.key < high)) ↔ (Contains rules.now r × (r.key < high)) }
+{
+    if rules.len() <= NEAR {
+        return rules;
+    }
+    if none_below(&rules[NEAR..], high) {
+        return &rules[..NEAR];
+    }
+    rules
+}
+
+/// Whether the rules before this place are those before the key.
+fn is_cut(rules: &[Rule], key: u64, place: usize) -> bool
+    requires { IsRising rules.now }
+    ensures { IsTrue result → IsCut rules.now key place }
+{
+    if place > rules.len() {
+        return false;
+    }
+    if !all_below(&rules[..place], key) {
+        return false;
+    }
+    none_below(&rules[place..], key)
+}
+
+/// Whether all rules are before this key.
+fn all_below(rules: &[Rule], key: u64) -> bool
+    requires { IsRising rules.now }
+    ensures { IsTrue result → (r : R) → Contains rules.now r → r.key < key }
+{
+    match rules.last() {
+        Some(rule) => rule.key < key,
+        None => true,
+    }
+}
+
+/// Whether no rule is before this key.
+fn none_below(rules: &[Rule], key: u64) -> bool
+    requires { IsRising rules.now }
+    ensures { IsTrue result → (r : R) → Contains rules.now r → key ≤ r.key }
+{
+    match rules.first() {
+        Some(rule) => key <= rule.key,
+        None => true,
+    }
 }

@@ -1,22 +1,26 @@
 //! The bodies of entries of R, in one list of numbers.
-ghost use Rattle.std.specs.Prelude.{◌≡◌, ◌<◌, ◌≤◌, ◌+◌, ◌++◌, ℕ, All, Contains, map, get_or, length, drop, pos, IfOk, OnOk, slice_get};
-ghost use Rattle.std.specs.Option.{IsSomeAnd};
-ghost use Rattle.std.specs.List.Sorted.{IsNonDecreasingBy};
-ghost use Rattle.polcert_cells.specs.declared.entry.Entry.{Entry as E};
+ghost use Rattle.std.specs.Prelude.{◌≡◌, ◌<◌, ◌≤◌, ◌+◌, ◌++◌, All, Contains, map, get_or, length, drop, pos, IfOk, OnOk};
 ghost use Rattle.polcert_cells.specs.Elements.{most_states, most_elements};
 ghost use Rattle.polcert_cells.specs.EntryLists.{body_of};
 ghost use Rattle.polcert_rules.specs.declared.rule.Rule.{Rule as R};
-ghost use Rattle.polcert_rules.specs.declared.reward_parts.RewardBody.{RewardBody as B};
-ghost use Rattle.polcert_rules.specs.Rewards.{worth, rewards_in, AreBodiesOf, cell_in};
+ghost use Rattle.polcert_rules.specs.Rewards.{worth, rewards_in, AreBodiesOf, body_at, cell_in};
 
 use crate::Rule;
 use crate::reward_parts::RewardBody;
 use polcert_cells::{BodyRef, Entries};
 use std::alloc::{AllocError, Global};
 
-/// The bodies of some entries of R, in the order of their numbers, and the numbers of all of them.
+/// What stands where an entry has no rule.
+const NO_BODY: RewardBody = RewardBody {
+    start: 0,
+    places: 0,
+};
+
+/// The bodies of some entries of R, each as far behind the first as its entry is behind the entry `first`, and the numbers of
+/// all of them.
 #[derive(Drop)]
 pub(crate) struct RewardBodies {
+    pub first: usize,
     pub bodies: Vec<RewardBody>,
     pub numbers: Vec<i64>,
 }
@@ -30,35 +34,33 @@ impl RewardBodies {
         rules: &[Rule],
     ) -> Result<RewardBodies, AllocError>
         requires { (r : R) → Contains rules.now r → r.number < length entries.now }
-        ensures some_body { IfOk result (λ kept. (r : R) → Contains rules.now r → (b : B) × Contains kept.bodies.items b × (b.number ≡ r.number)) }
-        ensures in_order { IfOk result (λ kept. IsNonDecreasingBy (λ b. b.number) kept.bodies.items) }
-        ensures bodies { IfOk result (λ kept. AreBodiesOf costs entries.now kept.numbers.items kept.bodies.items) }
+        ensures { IfOk result (λ kept. AreBodiesOf costs entries.now rules.now kept.first kept.numbers.items kept.bodies.items) }
     {
-        let mut bodies = Vec::with_capacity(alloc, rules.len())?;
+        let first = first_number(rules);
+        let room = behind_last(rules, entries.len()).saturating_sub(first);
+        let mut bodies = vec![in alloc; NO_BODY; room]?;
         let mut numbers = Vec::with_capacity(alloc, rules.len())?;
         for rule in rules {
             let entry = entries.at(rule.number);
             let body = RewardBody {
-                number: in_half(rule.number)?,
                 start: in_half(numbers.len())?,
                 places: in_half(entry.places.len())?,
             };
+            bodies[rule.number - first] = body;
             add_numbers(&mut numbers, costs, entry.body)?;
-            bodies.push(body)?;
         }
-        bodies.sort_unstable_by_key(|body| body.number);
-        Ok(RewardBodies { bodies, numbers })
+        Ok(RewardBodies {
+            first,
+            bodies,
+            numbers,
+        })
     }
 
-    /// The body of the entry of this number, where there is one.
+    /// The body of the entry of this number.
     pub(crate) fn find(&self, number: usize) -> Option<RewardBody>
-        ensures { IsNonDecreasingBy (λ b. b.number) self.now.bodies.items → (b : B) → Contains self.now.bodies.items b → b.number ≡ number →
-            IsSomeAnd result (λ found. Contains self.now.bodies.items found × (found.number ≡ number)) }
+        ensures { result ≡ body_at self.now.first self.now.bodies.items number }
     {
-        let place = self
-            .bodies
-            .partition_point(|body| (body.number as usize) < number);
-        self.bodies.get(place).copied()
+        self.bodies.get(number.saturating_sub(self.first)).copied()
     }
 
     /// The number of this cell of a body.
@@ -72,8 +74,33 @@ impl RewardBodies {
     }
 }
 
+/// A number that no rule's is below.
+fn first_number(rules: &[Rule]) -> usize
+    ensures { (r : R) → Contains rules.now r → result ≤ r.number }
+{
+    let mut first = usize::MAX;
+    for rule in rules {
+        first = first.min(rule.number);
+    }
+    first
+}
+
+/// A number that each rule's is below, where each is below the limit.
+fn behind_last(rules: &[Rule], limit: usize) -> usize
+    requires { (r : R) → Contains rules.now r → r.number < limit }
+    ensures { (r : R) → Contains rules.now r → r.number < result }
+{
+    let mut end = 0;
+    for rule in rules {
+        if end <= rule.number {
+            end = rule.number + 1;
+        }
+    }
+    end
+}
+
 /// A number in half the bits. More numbers than these count as want of memory.
-fn in_half(number: usize) -> Result<u32, AllocError>
+pub(crate) fn in_half(number: usize) -> Result<u32, AllocError>
     ensures { IfOk result (λ n. n ≡ number) }
 {
     if number > u32::MAX as usize {

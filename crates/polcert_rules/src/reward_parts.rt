@@ -9,12 +9,11 @@ pub struct RewardShape {
     pub observations: usize,
 }
 
-/// The body of an entry of R: the entry's number in the order of the file, where its numbers begin among those of all
-/// entries, and how many places it has. The fewer places, the more numbers: one, a row of observations, a matrix of end
-/// states by observations, or such a matrix for each start state.
+/// The body of an entry of R: where its numbers begin among those of all entries, and how many places it has. The fewer
+/// places, the more numbers: one, a row of observations, a matrix of end states by observations, or such a matrix for each
+/// start state.
 #[derive(Clone, Copy)]
 pub struct RewardBody {
-    pub number: u32,
     pub start: u32,
     pub places: u32,
 }

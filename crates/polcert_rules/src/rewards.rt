@@ -1,5 +1,5 @@
 //! The rewards of a model, as rules.
-ghost use Rattle.std.specs.Prelude.{◌≡◌, ◌<◌, ◌≤◌, ◌+◌, ◌^◌, ◌↔◌, ℕ, List, [], ◌∷◌, map, All, Contains, pos, true, false, IfOk, IsTrue, Some, slice_get, length, slice_index_or};
+ghost use Rattle.std.specs.Prelude.{◌≡◌, ◌<◌, ◌≤◌, ◌+◌, ◌^◌, ◌↔◌, ℕ, List, [], ◌∷◌, map, All, Contains, pos, true, false, IfOk, IsTrue, Some, None, slice_get, length, slice_index_or};
 ghost use Rattle.std.specs.Option.{ForSome};
 ghost use Rattle.polcert_rules.specs.declared.rule.Rule.{Rule as R};
 ghost use Rattle.polcert_cells.specs.declared.entry.Entry.{Entry as E};
@@ -15,10 +15,10 @@ ghost use Rattle.polcert_rules.specs.Rewards.{IsShapeOf, IsSmall, AreRewardsOf};
 ghost use Rattle.polcert_rules.specs.RewardSearch.{AreWithin, IsLastBody, IsSingle};
 
 use crate::newest::newest;
-use crate::noting::note;
 use crate::reward_bodies::{RewardBodies, behind, cell_in};
 use crate::reward_parts::{RewardBody, RewardShape};
 use crate::reward_search::some_begins;
+use crate::row_rules::RowRules;
 use crate::{Index, Rule};
 use polcert_cells::{Entries, MOST_OBSERVATIONS, Table};
 use std::alloc::{AllocError, Global};
@@ -35,14 +35,14 @@ const AN_INDEX: u64 = 2;
 /// What a key goes on with, at least, where one of its last two places is an index.
 const AN_END_OR_OBSERVATION: u64 = 1024 + 2;
 
-/// How many observations rules are noted for: all that there may be, and behind them one that no entry names.
-const NOTED: usize = MOST_OBSERVATIONS + 1;
+/// So many observations are few: what rules are noted in is then cleared sooner.
+const FEW_OBSERVATIONS: usize = 63;
 
 /// The rewards that a list of entries gives: of each pattern of R the last entry, and its numbers, each as it is worth.
 #[derive(Drop)]
 pub struct Rewards {
     shape: RewardShape,
-    rules: Vec<Rule>,
+    rules: RowRules,
     bodies: RewardBodies,
 }
 
@@ -51,9 +51,9 @@ impl Model for Rewards {
 
     ghost Value = { RewardRules };
 
-    ghost view = { λ r. reward_rules r.shape r.rules.items r.bodies.bodies.items r.bodies.numbers.items };
+    ghost view = { λ r. reward_rules r.shape r.rules.rules.items r.bodies.first r.bodies.bodies.items r.bodies.numbers.items };
 
-    ghost invariant = { λ r. AreRewardRules (reward_rules r.shape r.rules.items r.bodies.bodies.items r.bodies.numbers.items) };
+    ghost invariant = { λ r. AreRewardRules (reward_rules r.shape r.rules.rules.items r.bodies.first r.bodies.bodies.items r.bodies.numbers.items) };
 }
 
 impl Rewards {
@@ -73,6 +73,7 @@ impl Rewards {
     {
         let rules = rules_of(alloc, index)?;
         let bodies = RewardBodies::of(alloc, costs, entries, rules.as_slice())?;
+        let rules = RowRules::of(alloc, shape, LOW, rules)?;
         Ok(Rewards {
             shape,
             rules,
@@ -98,7 +99,8 @@ impl Rewards {
             result ≡ reward p entries (action ∷ start ∷ end ∷ observation ∷ []) }
     {
         prove!(observation < self.shape.observations);
-        self.at_cell(&[action, start, end, observation])
+        let body = self.newest_body(action, start, &[end, observation]);
+        self.given(body, &[action, start, end, observation])
     }
 
     /// Fills in the rewards of all observations, in millionths, where this action is taken in the start state and ends in the end
@@ -111,16 +113,62 @@ impl Rewards {
         ensures { (p : Preamble) (entries : List E) → AreRewardsOf p entries self.now → (z : ℕ) → z < self.now.shape.observations →
             slice_index_or rewards.new z (pos 0) ≡ reward p entries (action ∷ start ∷ end ∷ z ∷ []) }
     {
+        if self.shape.observations <= FEW_OBSERVATIONS {
+            self.fill_few(action, start, end, rewards);
+        } else {
+            self.fill_many(action, start, end, rewards);
+        }
+    }
+
+    /// The same where there are few observations.
+    fn fill_few(&self, action: usize, start: usize, end: usize, rewards: &mut [i64])
+        requires action { action < self.now.shape.actions }
+        requires start { start < self.now.shape.states }
+        requires end { end < self.now.shape.states }
+        requires room { self.now.shape.observations ≤ length rewards.old }
+        requires few { self.now.shape.observations ≤ 63 }
+        ensures { (p : Preamble) (entries : List E) → AreRewardsOf p entries self.now → (z : ℕ) → z < self.now.shape.observations →
+            slice_index_or rewards.new z (pos 0) ≡ reward p entries (action ∷ start ∷ end ∷ z ∷ []) }
+    {
+        let mut noted = [None; FEW_OBSERVATIONS + 1];
+        self.fill_noted(action, start, end, rewards, &mut noted);
+    }
+
+    /// The same where there may be as many observations as a model may have.
+    fn fill_many(&self, action: usize, start: usize, end: usize, rewards: &mut [i64])
+        requires action { action < self.now.shape.actions }
+        requires start { start < self.now.shape.states }
+        requires end { end < self.now.shape.states }
+        requires room { self.now.shape.observations ≤ length rewards.old }
+        ensures { (p : Preamble) (entries : List E) → AreRewardsOf p entries self.now → (z : ℕ) → z < self.now.shape.observations →
+            slice_index_or rewards.new z (pos 0) ≡ reward p entries (action ∷ start ∷ end ∷ z ∷ []) }
+    {
+        prove!(self.shape.observations <= MOST_OBSERVATIONS);
+        let mut noted = [None; MOST_OBSERVATIONS + 1];
+        self.fill_noted(action, start, end, rewards, &mut noted);
+    }
+
+    /// The same, where nothing is noted yet for any observation, nor for one more, that no entry names.
+    fn fill_noted(
+        &self,
+        action: usize,
+        start: usize,
+        end: usize,
+        rewards: &mut [i64],
+        noted: &mut [Option<usize>],
+    )
+        requires action { action < self.now.shape.actions }
+        requires start { start < self.now.shape.states }
+        requires end { end < self.now.shape.states }
+        requires room { self.now.shape.observations ≤ length rewards.old }
+        requires room_to_note { self.now.shape.observations < length noted.old }
+        requires nothing { (z : ℕ) → z < length noted.old → slice_index_or noted.old z None ≡ None }
+        ensures { (p : Preamble) (entries : List E) → AreRewardsOf p entries self.now → (z : ℕ) → z < self.now.shape.observations →
+            slice_index_or rewards.new z (pos 0) ≡ reward p entries (action ∷ start ∷ end ∷ z ∷ []) }
+    {
         let count = self.shape.observations;
-        let mut noted = [None; NOTED];
-        note(
-            self.rules.as_slice(),
-            LOW,
-            MOST_PLACES,
-            &[action, start, end],
-            count + 1,
-            &mut noted,
-        );
+        self.rules
+            .note(LOW, action, start, &[end], count + 1, noted);
         let shared = noted[count];
         let shared_body = self.body_of(shared);
         for z in 0..count {
@@ -143,17 +191,10 @@ impl Rewards {
         ensures { (p : Preamble) (entries : List E) → AreRewardsOf p entries self.now →
             ForSome result (λ h. (z : ℕ) → z < self.now.shape.observations → reward p entries (action ∷ start ∷ end ∷ z ∷ []) ≡ h) }
     {
-        let cell = [action, start, end, 0];
-        if some_begins(
-            self.rules.as_slice(),
-            LOW,
-            MOST_PLACES,
-            &cell[..3],
-            AN_INDEX,
-        ) {
+        if self.rules.some_begins(LOW, action, start, &[end], AN_INDEX) {
             return None;
         }
-        match self.newest_body(&cell) {
+        match self.newest_body(action, start, &[end, 0]) {
             None => Some(0),
             Some(body) => if (body.places as usize) < MOST_PLACES {
                 None
@@ -172,17 +213,13 @@ impl Rewards {
             ForSome result (λ h. (end observation : ℕ) → end < self.now.shape.states → observation < self.now.shape.observations →
             reward p entries (action ∷ start ∷ end ∷ observation ∷ []) ≡ h) }
     {
-        let cell = [action, start, 0, 0];
-        if some_begins(
-            self.rules.as_slice(),
-            LOW,
-            MOST_PLACES,
-            &cell[..2],
-            AN_END_OR_OBSERVATION,
-        ) {
+        if self
+            .rules
+            .some_begins(LOW, action, start, &[], AN_END_OR_OBSERVATION)
+        {
             return None;
         }
-        match self.newest_body(&cell) {
+        match self.newest_body(action, start, &[0, 0]) {
             None => Some(0),
             Some(body) => if is_single(body.places as usize, self.shape.observations) {
                 Some(self.bodies.number_at(body, 0))
@@ -204,17 +241,14 @@ impl Rewards {
         prove!(action < self.shape.actions);
         match self.newest_number(&[action]) {
             Some(_) => true,
-            None => some_begins(self.rules.as_slice(), LOW, MOST_PLACES, &[action, start], 0),
+            None => some_begins(
+                self.rules.rules.as_slice(),
+                LOW,
+                MOST_PLACES,
+                &[action, start],
+                0,
+            ),
         }
-    }
-
-    /// The reward of the cell at these indices.
-    fn at_cell(&self, indices: &[usize]) -> i64
-        requires { AreIndices most_places indices.now }
-        ensures { (p : Preamble) (entries : List E) → AreRewardsOf p entries self.now →
-            AreWithin (map count_of (dimensions p RewardTable)) indices.now → result ≡ reward p entries indices.now }
-    {
-        self.given(self.newest_body(indices), indices)
     }
 
     /// What the body of the last entry that covers the cell at these indices gives it; 0 where there is none.
@@ -240,16 +274,16 @@ impl Rewards {
         ensures { (p : Preamble) (entries : List E) → AreRewardsOf p entries self.now →
             IsLastNumber entries RewardTable indices.now result }
     {
-        newest(self.rules.as_slice(), LOW, MOST_PLACES, indices)
+        newest(self.rules.rules.as_slice(), LOW, MOST_PLACES, indices)
     }
 
-    /// The body of the last entry that covers the cell at these indices, if one does.
-    fn newest_body(&self, indices: &[usize]) -> Option<RewardBody>
-        requires { AreIndices most_places indices.now }
+    /// The body of the last entry that covers the cell at an action, a start state and the indices behind them, if one does.
+    fn newest_body(&self, action: usize, start: usize, rest: &[usize]) -> Option<RewardBody>
+        requires { AreIndices most_places (action ∷ start ∷ rest.now) }
         ensures { (p : Preamble) (entries : List E) → AreRewardsOf p entries self.now →
-            IsLastBody p.costs entries self.now.numbers indices.now result }
+            IsLastBody p.costs entries self.now.numbers (action ∷ start ∷ rest.now) result }
     {
-        self.body_of(newest(self.rules.as_slice(), LOW, MOST_PLACES, indices))
+        self.body_of(self.rules.newest(LOW, action, start, rest))
     }
 
     /// The body of the rule of this number.

@@ -5,8 +5,10 @@ use Rattle.polcert_rules.proofs.Parts.{parted, kept_take}
 use Rattle.polcert_rules.proofs.part.before.Goals as goal
 
 pub returns-clause-kept : goal.returns-clause-kept
-returns-clause-kept c =
-    let xs = c.args.rules.now in
+returns-clause-kept c = λ r.
+    let xs = c.near-near.result.now in
     let n = c.partition_point-end.result in
-    let cut = IsPartitionPoint-from_clause (λ (r : Rule). ltb r.key c.args.high) xs n c.partition_point-end.ensures.partitioned (parted xs c.args.high c.requires) (λ a r q k. search rules) in
-    kept_take xs n c.args.high c.partition_point-end.ensures.bound cut
+    let cut = IsPartitionPoint-from_clause (λ (x : Rule). ltb x.key c.args.high) xs n c.partition_point-end.ensures.partitioned (parted xs c.args.high c.near-near.ensures.rising) (λ a x q k. search rules) in
+    let here = kept_take xs n c.args.high c.partition_point-end.ensures.bound cut r in
+    let all = c.near-near.ensures.kept r in
+    ((λ among. all.0 (here.0 among)), (λ h. here.1 (all.1 h)))

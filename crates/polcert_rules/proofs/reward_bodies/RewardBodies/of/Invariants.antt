@@ -1,9 +1,10 @@
-use Rattle.std.proofs.Common.{◌≡◌, ◌++◌, map, drop}
+use Rattle.std.proofs.Common.{◌≡◌, length, take}
 use Rattle.polcert_rules.specs.Rewards.{AreBodiesOf}
 use Rattle.polcert_rules.proofs.reward_bodies.RewardBodies.of.Given as goal
 
+-- the rules so far have their bodies
 abbrev pub invariant-loop-rule : goal.invariant-loop-rule
 invariant-loop-rule l = record {
-  named : map (λ b. b.number) l.bodies.items ++ map (λ r. r.number) (drop l.rule-index l.rules) ≡ map (λ r. r.number) l.rules;
-  bodies : AreBodiesOf l.costs l.entries l.numbers.items l.bodies.items;
+  room : length l.bodies.items ≡ l.room;
+  bodies : AreBodiesOf l.costs l.entries (take l.rule-index l.rules) l.first l.numbers.items l.bodies.items;
 }

@@ -2,6 +2,8 @@ use Rattle.std.proofs.Common.{◌^◌, List, Contains, subst, sym}
 use Rattle.polcert_cells.specs.declared.entry.Table.TheVariants.{Reward}
 use Rattle.polcert_rules.specs.declared.rule.Rule.{Rule}
 use Rattle.polcert_rules.specs.Keys.{table_key, most_places}
+use Rattle.polcert_rules.specs.Newest.{IsRising}
+use Rattle.polcert_rules.specs.Rewards.{AreBodiesOf, AreRewardsOf, reward_rules}
 use Rattle.polcert_rules.proofs.RewardRules.{number_within, are_rewards}
 use Rattle.polcert_rules.proofs.rewards.Rewards.of.Goals as goal
 
@@ -13,12 +15,18 @@ of-requires c = λ r among.
 pub invariant_of-result : goal.invariant_of-result
 invariant_of-result c = record {
   shape = c.requires.shape;
-  rising = c.in_ok-rules.ensures.rising;
-  table = λ r among. let k = (c.in_ok-rules.ensures.kept r).0 among in record { low = k.1; high = k.2 };
+  rising = subst IsRising (sym c.in_ok-rules-2.ensures) c.in_ok-rules.ensures.rising;
+  table = λ r among.
+      let k = (c.in_ok-rules.ensures.kept r).0 (subst (λ (rules : List Rule). Contains rules r) c.in_ok-rules-2.ensures among) in
+      record { low = k.1; high = k.2 };
 }
 
 pub returns-clause-rewards : goal.returns-clause-rewards
 returns-clause-rewards c = λ p shape costs keyed sound.
-    are_rewards p c.args.entries.now c.args.shape c.args.costs c.args.index c.in_ok-rules.rules.items c.in_ok-bodies.bodies.bodies.items c.in_ok-bodies.bodies.numbers.items
+    let first = c.in_ok-bodies.bodies.first in
+    let bodies = c.in_ok-bodies.bodies.bodies.items in
+    let numbers = c.in_ok-bodies.bodies.numbers.items in
+    subst (λ (rules : List Rule). AreRewardsOf p c.args.entries.now (reward_rules c.args.shape rules first bodies numbers)) (sym c.in_ok-rules-2.ensures)
+    (are_rewards p c.args.entries.now c.args.shape c.args.costs c.args.index c.in_ok-rules.rules.items first bodies numbers
     shape costs keyed sound c.requires.index c.in_ok-rules.ensures.kept
-    (λ r among. c.in_ok-bodies.ensures.some_body r (subst (λ (rules : List Rule). Contains rules r) (sym c.as_slice.ensures.value) among)) c.in_ok-bodies.ensures.in_order c.in_ok-bodies.ensures.bodies
+    (subst (λ (rules : List Rule). AreBodiesOf c.args.costs c.args.entries.now rules first numbers bodies) c.as_slice.ensures.value c.in_ok-bodies.ensures))

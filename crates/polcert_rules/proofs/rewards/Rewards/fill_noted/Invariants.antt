@@ -3,7 +3,7 @@ use Rattle.polcert_cells.specs.declared.entry.Entry.{Entry}
 use Rattle.polcert_cells.specs.Preamble.{Preamble}
 use Rattle.polcert_cells.specs.Cells.{reward}
 use Rattle.polcert_rules.specs.Rewards.{AreRewardsOf}
-use Rattle.polcert_rules.proofs.rewards.Rewards.fill.Given as goal
+use Rattle.polcert_rules.proofs.rewards.Rewards.fill_noted.Given as goal
 
 -- the rewards so far
 abbrev pub invariant-loop-z : goal.invariant-loop-z

@@ -1,6 +1,5 @@
-use Rattle.std.proofs.Common.{◌≡◌, ◌∙◌, ◌≢◌, ◌<◌, ℕ, List, [], ◌∷◌, None, Option, map, length, get_or, set, pos, FitsSigned, to_z, of_z, w64, sym, ap, subst, arith, rules, below_more, get_or-set_other, get_or-set_same, Contains}
+use Rattle.std.proofs.Common.{◌≡◌, ◌∙◌, ◌≢◌, ◌<◌, ℕ, List, [], ◌∷◌, None, Option, map, length, get_or, set, pos, FitsSigned, to_z, of_z, w64, sym, ap, subst, arith, rules, below_more, get_or-set_other, get_or-set_same}
 use Rattle.std.proofs.lemmas.Int.{to_z-of_z}
-use Rattle.std.proofs.lemmas.List.{get_or-replicate}
 use Rattle.polcert_cells.specs.Elements.{count_of}
 use Rattle.polcert_cells.specs.Preamble.{dimensions}
 use Rattle.polcert_cells.specs.Cells.{reward}
@@ -12,11 +11,8 @@ use Rattle.polcert_rules.specs.Rewards.{RewardRules}
 use Rattle.polcert_rules.specs.RewardSearch.{AreWithin, IsLastBody}
 use Rattle.polcert_rules.specs.declared.reward_parts.RewardBody.{RewardBody}
 use Rattle.polcert_rules.proofs.NotedLaws.{noted_first}
-use Rattle.polcert_rules.proofs.rewards.Rewards.fill.Goals as goal
-use Rattle.polcert_rules.proofs.rewards.Rewards.fill.Goals.{then-is_same, else-is_same}
-
-pub note-requires-clause-from : goal.note-requires-clause-from
-note-requires-clause-from c r among = (c.self.invariant.table r (subst (λ (xs : List Rule). Contains xs r) c.as_slice.ensures.value among)).low
+use Rattle.polcert_rules.proofs.rewards.Rewards.fill_noted.Goals as goal
+use Rattle.polcert_rules.proofs.rewards.Rewards.fill_noted.Goals.{then-is_same, else-is_same}
 
 pub loop-z-preserved : goal.loop-z-preserved
 loop-z-preserved c = λ p entries are.
@@ -26,12 +22,12 @@ loop-z-preserved c = λ p entries are.
     let IsHere : Option ℕ → Type 0 = IsNewest c.args.self.now.rules (Fits most_places (table_key Reward) (cell z)) in
     let same : c.self.inside.shape.observations ≡ c.args.self.now.shape.observations = ap (λ (rewards : RewardRules). rewards.shape.observations) c.self.view_is in
     let here : z < c.args.self.now.shape.observations = omega (arith, same, c.loop-z-test.true) in
-    let few : z < 1001 = omega (arith, c.loop-z-test.true, c.self.invariant.shape.observations) in
+    let few : z < length c.args.noted.now = omega (arith, here, c.requires.room_to_note) in
     let lt : z < length c.loop-z.rewards = omega (arith, here, c.requires.room, c.loop-z.auto.rewards) in
     let within : AreWithin (map count_of (dimensions p Reward)) (cell z) = search rules in
     let small : AreIndices most_places (cell z) = search rules in
-    let first = noted_first _ (Fits most_places (table_key Reward) (cell z)) _ (get_or c.note.new.noted z None) (get_or-replicate 1001 z None None few) (c.note.ensures z (omega (arith, c.loop-z-test.true))) in
-    let newest : IsHere (get_or c.note.new.noted z None) = subst (λ (xs : List Rule). IsNewest xs (Fits most_places (table_key Reward) (cell z)) (get_or c.note.new.noted z None)) (c.as_slice.ensures.value ∙ ap (λ (rewards : RewardRules). rewards.rules) c.self.view_is) first in
+    let first = noted_first _ (Fits most_places (table_key Reward) (cell z)) _ (get_or c.note.new.noted z None) (c.requires.nothing z few) (c.note.ensures z (omega (arith, c.loop-z-test.true))) in
+    let newest : IsHere (get_or c.note.new.noted z None) = subst (λ (xs : List Rule). IsNewest xs (Fits most_places (table_key Reward) (cell z)) (get_or c.note.new.noted z None)) (ap (λ (rewards : RewardRules). rewards.rules) c.self.view_is) first in
     let last : IsLast c.if-is_same.body = elim c.if-is_same.branch [
       | then-is_same w ↦ subst IsLast (sym w.body-is) (c.body_of-shared_body.ensures (cell z) p entries small are (subst IsHere (c.is_same.ensures.0 w.if-is_same.true) newest))
       | else-is_same w ↦ subst IsLast (sym w.body-is) (w.body_of-body.ensures (cell z) p entries small are newest)

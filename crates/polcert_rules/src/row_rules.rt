@@ -1,0 +1,248 @@
+//! The rules of R, in which those whose first two places are known are found without a search.
+ghost use Rattle.std.specs.Prelude.{◌≡◌, ◌+◌, ◌<◌, ◌≤◌, ◌^◌, ◌↔◌, ◌∷◌, Contains, length, IfOk};
+ghost use Rattle.polcert_rules.specs.declared.rule.Rule.{Rule as R};
+ghost use Rattle.polcert_rules.specs.Newest.{IsRising, IsNewest};
+ghost use Rattle.polcert_rules.specs.Keys.{AreIndices, Fits};
+ghost use Rattle.polcert_rules.specs.Noting.{AreNoted};
+ghost use Rattle.polcert_rules.specs.RewardSearch.{Begins, IsAnswer};
+ghost use Rattle.polcert_rules.specs.Rewards.{IsSmall};
+
+use crate::Rule;
+use crate::newest::{first_at, later, newest, span};
+use crate::noting::{note, note_all};
+use crate::part::{RuleSpan, between, between_at, span_of};
+use crate::reward_parts::RewardShape;
+use crate::reward_search::some_begins;
+use std::alloc::{AllocError, Global};
+
+/// The digits of places in a key: none, `*`, and behind these the indices.
+const NO_PLACE: usize = 0;
+
+const EVERY: usize = 1;
+
+const INDICES: usize = 2;
+
+/// So many rules are few: they are searched at once.
+const FEW_RULES: usize = 64;
+
+/// How many places there are behind the first two.
+const PLACES_LEFT: usize = 2;
+
+/// The rules of R by their keys; and where they are not few, for each first place, by each second place, where the rules that
+/// have both may stand. No answer depends on where they may: only how soon it comes.
+#[derive(Drop)]
+pub(crate) struct RowRules {
+    pub rules: Vec<Rule>,
+    seconds: usize,
+    spans: Vec<RuleSpan>,
+}
+
+impl RowRules {
+    /// The rules, in a model of this shape, whose keys follow `low`.
+    pub(crate) fn of(
+        alloc: Global,
+        shape: RewardShape,
+        low: u64,
+        rules: Vec<Rule>,
+    ) -> Result<RowRules, AllocError>
+        requires shape { IsSmall shape }
+        requires rising { IsRising rules.items }
+        requires room { low + 1024 ^ 4 < 2 ^ 64 }
+        ensures { IfOk result (λ kept. kept.rules.items ≡ rules.items) }
+    {
+        if rules.len() <= FEW_RULES {
+            return Ok(RowRules {
+                rules,
+                seconds: 0,
+                spans: Vec::new(alloc),
+            });
+        }
+        let firsts = shape.actions + INDICES;
+        let seconds = shape.states + INDICES;
+        let mut spans = Vec::with_capacity(alloc, firsts * seconds)?;
+        for first in 0..firsts {
+            for second in 0..seconds {
+                let key = low + first as u64 * span(3) + second as u64 * span(PLACES_LEFT);
+                spans.push(span_of(rules.as_slice(), key, key + span(PLACES_LEFT))?)?;
+            }
+        }
+        Ok(RowRules {
+            rules,
+            seconds,
+            spans,
+        })
+    }
+
+    /// The newest of the rules, whose places follow those of the key `low`, that fit an action, a start state and the indices
+    /// behind them.
+    pub(crate) fn newest(
+        &self,
+        low: u64,
+        action: usize,
+        start: usize,
+        rest: &[usize],
+    ) -> Option<usize>
+        requires rising { IsRising self.now.rules.items }
+        requires room { low + 1024 ^ 4 < 2 ^ 64 }
+        requires indices { AreIndices 4 (action ∷ start ∷ rest.now) }
+        ensures { IsNewest self.now.rules.items (Fits 4 low (action ∷ start ∷ rest.now)) result }
+    {
+        let step = span(3);
+        let only = low + (action as u64 + 2) * step;
+        let here = first_at(self.part(NO_PLACE, NO_PLACE, low), low);
+        let of_every = self.newest_behind(EVERY, low + step, start, rest);
+        let of_only = self.newest_behind(action + INDICES, only, start, rest);
+        later(here, later(of_every, of_only))
+    }
+
+    /// The same behind a first place, which has this digit.
+    fn newest_behind(&self, first: usize, low: u64, start: usize, rest: &[usize]) -> Option<usize>
+        requires rising { IsRising self.now.rules.items }
+        requires room { low + 1024 ^ 3 < 2 ^ 64 }
+        requires indices { AreIndices 3 (start ∷ rest.now) }
+        ensures { IsNewest self.now.rules.items (Fits 3 low (start ∷ rest.now)) result }
+    {
+        let step = span(PLACES_LEFT);
+        let every = low + step;
+        let only = low + (start as u64 + 2) * step;
+        let here = first_at(self.part(first, NO_PLACE, low), low);
+        let of_every = newest(self.part(first, EVERY, every), every, PLACES_LEFT, rest);
+        let of_only = newest(
+            self.part(first, start + INDICES, only),
+            only,
+            PLACES_LEFT,
+            rest,
+        );
+        later(here, later(of_every, of_only))
+    }
+
+    /// Notes, for each of the first numbers as the last index behind an action, a start state and an end state, the newest
+    /// rule that fits, where it is later than what is noted. The places of the rules follow those of the key `low`.
+    pub(crate) fn note(
+        &self,
+        low: u64,
+        action: usize,
+        start: usize,
+        rest: &[usize],
+        count: usize,
+        noted: &mut [Option<usize>],
+    )
+        requires rising { IsRising self.now.rules.items }
+        requires room { low + 1024 ^ 4 < 2 ^ 64 }
+        requires indices { AreIndices 4 (action ∷ start ∷ rest.now) }
+        requires last { length rest.now ≡ 1 }
+        requires within { count ≤ length noted.old }
+        requires small { count + 2 < 1024 }
+        ensures { AreNoted self.now.rules.items 4 low (action ∷ start ∷ rest.now) count noted.old noted.new }
+    {
+        let step = span(3);
+        let only = low + (action as u64 + 2) * step;
+        note_all(
+            noted,
+            count,
+            first_at(self.part(NO_PLACE, NO_PLACE, low), low),
+        );
+        self.note_behind(EVERY, low + step, start, rest, count, noted);
+        self.note_behind(action + INDICES, only, start, rest, count, noted);
+    }
+
+    /// The same behind a first place, which has this digit.
+    fn note_behind(
+        &self,
+        first: usize,
+        low: u64,
+        start: usize,
+        rest: &[usize],
+        count: usize,
+        noted: &mut [Option<usize>],
+    )
+        requires rising { IsRising self.now.rules.items }
+        requires room { low + 1024 ^ 3 < 2 ^ 64 }
+        requires indices { AreIndices 3 (start ∷ rest.now) }
+        requires last { length rest.now ≡ 1 }
+        requires within { count ≤ length noted.old }
+        requires small { count + 2 < 1024 }
+        ensures { AreNoted self.now.rules.items 3 low (start ∷ rest.now) count noted.old noted.new }
+    {
+        let step = span(PLACES_LEFT);
+        let every = low + step;
+        let only = low + (start as u64 + 2) * step;
+        note_all(noted, count, first_at(self.part(first, NO_PLACE, low), low));
+        note(
+            self.part(first, EVERY, every),
+            every,
+            PLACES_LEFT,
+            rest,
+            count,
+            noted,
+        );
+        note(
+            self.part(first, start + INDICES, only),
+            only,
+            PLACES_LEFT,
+            rest,
+            count,
+            noted,
+        );
+    }
+
+    /// Whether one of the rules, whose places follow those of the key `low`, begins with a place for an action, one for a start
+    /// state and one for each of the indices behind them that fits it, and goes on with a key of at least `least`.
+    pub(crate) fn some_begins(
+        &self,
+        low: u64,
+        action: usize,
+        start: usize,
+        rest: &[usize],
+        least: u64,
+    ) -> bool
+        requires rising { IsRising self.now.rules.items }
+        requires room { low + 1024 ^ 4 + least < 2 ^ 64 }
+        requires indices { AreIndices 4 (action ∷ start ∷ rest.now) }
+        ensures { IsAnswer self.now.rules.items (Begins 4 low (action ∷ start ∷ rest.now) least) result }
+    {
+        let step = span(3);
+        let only = low + (action as u64 + 2) * step;
+        self.some_begins_behind(EVERY, low + step, start, rest, least)
+            || self.some_begins_behind(action + INDICES, only, start, rest, least)
+    }
+
+    /// The same behind a first place, which has this digit.
+    fn some_begins_behind(
+        &self,
+        first: usize,
+        low: u64,
+        start: usize,
+        rest: &[usize],
+        least: u64,
+    ) -> bool
+        requires rising { IsRising self.now.rules.items }
+        requires room { low + 1024 ^ 3 + least < 2 ^ 64 }
+        requires indices { AreIndices 3 (start ∷ rest.now) }
+        ensures { IsAnswer self.now.rules.items (Begins 3 low (start ∷ rest.now) least) result }
+    {
+        let step = span(PLACES_LEFT);
+        let every = low + step;
+        let only = low + (start as u64 + 2) * step;
+        let of_every = self.part(first, EVERY, every);
+        let of_only = self.part(first, start + INDICES, only);
+        some_begins(of_every, every, PLACES_LEFT, rest, least)
+            || some_begins(of_only, only, PLACES_LEFT, rest, least)
+    }
+
+    /// The rules whose keys follow `low`, the key of two places with these digits.
+    fn part(&self, first: usize, second: usize, low: u64) -> &[Rule]
+        requires rising { IsRising self.now.rules.items }
+        requires room { low + 1024 ^ 2 < 2 ^ 64 }
+        ensures rising { IsRising result.now }
+        ensures kept { (r : R) → Contains result.now r ↔ (Contains self.now.rules.items r × (low ≤ r.key) × (r.key < low + 1024 ^ 2)) }
+    {
+        let place = first.wrapping_mul(self.seconds).wrapping_add(second);
+        let high = low + span(PLACES_LEFT);
+        let rules = self.rules.as_slice();
+        match self.spans.get(place) {
+            Some(span) => between_at(rules, low, high, *span),
+            None => between(rules, low, high),
+        }
+    }
+}
