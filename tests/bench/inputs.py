@@ -144,6 +144,14 @@ def mdp_check(folder):
     graph_and_vectors(folder, 'mdp', 20, 1000, 16, 1000, 8)
 
 
+def full_check(folder):
+    """2,000 nodes over a model of 1,000 states and 4 actions from each of which every state follows; every pair passes."""
+    with open(f'{folder}/full.POMDP', 'w') as out:
+        preamble(out, 1000, 4, 2)
+        out.write('T: * uniform\nO: * uniform\nR: * : * : * : * 1\n')
+    graph_and_vectors(folder, 'full', 2000, 1000, 4, 2, 15)
+
+
 def many_nodes_check(folder):
     """10,000 nodes over a model of 2 states, 3 actions and 2 observations; every pair passes."""
     with open(f'{folder}/nodes.POMDP', 'w') as out:
@@ -246,6 +254,7 @@ INPUTS = {
     'singles': single_reward_check,
     'wide': sparse_check,
     'mdp': mdp_check,
+    'full': full_check,
     'nodes': many_nodes_check,
     'actions': many_actions_check,
     'large': large_text,

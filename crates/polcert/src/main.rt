@@ -3,12 +3,15 @@
 
 mod choice;
 mod program;
+mod progress;
 mod refusal;
 #[cfg(test)]
 mod tests;
 
+use std::io::IsTerminal;
 use std::process::ExitCode;
 
 fn main(rt: HostRuntime) -> ExitCode {
-    ExitCode::from(program::run_program(&rt))
+    let shows_progress = rt.stderr().is_terminal();
+    ExitCode::from(program::run_program(&rt, shows_progress))
 }

@@ -2,14 +2,17 @@
 ghost use Rattle.std.specs.Prelude.{◌≡◌};
 
 use crate::choice::{Choice, Names, choose};
+use crate::progress::Progress;
 use crate::refusal::{LoweredLine, RefusalLine};
 use clap::error::ErrorKind;
 use polcert_answer::{
-    RunFault, run_check, run_lower, run_model, run_print, status_of, status_of_verdict,
+    RunFault, run_check_watched, run_lower_watched, run_model, run_print, status_of,
+    status_of_verdict,
 };
 use polcert_text::{ReaderSource, WriterSink};
 use std::alloc::AllocError;
 use std::rt::{Env, Files};
+use std::time::Clock;
 use std::{env, fs, io};
 
 /// The exit status where all went well, and the answer is no `no`.
@@ -24,11 +27,14 @@ const CANNOT_WRITE: u8 = 3;
 /// The exit status where there is no memory for the command line.
 const MEMORY: u8 = 4;
 
-/// Does what the command line asks for, and answers the exit status.
-pub fn run_program<R: Env + Files + AllocGlobal + Input + Print + Eprint>(rt: &R) -> u8 {
+/// Does what the command line asks for, and answers the exit status. A long check or lowering says how far it is, where that is wanted.
+pub fn run_program<R: Env + Files + Clock + AllocGlobal + Input + Print + Eprint>(
+    rt: &R,
+    shows_progress: bool,
+) -> u8 {
     match env::args(rt) {
         Ok(args) => match args.collect(rt.alloc()) {
-            Ok(words) => run_words(rt, &words),
+            Ok(words) => run_words(rt, shows_progress, &words),
             Err(AllocError) => refused(rt, "out of memory", MEMORY),
         },
         Err(error) if error.kind() == io::ErrorKind::OutOfMemory => {
@@ -39,7 +45,11 @@ pub fn run_program<R: Env + Files + AllocGlobal + Input + Print + Eprint>(rt: &R
 }
 
 /// Does what the words ask for, of which the first is the program's name.
-fn run_words<R: Files + AllocGlobal + Input + Print + Eprint>(rt: &R, words: &Vec<String>) -> u8 {
+fn run_words<R: Files + Clock + AllocGlobal + Input + Print + Eprint>(
+    rt: &R,
+    shows_progress: bool,
+    words: &Vec<String>,
+) -> u8 {
     let mut lent = Vec::new(rt.alloc());
     for word in words {
         if lent.push(word.as_str()).is_err() {
@@ -47,7 +57,7 @@ fn run_words<R: Files + AllocGlobal + Input + Print + Eprint>(rt: &R, words: &Ve
         }
     }
     match choose(rt.alloc(), &lent) {
-        Ok(Some(choice)) => run_choice(rt, choice),
+        Ok(Some(choice)) => run_choice(rt, shows_progress, choice),
         Ok(None) => refused(rt, "a file's name is missing: see polcert --help", REFUSED),
         Err(error) => answer_of_clap(rt, &error),
     }
@@ -65,13 +75,17 @@ fn answer_of_clap<R: Print + Eprint>(rt: &R, error: &clap::Error) -> u8 {
 }
 
 /// Does what was chosen; where that stops, prints why.
-fn run_choice<R: Files + AllocGlobal + Input + Print + Eprint>(rt: &R, choice: Choice<'_>) -> u8 {
+fn run_choice<R: Files + Clock + AllocGlobal + Input + Print + Eprint>(
+    rt: &R,
+    shows_progress: bool,
+    choice: Choice<'_>,
+) -> u8 {
     let done = match choice {
         Choice::Model(None) => sum_up_input(rt),
         Choice::Model(Some(name)) => sum_up_file(rt, name),
         Choice::Print(name) => print_file(rt, name),
-        Choice::Check(names) => check_files(rt, names),
-        Choice::Lower(names) => lower_files(rt, names),
+        Choice::Check(names) => check_files(rt, shows_progress, names),
+        Choice::Lower(names) => lower_files(rt, shows_progress, names),
     };
     match done {
         Ok(status) => status,
@@ -107,25 +121,46 @@ fn print_file<R: Files + AllocGlobal + Print>(rt: &R, name: &str) -> Result<u8, 
 }
 
 /// Checks the vectors of a graph for a model.
-fn check_files<R: Files + AllocGlobal + Print>(rt: &R, names: Names<'_>) -> Result<u8, RunFault> {
-    let mut model = opened(rt, names.model, RunFault::ReadModel)?;
-    let mut graph = opened(rt, names.graph, RunFault::ReadGraph)?;
-    let mut vectors = opened(rt, names.vectors, RunFault::ReadVectors)?;
-    let mut sink = WriterSink::new(io::writer(rt));
-    let verdict = run_check(rt.alloc(), &mut model, &mut graph, &mut vectors, &mut sink)?;
-    Ok(status_of_verdict(verdict))
-}
-
-/// Lowers the vectors of a graph so that they pass the check, and says by how much.
-fn lower_files<R: Files + AllocGlobal + Print + Eprint>(
+fn check_files<R: Files + Clock + AllocGlobal + Print + Eprint>(
     rt: &R,
+    shows_progress: bool,
     names: Names<'_>,
 ) -> Result<u8, RunFault> {
     let mut model = opened(rt, names.model, RunFault::ReadModel)?;
     let mut graph = opened(rt, names.graph, RunFault::ReadGraph)?;
     let mut vectors = opened(rt, names.vectors, RunFault::ReadVectors)?;
     let mut sink = WriterSink::new(io::writer(rt));
-    let by = run_lower(rt.alloc(), &mut model, &mut graph, &mut vectors, &mut sink)?;
+    let mut progress = Progress::new(rt, shows_progress);
+    let verdict = run_check_watched(
+        rt.alloc(),
+        &mut model,
+        &mut graph,
+        &mut vectors,
+        &mut sink,
+        &mut progress,
+    )?;
+    Ok(status_of_verdict(verdict))
+}
+
+/// Lowers the vectors of a graph so that they pass the check, and says by how much.
+fn lower_files<R: Files + Clock + AllocGlobal + Print + Eprint>(
+    rt: &R,
+    shows_progress: bool,
+    names: Names<'_>,
+) -> Result<u8, RunFault> {
+    let mut model = opened(rt, names.model, RunFault::ReadModel)?;
+    let mut graph = opened(rt, names.graph, RunFault::ReadGraph)?;
+    let mut vectors = opened(rt, names.vectors, RunFault::ReadVectors)?;
+    let mut sink = WriterSink::new(io::writer(rt));
+    let mut progress = Progress::new(rt, shows_progress);
+    let by = run_lower_watched(
+        rt.alloc(),
+        &mut model,
+        &mut graph,
+        &mut vectors,
+        &mut sink,
+        &mut progress,
+    )?;
     let _ = rt.eprintln(LoweredLine(by));
     Ok(DONE)
 }

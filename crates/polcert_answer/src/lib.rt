@@ -15,5 +15,5 @@ mod texts;
 pub use answer::check_texts;
 pub use fault::{Fault, RunFault};
 pub use laws::{one_answer, yes_is_a_certificate};
-pub use runs::{run_check, run_lower, run_model, run_print};
+pub use runs::{run_check, run_check_watched, run_lower, run_lower_watched, run_model, run_print};
 pub use status::{status_of, status_of_verdict};

@@ -20,7 +20,7 @@ ghost use Rattle.polcert_answer.specs.Run.{SumsUp, BeginsToSumUp, Prints, Begins
 use crate::controller::{Controller, model_of_run, read_controller};
 use crate::fault::{Fault, RunFault};
 use crate::lines::{write_summary, write_verdict};
-use polcert_check::{Verdict, check, lowered};
+use polcert_check::{Unwatched, Verdict, Watch, check_watched, lowered_watched};
 use polcert_model::{Model, write_model};
 use polcert_policy::{Graph, Vectors, write_vectors};
 use polcert_text::{BufferedSink, Sink, SinkFailed, Source};
@@ -179,12 +179,59 @@ pub fn run_check<M: Source, G: Source, V: Source, W: Sink>(
     ensures untouched { (fault : RunFault) → IsErrOf result fault → fault ≢ RunFault.Write → sink.new ≡ sink.old }
     ensures not_lowering { (fault : _) → IsErrOf result (RunFault.Lower fault) → ⊥ }
 {
+    run_check_watched(alloc, model, graph, vectors, sink, &mut Unwatched)
+}
+
+/// The same, and `watch` is told how far the check is: of each node when all of its pairs have passed. Every clause is that of
+/// `run_check`.
+pub fn run_check_watched<M: Source, G: Source, V: Source, W: Sink, O: Watch>(
+    alloc: Global,
+    model: &mut M,
+    graph: &mut G,
+    vectors: &mut V,
+    sink: &mut W,
+    watch: &mut O,
+) -> Result<Verdict, RunFault>
+    ensures answered { IfOk result (λ verdict. (line : List ℕ)
+        × HasVerdict (text_of M.reads model.old model.new) (text_of G.reads graph.old graph.new)
+        (text_of V.reads vectors.old vectors.new) verdict line
+        × Takes W.writes sink.old line sink.new) }
+    ensures promise { result ≡ Ok Yes → HavePromise (text_of M.reads model.old model.new)
+        (text_of G.reads graph.old graph.new) (text_of V.reads vectors.old vectors.new) }
+    ensures start_promise { result ≡ Ok Yes → (line : List ℕ)
+        × HasStartPromise (text_of M.reads model.old model.new) (text_of G.reads graph.old graph.new)
+        (text_of V.reads vectors.old vectors.new) line
+        × Takes W.writes sink.old line sink.new }
+    ensures model_refused { (fault : _) → IsErrOf result (RunFault.Text (Fault.Model fault))
+        → EachTextThatFits M.reads model.old model.new (λ text. IsModelFault text fault) }
+    ensures graph_refused { (fault : _) → IsErrOf result (RunFault.Text (Fault.Graph fault))
+        → (first : List ℕ) × IsText M.reads model.old first model.new
+        × EachTextThatFits G.reads graph.old graph.new (IsGraphRefused first fault) }
+    ensures vectors_refused { (fault : _) → IsErrOf result (RunFault.Text (Fault.Vectors fault))
+        → (first second : List ℕ) × IsText M.reads model.old first model.new × IsText G.reads graph.old second graph.new
+        × EachTextThatFits V.reads vectors.old vectors.new (AreVectorsRefused first second fault) }
+    ensures model_read { IsNamedRightly (IsErrOf result RunFault.ReadModel) (M.failures model.old) (M.failures model.new) }
+    ensures graph_read { IsNamedRightly (IsErrOf result RunFault.ReadGraph) (G.failures graph.old) (G.failures graph.new) }
+    ensures vectors_read { IsNamedRightly (IsErrOf result RunFault.ReadVectors) (V.failures vectors.old) (V.failures vectors.new) }
+    ensures write { IsNamedRightly (IsErrOf result RunFault.Write) (W.failures sink.old) (W.failures sink.new) }
+    ensures begun { IsErrOf result RunFault.Write → (verdict : Verdict) × (line : List ℕ)
+        × HasVerdict (text_of M.reads model.old model.new) (text_of G.reads graph.old graph.new)
+        (text_of V.reads vectors.old vectors.new) verdict line
+        × TakesFront W.writes sink.old line sink.new }
+    ensures in_order { IfErr result (λ fault. ReadsInOrder fault graph.old graph.new vectors.old vectors.new) }
+    ensures untouched { (fault : RunFault) → IsErrOf result fault → fault ≢ RunFault.Write → sink.new ≡ sink.old }
+    ensures not_lowering { (fault : _) → IsErrOf result (RunFault.Lower fault) → ⊥ }
+{
     let read = read_controller(alloc, model, graph, vectors)?;
-    write_answer(&read, sink)
+    write_answer(&read, sink, watch)
 }
 
 /// Checks what three texts denote, writes the line of the verdict, and answers the verdict.
-fn write_answer<W: Sink>(read: &Controller, sink: &mut W) -> Result<Verdict, RunFault>
+fn write_answer<W: Sink, O: Watch>(
+    read: &Controller,
+    sink: &mut W,
+    watch: &mut O,
+) -> Result<Verdict, RunFault>
     requires fits { Fits (table_of (meaning read.now.model)) read.now.graph read.now.vectors }
     ensures answered { IfOk result (λ verdict. (line : List ℕ)
         × IsAnswerLine (meaning read.now.model) read.now.graph read.now.vectors verdict line
@@ -196,7 +243,7 @@ fn write_answer<W: Sink>(read: &Controller, sink: &mut W) -> Result<Verdict, Run
     ensures of_write { IfErr result (λ fault. fault ≡ RunFault.Write) }
     ensures no_read { IfErr result IsNoReadFault }
 {
-    let verdict = check(&read.model, &read.graph, &read.vectors);
+    let verdict = check_watched(&read.model, &read.graph, &read.vectors, watch);
     match write_verdict(&read.model, &read.graph, &read.vectors, verdict, sink) {
         Ok(()) => Ok(verdict),
         Err(_) => Err(RunFault::Write),
@@ -259,15 +306,55 @@ pub fn run_lower<M: Source, G: Source, V: Source, W: Sink>(
     // With any other fault nothing was written.
     ensures untouched { (fault : RunFault) → IsErrOf result fault → fault ≢ RunFault.Write → sink.new ≡ sink.old }
 {
+    run_lower_watched(alloc, model, graph, vectors, sink, &mut Unwatched)
+}
+
+/// The same, and `watch` is told how far it is: over all nodes, whether one lacks a successor, and then again how short each is. Every
+/// clause is that of `run_lower`.
+pub fn run_lower_watched<M: Source, G: Source, V: Source, W: Sink, O: Watch>(
+    alloc: Global,
+    model: &mut M,
+    graph: &mut G,
+    vectors: &mut V,
+    sink: &mut W,
+    watch: &mut O,
+) -> Result<i64, RunFault>
+    ensures lowered { IfOk result (λ by. (text : List ℕ)
+        × HasLowered (text_of M.reads model.old model.new) (text_of G.reads graph.old graph.new)
+        (text_of V.reads vectors.old vectors.new) by text
+        × Takes W.writes sink.old text sink.new) }
+    ensures not_lowered { (fault : _) → IsErrOf result (RunFault.Lower fault)
+        → IsNotLowerable (text_of M.reads model.old model.new) (text_of G.reads graph.old graph.new)
+        (text_of V.reads vectors.old vectors.new) fault }
+    ensures model_refused { (fault : _) → IsErrOf result (RunFault.Text (Fault.Model fault))
+        → EachTextThatFits M.reads model.old model.new (λ text. IsModelFault text fault) }
+    ensures graph_refused { (fault : _) → IsErrOf result (RunFault.Text (Fault.Graph fault))
+        → (first : List ℕ) × IsText M.reads model.old first model.new
+        × EachTextThatFits G.reads graph.old graph.new (IsGraphRefused first fault) }
+    ensures vectors_refused { (fault : _) → IsErrOf result (RunFault.Text (Fault.Vectors fault))
+        → (first second : List ℕ) × IsText M.reads model.old first model.new × IsText G.reads graph.old second graph.new
+        × EachTextThatFits V.reads vectors.old vectors.new (AreVectorsRefused first second fault) }
+    ensures model_read { IsNamedRightly (IsErrOf result RunFault.ReadModel) (M.failures model.old) (M.failures model.new) }
+    ensures graph_read { IsNamedRightly (IsErrOf result RunFault.ReadGraph) (G.failures graph.old) (G.failures graph.new) }
+    ensures vectors_read { IsNamedRightly (IsErrOf result RunFault.ReadVectors) (V.failures vectors.old) (V.failures vectors.new) }
+    ensures write { IsNamedRightly (IsErrOf result RunFault.Write) (W.failures sink.old) (W.failures sink.new) }
+    ensures begun { IsErrOf result RunFault.Write → (by : ℤ) × (text : List ℕ)
+        × HasLowered (text_of M.reads model.old model.new) (text_of G.reads graph.old graph.new)
+        (text_of V.reads vectors.old vectors.new) by text
+        × TakesFront W.writes sink.old text sink.new }
+    ensures in_order { IfErr result (λ fault. ReadsInOrder fault graph.old graph.new vectors.old vectors.new) }
+    ensures untouched { (fault : RunFault) → IsErrOf result fault → fault ≢ RunFault.Write → sink.new ≡ sink.old }
+{
     let given = read_controller(alloc, model, graph, vectors)?;
-    write_lower_vectors(alloc, &given, sink)
+    write_lower_vectors(alloc, &given, sink, watch)
 }
 
 /// Lowers the vectors of what three texts denote, writes them in full form, and answers the constant.
-fn write_lower_vectors<W: Sink>(
+fn write_lower_vectors<W: Sink, O: Watch>(
     alloc: Global,
     given: &Controller,
     sink: &mut W,
+    watch: &mut O,
 ) -> Result<i64, RunFault>
     requires fits { Fits (table_of (meaning given.now.model)) given.now.graph given.now.vectors }
     ensures lowered { IfOk result (λ by. (text : List ℕ)
@@ -282,7 +369,8 @@ fn write_lower_vectors<W: Sink>(
     ensures untouched { (fault : RunFault) → IsErrOf result fault → fault ≢ RunFault.Write → sink.new ≡ sink.old }
     ensures no_read { IfErr result IsNoReadFault }
 {
-    let (by, lower) = match lowered(alloc, &given.model, &given.graph, &given.vectors) {
+    let found = lowered_watched(alloc, &given.model, &given.graph, &given.vectors, watch);
+    let (by, lower) = match found {
         Ok(found) => found,
         Err(fault) => return Err(RunFault::Lower(fault)),
     };

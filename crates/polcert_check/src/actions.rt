@@ -9,6 +9,7 @@ ghost use Rattle.polcert_check.specs.Factored.{node_or, or_verdict, IsActionVerd
 use crate::buffers::Buffers;
 use crate::pairs::{is_yes, visit};
 use crate::verdict::Verdict;
+use crate::watch::Watch;
 use polcert_model::Cells;
 use polcert_policy::{Graph, Vectors};
 
@@ -33,13 +34,14 @@ fn or_verdict(verdict: Verdict, other: Verdict) -> Verdict
 }
 
 /// The first pair that fails, of the nodes below `limit` that take action `a`.
-fn first_of_action<C: Cells>(
+fn first_of_action<C: Cells, W: Watch>(
     cells: &C,
     graph: &Graph,
     vectors: &Vectors,
     a: usize,
     limit: usize,
     buffers: &mut Buffers,
+    watch: &mut W,
 ) -> Verdict
     requires fits { Fits (C.table cells.now) graph.now vectors.now }
     requires proper { IsController (controller_of (C.table cells.now) graph.now vectors.now) }
@@ -53,12 +55,20 @@ fn first_of_action<C: Cells>(
         if !is_yes(found) {
             return found;
         }
+        if graph.action(n) == a {
+            watch.node_done();
+        }
     }
     Verdict::Yes
 }
 
 /// Yes, or the first pair of a node and a state that doesn't pass.
-pub(crate) fn first_failing<C: Cells>(cells: &C, graph: &Graph, vectors: &Vectors) -> Verdict
+pub(crate) fn first_failing<C: Cells, W: Watch>(
+    cells: &C,
+    graph: &Graph,
+    vectors: &Vectors,
+    watch: &mut W,
+) -> Verdict
     requires { Fits (C.table cells.now) graph.now vectors.now }
     ensures { IsVerdict (controller_of (C.table cells.now) graph.now vectors.now) result }
 {
@@ -69,7 +79,7 @@ pub(crate) fn first_failing<C: Cells>(cells: &C, graph: &Graph, vectors: &Vector
     let mut answer = Verdict::Yes;
     for a in 0..cells.actions() {
         let limit = node_or(nodes, answer);
-        let found = first_of_action(cells, graph, vectors, a, limit, &mut buffers);
+        let found = first_of_action(cells, graph, vectors, a, limit, &mut buffers, watch);
         answer = or_verdict(found, answer);
     }
     answer

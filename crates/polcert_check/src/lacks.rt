@@ -9,6 +9,7 @@ ghost use Rattle.polcert_check.specs.Factored.{IsLeastOf, Misses, AreMissing};
 
 use crate::ends::lesser;
 use crate::walk::{next_end, next_seen};
+use crate::watch::Watch;
 use polcert_cells::{Cells, MOST_STATES};
 use polcert_policy::{Graph, Vectors};
 
@@ -80,7 +81,12 @@ pub(crate) struct Lack {
 }
 
 /// The first pair of a node and a state that lacks an observation, and the least that it lacks.
-pub(crate) fn first_lacking<C: Cells>(cells: &C, graph: &Graph, vectors: &Vectors) -> Option<Lack>
+pub(crate) fn first_lacking<C: Cells, W: Watch>(
+    cells: &C,
+    graph: &Graph,
+    vectors: &Vectors,
+    watch: &mut W,
+) -> Option<Lack>
     requires fits { Fits (C.table cells.now) graph.now vectors.now }
     ensures { IsFirstLacking (controller_of (C.table cells.now) graph.now vectors.now) result }
 {
@@ -96,6 +102,7 @@ pub(crate) fn first_lacking<C: Cells>(cells: &C, graph: &Graph, vectors: &Vector
                 });
             }
         }
+        watch.node_done();
     }
     None
 }

@@ -17,6 +17,7 @@ mod shortfall;
 mod start;
 mod verdict;
 mod walk;
+mod watch;
 mod worst;
 
 pub use examples::{a_missing_successor, minus_one_for_each_step, runs_of_four_steps};
@@ -25,9 +26,10 @@ pub use laws::{
     amounts_fit, one_best_start, one_list_of_runs, one_lowering, one_verdict,
     promise_for_every_horizon, same_cells_same_answers, same_models_same_answers,
 };
-pub use lower::{least_constant, lowered};
+pub use lower::{least_constant, lowered, lowered_watched};
 pub use parts::fits;
 pub use rounded::millionths_short;
 pub use shortfall::amount_short;
 pub use start::start_worth;
-pub use verdict::{Verdict, check};
+pub use verdict::{Verdict, check, check_watched};
+pub use watch::{Unwatched, Watch};

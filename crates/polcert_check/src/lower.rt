@@ -9,7 +9,8 @@ ghost use Rattle.polcert_check.specs.declared.fault.LowerFault.TheVariants.{Memo
 
 use crate::fault::LowerFault;
 use crate::lacks::first_lacking;
-use crate::verdict::{Verdict, check};
+use crate::verdict::{Verdict, check_watched};
+use crate::watch::{Unwatched, Watch};
 use crate::worst::worst_short;
 use polcert_model::Cells;
 use polcert_policy::{Graph, Vectors};
@@ -48,7 +49,7 @@ fn stays_in_range(vectors: &Vectors, by: u128) -> bool
 }
 
 /// The least constant where the discount is below 1, whether or not it leaves the values in range.
-fn candidate<C: Cells>(cells: &C, graph: &Graph, vectors: &Vectors) -> u128
+fn candidate<C: Cells, W: Watch>(cells: &C, graph: &Graph, vectors: &Vectors, watch: &mut W) -> u128
     requires fits { Fits (C.table cells.now) graph.now vectors.now }
     requires proper { IsController (controller_of (C.table cells.now) graph.now vectors.now) }
     requires none { NoneLacks (controller_of (C.table cells.now) graph.now vectors.now) }
@@ -56,14 +57,19 @@ fn candidate<C: Cells>(cells: &C, graph: &Graph, vectors: &Vectors) -> u128
     ensures { IsLeast (controller_of (C.table cells.now) graph.now vectors.now) result }
 {
     let scale = (cells.t_scale() * cells.o_scale()) as u128;
-    ceil_quotient(
-        worst_short(cells, graph, vectors),
-        scale * (1_000_000 - cells.discount()) as u128,
-    )
+    watch.begin(graph.nodes());
+    let worst = worst_short(cells, graph, vectors, watch);
+    watch.end();
+    ceil_quotient(worst, scale * (1_000_000 - cells.discount()) as u128)
 }
 
 /// The least constant by which the vectors pass, whether or not it leaves the values in range.
-fn least_passing<C: Cells>(cells: &C, graph: &Graph, vectors: &Vectors) -> Result<u128, LowerFault>
+fn least_passing<C: Cells, W: Watch>(
+    cells: &C,
+    graph: &Graph,
+    vectors: &Vectors,
+    watch: &mut W,
+) -> Result<u128, LowerFault>
     requires fits { Fits (C.table cells.now) graph.now vectors.now }
     requires proper { IsController (controller_of (C.table cells.now) graph.now vectors.now) }
     requires none { NoneLacks (controller_of (C.table cells.now) graph.now vectors.now) }
@@ -73,9 +79,9 @@ fn least_passing<C: Cells>(cells: &C, graph: &Graph, vectors: &Vectors) -> Resul
     ensures small { IfErr result (RefusesSmallAmount (controller_of (C.table cells.now) graph.now vectors.now)) }
 {
     if cells.discount() < 1_000_000 {
-        return Ok(candidate(cells, graph, vectors));
+        return Ok(candidate(cells, graph, vectors, watch));
     }
-    match check(cells, graph, vectors) {
+    match check_watched(cells, graph, vectors, watch) {
         Verdict::Yes => Ok(0),
         Verdict::Short {
             node,
@@ -108,17 +114,37 @@ pub fn least_constant<C: Cells>(
         (IsNotLowered (controller_of (C.table cells.now) graph.now vectors.now) vectors.now) }
     ensures small { IfErr result (RefusesSmallAmount (controller_of (C.table cells.now) graph.now vectors.now)) }
 {
+    least_watched(cells, graph, vectors, &mut Unwatched)
+}
+
+/// The same, and `watch` is told how far it is: first whether a node lacks a successor, then how short each is.
+fn least_watched<C: Cells, W: Watch>(
+    cells: &C,
+    graph: &Graph,
+    vectors: &Vectors,
+    watch: &mut W,
+) -> Result<i64, LowerFault>
+    requires fits { Fits (C.table cells.now) graph.now vectors.now }
+    ensures least { IfOk result
+        (IsLeastConstant (controller_of (C.table cells.now) graph.now vectors.now) vectors.now) }
+    ensures refused { IfErr result
+        (IsNotLowered (controller_of (C.table cells.now) graph.now vectors.now) vectors.now) }
+    ensures small { IfErr result (RefusesSmallAmount (controller_of (C.table cells.now) graph.now vectors.now)) }
+{
     let nodes = graph.nodes();
     let vector_count = vectors.nodes();
     prove!(nodes == vector_count);
-    if let Some(lack) = first_lacking(cells, graph, vectors) {
+    watch.begin(nodes);
+    let lack = first_lacking(cells, graph, vectors, watch);
+    watch.end();
+    if let Some(lack) = lack {
         return Err(LowerFault::NoSuccessor {
             node: lack.node,
             state: lack.state,
             observation: lack.observation,
         });
     }
-    let by = least_passing(cells, graph, vectors)?;
+    let by = least_passing(cells, graph, vectors, watch)?;
     if stays_in_range(vectors, by) {
         Ok(by as i64)
     } else {
@@ -153,10 +179,32 @@ pub fn lowered<C: Cells>(
         ⊎ IsNotLowered (controller_of (C.table cells.now) graph.now vectors.now) vectors.now fault) }
     ensures small { IfErr result (RefusesSmallAmount (controller_of (C.table cells.now) graph.now vectors.now)) }
 {
+    lowered_watched(alloc, cells, graph, vectors, &mut Unwatched)
+}
+
+/// The same, and `watch` is told how far it is: over all nodes, whether one lacks a successor, and then again how short each is.
+pub fn lowered_watched<C: Cells, W: Watch>(
+    alloc: Global,
+    cells: &C,
+    graph: &Graph,
+    vectors: &Vectors,
+    watch: &mut W,
+) -> Result<(i64, Vectors), LowerFault>
+    requires fits { Fits (C.table cells.now) graph.now vectors.now }
+    ensures least { IfOk result (λ lowered.
+        IsLeastConstant (controller_of (C.table cells.now) graph.now vectors.now) vectors.now lowered.0) }
+    ensures shifted { IfOk result (λ lowered. lowered.1 ≡ shifted_by vectors.now (neg_ℤ lowered.0)) }
+    ensures fits_still { IfOk result (λ lowered. Fits (C.table cells.now) graph.now lowered.1) }
+    ensures passes { IfOk result (λ lowered. Passes (controller_of (C.table cells.now) graph.now lowered.1)) }
+    ensures refused { IfErr result (λ fault.
+        ((fault ≡ Memory) × HasLeastConstant (controller_of (C.table cells.now) graph.now vectors.now) vectors.now)
+        ⊎ IsNotLowered (controller_of (C.table cells.now) graph.now vectors.now) vectors.now fault) }
+    ensures small { IfErr result (RefusesSmallAmount (controller_of (C.table cells.now) graph.now vectors.now)) }
+{
     let nodes = graph.nodes();
     let vector_count = vectors.nodes();
     prove!(nodes == vector_count);
-    let by = least_constant(cells, graph, vectors)?;
+    let by = least_watched(cells, graph, vectors, watch)?;
     let lowered = vectors.shifted(alloc, -by)?;
     Ok((by, lowered))
 }

@@ -3,6 +3,7 @@ ghost use Rattle.polcert_check.specs.Horizon.{Fits, controller_of, MeetsHorizon}
 ghost use Rattle.polcert_check.specs.Verdict.{IsVerdict, NamesSmallAmount};
 
 use crate::actions::first_failing;
+use crate::watch::{Unwatched, Watch};
 use polcert_model::Cells;
 use polcert_policy::{Graph, Vectors};
 
@@ -41,8 +42,26 @@ pub fn check<C: Cells>(cells: &C, graph: &Graph, vectors: &Vectors) -> Verdict
     // How large an amount can be.
     ensures small { NamesSmallAmount (controller_of (C.table cells.now) graph.now vectors.now) result }
 {
+    check_watched(cells, graph, vectors, &mut Unwatched)
+}
+
+/// The same, and `watch` is told how far the check is: of each node when all of its pairs have passed.
+pub fn check_watched<C: Cells, W: Watch>(
+    cells: &C,
+    graph: &Graph,
+    vectors: &Vectors,
+    watch: &mut W,
+) -> Verdict
+    requires fits { Fits (C.table cells.now) graph.now vectors.now }
+    ensures verdict { IsVerdict (controller_of (C.table cells.now) graph.now vectors.now) result }
+    ensures horizon { MeetsHorizon (controller_of (C.table cells.now) graph.now vectors.now) result }
+    ensures small { NamesSmallAmount (controller_of (C.table cells.now) graph.now vectors.now) result }
+{
     let nodes = graph.nodes();
     let vector_count = vectors.nodes();
     prove!(nodes == vector_count);
-    first_failing(cells, graph, vectors)
+    watch.begin(nodes);
+    let verdict = first_failing(cells, graph, vectors, watch);
+    watch.end();
+    verdict
 }

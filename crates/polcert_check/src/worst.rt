@@ -11,6 +11,7 @@ ghost use Rattle.polcert_check.specs.Factored.{reward_ahead, AreRewards, AreEnds
 use crate::buffers::Buffers;
 use crate::ends::{Ends, steps_ahead};
 use crate::pairs::amount_above;
+use crate::watch::Watch;
 use polcert_model::Cells;
 use polcert_policy::{Graph, Vectors};
 
@@ -137,12 +138,13 @@ fn worst_visit<C: Cells>(
 }
 
 /// The greatest shortfall of all nodes that take action `a`.
-fn worst_of_action<C: Cells>(
+fn worst_of_action<C: Cells, W: Watch>(
     cells: &C,
     graph: &Graph,
     vectors: &Vectors,
     a: usize,
     buffers: &mut Buffers,
+    watch: &mut W,
 ) -> u128
     requires fits { Fits (C.table cells.now) graph.now vectors.now }
     requires proper { IsController (controller_of (C.table cells.now) graph.now vectors.now) }
@@ -156,12 +158,20 @@ fn worst_of_action<C: Cells>(
     for n in 0..graph.nodes() {
         let here = worst_visit(cells, graph, vectors, a, n, buffers);
         worst = greater(worst, here);
+        if graph.action(n) == a {
+            watch.node_done();
+        }
     }
     worst
 }
 
 /// The greatest shortfall of all pairs, or 0 where none is above 0.
-pub(crate) fn worst_short<C: Cells>(cells: &C, graph: &Graph, vectors: &Vectors) -> u128
+pub(crate) fn worst_short<C: Cells, W: Watch>(
+    cells: &C,
+    graph: &Graph,
+    vectors: &Vectors,
+    watch: &mut W,
+) -> u128
     requires fits { Fits (C.table cells.now) graph.now vectors.now }
     requires none { NoneLacks (controller_of (C.table cells.now) graph.now vectors.now) }
     ensures worst { IsWorst (controller_of (C.table cells.now) graph.now vectors.now) result }
@@ -173,7 +183,7 @@ pub(crate) fn worst_short<C: Cells>(cells: &C, graph: &Graph, vectors: &Vectors)
     let mut buffers = Buffers::new();
     let mut worst: u128 = 0;
     for a in 0..cells.actions() {
-        let here = worst_of_action(cells, graph, vectors, a, &mut buffers);
+        let here = worst_of_action(cells, graph, vectors, a, &mut buffers, watch);
         worst = greater(worst, here);
     }
     worst

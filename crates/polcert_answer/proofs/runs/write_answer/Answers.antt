@@ -3,9 +3,9 @@ use Rattle.polcert_answer.proofs.runs.write_answer.Goals as goal
 pub returns-in-Ok-clause-answered : goal.returns-in-Ok-clause-answered
 returns-in-Ok-clause-answered g c =
     let wrote = c.in-Ok.ensures in
-    (wrote.line, record { verdict_is = c.check-verdict.ensures.verdict; line_is = wrote.is_line }, wrote.written.ok)
+    (wrote.line, record { verdict_is = c.check_watched-verdict.ensures.verdict; line_is = wrote.is_line }, wrote.written.ok)
 
 pub returns-in-Err-clause-begun : goal.returns-in-Err-clause-begun
 returns-in-Err-clause-begun g c = λ failed.
     let wrote = c.in-Err.ensures in
-    (c.check-verdict.result, wrote.line, record { verdict_is = c.check-verdict.ensures.verdict; line_is = wrote.is_line }, wrote.written.err)
+    (c.check_watched-verdict.result, wrote.line, record { verdict_is = c.check_watched-verdict.ensures.verdict; line_is = wrote.is_line }, wrote.written.err)

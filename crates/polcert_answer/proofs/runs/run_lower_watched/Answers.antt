@@ -5,7 +5,7 @@ use Rattle.polcert_answer.specs.declared.fault.RunFault.TheVariants.{Text, ReadM
 use Rattle.polcert_answer.proofs.Denoted.{fits_of}
 use Rattle.polcert_answer.proofs.Answering.{has_lowered, lowered_of, not_lowerable}
 use Rattle.polcert_answer.proofs.Passing.{is_err, no_ok, of_fault, of_read, named_again, not_else, not_read, named_behind, written_in_order}
-use Rattle.polcert_answer.proofs.runs.run_lower.Goals as goal
+use Rattle.polcert_answer.proofs.runs.run_lower_watched.Goals as goal
 
 pub write_lower_vectors-requires : goal.write_lower_vectors-requires
 write_lower_vectors-requires g c = record {

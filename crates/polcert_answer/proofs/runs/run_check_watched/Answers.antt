@@ -5,7 +5,7 @@ use Rattle.polcert_answer.specs.declared.fault.RunFault.TheVariants.{Text, ReadM
 use Rattle.polcert_answer.proofs.Denoted.{fits_of}
 use Rattle.polcert_answer.proofs.Answering.{has_verdict, answered_of, promise_of, start_promise_of}
 use Rattle.polcert_answer.proofs.Passing.{is_err, not_ok, no_ok, of_fault, of_read, named_again, not_else, not_read, named_behind, written_in_order, is_write, not_lower}
-use Rattle.polcert_answer.proofs.runs.run_check.Goals as goal
+use Rattle.polcert_answer.proofs.runs.run_check_watched.Goals as goal
 
 pub write_answer-requires : goal.write_answer-requires
 write_answer-requires g c = record {
