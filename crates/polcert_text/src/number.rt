@@ -288,7 +288,7 @@ fn measured(whole: &[u8], fraction: &[u8], kept: usize) -> Size
 /// The number that the digits of `number` and those from `from` up to `until` spell, up to the first byte that is no digit or until
 /// it is too large, and where that is.
 #[inline(always)]
-fn digits_behind(number: u64, bytes: &[u8], from: usize, until: usize) -> (u64, usize)
+pub fn digits_behind(number: u64, bytes: &[u8], from: usize, until: usize) -> (u64, usize)
     requires range { from ≤ until }
     requires within { until ≤ length bytes.now }
     ensures within { (from ≤ result.1) × (result.1 ≤ until) }
