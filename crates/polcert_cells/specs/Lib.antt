@@ -2,6 +2,7 @@ pub mod Words
 pub mod Numbers
 pub mod Elements
 pub mod Preamble
+pub mod Sequences
 pub mod Entry
 pub mod Cells
 pub mod Start

@@ -33,18 +33,22 @@ pub enum Place {
     Only(u16),
 }
 
-/// A list that grows at its end. Contracts see it as the list.
+/// A list that grows at its end. A single item is kept in the value itself, and takes no memory. Contracts see the list.
 #[derive(Debug, Drop)]
 pub struct Sequence<T: Drop> {
-    items: Vec<T>,
+    only: Option<[T; 1]>,
+    more: Vec<T>,
 }
 
 impl<T: Drop> Model for Sequence<T> {
-    ghost use Rattle.std.specs.Prelude.{List};
+    ghost use Rattle.std.specs.Prelude.{List, IfSome, ◌≡◌, []};
+    ghost use Rattle.polcert_cells.specs.Sequences.{items_of};
 
     ghost Value = { List T };
 
-    ghost view = { λ s. s.items.items };
+    ghost view = { λ s. items_of s.only s.more.items };
+
+    ghost invariant = { λ s. IfSome s.only (λ _. s.more.items ≡ []) };
 }
 
 impl<T: Drop> Sequence<T> {
@@ -53,7 +57,8 @@ impl<T: Drop> Sequence<T> {
         ensures { result ≡ [] }
     {
         Sequence {
-            items: Vec::new(alloc),
+            only: None,
+            more: Vec::new(alloc),
         }
     }
 
@@ -62,34 +67,52 @@ impl<T: Drop> Sequence<T> {
     pub fn len(&self) -> usize
         ensures { result ≡ length self.now }
     {
-        self.items.len()
+        self.as_slice().len()
     }
 
     /// The items, first to last.
+    #[inline(always)]
     pub fn as_slice(&self) -> &[T]
         ensures { result.now ≡ self.now }
     {
-        self.items.as_slice()
+        match &self.only {
+            Some(only) => &only[..],
+            None => self.more.as_slice(),
+        }
     }
+}
 
+impl<T: Copy + Drop> Sequence<T> {
     /// Puts the item behind the others. Where memory is wanting the list stays as it was.
     #[inline(always)]
     pub fn push(&mut self, item: T) -> Result<(), AllocError>
         ensures ok { OnOk result (self.new ≡ self.old ++ item ∷ []) }
         ensures err { OnErr result (self.new ≡ self.old) }
     {
-        self.items.push(item)?;
-        Ok(())
+        match self.only {
+            None if self.more.is_empty() => {
+                self.only = Some([item]);
+                Ok(())
+            }
+            None => {
+                self.more.push(item)?;
+                Ok(())
+            }
+            Some(only) => {
+                self.more.extend_from_slice(&only)?;
+                self.only = None;
+                self.more.push(item)?;
+                Ok(())
+            }
+        }
     }
-}
 
-impl<T: Copy + Drop> Sequence<T> {
     /// The item at this index, counted from 0.
     pub fn at(&self, index: usize) -> T
         requires { index < length self.now }
         ensures { slice_get self.now index ≡ Some result }
     {
-        self.items[index]
+        self.as_slice()[index]
     }
 
     /// Puts the item in the place of the one of this number, counted from 0.
@@ -97,7 +120,10 @@ impl<T: Copy + Drop> Sequence<T> {
         requires { number < length self.old }
         ensures { self.new ≡ slice_set self.old number item }
     {
-        self.items[number] = item;
+        match &mut self.only {
+            Some(only) => only[number] = item,
+            None => self.more[number] = item,
+        }
     }
 }
 

@@ -19,18 +19,19 @@ fn tables_print_their_letter(rt: HostRuntime) -> Result<(), Fail> {
 #[test]
 fn sequence_keeps_its_items(rt: HostRuntime) -> Result<(), Fail> {
     let mut places = Sequence::new(rt.alloc());
-    places.push(Place::Every)?;
+    assert!(rt; places.len() == 0);
+    places.push(Place::Only(3))?;
+    assert_eq!(rt; places.as_slice(), [Place::Only(3)].as_slice());
+    places.set(0, Place::Every);
+    assert_eq!(rt; places.at(0), Place::Every);
     places.push(Place::Only(7))?;
-    assert!(rt; places.len() == 2);
-    assert_eq!(rt; places.at(1), Place::Only(7));
-    assert_eq!(rt;
-        places.as_slice(),
-        [Place::Every, Place::Only(7)].as_slice()
-    );
+    places.push(Place::Only(9))?;
+    assert!(rt; places.len() == 3);
+    assert_eq!(rt; places.at(2), Place::Only(9));
     places.set(0, Place::Only(1));
     assert_eq!(rt;
         places.as_slice(),
-        [Place::Only(1), Place::Only(7)].as_slice()
+        [Place::Only(1), Place::Only(7), Place::Only(9)].as_slice()
     );
     Ok(())
 }

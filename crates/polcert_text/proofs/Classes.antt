@@ -1,10 +1,10 @@
 -- The classes of some bytes.
-use Rattle.std.proofs.Common.{◌≡◌, ◌∙◌, ℕ, zero, suc, ◌+◌, ◌-◌, ◌<◌, ◌≤◌, ◌==◌, ◌&&◌, ◌||◌, Bool, true, false, cond, refl, sym, ap, subst, arith, inl, inr}
+use Rattle.std.proofs.Common.{◌≡◌, ◌∙◌, ℕ, zero, suc, ◌+◌, ◌-◌, ◌<◌, ◌≤◌, ◌==◌, ◌&&◌, ◌||◌, ◌⊎◌, Bool, true, false, cond, refl, sym, ap, subst, arith, inl, inr}
 use Rattle.std.specs.Prelude.{IsTrue}
 use Rattle.std.proofs.lemmas.Bool.{and_parts, cases_lt}
 use Rattle.std.specs.Char.{is_ascii_digit, is_ascii_alphabetic}
 use Rattle.std.proofs.lemmas.Bool.Decides.{nat_tests}
-use Rattle.polcert_text.specs.Bytes.{class_of, blank_class, hash_class, digit_class}
+use Rattle.polcert_text.specs.Bytes.{class_of, blank_class, hash_class, digit_class, letter_class}
 use Rattle.polcert_text.specs.declared.bytes.ByteClass.{ByteClass}
 use Rattle.polcert_text.specs.declared.bytes.ByteClass.TheVariants as classes
 
@@ -56,6 +56,34 @@ digit_between b low high =
     let n : ℕ = b - 48 in
     let same : 48 + n ≡ b = omega arith in
     ap class_of (sym same) ∙ is_digit_class (class_of (48 + n)) (all_below_at (λ n. digit_class (class_of (48 + n))) 10 n all_digits (omega arith))
+
+all_small : all_below (λ n. letter_class (class_of (97 + n))) 26 ≡ true
+unfolding class_of
+all_small = refl
+
+all_capital : all_below (λ n. letter_class (class_of (65 + n))) 26 ≡ true
+unfolding class_of
+all_capital = refl
+
+abbrev pub IsLetter : ByteClass → Type 0
+IsLetter c = (c ≡ classes.Letter) ⊎ (c ≡ classes.ExponentMark)
+
+is_letter_class : (c : ByteClass) → letter_class c ≡ true → IsLetter c
+is_letter_class classes.Letter h = inl refl
+is_letter_class classes.ExponentMark h = inr refl
+is_letter_class _ h = cc
+
+pub small_between : (b : ℕ) → 97 ≤ b → b ≤ 122 → IsLetter (class_of b)
+small_between b low high =
+    let n : ℕ = b - 97 in
+    let same : 97 + n ≡ b = omega arith in
+    subst (λ k. IsLetter (class_of k)) same (is_letter_class (class_of (97 + n)) (all_below_at (λ n. letter_class (class_of (97 + n))) 26 n all_small (omega arith)))
+
+pub capital_between : (b : ℕ) → 65 ≤ b → b ≤ 90 → IsLetter (class_of b)
+capital_between b low high =
+    let n : ℕ = b - 65 in
+    let same : 65 + n ≡ b = omega arith in
+    subst (λ k. IsLetter (class_of k)) same (is_letter_class (class_of (65 + n)) (all_below_at (λ n. letter_class (class_of (65 + n))) 26 n all_capital (omega arith)))
 
 -- of the tests of `class_of`, in their order, the first three failed
 abbrev class_behind : (mark letter digit low point colon star plus minus : Bool) → ByteClass

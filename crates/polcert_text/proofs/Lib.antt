@@ -32,3 +32,4 @@ pub mod SomeCut
 pub mod Classes
 pub mod Runs
 pub mod Plain
+pub mod PlainWhole

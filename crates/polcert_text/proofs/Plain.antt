@@ -48,7 +48,7 @@ pub record IsPlain (bs : List ℕ) (p : ℕ) : Type 0 where
 side : (k p : ℕ) → (k < p) ⊎ ((k ≡ p) ⊎ (p + 1 ≤ k))
 side k p = grind arith
 
-run : (bs : List ℕ) (from n : ℕ) (state : State) → from + n ≤ length bs → state_after state Digit ≡ state → state_through states.Start (take from bs) ≡ state → ((k : ℕ) → k < n → class_of (get_or bs (from + k) 0) ≡ Digit) → state_through states.Start (take (from + n) bs) ≡ state
+pub run : (bs : List ℕ) (from n : ℕ) (state : State) → from + n ≤ length bs → state_after state Digit ≡ state → state_through states.Start (take from bs) ≡ state → ((k : ℕ) → k < n → class_of (get_or bs (from + k) 0) ≡ Digit) → state_through states.Start (take (from + n) bs) ≡ state
 run bs from zero state h on was digits =
     let same : from + 0 ≡ from = omega arith in
     ap (λ k. state_through states.Start (take k bs)) same ∙ was

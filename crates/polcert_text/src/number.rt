@@ -38,6 +38,9 @@ const LARGEST_EXPONENT: usize = 400;
 
 const LARGEST: u64 = 10_000_000_000_000;
 
+/// How many millionths make one.
+const MILLION: u64 = 1_000_000;
+
 /// A size in millionths, rounded down, and whether that left something out.
 #[derive(Clone, Copy)]
 struct Size {
@@ -285,7 +288,7 @@ fn measured(whole: &[u8], fraction: &[u8], kept: usize) -> Size
 /// The number that the digits of `number` and those from `from` up to `until` spell, up to the first byte that is no digit or until
 /// it is too large, and where that is.
 #[inline(always)]
-fn digits_behind(number: u64, bytes: &[u8], from: usize, until: usize) -> (u64, usize)
+pub fn digits_behind(number: u64, bytes: &[u8], from: usize, until: usize) -> (u64, usize)
     requires range { from ≤ until }
     requires within { until ≤ length bytes.now }
     ensures within { (from ≤ result.1) × (result.1 ≤ until) }
@@ -310,7 +313,23 @@ fn has_nonzero(digits: &[u8]) -> bool
     digits.iter().any(|digit| *digit != b'0')
 }
 
-/// The size of a numeral of digits, a point and digits, where it is not too large: what most numerals are, measured in 64 bits.
+/// So many units, where they are less than the largest number. `None` says nothing.
+#[inline(always)]
+fn whole_size(number: u64) -> Option<Size>
+    ensures floor { IfSome result (λ size. size.floor ≡ number * 1000000) }
+    ensures is_inexact { IfSome result (λ size. size.is_inexact ≡ false) }
+    ensures small { IfSome result (λ size. number * 1000000 < largest) }
+{
+    if number >= LARGEST / MILLION {
+        return None;
+    }
+    Some(Size {
+        floor: number * MILLION,
+        is_inexact: false,
+    })
+}
+
+/// The size of a numeral of digits, perhaps with a point and digits, where it is not too large: what most numerals are, measured in 64 bits.
 /// `None` says nothing.
 #[inline(always)]
 fn plain_size(numeral: &[u8]) -> Option<Size>
@@ -321,8 +340,11 @@ fn plain_size(numeral: &[u8]) -> Option<Size>
         return None;
     }
     let (whole, point) = digits_behind(0, numeral, 0, numeral.len());
-    if point == 0 || point == numeral.len() {
+    if point == 0 {
         return None;
+    }
+    if point == numeral.len() {
+        return whole_size(whole);
     }
     if !is_surely_point(numeral[point]) {
         return None;

@@ -130,6 +130,7 @@ impl Tokens<'_> {
     }
 }
 
+ghost use Rattle.polcert_text.specs.Bytes.{is_glue};
 ghost use Rattle.polcert_text.specs.Cut.{is_glued, IsFaultAt};
 ghost use Rattle.polcert_text.specs.Reading.{IsReadAt};
 ghost use Rattle.polcert_text.specs.ScanOf.{front_len};
@@ -176,16 +177,18 @@ fn is_glued(kind: TokenKind, rest: &[u8]) -> bool
     ensures { result ≡ is_glued kind rest.now }
 {
     match (kind, rest) {
-        (TokenKind::Numeral, [byte, ..]) => {
-            !is_surely_blank(*byte)
-                && matches!(
-                    class_of(*byte),
-                    ByteClass::Letter
-                        | ByteClass::ExponentMark
-                        | ByteClass::Underscore
-                        | ByteClass::Point
-                )
-        }
+        (TokenKind::Numeral, [byte, ..]) => !is_surely_blank(*byte) && is_glue(*byte),
         _ => false,
     }
+}
+
+/// Whether a numeral that the byte follows directly is glued to it.
+#[inline(never)]
+fn is_glue(byte: u8) -> bool
+    ensures { result ≡ is_glue byte }
+{
+    matches!(
+        class_of(byte),
+        ByteClass::Letter | ByteClass::ExponentMark | ByteClass::Underscore | ByteClass::Point
+    )
 }

@@ -1,5 +1,4 @@
-use Rattle.std.proofs.Common.{◌<◌, length, sym, ap, ⊎_elim, arith}
-use Rattle.polcert_text.specs.Scan.{state_after}
+use Rattle.std.proofs.Common.{◌<◌, length, refl, sym, arith}
 use Rattle.polcert_text.specs.declared.lexeme.State.TheVariants.{Name}
 use Rattle.polcert_text.proofs.LexemeLaws.{state_step}
 use Rattle.polcert_text.proofs.lexeme.name_end.Goals as goal
@@ -11,5 +10,5 @@ loop-at-preserved c =
       low = omega arith;
       high = omega arith;
       same = λ was.
-          state_step _ _ Name _ Name inside (c.loop-at.invariant.same was) c.class_of.ensures (sym (⊎_elim (ap (state_after Name)) (⊎_elim (ap (state_after Name)) (⊎_elim (ap (state_after Name)) (⊎_elim (ap (state_after Name)) (ap (state_after Name))))) c.in-Letter.is));
+          state_step _ _ Name _ Name inside (c.loop-at.invariant.same was) refl (sym (c.goes_on_name.ensures.on c.if-goes_on_name.true));
     }

@@ -1,10 +1,11 @@
-use Rattle.std.proofs.Common.{◌≡◌, ◌∙◌, ◌+◌, ◌-◌, ◌<◌, ◌++◌, [], min, true, length, take, drop, ⊎_elim, refl, sym, ap, arith}
+use Rattle.std.proofs.Common.{◌≡◌, ◌∙◌, ◌+◌, ◌-◌, ◌<◌, ◌++◌, [], min, true, length, take, drop, take_all, ⊎_elim, refl, sym, ap, arith}
 use Rattle.std.proofs.lemmas.List.{take_rest}
 use Rattle.std.specs.List.{list_all, list_any}
 use Rattle.std.specs.Str.Parse.{digits_value}
 use Rattle.polcert_text.specs.Bytes.{is_digit}
 use Rattle.polcert_text.specs.Scaling.{is_nonzero}
 use Rattle.polcert_text.proofs.Plain.{IsPlain, plain_measures, digits_at, at_or_behind}
+use Rattle.polcert_text.proofs.PlainWhole.{whole_is_plain}
 use Rattle.polcert_text.proofs.number.plain_size.Goals as goal
 
 pub returns : goal.returns
@@ -31,3 +32,10 @@ returns c =
     let number_is = value ∙ ap (λ n. digits_value 10 (take p bs ++ take (n - (p + 1)) (drop (p + 1) bs))) end in
     plain_measures bs p plain c.digits_behind-number.result.0 _ kept _ (omega arith) kept_is number_is (omega arith) c.with_zeros-floor.ensures (omega arith)
     (c.has_nonzero.ensures ∙ ap (list_any is_nonzero) rest)
+
+pub returns-then-point-numeral : goal.returns-then-point-numeral
+returns-then-point-numeral c =
+    let bs = c.args.numeral.now in
+    let read = c.digits_behind-whole.ensures in
+    let all : take (c.digits_behind-whole.result.1 - 0) bs ≡ bs = take_all (c.digits_behind-whole.result.1 - 0) bs (omega arith) in
+    whole_is_plain bs (omega arith) (λ k low high. read.digits k low (omega arith)) c.digits_behind-whole.result.0 (omega arith) (read.value [] refl ∙ ap (digits_value 10) all) c.whole_size.result c.whole_size.ensures.floor c.whole_size.ensures.is_inexact c.whole_size.ensures.small
