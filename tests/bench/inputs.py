@@ -111,8 +111,10 @@ def dense_check(folder, name='dense'):
 
 
 def single_reward_check(folder, lines=400_000):
-    """The same with so many lines of a reward for a single cell of R; every pair passes."""
+    """The same with so many lines of a reward for a single cell of R; every pair passes. With the vectors of `short` one doesn't."""
     dense_check(folder, 'singles')
+    with open(f'{folder}/singles.alpha') as vectors, open(f'{folder}/short.alpha', 'w') as short:
+        short.write(vectors.read().replace('0.5', '1000', 1))
     generator = random.Random(11)
     with open(f'{folder}/singles.POMDP', 'a') as out:
         for _ in range(lines):

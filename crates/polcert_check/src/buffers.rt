@@ -1,5 +1,5 @@
 //! Room for what is added up for an action and for its nodes.
-ghost use Rattle.std.specs.Prelude.{◌≡◌, ◌<◌, ◌≤◌, length};
+ghost use Rattle.std.specs.Prelude.{◌≡◌, ◌<◌, ◌≤◌, ℕ, false, None, length, slice_index_or};
 ghost use Rattle.polcert_cells.specs.Elements.{most_states, most_observations};
 ghost use Rattle.polcert_policy.specs.Graphs.{nodes};
 ghost use Rattle.polcert_check.specs.Horizon.{Fits, controller_of};
@@ -7,7 +7,7 @@ ghost use Rattle.polcert_check.specs.Rows.{IsController, ValuesAreWithin};
 ghost use Rattle.polcert_check.specs.Factored.{AreEnds, AreRewards};
 
 use crate::earned::reward_ahead;
-use crate::ends::{Ends, end_of};
+use crate::ends::{Ends, end_of, misses_too};
 use polcert_cells::{Cells, MOST_OBSERVATIONS, MOST_STATES};
 use polcert_policy::{Graph, Vectors};
 
@@ -21,12 +21,15 @@ pub(crate) struct Buffers {
     /// What a node expects behind each end state, and the least observation there for which it has no successor.
     pub worths: [i128; MOST_STATES],
     pub missing: [Option<usize>; MOST_STATES],
+    /// Whether a node so far had none for some.
+    misses: bool,
     /// Room for the rewards of all observations.
     rewards: [i64; MOST_OBSERVATIONS],
     ghost room_for_sums: { length sums ≡ most_states },
     ghost room_for_worths: { length worths ≡ most_states },
     ghost room_for_missing: { length missing ≡ most_states },
     ghost room_for_rewards: { length rewards ≡ most_observations },
+    ghost none_missing: { misses ≡ false → (e : ℕ) → slice_index_or missing e None ≡ None },
 }
 
 impl Buffers {
@@ -39,6 +42,7 @@ impl Buffers {
             filled: 0,
             worths: [0; MOST_STATES],
             missing: [None; MOST_STATES],
+            misses: false,
             rewards: [0; MOST_OBSERVATIONS],
         }
     }
@@ -77,6 +81,7 @@ impl Buffers {
         Ends {
             worths: &self.worths,
             missing: &self.missing,
+            misses: self.misses,
         }
     }
 
@@ -99,6 +104,7 @@ impl Buffers {
         for e in 0..cells.states() {
             let end = end_of(cells, graph, vectors, n, e);
             self.worths[e] = end.worth;
+            self.misses = misses_too(self.misses, end.missing);
             self.missing[e] = end.missing;
         }
     }

@@ -3,7 +3,7 @@ use Rattle.std.specs.Prelude.{slice_index_or}
 use Rattle.polcert_check.specs.Horizon.{sum_below}
 use Rattle.polcert_check.specs.Factored.{IsLeastOf, IsAhead}
 use Rattle.polcert_cells.specs.LentRows.{reached}
-use Rattle.polcert_check.proofs.ends.steps_ahead.Given as goal
+use Rattle.polcert_check.proofs.ends.each_step.Given as goal
 
 -- the sum so far, and the least observation so far that misses
 abbrev pub invariant-loop-end : goal.invariant-loop-end

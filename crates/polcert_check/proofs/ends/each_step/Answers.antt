@@ -7,7 +7,7 @@ use Rattle.polcert_check.proofs.Earning.{weight_room}
 use Rattle.polcert_check.proofs.Expecting.{ahead_step, ahead_sum_done}
 use Rattle.polcert_check.proofs.Missing.{ahead_more, ahead_done}
 use Rattle.polcert_cells.specs.LentRows.{reached}
-use Rattle.polcert_check.proofs.ends.steps_ahead.Goals as goal
+use Rattle.polcert_check.proofs.ends.each_step.Goals as goal
 
 pub weighed-worth-requires : goal.weighed-worth-requires
 weighed-worth-requires g c =
