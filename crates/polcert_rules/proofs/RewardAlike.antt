@@ -1,7 +1,6 @@
 -- Where no entry names an observation.
-use Rattle.std.proofs.Common.{◌≡◌, ◌∙◌, ℕ, ◌+◌, ◌<◌, ◌≤◌, true, ◌&&◌, Option, Some, None, List, [], ◌∷◌, drop, get_or, Contains, refl, sym, ap, subst, arith, pos}
+use Rattle.std.proofs.Common.{◌≡◌, ◌∙◌, ℕ, true, ◌&&◌, Option, Some, None, List, [], ◌∷◌, Contains, refl, sym, ap, subst, arith}
 use Rattle.std.specs.List.{slice_get}
-use Rattle.std.proofs.lemmas.List.{drop_all}
 use Rattle.polcert_cells.specs.declared.entry.Table.{Table}
 use Rattle.polcert_cells.specs.declared.entry.Table.TheVariants.{Transition, Observation, Reward}
 use Rattle.polcert_cells.specs.declared.entry.Place.{Place}
@@ -9,16 +8,15 @@ use Rattle.polcert_cells.specs.declared.entry.Place.TheVariants.{Every, Only}
 use Rattle.polcert_cells.specs.declared.entry.Entry.{Entry}
 use Rattle.polcert_cells.specs.Preamble.{Preamble}
 use Rattle.polcert_cells.specs.Sound.{IsSoundEntry}
-use Rattle.polcert_cells.specs.Cells.{fits_place, fit_places, is_table, covers, reward}
+use Rattle.polcert_cells.specs.Cells.{fits_place, fit_places, is_table, covers}
 use Rattle.polcert_rules.specs.declared.rule.Rule.{Rule}
 use Rattle.polcert_rules.specs.declared.reward_parts.RewardBody.{RewardBody}
 use Rattle.polcert_rules.specs.Keys.{key_in, table_key, AreDigits, most_places}
 use Rattle.polcert_rules.specs.Newest.{IsLastNumber}
-use Rattle.polcert_rules.specs.Rewards.{AreRewardsOf, RewardRules, cell_in}
+use Rattle.polcert_rules.specs.Rewards.{AreRewardsOf, RewardRules}
 use Rattle.polcert_rules.specs.RewardSearch.{Begins, IsLastBody}
 use Rattle.polcert_rules.proofs.Fitting.{and_true, key_low, key_high}
 use Rattle.polcert_rules.proofs.Covering.{keyed_at}
-use Rattle.polcert_rules.proofs.RewardValues.{is_open, body_reward, no_reward}
 
 -- ---- the rule of an entry of R
 same_table : (t : Table) → is_table t Reward ≡ true → t ≡ Reward
@@ -103,17 +101,8 @@ number_moved p entries rewards a s e y z None are unnamed last = λ k x is c. la
 number_moved p entries rewards a s e y z (Some n) are unnamed last =
     ((last.0.0, last.0.1, moved p entries rewards a s e y z n last.0.0 are unnamed last.0.1 last.0.2), λ k x is c. last.1 k x is (moved p entries rewards a s e z y k x are unnamed is c))
 
-pub alike_none : (p : Preamble) (entries : List Entry) (rewards : RewardRules) (a s e y z : ℕ) → AreRewardsOf p entries rewards → NoneBegins rewards (a ∷ s ∷ e ∷ []) 2
-    → IsLastBody p.costs entries rewards.numbers (a ∷ s ∷ e ∷ y ∷ []) None → reward p entries (a ∷ s ∷ e ∷ z ∷ []) ≡ pos 0
-alike_none p entries rewards a s e y z are unnamed last = sym (no_reward p entries (a ∷ s ∷ e ∷ z ∷ []) (number_moved p entries rewards a s e y z None are unnamed last))
-
-pub alike_some : (p : Preamble) (entries : List Entry) (rewards : RewardRules) (a s e y z : ℕ) (b : RewardBody) → AreRewardsOf p entries rewards → NoneBegins rewards (a ∷ s ∷ e ∷ []) 2
-    → s < rewards.shape.states → e < rewards.shape.states → z < rewards.shape.observations → 4 ≤ b.places → IsLastBody p.costs entries rewards.numbers (a ∷ s ∷ e ∷ y ∷ []) (Some b)
-    → reward p entries (a ∷ s ∷ e ∷ z ∷ []) ≡ get_or rewards.numbers (b.start + 0) (pos 0)
-alike_some p entries rewards a s e y z b are unnamed ls le lz single last =
-    let states = are.shape.states in
-    let observations = are.shape.observations in
-    let here : IsLastBody p.costs entries rewards.numbers (a ∷ s ∷ e ∷ z ∷ []) (Some b) = record { number = last.number; last = number_moved p entries rewards a s e y z (Some last.number) are unnamed last.last; body = last.body } in
-    let none_left : drop b.places (a ∷ s ∷ e ∷ z ∷ []) ≡ [] = drop_all b.places (a ∷ s ∷ e ∷ z ∷ []) single in
-    sym (body_reward p entries rewards (a ∷ s ∷ e ∷ z ∷ []) b are (λ n f. is_open p n a s e z f (omega arith) (omega arith) (omega arith)) here)
-    ∙ ap (λ is. get_or rewards.numbers (b.start + cell_in rewards.shape.states rewards.shape.observations is) (pos 0)) none_left
+pub body_moved : (p : Preamble) (entries : List Entry) (rewards : RewardRules) (a s e y z : ℕ) (body : Option RewardBody) → AreRewardsOf p entries rewards → NoneBegins rewards (a ∷ s ∷ e ∷ []) 2
+    → IsLastBody p.costs entries rewards.numbers (a ∷ s ∷ e ∷ y ∷ []) body → IsLastBody p.costs entries rewards.numbers (a ∷ s ∷ e ∷ z ∷ []) body
+body_moved p entries rewards a s e y z None are unnamed last = number_moved p entries rewards a s e y z None are unnamed last
+body_moved p entries rewards a s e y z (Some b) are unnamed last =
+    record { number = last.number; last = number_moved p entries rewards a s e y z (Some last.number) are unnamed last.last; body = last.body }

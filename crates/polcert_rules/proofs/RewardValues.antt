@@ -2,6 +2,7 @@
 use Rattle.std.proofs.Common.{◌≡◌, ◌∙◌, ℕ, zero, suc, ◌+◌, ◌*◌, ◌<◌, ◌≤◌, Bool, true, false, ◌⊎◌, inl, inr, Option, Some, None, List, [], ◌∷◌, length, drop, map, get_or, All, refl, sym, ap, subst, arith, ℤ, pos, negsuc, neg_ℤ, unsigned_abs, w64, if◌then◌else◌}
 use Rattle.std.specs.Prelude.{◌==◌}
 use Rattle.std.specs.List.{slice_get, list_any}
+use Rattle.std.proofs.lemmas.List.{drop_all}
 use Rattle.std.proofs.lemmas.Nat.{mul-add-lt}
 use Rattle.std.proofs.Math.Nat.{mul_comm, mul_assoc, add-mul}
 use Rattle.std.proofs.lemmas.Int.{wrapping_neg_is, int_wrap_fits}
@@ -172,6 +173,22 @@ body_reward p entries rewards indices b a opens last =
 
 pub no_reward : (p : Preamble) (entries : List Entry) (indices : List ℕ) → IsLastNumber entries Reward indices None → pos 0 ≡ reward p entries indices
 no_reward p entries indices last = sym (number_reward p entries indices None last)
+
+-- ---- a body with a single number
+no_index_left : (p : Preamble) (indices : List ℕ) (n : ℕ) → AreWithin (map count_of (dimensions p Reward)) indices → 4 ≤ n → drop n indices ≡ []
+no_index_left p [] n w l = absurd w
+no_index_left p (a ∷ []) n w l = absurd w.1
+no_index_left p (a ∷ s ∷ []) n w l = absurd w.1.1
+no_index_left p (a ∷ s ∷ e ∷ []) n w l = absurd w.1.1.1
+no_index_left p (a ∷ s ∷ e ∷ z ∷ []) n w l = drop_all n (a ∷ s ∷ e ∷ z ∷ []) l
+no_index_left p (a ∷ s ∷ e ∷ z ∷ x ∷ xs) n w l = absurd w.1.1.1.1
+
+pub single_reward : (p : Preamble) (entries : List Entry) (rewards : RewardRules) (indices : List ℕ) (b : RewardBody) → AreRewardsOf p entries rewards
+    → AreWithin (map count_of (dimensions p Reward)) indices → 4 ≤ b.places → IsLastBody p.costs entries rewards.numbers indices (Some b)
+    → reward p entries indices ≡ get_or rewards.numbers (b.start + 0) (pos 0)
+single_reward p entries rewards indices b are within single last =
+    sym (body_reward p entries rewards indices b are (all_open p indices within) last)
+    ∙ ap (λ is. get_or rewards.numbers (b.start + cell_in rewards.shape.states rewards.shape.observations is) (pos 0)) (no_index_left p indices b.places within single)
 
 -- ---- indices
 pub small_indices : (m : ℕ) (indices : List ℕ) → AreIndices m indices → All (λ i. i < 1024) indices

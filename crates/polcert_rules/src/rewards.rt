@@ -171,13 +171,15 @@ impl Rewards {
             .note(LOW, action, start, &[end], count + 1, noted);
         let shared = noted[count];
         let shared_body = self.body_of(shared);
+        let single = self.single(shared_body);
         for z in 0..count {
-            let body = if is_same(noted[z], shared) {
-                shared_body
+            let indices = [action, start, end, z];
+            let reward = if is_same(noted[z], shared) {
+                self.single_or_given(single, shared_body, &indices)
             } else {
-                self.body_of(noted[z])
+                self.given(self.body_of(noted[z]), &indices)
             };
-            rewards[z] = self.given(body, &[action, start, end, z]);
+            rewards[z] = reward;
         }
     }
 
@@ -194,14 +196,7 @@ impl Rewards {
         if self.rules.some_begins(LOW, action, start, &[end], AN_INDEX) {
             return None;
         }
-        match self.newest_body(action, start, &[end, 0]) {
-            None => Some(0),
-            Some(body) => if (body.places as usize) < MOST_PLACES {
-                None
-            } else {
-                Some(self.bodies.number_at(body, 0))
-            },
-        }
+        self.single(self.newest_body(action, start, &[end, 0]))
     }
 
     /// The reward where it is known at once that it is the same for every end state and observation: no entry names one of these
@@ -265,6 +260,41 @@ impl Rewards {
                 self.bodies.number_at(body, cell)
             }
             None => 0,
+        }
+    }
+
+    /// What a body gives each cell that it is the last of, where it has a single number, or there is none.
+    fn single(&self, body: Option<RewardBody>) -> Option<i64>
+        ensures { (p : Preamble) (entries : List E) → AreRewardsOf p entries self.now → ForSome result (λ h. (cell : List ℕ) →
+            AreWithin (map count_of (dimensions p RewardTable)) cell → IsLastBody p.costs entries self.now.numbers cell body → reward p entries cell ≡ h) }
+    {
+        match body {
+            None => Some(0),
+            Some(body) => if (body.places as usize) < MOST_PLACES {
+                None
+            } else {
+                Some(self.bodies.number_at(body, 0))
+            },
+        }
+    }
+
+    /// The same as `given`, where it may be known what the body gives each cell.
+    fn single_or_given(
+        &self,
+        single: Option<i64>,
+        body: Option<RewardBody>,
+        indices: &[usize],
+    ) -> i64
+        requires indices { AreIndices most_places indices.now }
+        requires single { (p : Preamble) (entries : List E) → AreRewardsOf p entries self.now → ForSome single (λ h. (cell : List ℕ) →
+            AreWithin (map count_of (dimensions p RewardTable)) cell → IsLastBody p.costs entries self.now.numbers cell body → reward p entries cell ≡ h) }
+        ensures { (p : Preamble) (entries : List E) → AreRewardsOf p entries self.now →
+            AreWithin (map count_of (dimensions p RewardTable)) indices.now →
+            IsLastBody p.costs entries self.now.numbers indices.now body → result ≡ reward p entries indices.now }
+    {
+        match single {
+            Some(reward) => reward,
+            None => self.given(body, indices),
         }
     }
 

@@ -1,4 +1,4 @@
-use Rattle.std.proofs.Common.{◌≡◌, ◌∙◌, ◌≢◌, ◌<◌, ℕ, List, [], ◌∷◌, None, Option, map, length, get_or, set, pos, FitsSigned, to_z, of_z, w64, sym, ap, subst, arith, rules, below_more, get_or-set_other, get_or-set_same}
+use Rattle.std.proofs.Common.{◌≡◌, ◌∙◌, ◌≢◌, ◌<◌, ℕ, List, [], ◌∷◌, None, Option, map, length, get_or, set, pos, FitsSigned, to_z, w64, ap, subst, arith, rules, below_more, get_or-set_other, get_or-set_same}
 use Rattle.std.proofs.lemmas.Int.{to_z-of_z}
 use Rattle.polcert_cells.specs.Elements.{count_of}
 use Rattle.polcert_cells.specs.Preamble.{dimensions}
@@ -28,12 +28,15 @@ loop-z-preserved c = λ p entries are.
     let small : AreIndices most_places (cell z) = search rules in
     let first = noted_first _ (Fits most_places (table_key Reward) (cell z)) _ (get_or c.note.new.noted z None) (c.requires.nothing z few) (c.note.ensures z (omega (arith, c.loop-z-test.true))) in
     let newest : IsHere (get_or c.note.new.noted z None) = subst (λ (xs : List Rule). IsNewest xs (Fits most_places (table_key Reward) (cell z)) (get_or c.note.new.noted z None)) (ap (λ (rewards : RewardRules). rewards.rules) c.self.view_is) first in
-    let last : IsLast c.if-is_same.body = elim c.if-is_same.branch [
-      | then-is_same w ↦ subst IsLast (sym w.body-is) (c.body_of-shared_body.ensures (cell z) p entries small are (subst IsHere (c.is_same.ensures.0 w.if-is_same.true) newest))
-      | else-is_same w ↦ subst IsLast (sym w.body-is) (w.body_of-body.ensures (cell z) p entries small are newest)
+    let is : to_z w64 c.if-is_same.reward-bits ≡ reward p entries (cell z) = elim c.if-is_same.branch [
+      | then-is_same w ↦
+          let fits : FitsSigned w64 w.single_or_given-reward.result = search rules in
+          w.reward-is ∙ to_z-of_z w64 w.single_or_given-reward.result fits
+          ∙ w.single_or_given-reward.ensures p entries are within (c.body_of-shared_body.ensures (cell z) p entries small are (subst IsHere (c.is_same.ensures.0 w.if-is_same.true) newest))
+      | else-is_same w ↦
+          let fits : FitsSigned w64 w.given-reward.result = search rules in
+          w.reward-is ∙ to_z-of_z w64 w.given-reward.result fits ∙ w.given-reward.ensures p entries are within (w.body_of.ensures (cell z) p entries small are newest)
     ] in
-    let fits : FitsSigned w64 c.given.result = search rules in
-    let is = to_z-of_z w64 c.given.result fits ∙ c.given.ensures p entries are within last in
-    below_more (λ y. get_or (set c.loop-z.rewards z (to_z w64 (of_z w64 c.given.result))) y (pos 0) ≡ reward p entries (cell y)) z
+    below_more (λ y. get_or (set c.loop-z.rewards z (to_z w64 c.if-is_same.reward-bits)) y (pos 0) ≡ reward p entries (cell y)) z
     (λ y l. let ne : y ≢ z = omega arith in rw get_or-set_other (c.loop-z.invariant p entries are y l))
     (rw get_or-set_same is)
