@@ -94,6 +94,41 @@ impl ItemReader {
             IfErr result (λ stop. IfRefused stop (λ r. (r.kind ≡ late.kind) × (r.place ≡ late.place))) }
     {
         match self {
+            ItemReader::Entry(reader) => reader.feed(alloc, known, token),
+            _ => self.feed_any(alloc, known, token),
+        }
+    }
+
+    /// The same, whatever the item. Most tokens are those of entries, which are told by one test.
+    #[inline(never)]
+    fn feed_any(&mut self, alloc: Global, known: &Known, token: Token<'_>) -> Result<(), Stop>
+        requires within { IsItemWithin known.now self.old }
+        requires text { IsText (lexeme_of token) }
+        ensures topic { topic_in self.new ≡ topic_in self.old }
+        ensures within { OnOk result (IsItemWithin known.now self.new) }
+        ensures takes { OnOk result (Takes (ItemGoes known.now) self.old (lexeme_of token.entry) self.new) }
+        ensures seen { (body : List Lexeme) → IsSeen (states_known known.now) body self.old →
+            OnOk result (IsSeen (states_known known.now) (body ++ lexeme_of token.entry ∷ []) self.new) }
+        ensures refused { IfErr result (λ stop. IfRefused stop (λ r.
+            CannotTake (ItemGoes known.now) self.old (lexeme_of token.entry))) }
+        ensures reason { (body : List Lexeme) → IsSeen (states_known known.now) body self.old → IfErr result (λ stop. IfRefused stop (λ r.
+            IsItemReason self.old body (lexeme_of token.entry) r.kind r.place)) }
+        ensures leads { OnOk result (Leads (item_wants known.now self.old) (lexeme_of token.entry) (item_wants known.now self.new)) }
+        ensures kind { IfErr result (λ stop. IfRefused stop (λ r. IfNotStart (topic_in self.old)
+            (IsMisfit (item_wants known.now self.old []) (lexeme_of token.entry) r.kind))) }
+        ensures start { (body : List Lexeme) → IsSeen (states_known known.now) body self.old → IfErr result (λ stop. IfRefused stop (λ r.
+            IfStart (topic_in self.old) (StopsStart (pending_in self.old) (states_known known.now) body
+            (item_wants known.now self.old []) (lexeme_of token.entry) r.kind r.place))) }
+        ensures formed { OnOk result (IfStart (topic_in self.old)
+            (Takes (ItemForms known.now) self.old (lexeme_of token.entry) self.new)) }
+        ensures formless { IfErr result (λ stop. IfRefused stop (λ r. IfStart (topic_in self.old)
+            (CannotTake (ItemForms known.now) self.old (lexeme_of token.entry)))) }
+        ensures late { (body more : List Lexeme) (ends : Bool) (late : Refusal) → IsSeen (states_known known.now) body self.old →
+            topic_in self.old ≡ Topic.Start →
+            IsLate (states_known known.now) (body ++ lexeme_of token.entry ∷ more) ends late.kind late.place →
+            IfErr result (λ stop. IfRefused stop (λ r. (r.kind ≡ late.kind) × (r.place ≡ late.place))) }
+    {
+        match self {
             ItemReader::Discount(reader) => Ok(reader.feed(token)?),
             ItemReader::Values(reader) => Ok(reader.feed(token)?),
             ItemReader::States(reader) => reader.feed(alloc, MOST_STATES, token),
