@@ -216,8 +216,8 @@ impl Rewards {
         }
         match self.newest_body(action, start, &[0, 0]) {
             None => Some(0),
-            Some(body) => if is_single(body.places as usize, self.shape.observations) {
-                Some(self.bodies.number_at(body, 0))
+            Some(found) => if is_single(found.places as usize, self.shape.observations) {
+                Some(self.bodies.number_at(found, 0))
             } else {
                 None
             },

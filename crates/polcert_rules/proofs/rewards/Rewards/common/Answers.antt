@@ -18,7 +18,7 @@ returns-then-is_single c p entries are h is e z m l =
     let unnamed = subst (λ (rewards : RewardRules). NoneBegins rewards (c.args.action ∷ c.args.start ∷ []) 1026) c.self.view_is
     c.if-some_begins.ensures in
     let fits : FitsSigned w64 c.number_at.result = search rules in
-    let read = c.number_at.ensures ∙ ap (λ (rewards : RewardRules). get_or rewards.numbers (c.in-Some.body.start + 0) (pos 0)) c.self.view_is in
-    let single = subst (λ (rewards : RewardRules). IsSingle rewards.shape.observations c.in-Some.body.places) c.self.view_is (c.if-is_single.ensures refl) in
-    common_some p entries c.args.self.now c.args.action c.args.start are unnamed 0 0 e z c.in-Some.body c.requires.start m l single (c.in-Some.ensures p entries are)
+    let read = c.number_at.ensures ∙ ap (λ (rewards : RewardRules). get_or rewards.numbers (c.in-Some.found.start + 0) (pos 0)) c.self.view_is in
+    let single = subst (λ (rewards : RewardRules). IsSingle rewards.shape.observations c.in-Some.found.places) c.self.view_is (c.if-is_single.ensures refl) in
+    common_some p entries c.args.self.now c.args.action c.args.start are unnamed 0 0 e z c.in-Some.found c.requires.start m l single (c.in-Some.ensures p entries are)
     ∙ sym (to_z-of_z w64 c.number_at.result fits ∙ read) ∙ same_Some _ _ is
