@@ -190,37 +190,6 @@ impl EntryReader {
         ensures kind { IfErr result (λ stop. IfRefused stop (λ r.
             IsMisfit (entry_wants (preamble_in known.now) self.old []) (lexeme_of token.entry) r.kind)) }
     {
-        match &self.state {
-            EntryState::Colon => {
-                colon(token)?;
-                self.state = EntryState::Place;
-                Ok(())
-            }
-            EntryState::Place => self.feed_place(known, token),
-            EntryState::Body => self.feed_body(alloc, known, token),
-            _ => self.feed_any(alloc, known, token),
-        }
-    }
-
-    /// The same, whatever the state. Most tokens come in one of three states, which are told by a test each.
-    #[inline(never)]
-    fn feed_any(&mut self, alloc: Global, known: &Known, token: Token<'_>) -> Result<(), Stop>
-        requires within { IsWithinIndices (indices_in known.now self.old.table) self.old }
-        requires text { IsText (lexeme_of token) }
-        ensures table { self.new.table ≡ self.old.table }
-        ensures within { OnOk result (IsWithinIndices (indices_in known.now self.old.table) self.new) }
-        ensures takes { OnOk result (Takes (EntryGoes (preamble_in known.now))
-            self.old (lexeme_of token.entry) self.new) }
-        ensures refused { IfErr result (λ stop. IfRefused stop (λ r.
-            CannotTake (EntryGoes (preamble_in known.now)) self.old (lexeme_of token.entry))) }
-        ensures reason { IfErr result (λ stop. IfRefused stop (λ r.
-            IsEntryReason self.old (lexeme_of token.entry) r.kind r.place)) }
-        ensures sign { OnOk result (SignIs (entry_sign self.new.state) (lexeme_of token.entry)) }
-        ensures leads { OnOk result (Leads (entry_wants (preamble_in known.now) self.old)
-            (lexeme_of token.entry) (entry_wants (preamble_in known.now) self.new)) }
-        ensures kind { IfErr result (λ stop. IfRefused stop (λ r.
-            IsMisfit (entry_wants (preamble_in known.now) self.old []) (lexeme_of token.entry) r.kind)) }
-    {
         match &mut self.state {
             EntryState::Colon => {
                 colon(token)?;

@@ -133,7 +133,6 @@ fn range_fault(range: Range, value: i64) -> Option<ItemFault>
 }
 
 /// A token that no form has in its place.
-#[inline(never)]
 pub fn misplaced(token: Token<'_>) -> Refusal
     ensures reason { IsMisplaced (lexeme_of token.entry) result.kind result.place }
     ensures kind { result.kind ≡ misfit EndOfWord (Some (lexeme_of token.entry)) }
@@ -150,7 +149,6 @@ pub fn misplaced(token: Token<'_>) -> Refusal
 }
 
 /// A token behind the last number of a list.
-#[inline(never)]
 pub fn behind_numbers(token: Token<'_>) -> Refusal
     ensures reason { IsBehindNumbers (lexeme_of token.entry) result.kind result.place }
     ensures kind { result.kind ≡ misfit EndOfNumbers (Some (lexeme_of token.entry)) }
