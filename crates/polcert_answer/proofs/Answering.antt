@@ -1,5 +1,5 @@
 -- What a run says of the texts of three sources, from what its calls say of what these denote.
-use Rattle.std.proofs.Common.{◌≡◌, ◌∙◌, ℕ, ◌<◌, ℤ, neg_ℤ, List, ◌⊎◌, inl, inr, Result, Ok, Err, IfOk, subst, sym, ap, refl}
+use Rattle.std.proofs.Common.{◌≡◌, ◌∙◌, ℕ, ◌<◌, ℤ, neg_ℤ, List, ◌⊎◌, inl, inr, Result, Ok, Err, IfOk, subst, ap, refl}
 use Rattle.polcert_cells.specs.Meaning.{Meaning, states_of}
 use Rattle.polcert_policy.specs.Graphs.{PolicyGraph, nodes}
 use Rattle.polcert_policy.specs.Vectors.{PolicyVectors, shifted_by}
@@ -15,9 +15,7 @@ use Rattle.polcert_check.specs.Horizon.{Controller}
 use Rattle.polcert_check.specs.Lower.{HasLeastConstant, IsLeastConstant, IsNotLowered}
 use Rattle.polcert_check.specs.Shortfall.{Passes}
 use Rattle.polcert_check.specs.StartWorth.{IsBestStart}
-use Rattle.polcert_check.specs.Verdict.{IsVerdict}
 use Rattle.polcert_answer.specs.Headline.{Certificate, controller}
-use Rattle.polcert_answer.specs.Lines.{IsVerdictLine}
 use Rattle.polcert_answer.specs.Reading.{AreDenoted, IsAnswerLine, AreLowered}
 use Rattle.polcert_answer.specs.Answer.{IsAnswer}
 use Rattle.polcert_answer.specs.Run.{AreCertified, HasVerdict, HavePromise, HasStartPromise, HasLowered, IsNotLowerable, IsWhy}

@@ -24,7 +24,6 @@ use Rattle.polcert_check.specs.Lower.{IsLeastConstant, IsNotLowered}
 use Rattle.polcert_check.specs.declared.fault.LowerFault.{LowerFault}
 use Rattle.polcert_check.specs.StartWorth.{IsCeilQuotient, IsBestStart, IsStartWorth, StartPromise}
 use Rattle.polcert_check.specs.Verdict.{IsVerdict}
-use Rattle.polcert_cells.specs.SameCells.{HasSameCells}
 use Rattle.polcert_check.proofs.Certificates.{controller_is}
 use Rattle.polcert_check.proofs.EveryHorizon.{promised}
 use Rattle.polcert_check.proofs.SameAnswers as answers

@@ -1,4 +1,4 @@
-use Rattle.std.proofs.Common.{◌≡◌, ℕ, List, rules, refl}
+use Rattle.std.proofs.Common.{rules, refl}
 use Rattle.polcert_model.specs.Contents.{meaning}
 use Rattle.polcert_answer.specs.Answer.{HasGraph}
 use Rattle.polcert_answer.proofs.Refusing.{handed_on, graph_in_order, not_of_vectors}

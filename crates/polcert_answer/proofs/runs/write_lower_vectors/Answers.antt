@@ -1,4 +1,4 @@
-use Rattle.std.proofs.Common.{◌≡◌, ℤ, rules, to_z, of_z, w64, to_z-of_z, FitsSigned, refl}
+use Rattle.std.proofs.Common.{◌≡◌, rules, to_z, of_z, w64, to_z-of_z, FitsSigned, refl}
 use Rattle.polcert_model.specs.Contents.{meaning}
 use Rattle.polcert_answer.proofs.Answering.{same_lower, are_lowered, why_of}
 use Rattle.polcert_answer.proofs.runs.write_lower_vectors.Goals as goal

@@ -1,10 +1,9 @@
-use Rattle.std.proofs.Common.{◌≡◌, Result, Ok, Err, ℕ, List, IfErr, MatchResult}
+use Rattle.std.proofs.Common.{Result, Ok, Err, ℕ, List, IfErr, MatchResult}
 use Rattle.polcert_model.specs.Contents.{meaning}
 use Rattle.polcert_cells.specs.Meaning.{Meaning, actions_of, observations_of}
 use Rattle.polcert_model.specs.Text.{IsModelText}
-use Rattle.polcert_policy.specs.Graphs.{PolicyGraph}
 use Rattle.polcert_policy.specs.declared.fault.GraphFault.{GraphFault}
-use Rattle.polcert_policy.specs.GraphText.{IsGraphText, IsGraphRefusal, IsNoGraphText}
+use Rattle.polcert_policy.specs.GraphText.{IsGraphRefusal, IsNoGraphText}
 use Rattle.polcert_answer.specs.Answer.{IsGraphRefused}
 use Rattle.polcert_answer.proofs.Denoted.{graph_refused}
 use Rattle.polcert_answer.proofs.texts.graph_of.Goals as goal

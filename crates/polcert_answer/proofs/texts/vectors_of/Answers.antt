@@ -1,4 +1,4 @@
-use Rattle.std.proofs.Common.{◌≡◌, Result, Ok, Err, ℕ, List, IfErr, MatchResult}
+use Rattle.std.proofs.Common.{Result, Ok, Err, ℕ, List, IfErr, MatchResult}
 use Rattle.polcert_model.specs.Contents.{meaning}
 use Rattle.polcert_cells.specs.Meaning.{Meaning, states_of}
 use Rattle.polcert_policy.specs.Graphs.{PolicyGraph}
