@@ -21,7 +21,7 @@ pub(crate) struct Buffers {
     /// What a node expects behind each end state, and the least observation there for which it has no successor.
     pub worths: [i128; MOST_STATES],
     pub missing: [Option<usize>; MOST_STATES],
-    /// Whether a node so far had none for some.
+    /// Whether some node so far had no successor for an observation that can be made. It stays so for all nodes behind it.
     misses: bool,
     /// Room for the rewards of all observations.
     rewards: [i64; MOST_OBSERVATIONS],
