@@ -4,14 +4,15 @@ use Rattle.std.specs.List.{list_all}
 use Rattle.std.proofs.lemmas.Fmt.{decimal_is_IsNumeral, decimal_nonempty}
 use Rattle.polcert_text.specs.Bytes.{class_of, is_digit}
 use Rattle.polcert_text.specs.Lexemes.{is_numeral, are_digits}
-use Rattle.polcert_text.specs.Numbers.{number_of, exponent_size, power_of, size_of, millionth, largest, IsFloor}
+use Rattle.polcert_text.specs.Numbers.{number_of, exponent_size, power_of, size_of, millionth, largest, IsRounded}
 use Rattle.polcert_text.specs.Scaling.{Measures}
-use Rattle.polcert_text.proofs.SignedLaws.{floor_positive, floor_negative}
+use Rattle.polcert_text.proofs.SignedLaws.{rounded_whole}
 use Rattle.polcert_text.proofs.SizeLaws.{millionth_pos}
 use Rattle.polcert_text.proofs.PrintLaws.{decimal_digits}
 use Rattle.polcert_text.specs.Cut.{Lexeme}
 use Rattle.polcert_text.specs.declared.lexeme.TokenKind.TheVariants.{Numeral}
 use Rattle.polcert_policy.specs.Vectors.{Part, sign_kind, is_negative, IsActionPart, IsValuePart}
+use Rattle.polcert_text.specs.declared.number.Rounding.{Rounding}
 
 abbrev pub zero_bytes : List ℕ
 zero_bytes = 48 ∷ []
@@ -56,19 +57,6 @@ measured = record {
 abbrev pub zero_part : Part
 zero_part = part_of zero_bytes
 
--- the numeral `0` is the value 0
-pub zero_value : IsValuePart zero_part (pos 0)
-zero_value = record {
-  part = record { numeral = refl; signed = λ s e. absurd (cc) };
-  readable = record {
-    numeral = numeral_zero;
-    short = omega arith;
-    exponent = omega (arith, exponent_zero);
-    size = within_largest (size_of zero_bytes) (largest * millionth) size_zero;
-  };
-  floor = floor_positive zero_bytes 0 false measured;
-}
-
 some_digits : (bs : List ℕ) → list_all is_digit bs ≡ true → 0 < length bs → are_digits bs ≡ true
 some_digits [] e l = absurd (omega (arith, l))
 some_digits (b ∷ bs) e l = ap (λ x. x && true) e
@@ -84,17 +72,31 @@ action_spelled a l = record {
 abbrev pub signed_zero : Lexeme → Part
 signed_zero s = let t : Lexeme = record { kind = Numeral; place = 0; bytes = zero_bytes } in record { sign = Some s; token = t }
 
-zero_floor : (b : Bool) → IsFloor b zero_bytes (pos 0)
-zero_floor true = floor_negative zero_bytes 0 false measured
-zero_floor false = floor_positive zero_bytes 0 false measured
+zero_rounded : (way : Rounding) (b : Bool) → IsRounded way b zero_bytes (pos 0)
+zero_rounded way true = rounded_whole way true zero_bytes 0 measured
+zero_rounded way false = rounded_whole way false zero_bytes 0 measured
 
 same_some : (s u : Lexeme) → Some s ≡ Some u → s ≡ u
 same_some s u e = cc
 
--- so is `0` behind a sign
-pub signed_zero_value : (s : Lexeme) → sign_kind s.kind ≡ true → IsValuePart (signed_zero s) (pos 0)
-signed_zero_value s sign = record {
-  part = record { numeral = refl; signed = λ u e. subst (λ x. sign_kind x.kind ≡ true) (same_some s u e) sign };
-  readable = zero_value.readable;
-  floor = zero_floor (is_negative (Some s));
-}
+module _ {way : Rounding} where
+  -- the numeral `0` is the value 0
+  pub zero_value : IsValuePart way zero_part (pos 0)
+  zero_value = record {
+    part = record { numeral = refl; signed = λ s e. absurd (cc) };
+    readable = record {
+      numeral = numeral_zero;
+      short = omega arith;
+      exponent = omega (arith, exponent_zero);
+      size = within_largest (size_of zero_bytes) (largest * millionth) size_zero;
+    };
+    rounded = zero_rounded way false;
+  }
+
+  -- so is `0` behind a sign
+  pub signed_zero_value : (s : Lexeme) → sign_kind s.kind ≡ true → IsValuePart way (signed_zero s) (pos 0)
+  signed_zero_value s sign = record {
+    part = record { numeral = refl; signed = λ u e. subst (λ x. sign_kind x.kind ≡ true) (same_some s u e) sign };
+    readable = zero_value.readable;
+    rounded = zero_rounded way (is_negative (Some s));
+  }

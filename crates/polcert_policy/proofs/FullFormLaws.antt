@@ -12,11 +12,12 @@ use Rattle.polcert_text.specs.Cut.{IsCut, text_rest, text_limit}
 use Rattle.polcert_text.specs.Millionths.{unsigned_text, scaled_text}
 use Rattle.polcert_text.specs.Numbers.{largest}
 use Rattle.polcert_text.specs.Scaling.{Measures}
-use Rattle.polcert_text.proofs.SignedLaws.{floor_positive, floor_negative}
+use Rattle.polcert_text.proofs.SignedLaws.{rounded_whole}
 use Rattle.polcert_text.proofs.SizeLaws.{millionth_pos}
+use Rattle.polcert_text.specs.declared.number.Rounding.{Rounding}
 use Rattle.polcert_policy.specs.Graphs.{PolicyGraph, nodes, action_of, IsProperGraph}
-use Rattle.polcert_policy.specs.Vectors.{PolicyVectors, Part, sign_kind, tokens_of, value_of, IsActionPart, IsValuePart, IsVectors, IsInRange, AreProperVectors}
-use Rattle.polcert_policy.specs.VectorText.{IsVectorsText}
+use Rattle.polcert_policy.specs.Vectors.{PolicyVectors, Part, sign_kind, tokens_of, value_of, IsActionPart, IsValuePart, IsRoundedVectors, IsInRange, AreProperVectors}
+use Rattle.polcert_policy.specs.VectorText.{IsRoundedVectorsText}
 use Rattle.polcert_policy.specs.VectorsRead.{AreVectorsUpTo}
 use Rattle.polcert_policy.specs.FullForm.{behind_value, values_text, action_text, vectors_text_up_to, vectors_text}
 use Rattle.polcert_policy.proofs.Places.{some_none, same_some, row_above}
@@ -59,20 +60,20 @@ negative_size : (n : ℕ) → IsInRange (negsuc n) → suc n ≤ largest
 negative_size n r = omega (arith, ints, r.0)
 
 -- the part that is written of a value has that value
-value_part : (place : ℕ) (h : ℤ) → IsInRange h → IsValuePart (part_with place (is_below_zero h) (size_text h)) h
-value_part place (pos n) r =
+value_part : (way : Rounding) (place : ℕ) (h : ℤ) → IsInRange h → IsValuePart way (part_with place (is_below_zero h) (size_text h)) h
+value_part way place (pos n) r =
     let l = positive_size n r in
     record {
       part = record { numeral = refl; signed = λ s e. absurd (some_none s e) };
       readable = readable_written n l;
-      floor = floor_positive (unsigned_text n) n false (measures_written n l);
+      rounded = rounded_whole way false (unsigned_text n) n (measures_written n l);
     }
-value_part place (negsuc n) r =
+value_part way place (negsuc n) r =
     let l = negative_size n r in
     record {
       part = record { numeral = refl; signed = λ s e. subst (λ x. sign_kind x.kind ≡ true) (same_some _ s e) refl };
       readable = readable_written (suc n) l;
-      floor = floor_negative (unsigned_text (suc n)) (suc n) false (measures_written (suc n) l);
+      rounded = rounded_whole way true (unsigned_text (suc n)) (suc n) (measures_written (suc n) l);
     }
 
 action_part : (place a : ℕ) → a < 2 ^ 64 → IsActionPart a (part_with place false (decimal a))
@@ -214,70 +215,8 @@ module _ (g : PolicyGraph) (v : PolicyVectors) (proper_g : IsProperGraph g) (pro
       append_assoc ps (parts_from place (action_printed g n ∷ values_printed v n s)) (part_with (place + length (texts_of (action_printed g n ∷ values_printed v n s))) (is_below_zero (value_of v n s)) (size_text (value_of v n s)) ∷ [])
       ∙ ap (λ qs. ps ++ qs) (sym (parts-append place (action_printed g n ∷ values_printed v n s) (value_printed v n s ∷ [])))
 
-  abbrev UpTo : List Part → ℕ → ℕ → List ℤ → Type 0
-  UpTo ps n c vs = AreVectorsUpTo g v.states ps n c vs
-
-  row : (ps : List Part) (n place : ℕ) → n < nodes g → UpTo ps n 0 (take (n * v.states) v.values) → (s : ℕ) → s < v.states
-      → UpTo (ps ++ parts_from place (action_printed g n ∷ values_printed v n s)) n (1 + s) (take (n * v.states + s) v.values)
-  row ps n place l old zero k =
-      let part = part_with place false (decimal (action_of g n)) in
-      subst (λ m. UpTo (ps ++ part ∷ []) n 1 (take m v.values)) (omega arith)
-      (step_vector_action g v.states ps part n (take (n * v.states) v.values) proper_v.some_states old l (action_part place (action_of g n) (omega (arith, known_action n l))))
-  row ps n place l old (suc s) k =
-      let h = value_of v n s in
-      let before = ps ++ parts_from place (action_printed g n ∷ values_printed v n s) in
-      let part = part_with (place + length (texts_of (action_printed g n ∷ values_printed v n s))) (is_below_zero h) (size_text h) in
-      let inside : s < v.states = omega (arith, k) in
-      let stepped = step_value_within g v.states before part h n s (take (n * v.states + s) v.values) k (row ps n place l old s inside) (value_part _ h (value_fits n s l inside)) in
-      subst (λ vs. UpTo (ps ++ parts_from place (action_printed g n ∷ values_printed v n (suc s))) n (1 + suc s) vs) (values_more n s l inside)
-      (subst (λ qs. UpTo qs n (1 + suc s) (take (n * v.states + s) v.values ++ h ∷ [])) (parts_more ps n place s)
-      (subst (λ c. UpTo (before ++ part ∷ []) n c (take (n * v.states + s) v.values ++ h ∷ [])) (omega arith) stepped))
-
-  whole_row : (ps : List Part) (n place : ℕ) → n < nodes g → UpTo ps n 0 (take (n * v.states) v.values)
-      → UpTo (ps ++ parts_from place (vector_printed g v n)) (suc n) 0 (take (suc n * v.states) v.values)
-  whole_row ps n place l old =
-      let s = v.states - 1 in
-      let last : suc s ≡ v.states = omega (arith, proper_v.some_states) in
-      let inside : s < v.states = omega (arith, proper_v.some_states) in
-      let h = value_of v n s in
-      let before = ps ++ parts_from place (action_printed g n ∷ values_printed v n s) in
-      let part = part_with (place + length (texts_of (action_printed g n ∷ values_printed v n s))) (is_below_zero h) (size_text h) in
-      let stepped = step_value_last g v.states before part h n s (take (n * v.states + s) v.values) last (row ps n place l old s inside) (value_part _ h (value_fits n s l inside)) in
-      let filled : take (n * v.states + s) v.values ++ h ∷ [] ≡ take (suc n * v.states) v.values = values_more n s l inside ∙ ap (λ m. take m v.values) (omega (arith, last)) in
-      let joined : before ++ part ∷ [] ≡ ps ++ parts_from place (vector_printed g v n) = parts_more ps n place s ∙ ap (λ c. ps ++ parts_from place (action_printed g n ∷ values_printed v n c)) last in
-      subst (λ vs. UpTo (ps ++ parts_from place (vector_printed g v n)) (suc n) 0 vs) filled (subst (λ qs. UpTo qs (suc n) 0 (take (n * v.states + s) v.values ++ h ∷ [])) joined stepped)
-
-  all_rows : (n : ℕ) → n ≤ nodes g → UpTo (parts_from 0 (all_printed g v n)) n 0 (take (n * v.states) v.values)
-  all_rows zero l =
-      let start : UpTo [] 0 0 [] = record {
-        records = record { action = λ n p e. absurd (some_none p e); value = λ n s p l e. absurd (some_none p e) };
-        count = omega arith;
-        within = omega arith;
-        filled = omega arith;
-        few = omega arith;
-        few_begun = λ l. absurd (omega (arith, l));
-      } in
-      let none : 0 ≡ 0 * v.states = omega arith in
-      subst (λ m. UpTo [] 0 0 (take m v.values)) none start
-  all_rows (suc n) l =
-      let few : n < nodes g = omega (arith, l) in
-      subst (λ qs. UpTo qs (suc n) 0 (take (suc n * v.states) v.values)) (sym (parts-append 0 (all_printed g v n) (vector_printed g v n)))
-      (whole_row (parts_from 0 (all_printed g v n)) n (0 + length (texts_of (all_printed g v n))) few (all_rows n (omega (arith, l))))
-
-  tokens_read_back : IsVectors g v.states (tokens_of (parts_from 0 (all_printed g v (nodes g)))) v
-  tokens_read_back =
-      let at = all_rows (nodes g) (omega arith) in
-      let filled : length v.values ≡ nodes g * v.states = proper_v.filled ∙ ap (λ c. c * v.states) same in
-      let whole : take (nodes g * v.states) v.values ≡ v.values = take_all (nodes g * v.states) v.values (omega (arith, filled)) in
-      record {
-        nodes_are = same;
-        states_are = refl;
-        parts = parts_from 0 (all_printed g v (nodes g));
-        spelled = refl;
-        count = at.count ∙ omega arith;
-        filled = filled;
-        records = (subst (λ vs. UpTo (parts_from 0 (all_printed g v (nodes g))) (nodes g) 0 vs) whole at).records;
-      }
+  abbrev UpTo : Rounding → List Part → ℕ → ℕ → List ℤ → Type 0
+  UpTo way ps n c vs = AreVectorsUpTo way g v.states ps n c vs
 
   short_text : length (texts_of (all_printed g v (nodes g))) ≤ text_limit
   short_text =
@@ -286,12 +225,75 @@ module _ (g : PolicyGraph) (v : PolicyVectors) (proper_g : IsProperGraph g) (pro
       let most : nodes g * (1 + v.states) ≤ 10_000 * (1 + v.states) = mul-le-mul_right (1 + v.states) proper_g.few_nodes in
       omega (arith, bound, count, most, proper_v.few_states)
 
-  -- the full form reads back
-  pub reads_back : IsVectorsText g v.states (vectors_text g v) v
-  reads_back =
-      let us = all_printed g v (nodes g) in
-      let cut = cut_printed us 0 [] (all_are_printed (nodes g) (omega arith)) refl in
-      let below = le-ltb text_limit (length (texts_of us)) short_text in
-      let whole : text_rest (texts_of us) text_limit ≡ rest_at 0 (texts_of us) = simp below in
-      subst (λ text. IsVectorsText g v.states text v) (text-all g v (nodes g))
-      (tokens_of (parts_from 0 us), subst (λ r. IsCut r (tokens_of (parts_from 0 us)) None) (sym whole) cut, tokens_read_back)
+  module _ {way : Rounding} where
+    row : (ps : List Part) (n place : ℕ) → n < nodes g → UpTo way ps n 0 (take (n * v.states) v.values) → (s : ℕ) → s < v.states
+        → UpTo way (ps ++ parts_from place (action_printed g n ∷ values_printed v n s)) n (1 + s) (take (n * v.states + s) v.values)
+    row ps n place l old zero k =
+        let part = part_with place false (decimal (action_of g n)) in
+        subst (λ m. UpTo way (ps ++ part ∷ []) n 1 (take m v.values)) (omega arith)
+        (step_vector_action g v.states ps part n (take (n * v.states) v.values) proper_v.some_states old l (action_part place (action_of g n) (omega (arith, known_action n l))))
+    row ps n place l old (suc s) k =
+        let h = value_of v n s in
+        let before = ps ++ parts_from place (action_printed g n ∷ values_printed v n s) in
+        let part = part_with (place + length (texts_of (action_printed g n ∷ values_printed v n s))) (is_below_zero h) (size_text h) in
+        let inside : s < v.states = omega (arith, k) in
+        let stepped = step_value_within g v.states before part h n s (take (n * v.states + s) v.values) k (row ps n place l old s inside) (value_part way _ h (value_fits n s l inside)) in
+        subst (λ vs. UpTo way (ps ++ parts_from place (action_printed g n ∷ values_printed v n (suc s))) n (1 + suc s) vs) (values_more n s l inside)
+        (subst (λ qs. UpTo way qs n (1 + suc s) (take (n * v.states + s) v.values ++ h ∷ [])) (parts_more ps n place s)
+        (subst (λ c. UpTo way (before ++ part ∷ []) n c (take (n * v.states + s) v.values ++ h ∷ [])) (omega arith) stepped))
+
+    whole_row : (ps : List Part) (n place : ℕ) → n < nodes g → UpTo way ps n 0 (take (n * v.states) v.values)
+        → UpTo way (ps ++ parts_from place (vector_printed g v n)) (suc n) 0 (take (suc n * v.states) v.values)
+    whole_row ps n place l old =
+        let s = v.states - 1 in
+        let last : suc s ≡ v.states = omega (arith, proper_v.some_states) in
+        let inside : s < v.states = omega (arith, proper_v.some_states) in
+        let h = value_of v n s in
+        let before = ps ++ parts_from place (action_printed g n ∷ values_printed v n s) in
+        let part = part_with (place + length (texts_of (action_printed g n ∷ values_printed v n s))) (is_below_zero h) (size_text h) in
+        let stepped = step_value_last g v.states before part h n s (take (n * v.states + s) v.values) last (row ps n place l old s inside) (value_part way _ h (value_fits n s l inside)) in
+        let filled : take (n * v.states + s) v.values ++ h ∷ [] ≡ take (suc n * v.states) v.values = values_more n s l inside ∙ ap (λ m. take m v.values) (omega (arith, last)) in
+        let joined : before ++ part ∷ [] ≡ ps ++ parts_from place (vector_printed g v n) = parts_more ps n place s ∙ ap (λ c. ps ++ parts_from place (action_printed g n ∷ values_printed v n c)) last in
+        subst (λ vs. UpTo way (ps ++ parts_from place (vector_printed g v n)) (suc n) 0 vs) filled (subst (λ qs. UpTo way qs (suc n) 0 (take (n * v.states + s) v.values ++ h ∷ [])) joined stepped)
+
+    all_rows : (n : ℕ) → n ≤ nodes g → UpTo way (parts_from 0 (all_printed g v n)) n 0 (take (n * v.states) v.values)
+    all_rows zero l =
+        let start : UpTo way [] 0 0 [] = record {
+          records = record { action = λ n p e. absurd (some_none p e); value = λ n s p l e. absurd (some_none p e) };
+          count = omega arith;
+          within = omega arith;
+          filled = omega arith;
+          few = omega arith;
+          few_begun = λ l. absurd (omega (arith, l));
+        } in
+        let none : 0 ≡ 0 * v.states = omega arith in
+        subst (λ m. UpTo way [] 0 0 (take m v.values)) none start
+    all_rows (suc n) l =
+        let few : n < nodes g = omega (arith, l) in
+        subst (λ qs. UpTo way qs (suc n) 0 (take (suc n * v.states) v.values)) (sym (parts-append 0 (all_printed g v n) (vector_printed g v n)))
+        (whole_row (parts_from 0 (all_printed g v n)) n (0 + length (texts_of (all_printed g v n))) few (all_rows n (omega (arith, l))))
+
+    tokens_read_back : IsRoundedVectors way g v.states (tokens_of (parts_from 0 (all_printed g v (nodes g)))) v
+    tokens_read_back =
+        let at = all_rows (nodes g) (omega arith) in
+        let filled : length v.values ≡ nodes g * v.states = proper_v.filled ∙ ap (λ c. c * v.states) same in
+        let whole : take (nodes g * v.states) v.values ≡ v.values = take_all (nodes g * v.states) v.values (omega (arith, filled)) in
+        record {
+          nodes_are = same;
+          states_are = refl;
+          parts = parts_from 0 (all_printed g v (nodes g));
+          spelled = refl;
+          count = at.count ∙ omega arith;
+          filled = filled;
+          records = (subst (λ vs. UpTo way (parts_from 0 (all_printed g v (nodes g))) (nodes g) 0 vs) whole at).records;
+        }
+
+    -- the full form reads back
+    pub reads_back : IsRoundedVectorsText way g v.states (vectors_text g v) v
+    reads_back =
+        let us = all_printed g v (nodes g) in
+        let cut = cut_printed us 0 [] (all_are_printed (nodes g) (omega arith)) refl in
+        let below = le-ltb text_limit (length (texts_of us)) short_text in
+        let whole : text_rest (texts_of us) text_limit ≡ rest_at 0 (texts_of us) = simp below in
+        subst (λ text. IsRoundedVectorsText way g v.states text v) (text-all g v (nodes g))
+        (tokens_of (parts_from 0 us), subst (λ r. IsCut r (tokens_of (parts_from 0 us)) None) (sym whole) cut, tokens_read_back)

@@ -4,10 +4,11 @@ use Rattle.std.proofs.lemmas.Option.{get_or_from_slice_get, slice_get-get_or}
 use Rattle.polcert_text.specs.Cut.{Lexeme}
 use Rattle.polcert_cells.specs.Elements.{most_states, most_actions, most_observations}
 use Rattle.polcert_policy.specs.Graphs.{PolicyGraph, nodes, action_of, IsLooseGraph, IsGraph, IsProperGraph, width, most_nodes}
-use Rattle.polcert_policy.specs.Vectors.{PolicyVectors, IsVectors, IsInRange, AreProperVectors, value_of}
+use Rattle.polcert_policy.specs.Vectors.{PolicyVectors, IsRoundedVectors, IsInRange, AreProperVectors, value_of}
 use Rattle.polcert_policy.proofs.Places.{row_above, row_below, row_of, get_within, within_get}
 use Rattle.polcert_policy.proofs.VectorEndLaws.{values_in_range}
 use Rattle.polcert_policy.proofs.EndLaws.{place_inside}
+use Rattle.polcert_text.specs.declared.number.Rounding.{Rounding}
 
 pub loose_actions : (a o : ℕ) (ts : List Lexeme) (g : PolicyGraph) → IsLooseGraph a o ts g → (n : ℕ) → n < nodes g → action_of g n < a
 loose_actions a o ts g h n l =
@@ -37,17 +38,18 @@ graph_proper a o ts g few_a some_o few_o is =
           (get_or_from_slice_get g.successors _ _ None (subst (λ j. slice_get g.successors j ≡ Some (Some m)) here e));
     }
 
-pub vector_values : (graph : PolicyGraph) (states : ℕ) (ts : List Lexeme) (v : PolicyVectors) → IsVectors graph states ts v → (n s : ℕ) → n < nodes graph → s < states → IsInRange (value_of v n s)
-vector_values graph states ts v is n s l k =
-    let inside : n * v.states + s < length v.values = omega (arith, place_inside states n s (nodes graph) l k, is.filled, ap (λ z. n * z) is.states_are) in
-    values_in_range graph states is.parts (nodes graph) v.values is.records is.count is.filled (n * v.states + s) (value_of v n s) (slice_get-get_or v.values (n * v.states + s) _ inside)
+module _ {way : Rounding} where
+  pub vector_values : (graph : PolicyGraph) (states : ℕ) (ts : List Lexeme) (v : PolicyVectors) → IsRoundedVectors way graph states ts v → (n s : ℕ) → n < nodes graph → s < states → IsInRange (value_of v n s)
+  vector_values graph states ts v is n s l k =
+      let inside : n * v.states + s < length v.values = omega (arith, place_inside states n s (nodes graph) l k, is.filled, ap (λ z. n * z) is.states_are) in
+      values_in_range graph states is.parts (nodes graph) v.values is.records is.count is.filled (n * v.states + s) (value_of v n s) (slice_get-get_or v.values (n * v.states + s) _ inside)
 
-pub vectors_proper : (graph : PolicyGraph) (states : ℕ) (ts : List Lexeme) (v : PolicyVectors) → 1 ≤ nodes graph → nodes graph ≤ most_nodes → 1 ≤ states → states ≤ most_states → IsVectors graph states ts v → AreProperVectors v
-vectors_proper graph states ts v some few some_s few_s is = record {
-  some_nodes = omega (arith, some, is.nodes_are);
-  few_nodes = omega (arith, few, is.nodes_are);
-  some_states = omega (arith, some_s, is.states_are);
-  few_states = omega (arith, few_s, is.states_are);
-  filled = is.filled ∙ (λ i. sym is.nodes_are i * sym is.states_are i);
-  in_range = values_in_range graph states is.parts (nodes graph) v.values is.records is.count is.filled;
-}
+  pub vectors_proper : (graph : PolicyGraph) (states : ℕ) (ts : List Lexeme) (v : PolicyVectors) → 1 ≤ nodes graph → nodes graph ≤ most_nodes → 1 ≤ states → states ≤ most_states → IsRoundedVectors way graph states ts v → AreProperVectors v
+  vectors_proper graph states ts v some few some_s few_s is = record {
+    some_nodes = omega (arith, some, is.nodes_are);
+    few_nodes = omega (arith, few, is.nodes_are);
+    some_states = omega (arith, some_s, is.states_are);
+    few_states = omega (arith, few_s, is.states_are);
+    filled = is.filled ∙ (λ i. sym is.nodes_are i * sym is.states_are i);
+    in_range = values_in_range graph states is.parts (nodes graph) v.values is.records is.count is.filled;
+  }

@@ -8,12 +8,12 @@ use mir.Val.{to_z, of_z}
 use Rattle.std.proofs.Math.Nat.{mul-le-mul_right}
 use Rattle.std.proofs.Math.IntN.{pos-*ℤ-pos}
 use Rattle.polcert_text.specs.Cut.{Lexeme}
-use Rattle.polcert_text.specs.Numbers.{millionth, size_of, largest, signed, IsReadable, IsFloor}
-use Rattle.polcert_text.proofs.SignedLaws.{signed-mul}
+use Rattle.polcert_text.specs.Numbers.{millionth, size_of, largest, signed, IsReadable, IsRounded}
+use Rattle.polcert_text.proofs.SignedLaws.{signed-mul, le_times_back}
 use Rattle.polcert_text.proofs.SizeLaws.{millionth_pos}
 use Rattle.polcert_policy.specs.Graphs.{PolicyGraph, nodes}
 use Rattle.polcert_cells.specs.Elements.{most_states}
-use Rattle.polcert_policy.specs.Vectors.{PolicyVectors, Part, sign_kind, is_negative, with_sign, tokens_of, AreVectors, IsVectors, IsInRange, AreProper}
+use Rattle.polcert_policy.specs.Vectors.{PolicyVectors, Part, sign_kind, is_negative, with_sign, tokens_of, AreVectors, IsRoundedVectors, IsInRange, AreProper}
 use Rattle.polcert_policy.specs.VectorText.{IsPartColumn}
 use Rattle.polcert_policy.specs.VectorsRead.{AreVectorsUpTo, open_of, IsOpenSign, HasVectors, AreUnfinished}
 use Rattle.polcert_policy.specs.declared.vectors_reading.OpenSign.{OpenSign}
@@ -22,6 +22,8 @@ use Rattle.polcert_policy.proofs.Places.{row_above, row_below, row_of, same_colu
 use Rattle.polcert_policy.proofs.VectorLaws.{head_of, tail_of, cons_not_nil, not_sign, front_parts, vector_parts}
 use Rattle.polcert_policy.proofs.VectorSteps.{tokens-append}
 use Rattle.polcert_policy.proofs.VectorReadLaws.{NextPart, drop_same, next_part, possible_seen, column_read}
+use Rattle.polcert_text.specs.declared.number.Rounding.{Rounding}
+use Rattle.polcert_text.specs.declared.number.Rounding.TheVariants.{Down, Up}
 
 no_tokens : (ps : List Part) → [] ≡ tokens_of ps → length ps ≡ 0
 no_tokens [] e = refl
@@ -31,149 +33,37 @@ no_tokens (p ∷ ps) e = absurd (at p.sign e)
     at None e = cons_not_nil _ _ (sym e)
     at (Some s) e = cons_not_nil _ _ (sym e)
 
--- the parts of whole vectors
-whole_count : (g : PolicyGraph) (o : ℕ) (ps : List Part) (vs : List ℤ) (v : PolicyVectors) → AreVectors g o ps vs → IsVectors g o (tokens_of ps ++ []) v → length ps ≡ nodes g * (1 + o)
-whole_count g o ps vs v old all =
-    let found = front_parts ps all.parts [] (vector_parts g o ps vs old) (vector_parts g o all.parts v.values all.records) all.spelled in
-    let none = no_tokens found.0 (drop_same (tokens_of ps) [] (tokens_of found.0) (all.spelled ∙ ap tokens_of found.1 ∙ tokens-append ps found.0)) in
-    omega (arith, all.count, ap length found.1, length-append ps found.0, none)
-
--- no vectors end in a sign
-open_ended : (g : PolicyGraph) (o : ℕ) (ps : List Part) (node column : ℕ) (vs : List ℤ) (s : Lexeme) (v : PolicyVectors) → sign_kind s.kind ≡ true
-    → AreVectorsUpTo g o ps node column vs → IsVectors g o (tokens_of ps ++ s ∷ []) v → ⊥
-open_ended g o ps node column vs s v sign old all = at n.part.sign n.tokens
-  where
-    n : NextPart g o ps node column v.values s []
-    n = next_part g o ps node column vs s [] v old all
-
-    at : (u : Option Lexeme) → s ∷ [] ≡ with_sign u n.part.token ++ tokens_of n.rest → ⊥
-    at None e = not_sign s n.part.token (head_of s n.part.token _ _ e) sign n.is_part.numeral
-    at (Some u) e = cons_not_nil _ _ (sym (tail_of s u _ _ e))
-
-pub unfinished_vector : (g : PolicyGraph) (seen : List Lexeme) (r : VectorsReading) → 1 ≤ r.states → 0 < r.column → HasVectors g seen r → AreUnfinished g r.states seen r.node r.column
-unfinished_vector g seen r some begun h = record {
-  column_is = column_read g seen r h;
-  possible = possible_seen g seen r some h;
-  unfinished = λ v all. at h.sign r.sign h.sign_is v (subst (λ ts. IsVectors g r.states ts v) h.spelled all);
-}
-  where
-    at : (s : Option Lexeme) (u : Option OpenSign) → IsOpenSign s u r.column → (v : PolicyVectors) → IsVectors g r.states (tokens_of h.parts ++ open_of s) v → ⊥
-    at None u is v all =
-        let count = whole_count g r.states h.parts r.values.items v h.vectors.records all in
-        let zero_is = same_column (1 + r.states) r.node (nodes g) r.column 0 h.vectors.within (omega arith) (omega (arith, count, h.vectors.count)) in
-        omega (arith, zero_is, begun)
-    at (Some s) None is v all = absurd is
-    at (Some s) (Some u) is v all = open_ended g r.states h.parts r.node r.column r.values.items s v is.0.kind h.vectors all
-
-pub at_column : (g : PolicyGraph) (seen : List Lexeme) (r : VectorsReading) → r.column ≤ 0 → (h : HasVectors g seen r) → AreVectorsUpTo g r.states h.parts r.node 0 r.values.items
-at_column g seen r e h =
-    let zero_is : r.column ≡ 0 = omega (arith, e) in
-    subst (λ c. AreVectorsUpTo g r.states h.parts r.node c r.values.items) zero_is h.vectors
-
--- at a vector's action the tokens are the parts'
-spelled_whole : (g : PolicyGraph) (seen : List Lexeme) (r : VectorsReading) → r.column ≤ 0 → (h : HasVectors g seen r) → seen ≡ tokens_of h.parts ++ []
-spelled_whole g seen r e h = at h.sign r.sign h.sign_is h.spelled
-  where
-    at : (s : Option Lexeme) (u : Option OpenSign) → IsOpenSign s u r.column → seen ≡ tokens_of h.parts ++ open_of s → seen ≡ tokens_of h.parts ++ []
-    at None u is spelled = spelled
-    at (Some s) None is spelled = absurd is
-    at (Some s) (Some u) is spelled = absurd (omega (arith, is.1, e))
-
-pub too_few : (g : PolicyGraph) (seen : List Lexeme) (r : VectorsReading) → 1 ≤ r.states → r.column ≤ 0 → r.node < nodes g → HasVectors g seen r → AreUnfinished g r.states seen r.node 0
-too_few g seen r some e fewer h = record {
-  column_is = (let zero_is : r.column ≡ 0 = omega (arith, e) in subst (λ c. IsPartColumn r.states seen r.node c) zero_is (column_read g seen r h));
-  possible = possible_seen g seen r some h;
-  unfinished = λ v all.
-      let count = whole_count g r.states h.parts r.values.items v h.vectors.records (subst (λ ts. IsVectors g r.states ts v) (spelled_whole g seen r e h) all) in
-      omega (arith, count, (at_column g seen r e h).count, row_above (1 + r.states) r.node (nodes g) fewer);
-}
-
-at_most : (n most d size : ℕ) → 0 < d → n * d ≤ size → size ≤ most * d → n ≤ most
-at_most n most d size some low high =
-    ⊎_elim (λ l. l) (λ l. let p : (most + 1) * d ≤ n * d = mul-le-mul_right d l in absurd (omega (arith, p, low, high, some))) (order n most)
-  where
-    order : (m n : ℕ) → (m ≤ n) ⊎ (n + 1 ≤ m)
-    order m n = grind arith
-
 low_end : (b : Bool) (size most : ℕ) → size ≤ most → neg_ℤ (pos most) ≤ℤ signed b size
 low_end true size most h = omega (arith, ints)
 low_end false size most h = omega (arith, ints)
 
-high_end : (b : Bool) (n size : ℕ) → pos n ≤ℤ signed b size → n ≤ size
-high_end true n size h = omega (arith, ints)
-high_end false n size h = omega (arith, ints)
+high_end : (b : Bool) (size most : ℕ) → size ≤ most → signed b size ≤ℤ pos most
+high_end true size most h = omega (arith, ints)
+high_end false size most h = omega (arith, ints)
 
-negative_below : (n most : ℕ) → negsuc n ≤ℤ pos most
-negative_below n most = omega (arith, ints)
+le_through : (x y z : ℤ) → x ≤ℤ y → y ≤ℤ z → x ≤ℤ z
+le_through x y z a b = omega (arith, ints)
 
-positive_below : (n most : ℕ) → n ≤ most → pos n ≤ℤ pos most
-positive_below n most h = omega (arith, ints)
-
--- a readable number lies in the range of values
-pub floor_in_range : (b : Bool) (bs : List ℕ) (h : ℤ) → IsReadable bs → IsFloor b bs h → IsInRange h
-floor_in_range b bs h readable floor = (low, high h floor.not_above)
+-- a readable number lies in the range of values, rounded either way
+pub rounded_in_range : (rounding : Rounding) (b : Bool) (bs : List ℕ) (h : ℤ) → IsReadable bs → IsRounded rounding b bs h → IsInRange h
+rounded_in_range rounding b bs h readable rounded = at rounding rounded
   where
-    low : neg_ℤ (pos largest) ≤ℤ h
-    low = floor.greatest (neg_ℤ (pos largest)) (subst (λ z. z ≤ℤ signed b (size_of bs)) (sym (signed-mul true largest millionth)) (low_end b (size_of bs) (largest * millionth) readable.size))
+    low : (neg_ℤ (pos largest) *ℤ pos millionth) ≤ℤ signed b (size_of bs)
+    low = subst (λ z. z ≤ℤ signed b (size_of bs)) (sym (signed-mul true largest millionth)) (low_end b (size_of bs) (largest * millionth) readable.size)
 
-    high : (h : ℤ) → (h *ℤ pos millionth) ≤ℤ signed b (size_of bs) → h ≤ℤ pos largest
-    high (pos n) l =
-        let below = high_end b (n * millionth) (size_of bs) (subst (λ z. z ≤ℤ signed b (size_of bs)) (pos-*ℤ-pos n millionth) l) in
-        positive_below n largest (at_most n largest millionth (size_of bs) millionth_pos below readable.size)
-    high (negsuc n) l = negative_below n largest
+    high : signed b (size_of bs) ≤ℤ (pos largest *ℤ pos millionth)
+    high = subst (λ z. signed b (size_of bs) ≤ℤ z) (sym (signed-mul false largest millionth)) (high_end b (size_of bs) (largest * millionth) readable.size)
+
+    at : (r : Rounding) → IsRounded r b bs h → IsInRange h
+    at Down is = (is.greatest (neg_ℤ (pos largest)) low, le_times_back millionth millionth_pos h (pos largest) (le_through (h *ℤ pos millionth) (signed b (size_of bs)) (pos largest *ℤ pos millionth) is.not_above high))
+    at Up is = (le_times_back millionth millionth_pos (neg_ℤ (pos largest)) h (le_through (neg_ℤ (pos largest) *ℤ pos millionth) (signed b (size_of bs)) (h *ℤ pos millionth) low is.not_below), is.least (pos largest) high)
 
 some_columns : (n o k : ℕ) → k < n * o → 1 ≤ o
 some_columns n zero k h = absurd (omega (arith, h))
 some_columns n (suc o) k h = omega arith
 
-pub values_in_range : (g : PolicyGraph) (o : ℕ) (ps : List Part) (node : ℕ) (vs : List ℤ) → AreVectors g o ps vs → length ps ≡ node * (1 + o) → length vs ≡ node * o
-    → (k : ℕ) (h : ℤ) → slice_get vs k ≡ Some h → IsInRange h
-values_in_range g o ps node vs records count filled k h e =
-    let row = row_of o k (some_columns node o k (omega (arith, within_get vs k h e, filled))) in
-    at row.0 row.1.0 row.1.1 row.1.2
-  where
-    spelled : (n s : ℕ) (part : Part) → s < o → slice_get ps (n * (1 + o) + (1 + s)) ≡ Some part → slice_get vs (n * o + s) ≡ Some h → IsInRange h
-    spelled n s part l here there =
-        let one = records.value n s part l here in
-        let same : h ≡ one.0 = same_some h one.0 (sym there ∙ one.1) in
-        subst IsInRange (sym same) (floor_in_range (is_negative part.sign) part.token.bytes one.0 one.2.readable one.2.floor)
-
-    at : (n s : ℕ) → k ≡ n * o + s → s < o → IsInRange h
-    at n s place l =
-        let inside : n * o + s < node * o = omega (arith, within_get vs k h e, filled, place) in
-        let rows = row_above (1 + o) n node (row_below o n s node inside) in
-        let part = get_within ps (n * (1 + o) + (1 + s)) (omega (arith, rows, count, l)) in
-        spelled n s part.0 l part.1 (subst (λ j. slice_get vs j ≡ Some h) place e)
-
 abbrev pub vectors_of : ℕ → ℕ → List ℤ → PolicyVectors
 vectors_of node o vs = record { nodes = node; states = o; values = vs }
-
--- whole vectors, one for each node
-pub vectors_read : (g : PolicyGraph) (seen : List Lexeme) (r : VectorsReading) → r.column ≤ 0 → nodes g ≤ r.node → HasVectors g seen r → IsVectors g r.states seen (vectors_of r.node r.states r.values.items)
-vectors_read g seen r e enough h =
-    let at = at_column g seen r e h in
-    let all : r.node ≡ nodes g = omega (arith, enough, at.few) in
-    record {
-      nodes_are = all;
-      states_are = refl;
-      parts = h.parts;
-      spelled = spelled_whole g seen r e h ∙ append-nil (tokens_of h.parts);
-      count = at.count ∙ omega (arith, ap (λ n. n * (1 + r.states)) all);
-      filled = at.filled ∙ omega (arith, ap (λ n. n * r.states) all);
-      records = at.records;
-    }
-
-pub proper_read : (g : PolicyGraph) (seen : List Lexeme) (r : VectorsReading) → 1 ≤ r.states → r.states ≤ most_states → r.column ≤ 0 → nodes g ≤ r.node → HasVectors g seen r → AreProper r.node r.states r.values.items
-proper_read g seen r some few e enough h =
-    let at = at_column g seen r e h in
-    record {
-      some_nodes = omega (arith, enough, h.proper.some_nodes);
-      few_nodes = omega (arith, at.few, h.proper.few_nodes);
-      some_states = some;
-      few_states = few;
-      filled = at.filled ∙ omega arith;
-      in_range = values_in_range g r.states h.parts r.node r.values.items at.records (at.count ∙ omega arith) (at.filled ∙ omega arith);
-    }
 
 pub in_range_fits : (x : ℤ) → IsInRange x → FitsSigned w64 x
 in_range_fits x h = fits_signed_from_abs w64 x (omega (arith, ints, h.0, h.1))
@@ -187,3 +77,107 @@ value_in_range count o n s vs x d proper l k e =
     let above = row_above o n count l in
     let inside : n * o + s < length vs = omega (arith, above, k, proper.filled) in
     kept_in_range x (proper.in_range (n * o + s) x (slice_get-get_or vs (n * o + s) d inside ∙ ap Some (sym e)))
+
+module _ {way : Rounding} where
+  -- the parts of whole vectors
+  whole_count : (g : PolicyGraph) (o : ℕ) (ps : List Part) (vs : List ℤ) (v : PolicyVectors) → AreVectors way g o ps vs → IsRoundedVectors way g o (tokens_of ps ++ []) v → length ps ≡ nodes g * (1 + o)
+  whole_count g o ps vs v old all =
+      let found = front_parts ps all.parts [] (vector_parts g o ps vs old) (vector_parts g o all.parts v.values all.records) all.spelled in
+      let none = no_tokens found.0 (drop_same (tokens_of ps) [] (tokens_of found.0) (all.spelled ∙ ap tokens_of found.1 ∙ tokens-append ps found.0)) in
+      omega (arith, all.count, ap length found.1, length-append ps found.0, none)
+
+  -- no vectors end in a sign
+  open_ended : (g : PolicyGraph) (o : ℕ) (ps : List Part) (node column : ℕ) (vs : List ℤ) (s : Lexeme) (v : PolicyVectors) → sign_kind s.kind ≡ true
+      → AreVectorsUpTo way g o ps node column vs → IsRoundedVectors way g o (tokens_of ps ++ s ∷ []) v → ⊥
+  open_ended g o ps node column vs s v sign old all = at n.part.sign n.tokens
+    where
+      n : NextPart way g o ps node column v.values s []
+      n = next_part g o ps node column vs s [] v old all
+
+      at : (u : Option Lexeme) → s ∷ [] ≡ with_sign u n.part.token ++ tokens_of n.rest → ⊥
+      at None e = not_sign s n.part.token (head_of s n.part.token _ _ e) sign n.is_part.numeral
+      at (Some u) e = cons_not_nil _ _ (sym (tail_of s u _ _ e))
+
+  pub unfinished_vector : (g : PolicyGraph) (seen : List Lexeme) (r : VectorsReading) → 1 ≤ r.states → 0 < r.column → HasVectors way g seen r → AreUnfinished way g r.states seen r.node r.column
+  unfinished_vector g seen r some begun h = record {
+    column_is = column_read g seen r h;
+    possible = possible_seen g seen r some h;
+    unfinished = λ v all. at h.sign r.sign h.sign_is v (subst (λ ts. IsRoundedVectors way g r.states ts v) h.spelled all);
+  }
+    where
+      at : (s : Option Lexeme) (u : Option OpenSign) → IsOpenSign s u r.column → (v : PolicyVectors) → IsRoundedVectors way g r.states (tokens_of h.parts ++ open_of s) v → ⊥
+      at None u is v all =
+          let count = whole_count g r.states h.parts r.values.items v h.vectors.records all in
+          let zero_is = same_column (1 + r.states) r.node (nodes g) r.column 0 h.vectors.within (omega arith) (omega (arith, count, h.vectors.count)) in
+          omega (arith, zero_is, begun)
+      at (Some s) None is v all = absurd is
+      at (Some s) (Some u) is v all = open_ended g r.states h.parts r.node r.column r.values.items s v is.0.kind h.vectors all
+
+  pub at_column : (g : PolicyGraph) (seen : List Lexeme) (r : VectorsReading) → r.column ≤ 0 → (h : HasVectors way g seen r) → AreVectorsUpTo way g r.states h.parts r.node 0 r.values.items
+  at_column g seen r e h =
+      let zero_is : r.column ≡ 0 = omega (arith, e) in
+      subst (λ c. AreVectorsUpTo way g r.states h.parts r.node c r.values.items) zero_is h.vectors
+
+  -- at a vector's action the tokens are the parts'
+  spelled_whole : (g : PolicyGraph) (seen : List Lexeme) (r : VectorsReading) → r.column ≤ 0 → (h : HasVectors way g seen r) → seen ≡ tokens_of h.parts ++ []
+  spelled_whole g seen r e h = at h.sign r.sign h.sign_is h.spelled
+    where
+      at : (s : Option Lexeme) (u : Option OpenSign) → IsOpenSign s u r.column → seen ≡ tokens_of h.parts ++ open_of s → seen ≡ tokens_of h.parts ++ []
+      at None u is spelled = spelled
+      at (Some s) None is spelled = absurd is
+      at (Some s) (Some u) is spelled = absurd (omega (arith, is.1, e))
+
+  pub too_few : (g : PolicyGraph) (seen : List Lexeme) (r : VectorsReading) → 1 ≤ r.states → r.column ≤ 0 → r.node < nodes g → HasVectors way g seen r → AreUnfinished way g r.states seen r.node 0
+  too_few g seen r some e fewer h = record {
+    column_is = (let zero_is : r.column ≡ 0 = omega (arith, e) in subst (λ c. IsPartColumn r.states seen r.node c) zero_is (column_read g seen r h));
+    possible = possible_seen g seen r some h;
+    unfinished = λ v all.
+        let count = whole_count g r.states h.parts r.values.items v h.vectors.records (subst (λ ts. IsRoundedVectors way g r.states ts v) (spelled_whole g seen r e h) all) in
+        omega (arith, count, (at_column g seen r e h).count, row_above (1 + r.states) r.node (nodes g) fewer);
+  }
+
+  pub values_in_range : (g : PolicyGraph) (o : ℕ) (ps : List Part) (node : ℕ) (vs : List ℤ) → AreVectors way g o ps vs → length ps ≡ node * (1 + o) → length vs ≡ node * o
+      → (k : ℕ) (h : ℤ) → slice_get vs k ≡ Some h → IsInRange h
+  values_in_range g o ps node vs records count filled k h e =
+      let row = row_of o k (some_columns node o k (omega (arith, within_get vs k h e, filled))) in
+      at row.0 row.1.0 row.1.1 row.1.2
+    where
+      spelled : (n s : ℕ) (part : Part) → s < o → slice_get ps (n * (1 + o) + (1 + s)) ≡ Some part → slice_get vs (n * o + s) ≡ Some h → IsInRange h
+      spelled n s part l here there =
+          let one = records.value n s part l here in
+          let same : h ≡ one.0 = same_some h one.0 (sym there ∙ one.1) in
+          subst IsInRange (sym same) (rounded_in_range way (is_negative part.sign) part.token.bytes one.0 one.2.readable one.2.rounded)
+
+      at : (n s : ℕ) → k ≡ n * o + s → s < o → IsInRange h
+      at n s place l =
+          let inside : n * o + s < node * o = omega (arith, within_get vs k h e, filled, place) in
+          let rows = row_above (1 + o) n node (row_below o n s node inside) in
+          let part = get_within ps (n * (1 + o) + (1 + s)) (omega (arith, rows, count, l)) in
+          spelled n s part.0 l part.1 (subst (λ j. slice_get vs j ≡ Some h) place e)
+
+  -- whole vectors, one for each node
+  pub vectors_read : (g : PolicyGraph) (seen : List Lexeme) (r : VectorsReading) → r.column ≤ 0 → nodes g ≤ r.node → HasVectors way g seen r → IsRoundedVectors way g r.states seen (vectors_of r.node r.states r.values.items)
+  vectors_read g seen r e enough h =
+      let at = at_column g seen r e h in
+      let all : r.node ≡ nodes g = omega (arith, enough, at.few) in
+      record {
+        nodes_are = all;
+        states_are = refl;
+        parts = h.parts;
+        spelled = spelled_whole g seen r e h ∙ append-nil (tokens_of h.parts);
+        count = at.count ∙ omega (arith, ap (λ n. n * (1 + r.states)) all);
+        filled = at.filled ∙ omega (arith, ap (λ n. n * r.states) all);
+        records = at.records;
+      }
+
+  pub proper_read : (g : PolicyGraph) (seen : List Lexeme) (r : VectorsReading) → 1 ≤ r.states → r.states ≤ most_states → r.column ≤ 0 → nodes g ≤ r.node → HasVectors way g seen r → AreProper r.node r.states r.values.items
+  proper_read g seen r some few e enough h =
+      let at = at_column g seen r e h in
+      record {
+        some_nodes = omega (arith, enough, h.proper.some_nodes);
+        few_nodes = omega (arith, at.few, h.proper.few_nodes);
+        some_states = some;
+        few_states = few;
+        filled = at.filled ∙ omega arith;
+        in_range = values_in_range g r.states h.parts r.node r.values.items at.records (at.count ∙ omega arith) (at.filled ∙ omega arith);
+      }

@@ -2,13 +2,15 @@
 use Rattle.std.proofs.Common.{◌≡◌, ◌∙◌, ℕ, ℤ, suc, zero, ◌+◌, ◌*◌, ◌<◌, ◌≤◌, ◌≤ℤ◌, Bool, true, ◌&&◌, Option, Some, None, List, [], ◌∷◌, ◌++◌, length, slice_get, refl, sym, ap, subst, arith, append-nil}
 use Rattle.std.proofs.lemmas.Int.{ints}
 use Rattle.polcert_text.specs.Cut.{Lexeme}
-use Rattle.polcert_text.specs.Numbers.{IsFloor}
+use Rattle.polcert_text.specs.Numbers.{IsRounded}
 use Rattle.polcert_text.specs.declared.lexeme.TokenKind.{TokenKind}
 use Rattle.polcert_text.specs.declared.lexeme.TokenKind.TheVariants.{Numeral}
+use Rattle.polcert_text.proofs.TextLaws.{one_rounded}
 use Rattle.polcert_policy.specs.Words.{numeral_kind}
 use Rattle.polcert_policy.specs.Graphs.{PolicyGraph, nodes}
-use Rattle.polcert_policy.specs.Vectors.{PolicyVectors, Part, sign_kind, with_sign, tokens_of, is_negative, IsPart, IsActionPart, IsValuePart, AreVectors, IsVectors}
+use Rattle.polcert_policy.specs.Vectors.{PolicyVectors, Part, sign_kind, with_sign, tokens_of, is_negative, IsPart, IsActionPart, IsValuePart, AreVectors, IsRoundedVectors}
 use Rattle.polcert_policy.proofs.Places.{row_above, row_below, row_of, get_within, within_get, same_some, some_none, same_list}
+use Rattle.polcert_text.specs.declared.number.Rounding.{Rounding}
 
 pub head_of : {X : Type 0} (x y : X) (xs ys : List X) → x ∷ xs ≡ y ∷ ys → x ≡ y
 head_of x y xs ys e = cc
@@ -67,68 +69,62 @@ action_part a p h = record {
   signed = λ s e. absurd (some_none s (sym h.unsigned ∙ e));
 }
 
--- the parts of vectors are numerals, perhaps behind a sign
-pub vector_parts : (g : PolicyGraph) (states : ℕ) (ps : List Part) (vs : List ℤ) → AreVectors g states ps vs → AreParts ps
-vector_parts g states ps vs h k p e =
-    let row = row_of (1 + states) k (omega arith) in at row.0 row.1.0 row.1.1 row.1.2
-  where
-    at : (n c : ℕ) → k ≡ n * (1 + states) + c → c < 1 + states → IsPart p
-    at n zero place l = action_part _ p (h.action n p (subst (λ x. slice_get ps x ≡ Some p) (omega (arith, place)) e))
-    at n (suc s) place l = (h.value n s p (omega (arith, l)) (subst (λ x. slice_get ps x ≡ Some p) (omega (arith, place)) e)).2.part
-
-antisym : (h k : ℤ) → h ≤ℤ k → k ≤ℤ h → h ≡ k
-antisym h k l m = omega (arith, ints, l, m)
-
--- a numeral has one value
-one_floor : (b : Bool) (bs : List ℕ) (h k : ℤ) → IsFloor b bs h → IsFloor b bs k → h ≡ k
-one_floor b bs h k x y = antisym h k (y.greatest h x.not_above) (x.greatest k y.not_above)
-
 pub same_count : {X : Type 0} (xs ys : List X) → length (xs ++ ys) ≡ length xs → xs ++ ys ≡ xs
 same_count [] [] l = refl
 same_count [] (y ∷ ys) l = absurd (omega (arith, l))
 same_count (x ∷ xs) ys l = ap (λ zs. x ∷ zs) (same_count xs ys (omega (arith, l)))
 
-same_parts : (g : PolicyGraph) (states : ℕ) (ts : List Lexeme) (v w : PolicyVectors) (p : IsVectors g states ts v) (q : IsVectors g states ts w) → p.parts ≡ q.parts
-same_parts g states ts v w p q =
-    let found = front_parts p.parts q.parts [] (vector_parts g states p.parts v.values p.records) (vector_parts g states q.parts w.values q.records) (append-nil (tokens_of p.parts) ∙ sym p.spelled ∙ q.spelled) in
-    sym (found.1 ∙ same_count p.parts found.0 (sym (ap length found.1) ∙ q.count ∙ sym p.count))
-
 some_columns : (n o k : ℕ) → k < n * o → 1 ≤ o
 some_columns n zero k h = absurd (omega (arith, h))
 some_columns n (suc o) k h = omega arith
 
-same_value : (g : PolicyGraph) (states : ℕ) (ps : List Part) (vs ws : List ℤ) → length ps ≡ nodes g * (1 + states) → length vs ≡ nodes g * states → AreVectors g states ps vs → AreVectors g states ps ws
-    → (k : ℕ) (x y : ℤ) → slice_get vs k ≡ Some x → slice_get ws k ≡ Some y → x ≡ y
-same_value g states ps vs ws count filled p q k x y ex ey =
-    let row = row_of states k (some_columns (nodes g) states k (omega (arith, within_get vs k x ex, filled))) in
-    at row.0 row.1.0 row.1.1 row.1.2
-  where
-    floors : (part : Part) (h j : ℤ) → IsValuePart part h → IsValuePart part j → h ≡ j
-    floors part h j a b = one_floor (is_negative part.sign) part.token.bytes h j a.floor b.floor
+module _ {way : Rounding} where
+  -- the parts of vectors are numerals, perhaps behind a sign
+  pub vector_parts : (g : PolicyGraph) (states : ℕ) (ps : List Part) (vs : List ℤ) → AreVectors way g states ps vs → AreParts ps
+  vector_parts g states ps vs h k p e =
+      let row = row_of (1 + states) k (omega arith) in at row.0 row.1.0 row.1.1 row.1.2
+    where
+      at : (n c : ℕ) → k ≡ n * (1 + states) + c → c < 1 + states → IsPart p
+      at n zero place l = action_part _ p (h.action n p (subst (λ x. slice_get ps x ≡ Some p) (omega (arith, place)) e))
+      at n (suc s) place l = (h.value n s p (omega (arith, l)) (subst (λ x. slice_get ps x ≡ Some p) (omega (arith, place)) e)).2.part
 
-    spelled : (n s : ℕ) (part : Part) → s < states → slice_get ps (n * (1 + states) + (1 + s)) ≡ Some part
-        → slice_get vs (n * states + s) ≡ Some x → slice_get ws (n * states + s) ≡ Some y → x ≡ y
-    spelled n s part l e ex ey =
-        let one = p.value n s part l e in
-        let two = q.value n s part l e in
-        let first : x ≡ one.0 = same_some x one.0 (sym ex ∙ one.1) in
-        let second : y ≡ two.0 = same_some y two.0 (sym ey ∙ two.1) in
-        let same : one.0 ≡ two.0 = floors part one.0 two.0 one.2 two.2 in
-        cc
+  same_parts : (g : PolicyGraph) (states : ℕ) (ts : List Lexeme) (v w : PolicyVectors) (p : IsRoundedVectors way g states ts v) (q : IsRoundedVectors way g states ts w) → p.parts ≡ q.parts
+  same_parts g states ts v w p q =
+      let found = front_parts p.parts q.parts [] (vector_parts g states p.parts v.values p.records) (vector_parts g states q.parts w.values q.records) (append-nil (tokens_of p.parts) ∙ sym p.spelled ∙ q.spelled) in
+      sym (found.1 ∙ same_count p.parts found.0 (sym (ap length found.1) ∙ q.count ∙ sym p.count))
 
-    at : (n s : ℕ) → k ≡ n * states + s → s < states → x ≡ y
-    at n s e l =
-        let inside : n * states + s < nodes g * states = omega (arith, within_get vs k x ex, filled, e) in
-        let rows = row_above (1 + states) n (nodes g) (row_below states n s (nodes g) inside) in
-        let part = get_within ps (n * (1 + states) + (1 + s)) (omega (arith, rows, count, l)) in
-        spelled n s part.0 l part.1 (subst (λ j. slice_get vs j ≡ Some x) e ex) (subst (λ j. slice_get ws j ≡ Some y) e ey)
+  same_value : (g : PolicyGraph) (states : ℕ) (ps : List Part) (vs ws : List ℤ) → length ps ≡ nodes g * (1 + states) → length vs ≡ nodes g * states → AreVectors way g states ps vs → AreVectors way g states ps ws
+      → (k : ℕ) (x y : ℤ) → slice_get vs k ≡ Some x → slice_get ws k ≡ Some y → x ≡ y
+  same_value g states ps vs ws count filled p q k x y ex ey =
+      let row = row_of states k (some_columns (nodes g) states k (omega (arith, within_get vs k x ex, filled))) in
+      at row.0 row.1.0 row.1.1 row.1.2
+    where
+      floors : (part : Part) (h j : ℤ) → IsValuePart way part h → IsValuePart way part j → h ≡ j
+      floors part h j a b = one_rounded way (is_negative part.sign) part.token.bytes h j a.rounded b.rounded
 
--- tokens are at most one list of vectors
-pub one_list : (g : PolicyGraph) (states : ℕ) (ts : List Lexeme) (v w : PolicyVectors) → IsVectors g states ts v → IsVectors g states ts w → v ≡ w
-one_list g states ts v w p q =
-    let parts = same_parts g states ts v w p q in
-    let records = subst (λ ps. AreVectors g states ps v.values) parts p.records in
-    let values = same_list v.values w.values (p.filled ∙ sym q.filled) (same_value g states q.parts v.values w.values q.count p.filled records q.records) in
-    let rows = p.nodes_are ∙ sym q.nodes_are in
-    let columns = p.states_are ∙ sym q.states_are in
-    λ i. record { nodes = rows i; states = columns i; values = values i }
+      spelled : (n s : ℕ) (part : Part) → s < states → slice_get ps (n * (1 + states) + (1 + s)) ≡ Some part
+          → slice_get vs (n * states + s) ≡ Some x → slice_get ws (n * states + s) ≡ Some y → x ≡ y
+      spelled n s part l e ex ey =
+          let one = p.value n s part l e in
+          let two = q.value n s part l e in
+          let first : x ≡ one.0 = same_some x one.0 (sym ex ∙ one.1) in
+          let second : y ≡ two.0 = same_some y two.0 (sym ey ∙ two.1) in
+          let same : one.0 ≡ two.0 = floors part one.0 two.0 one.2 two.2 in
+          cc
+
+      at : (n s : ℕ) → k ≡ n * states + s → s < states → x ≡ y
+      at n s e l =
+          let inside : n * states + s < nodes g * states = omega (arith, within_get vs k x ex, filled, e) in
+          let rows = row_above (1 + states) n (nodes g) (row_below states n s (nodes g) inside) in
+          let part = get_within ps (n * (1 + states) + (1 + s)) (omega (arith, rows, count, l)) in
+          spelled n s part.0 l part.1 (subst (λ j. slice_get vs j ≡ Some x) e ex) (subst (λ j. slice_get ws j ≡ Some y) e ey)
+
+  -- tokens are at most one list of vectors
+  pub one_list : (g : PolicyGraph) (states : ℕ) (ts : List Lexeme) (v w : PolicyVectors) → IsRoundedVectors way g states ts v → IsRoundedVectors way g states ts w → v ≡ w
+  one_list g states ts v w p q =
+      let parts = same_parts g states ts v w p q in
+      let records = subst (λ ps. AreVectors way g states ps v.values) parts p.records in
+      let values = same_list v.values w.values (p.filled ∙ sym q.filled) (same_value g states q.parts v.values w.values q.count p.filled records q.records) in
+      let rows = p.nodes_are ∙ sym q.nodes_are in
+      let columns = p.states_are ∙ sym q.states_are in
+      λ i. record { nodes = rows i; states = columns i; values = values i }

@@ -2,10 +2,13 @@
 --
 -- Restates the description of pomdp-solve's value function file, https://www.pomdp.org/code/alpha-file-spec.html: for
 -- each vector the number of its action, and then a value for each state. Our own: vector n belongs to node n of a policy
--- graph, any line ends and comments may stand between the tokens, and values are rounded down to whole millionths.
+-- graph, any line ends and comments may stand between the tokens, and values are rounded to whole millionths: down, or up
+-- where they are to be a bound from above.
 use Rattle.std.specs.Prelude.{◌≡◌, ℕ, ℤ, ◌+◌, ◌*◌, ◌<◌, ◌≤◌, ◌≤ℤ◌, ◌+ℤ◌, neg_ℤ, map, Bool, true, false, Option, Some, None, List, [], ◌∷◌, ◌++◌, length, slice_get, slice_index_or, pos}
 use Rattle.polcert_text.specs.Cut.{Lexeme}
-use Rattle.polcert_text.specs.Numbers.{IsFloor, IsReadable, largest}
+use Rattle.polcert_text.specs.Numbers.{IsRounded, IsReadable, largest}
+use Rattle.polcert_text.specs.declared.number.Rounding.{Rounding}
+use Rattle.polcert_text.specs.declared.number.Rounding.TheVariants.{Down}
 use Rattle.polcert_text.specs.declared.lexeme.TokenKind.{TokenKind}
 use Rattle.polcert_text.specs.declared.lexeme.TokenKind.TheVariants.{Plus, Minus}
 use Rattle.polcert_policy.specs.Words.{numeral_kind, minus_kind, is_whole, whole_of}
@@ -54,30 +57,34 @@ pub record IsActionPart (action : ℕ) (p : Part) : Type 0 where
   pub whole : is_whole p.token ≡ true
   pub value : whole_of p.token ≡ action
 
--- a number whose value, rounded down to millionths, is this
-pub record IsValuePart (p : Part) (value : ℤ) : Type 0 where
+-- a number whose value, rounded to millionths, is this
+pub record IsValuePart (rounding : Rounding) (p : Part) (value : ℤ) : Type 0 where
   pub part : IsPart p
   pub readable : IsReadable p.token.bytes
-  pub floor : IsFloor (is_negative p.sign) p.token.bytes value
+  pub rounded : IsRounded rounding (is_negative p.sign) p.token.bytes value
 
 -- as far as they go, the parts are vectors of the graph with these values
-pub record AreVectors (graph : PolicyGraph) (states : ℕ) (parts : List Part) (values : List ℤ) : Type 0 where
+pub record AreVectors (rounding : Rounding) (graph : PolicyGraph) (states : ℕ) (parts : List Part) (values : List ℤ) : Type 0 where
   pub action : (n : ℕ) (p : Part) → slice_get parts (n * (1 + states)) ≡ Some p → IsActionPart (action_of graph n) p
-  pub value : (n s : ℕ) (p : Part) → s < states → slice_get parts (n * (1 + states) + (1 + s)) ≡ Some p → (h : ℤ) × (slice_get values (n * states + s) ≡ Some h) × IsValuePart p h
+  pub value : (n s : ℕ) (p : Part) → s < states → slice_get parts (n * (1 + states) + (1 + s)) ≡ Some p → (h : ℤ) × (slice_get values (n * states + s) ≡ Some h) × IsValuePart rounding p h
 
--- the tokens are the vectors
-pub record IsVectors (graph : PolicyGraph) (states : ℕ) (ts : List Lexeme) (v : PolicyVectors) : Type 0 where
+-- the tokens are the vectors, with each value rounded this way
+pub record IsRoundedVectors (rounding : Rounding) (graph : PolicyGraph) (states : ℕ) (ts : List Lexeme) (v : PolicyVectors) : Type 0 where
   pub nodes_are : v.nodes ≡ nodes graph
   pub states_are : v.states ≡ states
   pub parts : List Part
   pub spelled : ts ≡ tokens_of parts
   pub count : length parts ≡ nodes graph * (1 + states)
   pub filled : length v.values ≡ nodes graph * states
-  pub records : AreVectors graph states parts v.values
+  pub records : AreVectors rounding graph states parts v.values
+
+-- the tokens are the vectors, with each value rounded down
+abbrev pub IsVectors : PolicyGraph → ℕ → List Lexeme → PolicyVectors → Type 0
+IsVectors graph states ts v = IsRoundedVectors Down graph states ts v
 
 -- the tokens begin a list that is vectors of the graph
-abbrev pub ArePossible : PolicyGraph → ℕ → List Lexeme → Type 0
-ArePossible graph states ts = (more : List Lexeme) × ((v : PolicyVectors) × IsVectors graph states (ts ++ more) v)
+abbrev pub ArePossible : Rounding → PolicyGraph → ℕ → List Lexeme → Type 0
+ArePossible rounding graph states ts = (more : List Lexeme) × ((v : PolicyVectors) × IsRoundedVectors rounding graph states (ts ++ more) v)
 
 -- from -10,000,000 to 10,000,000, in millionths
 abbrev pub IsInRange : ℤ → Type 0

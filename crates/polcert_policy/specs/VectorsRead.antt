@@ -1,9 +1,10 @@
 -- Helper definitions of private functions: how far vectors have been read. Nobody has to believe them.
 use Rattle.std.specs.Prelude.{◌≡◌, ℕ, ℤ, ◌+◌, ◌-◌, ◌*◌, ◌<◌, ◌≤◌, ◌≢◌, Bool, true, false, Option, Some, None, Result, Ok, Err, List, [], ◌∷◌, ◌++◌, length, MatchResult}
 use Rattle.polcert_text.specs.Cut.{Lexeme}
+use Rattle.polcert_text.specs.declared.number.Rounding.{Rounding}
 use Rattle.polcert_policy.specs.Words.{minus_kind, is_whole, whole_of}
 use Rattle.polcert_policy.specs.Graphs.{PolicyGraph, nodes, action_of, most_nodes, IsProperGraph}
-use Rattle.polcert_policy.specs.Vectors.{PolicyVectors, Part, tokens_of, sign_kind, AreVectors, IsVectors, ArePossible}
+use Rattle.polcert_policy.specs.Vectors.{PolicyVectors, Part, tokens_of, sign_kind, AreVectors, IsRoundedVectors, ArePossible}
 use Rattle.polcert_policy.specs.VectorText.{IsPartColumn, StopVectorsFor}
 use Rattle.polcert_policy.specs.declared.fault.VectorFault.{VectorFault}
 use Rattle.polcert_policy.specs.declared.fault.VectorFault.TheVariants as faults
@@ -11,8 +12,8 @@ use Rattle.polcert_policy.specs.declared.vectors_reading.OpenSign.{OpenSign}
 use Rattle.polcert_policy.specs.declared.vectors_reading.VectorsReading.{VectorsReading}
 
 -- whole vectors, and so many parts of the next
-pub record AreVectorsUpTo (graph : PolicyGraph) (states : ℕ) (parts : List Part) (node column : ℕ) (values : List ℤ) : Type 0 where
-  pub records : AreVectors graph states parts values
+pub record AreVectorsUpTo (rounding : Rounding) (graph : PolicyGraph) (states : ℕ) (parts : List Part) (node column : ℕ) (values : List ℤ) : Type 0 where
+  pub records : AreVectors rounding graph states parts values
   pub count : length parts ≡ node * (1 + states) + column
   pub within : column < 1 + states
   pub filled : length values ≡ node * states + (column - 1)
@@ -44,26 +45,26 @@ is_minus None = false
 is_minus (Some sign) = sign.is_negative
 
 -- these tokens were read
-pub record HasVectors (graph : PolicyGraph) (seen : List Lexeme) (reading : VectorsReading) : Type 0 where
+pub record HasVectors (rounding : Rounding) (graph : PolicyGraph) (seen : List Lexeme) (reading : VectorsReading) : Type 0 where
   pub proper : IsProperGraph graph
   pub parts : List Part
   pub sign : Option Lexeme
-  pub vectors : AreVectorsUpTo graph reading.states parts reading.node reading.column reading.values.items
+  pub vectors : AreVectorsUpTo rounding graph reading.states parts reading.node reading.column reading.values.items
   pub spelled : seen ≡ tokens_of parts ++ open_of sign
   pub sign_is : IsOpenSign sign reading.sign reading.column
 
 -- why these tokens aren't read on
-abbrev pub IsPartRefusal : PolicyGraph → ℕ → List Lexeme → VectorFault → Type 0
-IsPartRefusal graph states ts (faults.Number fault place) = StopVectorsFor graph states ts (faults.Number fault place)
-IsPartRefusal graph states ts (faults.BadShape place) = StopVectorsFor graph states ts (faults.BadShape place)
-IsPartRefusal graph states ts (faults.ActionMismatch place) = StopVectorsFor graph states ts (faults.ActionMismatch place)
-IsPartRefusal graph states ts (faults.WrongVectorCount place) = StopVectorsFor graph states ts (faults.WrongVectorCount place)
-IsPartRefusal graph states ts faults.Memory = Unit {0}
-IsPartRefusal graph states ts _ = ⊥
+abbrev pub IsPartRefusal : Rounding → PolicyGraph → ℕ → List Lexeme → VectorFault → Type 0
+IsPartRefusal rounding graph states ts (faults.Number fault place) = StopVectorsFor rounding graph states ts (faults.Number fault place)
+IsPartRefusal rounding graph states ts (faults.BadShape place) = StopVectorsFor rounding graph states ts (faults.BadShape place)
+IsPartRefusal rounding graph states ts (faults.ActionMismatch place) = StopVectorsFor rounding graph states ts (faults.ActionMismatch place)
+IsPartRefusal rounding graph states ts (faults.WrongVectorCount place) = StopVectorsFor rounding graph states ts (faults.WrongVectorCount place)
+IsPartRefusal rounding graph states ts faults.Memory = Unit {0}
+IsPartRefusal rounding graph states ts _ = ⊥
 
 -- the token is read, or is wrong at its place
-abbrev pub TakesPart : PolicyGraph → Lexeme → VectorsReading → Result (Unit {0}) VectorFault → VectorsReading → Type 0
-TakesPart graph t old result new = (seen : List Lexeme) → HasVectors graph seen old → MatchResult result (λ _. HasVectors graph (seen ++ t ∷ []) new) (IsPartRefusal graph old.states (seen ++ t ∷ []))
+abbrev pub TakesPart : Rounding → PolicyGraph → Lexeme → VectorsReading → Result (Unit {0}) VectorFault → VectorsReading → Type 0
+TakesPart rounding graph t old result new = (seen : List Lexeme) → HasVectors rounding graph seen old → MatchResult result (λ _. HasVectors rounding graph (seen ++ t ∷ []) new) (IsPartRefusal rounding graph old.states (seen ++ t ∷ []))
 
 -- what the token in place of a vector's action is
 abbrev pub CheckedAction : PolicyGraph → ℕ → Lexeme → Result (Unit {0}) VectorFault → Type 0
@@ -81,13 +82,13 @@ pub record AdvancedValue (old new : VectorsReading) : Type 0 where
   pub inside : old.column < old.states → (new.node ≡ old.node) × (new.column ≡ old.column + 1)
   pub last : old.column ≡ old.states → (new.node ≡ old.node + 1) × (new.column ≡ 0)
 
-pub record AreUnfinished (graph : PolicyGraph) (states : ℕ) (ts : List Lexeme) (vector column : ℕ) : Type 0 where
-  pub possible : ArePossible graph states ts
-  pub unfinished : (v : PolicyVectors) → IsVectors graph states ts v → ⊥
+pub record AreUnfinished (rounding : Rounding) (graph : PolicyGraph) (states : ℕ) (ts : List Lexeme) (vector column : ℕ) : Type 0 where
+  pub possible : ArePossible rounding graph states ts
+  pub unfinished : (v : PolicyVectors) → IsRoundedVectors rounding graph states ts v → ⊥
   pub column_is : IsPartColumn states ts vector column
 
 -- why these tokens aren't vectors, where the text ends behind them
-abbrev pub AreEndRefusal : PolicyGraph → ℕ → List Lexeme → ℕ → VectorFault → Type 0
-AreEndRefusal graph states ts end (faults.Truncated place) = (place ≡ end) × ((n : ℕ) × ((column : ℕ) × AreUnfinished graph states ts n column × (0 < column)))
-AreEndRefusal graph states ts end (faults.WrongVectorCount place) = (place ≡ end) × ((n : ℕ) × AreUnfinished graph states ts n 0 × (n < nodes graph))
-AreEndRefusal graph states ts end _ = ⊥
+abbrev pub AreEndRefusal : Rounding → PolicyGraph → ℕ → List Lexeme → ℕ → VectorFault → Type 0
+AreEndRefusal rounding graph states ts end (faults.Truncated place) = (place ≡ end) × ((n : ℕ) × ((column : ℕ) × AreUnfinished rounding graph states ts n column × (0 < column)))
+AreEndRefusal rounding graph states ts end (faults.WrongVectorCount place) = (place ≡ end) × ((n : ℕ) × AreUnfinished rounding graph states ts n 0 × (n < nodes graph))
+AreEndRefusal rounding graph states ts end _ = ⊥

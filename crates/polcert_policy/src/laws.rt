@@ -4,10 +4,11 @@ ghost use Rattle.polcert_policy.specs.Graphs.{PolicyGraph, IsProperGraph, HasNod
 ghost use Rattle.polcert_cells.specs.Elements.{most_states, most_actions, most_observations};
 ghost use Rattle.polcert_policy.specs.GraphText.{IsGraphText, IsGraphRefusal};
 ghost use Rattle.polcert_policy.specs.Vectors.{PolicyVectors, AreProperVectors, IsInRange, value_of};
-ghost use Rattle.polcert_policy.specs.VectorText.{IsVectorsText, IsVectorsRefusal};
+ghost use Rattle.polcert_policy.specs.VectorText.{IsVectorsText, IsVectorsRefusal, IsRoundedVectorsText, IsRoundedVectorsRefusal};
 ghost use Rattle.polcert_policy.specs.FullForm.{vectors_text};
 
 use crate::{GraphFault, VectorFault};
+use polcert_text::Rounding;
 
 /// A text is at most one graph.
 pub fn one_graph()
@@ -40,17 +41,22 @@ pub fn graph_within_limits()
         IsGraphText actions observations text g → IsProperGraph g }
 {}
 
-/// A text is at most one list of vectors of a graph.
+/// A text is at most one list of vectors of a graph, rounded down or up.
 pub fn one_vectors()
-    ensures { (graph : PolicyGraph) (states : ℕ) (text : List ℕ) (v w : PolicyVectors) →
+    ensures down { (graph : PolicyGraph) (states : ℕ) (text : List ℕ) (v w : PolicyVectors) →
         IsVectorsText graph states text v → IsVectorsText graph states text w → v ≡ w }
+    ensures either_way { (rounding : Rounding) (graph : PolicyGraph) (states : ℕ) (text : List ℕ) (v w : PolicyVectors) →
+        IsRoundedVectorsText rounding graph states text v → IsRoundedVectorsText rounding graph states text w → v ≡ w }
 {}
 
 /// A text is refused as vectors of a graph for at most one reason, and at one place, want of memory aside.
 pub fn one_vectors_refusal()
-    ensures { (graph : PolicyGraph) (states : ℕ) (text : List ℕ) (f g : VectorFault) →
+    ensures down { (graph : PolicyGraph) (states : ℕ) (text : List ℕ) (f g : VectorFault) →
         f ≢ VectorFault.Memory → g ≢ VectorFault.Memory →
         IsVectorsRefusal graph states text f → IsVectorsRefusal graph states text g → f ≡ g }
+    ensures either_way { (rounding : Rounding) (graph : PolicyGraph) (states : ℕ) (text : List ℕ) (f g : VectorFault) →
+        f ≢ VectorFault.Memory → g ≢ VectorFault.Memory →
+        IsRoundedVectorsRefusal rounding graph states text f → IsRoundedVectorsRefusal rounding graph states text g → f ≡ g }
 {}
 
 /// The vectors that a text denotes are within their limits: there is one for each node of the graph, each has a value for
@@ -65,10 +71,18 @@ pub fn vectors_within_limits()
     ensures proper { (graph : PolicyGraph) (states : ℕ) (text : List ℕ) (v : PolicyVectors) →
         1 ≤ nodes graph → nodes graph ≤ most_nodes → 1 ≤ states → states ≤ most_states →
         IsVectorsText graph states text v → AreProperVectors v }
+
+    // The same where each value is rounded up.
+    ensures either_way { (rounding : Rounding) (graph : PolicyGraph) (states : ℕ) (text : List ℕ) (v : PolicyVectors) →
+        1 ≤ nodes graph → nodes graph ≤ most_nodes → 1 ≤ states → states ≤ most_states →
+        IsRoundedVectorsText rounding graph states text v →
+        (v.nodes ≡ nodes graph) × (v.states ≡ states) × AreProperVectors v }
 {}
 
 /// The full form of vectors, read with their graph and number of states, is accepted and gives the vectors back.
 pub fn full_form_reads_back()
-    ensures { (graph : PolicyGraph) (v : PolicyVectors) → IsProperGraph graph → AreProperVectors v →
+    ensures down { (graph : PolicyGraph) (v : PolicyVectors) → IsProperGraph graph → AreProperVectors v →
         v.nodes ≡ nodes graph → IsVectorsText graph v.states (vectors_text graph v) v }
+    ensures either_way { (rounding : Rounding) (graph : PolicyGraph) (v : PolicyVectors) → IsProperGraph graph → AreProperVectors v →
+        v.nodes ≡ nodes graph → IsRoundedVectorsText rounding graph v.states (vectors_text graph v) v }
 {}

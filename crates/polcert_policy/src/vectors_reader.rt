@@ -8,8 +8,8 @@ ghost use Rattle.polcert_text.specs.ReadFailures.{EndsInFailure};
 ghost use Rattle.polcert_policy.specs.Words.{numeral_kind, minus_kind};
 ghost use Rattle.polcert_policy.specs.Graphs.{PolicyGraph, IsProperGraph};
 ghost use Rattle.polcert_cells.specs.Elements.{most_states};
-ghost use Rattle.polcert_policy.specs.Vectors.{sign_kind, IsVectors};
-ghost use Rattle.polcert_policy.specs.VectorText.{IsVectorsText, IsNoVectorsText, IsVectorsRefusal, IsRefusedVectorsText};
+ghost use Rattle.polcert_policy.specs.Vectors.{sign_kind, IsRoundedVectors};
+ghost use Rattle.polcert_policy.specs.VectorText.{IsVectorsText, IsNoVectorsText, IsVectorsRefusal, IsRefusedVectorsText, IsRoundedVectorsText, IsNoRoundedVectorsText, IsRoundedVectorsRefusal, IsRefusedRoundedVectorsText};
 ghost use Rattle.polcert_policy.specs.VectorsRead.{place_behind, is_minus, HasVectors, TakesPart, CheckedAction, AdvancedValue, AreEndRefusal};
 
 use crate::fault::VectorFault;
@@ -19,7 +19,8 @@ use crate::vectors::Vectors;
 use crate::vectors_reading::{OpenSign, VectorsReading};
 use crate::words::whole_of;
 use polcert_text::{
-    Source, SourceFault, StreamFault, StreamTokens, TEXT_LIMIT, Token, TokenKind, Tokens, floor_of,
+    Rounding, Source, SourceFault, StreamFault, StreamTokens, TEXT_LIMIT, Token, TokenKind, Tokens,
+    rounded_of,
 };
 use std::alloc::Global;
 
@@ -27,7 +28,7 @@ impl VectorsReading {
     fn new(alloc: Global, states: usize) -> Self
         requires some_states { 1 ≤ states }
         requires few_states { states ≤ most_states }
-        ensures read { (graph : PolicyGraph) → IsProperGraph graph → HasVectors graph [] result }
+        ensures read { (rounding : Rounding) (graph : PolicyGraph) → IsProperGraph graph → HasVectors rounding graph [] result }
         ensures states { result.states ≡ states }
     {
         VectorsReading {
@@ -60,7 +61,7 @@ impl VectorsReading {
 
     fn take_action(&mut self, graph: &Graph, token: Token<'_>) -> Result<(), VectorFault>
         requires { self.old.column ≡ 0 }
-        ensures takes { TakesPart graph.now (lexeme_of token.entry) self.old result self.new }
+        ensures takes { (rounding : Rounding) → TakesPart rounding graph.now (lexeme_of token.entry) self.old result self.new }
         ensures states { self.new.states ≡ self.old.states }
     {
         self.check_action(graph, token)?;
@@ -102,8 +103,8 @@ impl VectorsReading {
 
     fn take_sign(&mut self, sign: OpenSign) -> Result<(), VectorFault>
         requires { 0 < self.old.column }
-        ensures takes { (graph : PolicyGraph) (t : Lexeme) → sign_kind t.kind ≡ true → sign.place ≡ t.place →
-            sign.is_negative ≡ minus_kind t.kind → TakesPart graph t self.old result self.new }
+        ensures takes { (rounding : Rounding) (graph : PolicyGraph) (t : Lexeme) → sign_kind t.kind ≡ true → sign.place ≡ t.place →
+            sign.is_negative ≡ minus_kind t.kind → TakesPart rounding graph t self.old result self.new }
         ensures states { self.new.states ≡ self.old.states }
     {
         match self.sign {
@@ -115,13 +116,13 @@ impl VectorsReading {
         }
     }
 
-    fn take_numeral(&mut self, token: Token<'_>) -> Result<(), VectorFault>
+    fn take_numeral(&mut self, rounding: Rounding, token: Token<'_>) -> Result<(), VectorFault>
         requires column { 0 < self.old.column }
         requires numeral { numeral_kind token.kind ≡ true }
-        ensures takes { (graph : PolicyGraph) → TakesPart graph (lexeme_of token.entry) self.old result self.new }
+        ensures takes { (graph : PolicyGraph) → TakesPart rounding graph (lexeme_of token.entry) self.old result self.new }
         ensures states { self.new.states ≡ self.old.states }
     {
-        match floor_of(self.is_negative(), token.bytes) {
+        match rounded_of(rounding, self.is_negative(), token.bytes) {
             Err(fault) => Err(VectorFault::Number {
                 fault,
                 place: self.number_place(token),
@@ -135,13 +136,13 @@ impl VectorsReading {
         }
     }
 
-    fn take_value(&mut self, token: Token<'_>) -> Result<(), VectorFault>
+    fn take_value(&mut self, rounding: Rounding, token: Token<'_>) -> Result<(), VectorFault>
         requires { 0 < self.old.column }
-        ensures takes { (graph : PolicyGraph) → TakesPart graph (lexeme_of token.entry) self.old result self.new }
+        ensures takes { (graph : PolicyGraph) → TakesPart rounding graph (lexeme_of token.entry) self.old result self.new }
         ensures states { self.new.states ≡ self.old.states }
     {
         match token.kind {
-            TokenKind::Numeral => self.take_numeral(token),
+            TokenKind::Numeral => self.take_numeral(rounding, token),
             TokenKind::Plus => self.take_sign(OpenSign {
                 place: token.place,
                 is_negative: false,
@@ -155,23 +156,28 @@ impl VectorsReading {
     }
 
     /// Reads one more token.
-    fn take(&mut self, graph: &Graph, token: Token<'_>) -> Result<(), VectorFault>
-        ensures takes { TakesPart graph.now (lexeme_of token.entry) self.old result self.new }
+    fn take(
+        &mut self,
+        rounding: Rounding,
+        graph: &Graph,
+        token: Token<'_>,
+    ) -> Result<(), VectorFault>
+        ensures takes { TakesPart rounding graph.now (lexeme_of token.entry) self.old result self.new }
         ensures states { self.new.states ≡ self.old.states }
     {
         if self.column == 0 {
             self.take_action(graph, token)
         } else {
-            self.take_value(token)
+            self.take_value(rounding, token)
         }
     }
 
     /// The vectors, where the text ends here.
     fn finish(self, graph: &Graph, end: u64) -> Result<Vectors, VectorFault>
-        requires { (seen : List Lexeme) × HasVectors graph.now seen self }
-        ensures { (seen : List Lexeme) → HasVectors graph.now seen self → MatchResult result
-            (IsVectors graph.now self.states seen)
-            (AreEndRefusal graph.now self.states seen end) }
+        requires { (rounding : Rounding) × ((seen : List Lexeme) × HasVectors rounding graph.now seen self) }
+        ensures { (rounding : Rounding) (seen : List Lexeme) → HasVectors rounding graph.now seen self → MatchResult result
+            (IsRoundedVectors rounding graph.now self.states seen)
+            (AreEndRefusal rounding graph.now self.states seen end) }
     {
         if self.column > 0 {
             return Err(VectorFault::Truncated(end));
@@ -204,12 +210,51 @@ pub fn read_vectors(
         (IsNoVectorsText graph.now states text.now) }
     ensures refused { IfErr result (IsVectorsRefusal graph.now states text.now) }
 {
+    read_rounded(alloc, Rounding::Down, text, graph, states)
+}
+
+/// Reads the vectors of a graph as `read_vectors` does, but each value is rounded up to whole millionths: bounds from above.
+///
+/// # Errors
+///
+/// Those of `read_vectors`.
+pub fn read_vectors_up(
+    alloc: Global,
+    text: &[u8],
+    graph: &Graph,
+    states: usize,
+) -> Result<Vectors, VectorFault>
+    requires some_states { 1 ≤ states }
+    requires few_states { states ≤ most_states }
+    ensures accepted { MatchResult result
+        (IsRoundedVectorsText Rounding.Up graph.now states text.now)
+        (IsNoRoundedVectorsText Rounding.Up graph.now states text.now) }
+    ensures refused { IfErr result (IsRoundedVectorsRefusal Rounding.Up graph.now states text.now) }
+{
+    read_rounded(alloc, Rounding::Up, text, graph, states)
+}
+
+/// Reads the vectors of a graph, and rounds each value this way.
+fn read_rounded(
+    alloc: Global,
+    rounding: Rounding,
+    text: &[u8],
+    graph: &Graph,
+    states: usize,
+) -> Result<Vectors, VectorFault>
+    requires some_states { 1 ≤ states }
+    requires few_states { states ≤ most_states }
+    ensures accepted { MatchResult result
+        (IsRoundedVectorsText rounding graph.now states text.now)
+        (IsNoRoundedVectorsText rounding graph.now states text.now) }
+    ensures refused { IfErr result (IsRoundedVectorsRefusal rounding graph.now states text.now) }
+{
     let mut tokens = Tokens::new(text, TEXT_LIMIT);
     let _nodes = graph.nodes();
     let mut reading = VectorsReading::new(alloc, states);
     while let Some(next) = tokens.next_token() {
         match next {
-            Ok(token) => reading.take(graph, token)?,
+            Ok(token) => reading.take(rounding, graph, token)?,
             Err(fault) => return Err(VectorFault::Token(fault)),
         }
     }
@@ -241,13 +286,63 @@ pub fn read_vectors_from<S: Source>(
     ensures device_last { IsErrOf result SourceFault.Device → EndsInFailure S.reads source.old source.new }
     ensures same_count { (result ≢ Err SourceFault.Device) → S.failures source.new ≡ S.failures source.old }
 {
+    read_rounded_from(alloc, Rounding::Down, source, graph, states)
+}
+
+/// Reads the vectors of a graph whose text the source gives, as `read_vectors_from` does, but each value is rounded up to whole
+/// millionths.
+///
+/// # Errors
+///
+/// Those of `read_vectors_from`.
+pub fn read_vectors_up_from<S: Source>(
+    alloc: Global,
+    source: &mut S,
+    graph: &Graph,
+    states: usize,
+) -> Result<Vectors, SourceFault<VectorFault>>
+    requires some_states { 1 ≤ states }
+    requires few_states { states ≤ most_states }
+    ensures accepted { IfOk result (λ v. (text : List ℕ) × IsText S.reads source.old text source.new
+        × IsRoundedVectorsText Rounding.Up graph.now states text v) }
+    ensures refused { (fault : VectorFault) → IsErrOf result (SourceFault.Refused fault)
+        → EachTextThatFits S.reads source.old source.new (IsRefusedRoundedVectorsText Rounding.Up graph.now states fault) }
+    ensures device { IsErrOf result SourceFault.Device → HasFailed (S.failures source.old) (S.failures source.new) }
+
+    // The source isn't read again behind the read that failed.
+    ensures device_last { IsErrOf result SourceFault.Device → EndsInFailure S.reads source.old source.new }
+    ensures same_count { (result ≢ Err SourceFault.Device) → S.failures source.new ≡ S.failures source.old }
+{
+    read_rounded_from(alloc, Rounding::Up, source, graph, states)
+}
+
+/// Reads the vectors of a graph whose text the source gives, and rounds each value this way.
+fn read_rounded_from<S: Source>(
+    alloc: Global,
+    rounding: Rounding,
+    source: &mut S,
+    graph: &Graph,
+    states: usize,
+) -> Result<Vectors, SourceFault<VectorFault>>
+    requires some_states { 1 ≤ states }
+    requires few_states { states ≤ most_states }
+    ensures accepted { IfOk result (λ v. (text : List ℕ) × IsText S.reads source.old text source.new
+        × IsRoundedVectorsText rounding graph.now states text v) }
+    ensures refused { (fault : VectorFault) → IsErrOf result (SourceFault.Refused fault)
+        → EachTextThatFits S.reads source.old source.new (IsRefusedRoundedVectorsText rounding graph.now states fault) }
+    ensures device { IsErrOf result SourceFault.Device → HasFailed (S.failures source.old) (S.failures source.new) }
+
+    // The source isn't read again behind the read that failed.
+    ensures device_last { IsErrOf result SourceFault.Device → EndsInFailure S.reads source.old source.new }
+    ensures same_count { (result ≢ Err SourceFault.Device) → S.failures source.new ≡ S.failures source.old }
+{
     let mut tokens = StreamTokens::new(TEXT_LIMIT);
     let _nodes = graph.nodes();
     let mut reading = VectorsReading::new(alloc, states);
     loop {
         match tokens.next_token(source) {
             Ok(Some(token)) => {
-                if let Err(fault) = reading.take(graph, token) {
+                if let Err(fault) = reading.take(rounding, graph, token) {
                     return Err(SourceFault::Refused(fault));
                 }
             }

@@ -5,7 +5,8 @@ ghost use Rattle.polcert_policy.specs.Vectors.{CanShift};
 mod sources;
 
 use polcert_policy::{
-    Graph, GraphFault, VectorFault, Vectors, read_graph, read_vectors, write_vectors,
+    Graph, GraphFault, VectorFault, Vectors, read_graph, read_vectors, read_vectors_up,
+    write_vectors,
 };
 use polcert_text::{NumberFault, SliceSink, TokenFault};
 use std::alloc::Global;
@@ -208,6 +209,43 @@ fn accepted_vectors(rt: HostRuntime) -> Result<(), Fail> {
         assert_eq!(rt; vectors.nodes(), 1);
         assert_eq!(rt; vectors.states(), 2);
         assert!(rt; begins(&vectors, want));
+    }
+    Ok(())
+}
+
+#[test]
+fn vectors_rounded_up(rt: HostRuntime) -> Result<(), Fail> {
+    let alloc = rt.alloc();
+    let graph = read_graph(alloc, b"0 0 0 0", 3, 2)?;
+    for (text, want) in [
+        (b"0 1.3333333 0.6666667".as_slice(), [1_333_334, 666_667]),
+        (
+            b"0 -19.9999999999999964 -1.9999999",
+            [-19_999_999, -1_999_999],
+        ),
+        (b"0 - 20 + 5", [-20_000_000, 5_000_000]),
+        (b"0 -1e-25 1e-25", [0, 1]),
+        (
+            b"0 10000000 -10000000",
+            [10_000_000_000_000, -10_000_000_000_000],
+        ),
+    ] {
+        let vectors = read_vectors_up(alloc, text, &graph, 2)?;
+        assert_eq!(rt; vectors.nodes(), 1);
+        assert_eq!(rt; vectors.states(), 2);
+        assert!(rt; begins(&vectors, want));
+    }
+    for (text, want) in [
+        (b"0 -20 -".as_slice(), VectorFault::Truncated(7)),
+        (
+            b"0 1 -10000000.0000001",
+            VectorFault::Number {
+                fault: NumberFault::TooLarge,
+                place: 4,
+            },
+        ),
+    ] {
+        assert_eq!(rt; read_vectors_up(alloc, text, &graph, 2).err(), Some(want));
     }
     Ok(())
 }

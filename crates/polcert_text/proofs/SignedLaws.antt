@@ -1,10 +1,12 @@
 -- A sign and a size as a whole number.
-use Rattle.std.proofs.Common.{◌≡◌, ◌∙◌, ℕ, suc, zero, ◌+◌, ◌*◌, ◌/◌, ◌<◌, ◌≤◌, Bool, true, false, List, ◌⊎◌, ⊎_elim, ℤ, pos, negsuc, neg_ℤ, ◌*ℤ◌, ◌≤ℤ◌, refl, sym, ap, subst, arith}
+use Rattle.std.proofs.Common.{◌≡◌, ◌∙◌, ℕ, suc, zero, ◌+◌, ◌*◌, ◌/◌, ◌<◌, ◌≤◌, Bool, true, false, not, List, ◌⊎◌, ⊎_elim, ℤ, pos, negsuc, neg_ℤ, ◌*ℤ◌, ◌≤ℤ◌, refl, sym, ap, subst, arith}
 use Rattle.std.proofs.lemmas.Int.{ints}
 use Rattle.std.proofs.Math.Nat.{mul-le-mul_right, mul-div_cancel, mul-pos}
 use Rattle.std.proofs.Math.IntN.{pos-*ℤ-pos, negsuc-*ℤ-pos, zero-*ℤ}
-use Rattle.polcert_text.specs.Numbers.{millionth, size_of, signed, IsExact, IsFloor}
-use Rattle.polcert_text.specs.Scaling.{ceiling, rounded, Measures}
+use Rattle.polcert_text.specs.Numbers.{millionth, size_of, signed, IsExact, IsFloor, IsCeil, IsRounded}
+use Rattle.polcert_text.specs.declared.number.Rounding.{Rounding}
+use Rattle.polcert_text.specs.declared.number.Rounding.TheVariants.{Down, Up}
+use Rattle.polcert_text.specs.Scaling.{ceiling, rounded, is_away, Measures}
 
 -- without its sign
 abbrev size_without_sign : ℤ → ℕ
@@ -112,6 +114,60 @@ module _ (bs : List ℕ) (floor : ℕ) where
   floor_signed true is_inexact m = floor_negative is_inexact m
   floor_signed false is_inexact m = floor_positive is_inexact m
 
+-- ---- rounded up: what is rounded down of the number with the other sign
+
+neg_neg : (h : ℤ) → neg_ℤ (neg_ℤ h) ≡ h
+neg_neg (pos zero) = refl
+neg_neg (pos (suc n)) = refl
+neg_neg (negsuc n) = refl
+
+neg_signed : (negative : Bool) (n : ℕ) → neg_ℤ (signed negative n) ≡ signed (not negative) n
+neg_signed true n = neg_neg (pos n)
+neg_signed false n = refl
+
+neg_times : (h : ℤ) (d : ℕ) → neg_ℤ h *ℤ pos d ≡ neg_ℤ (h *ℤ pos d)
+neg_times (pos n) d = neg-mul n d ∙ ap neg_ℤ (sym (pos-*ℤ-pos n d))
+neg_times (negsuc n) d = pos-*ℤ-pos (suc n) d ∙ sym (neg_neg (pos (suc n * d))) ∙ ap neg_ℤ (sym (negsuc-*ℤ-pos n d))
+
+le_turned : (x y : ℤ) → x ≤ℤ y → neg_ℤ y ≤ℤ neg_ℤ x
+le_turned x y h = omega (arith, ints)
+
+le_turned_back : (x y : ℤ) → neg_ℤ y ≤ℤ neg_ℤ x → x ≤ℤ y
+le_turned_back x y h = subst (λ z. z ≤ℤ y) (neg_neg x) (subst (λ z. neg_ℤ (neg_ℤ x) ≤ℤ z) (neg_neg y) (le_turned (neg_ℤ y) (neg_ℤ x) h))
+
+pub ceil_of_floor : (negative : Bool) (bs : List ℕ) (h : ℤ) → IsFloor (not negative) bs (neg_ℤ h) → IsCeil negative bs h
+ceil_of_floor negative bs h f = record { not_below = not_below; least = least }
+  where
+    value : neg_ℤ (signed negative (size_of bs)) ≡ signed (not negative) (size_of bs)
+    value = neg_signed negative (size_of bs)
+
+    not_below : signed negative (size_of bs) ≤ℤ (h *ℤ pos millionth)
+    not_below = le_turned_back (signed negative (size_of bs)) (h *ℤ pos millionth)
+        (subst (λ z. z ≤ℤ neg_ℤ (signed negative (size_of bs))) (neg_times h millionth)
+        (subst (λ z. (neg_ℤ h *ℤ pos millionth) ≤ℤ z) (sym value) f.not_above))
+
+    least : (k : ℤ) → signed negative (size_of bs) ≤ℤ (k *ℤ pos millionth) → h ≤ℤ k
+    least k l = le_turned_back h k (f.greatest (neg_ℤ k)
+        (subst (λ z. z ≤ℤ signed (not negative) (size_of bs)) (sym (neg_times k millionth))
+        (subst (λ z. neg_ℤ (k *ℤ pos millionth) ≤ℤ z) value (le_turned (signed negative (size_of bs)) (k *ℤ pos millionth) l))))
+
+pub ceil_signed : (bs : List ℕ) (floor : ℕ) (negative is_inexact : Bool) → Measures bs floor is_inexact → IsCeil negative bs (signed negative (rounded (not negative) floor is_inexact))
+ceil_signed bs floor negative is_inexact m = ceil_of_floor negative bs (signed negative (rounded (not negative) floor is_inexact))
+    (subst (λ z. IsFloor (not negative) bs z) (sym (neg_signed negative (rounded (not negative) floor is_inexact))) (floor_signed bs floor (not negative) is_inexact m))
+
+pub rounded_signed : (rounding : Rounding) (bs : List ℕ) (floor : ℕ) (negative is_inexact : Bool) → Measures bs floor is_inexact → IsRounded rounding negative bs (signed negative (rounded (is_away rounding negative) floor is_inexact))
+rounded_signed Down bs floor negative is_inexact m = floor_signed bs floor negative is_inexact m
+rounded_signed Up bs floor negative is_inexact m = ceil_signed bs floor negative is_inexact m
+
+-- a whole number of millionths is not rounded
+pub rounded_whole : (rounding : Rounding) (negative : Bool) (bs : List ℕ) (n : ℕ) → Measures bs n false → IsRounded rounding negative bs (signed negative n)
+rounded_whole Down true bs n m = floor_negative bs n false m
+rounded_whole Down false bs n m = floor_positive bs n false m
+rounded_whole Up true bs n m = ceil_signed bs n true false m
+rounded_whole Up false bs n m = ceil_signed bs n false false m
+
+-- ---- quotients
+
 same_times : (d m n : ℕ) → 0 < d → m * d ≡ n * d → m ≡ n
 same_times d m n some e = sym (mul-div_cancel m some) ∙ ap (λ x. x / d) e ∙ mul-div_cancel n some
 
@@ -132,3 +188,23 @@ one_quotient d some (negsuc m) (negsuc n) e =
     let sizes = same_times d (suc m) (suc n) some (sym (size-mul (negsuc m) d) ∙ ap size_without_sign e ∙ size-mul (negsuc n) d) in
     let one : m ≡ n = omega arith in
     ap negsuc one
+
+-- a factor above 0 goes from both sides of an inequality
+pub le_times_back : (d : ℕ) → 0 < d → (h k : ℤ) → (h *ℤ pos d) ≤ℤ (k *ℤ pos d) → h ≤ℤ k
+le_times_back d some (pos m) (pos n) l =
+    let p = le_pos (m * d) (n * d) (subst (λ z. z ≤ℤ pos (n * d)) (pos-*ℤ-pos m d) (subst (λ z. (pos m *ℤ pos d) ≤ℤ z) (pos-*ℤ-pos n d) l)) in
+    le_pos_from m n (at m n p)
+  where
+    at : (m n : ℕ) → m * d ≤ n * d → m ≤ n
+    at m n p = ⊎_elim (λ q. q) (λ q. let r : (n + 1) * d ≤ m * d = mul-le-mul_right d q in absurd (omega (arith, some))) (order m n)
+le_times_back d some (pos m) (negsuc n) l =
+    let p : pos (m * d) ≤ℤ neg_ℤ (pos (suc n * d)) = subst (λ z. z ≤ℤ neg_ℤ (pos (suc n * d))) (pos-*ℤ-pos m d) (subst (λ z. (pos m *ℤ pos d) ≤ℤ z) (negsuc-*ℤ-pos n d) l) in
+    let size : 0 < suc n * d = mul-pos (omega arith) some in
+    absurd (omega (arith, ints))
+le_times_back d some (negsuc m) (pos n) l = negative_le_pos m n
+le_times_back d some (negsuc m) (negsuc n) l =
+    let p = le_neg (suc m * d) (suc n * d) (subst (λ z. z ≤ℤ neg_ℤ (pos (suc n * d))) (negsuc-*ℤ-pos m d) (subst (λ z. (negsuc m *ℤ pos d) ≤ℤ z) (negsuc-*ℤ-pos n d) l)) in
+    le_neg_from (suc m) (suc n) (at (suc m) (suc n) p)
+  where
+    at : (m n : ℕ) → n * d ≤ m * d → n ≤ m
+    at m n p = ⊎_elim (λ q. q) (λ q. let r : (m + 1) * d ≤ n * d = mul-le-mul_right d q in absurd (omega (arith, some))) (order n m)

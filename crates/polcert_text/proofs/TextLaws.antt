@@ -1,16 +1,18 @@
 -- The laws of the definitions that proofs of the crates above may cite. Each is the contract of a public function.
-use Rattle.std.proofs.Common.{◌≡◌, ◌∙◌, ℕ, ◌<◌, ◌≤◌, Bool, true, false, ◌⊎◌, inl, inr, Option, Some, None, Result, Ok, Err, List, length, refl, sym, ap, subst, arith, ℤ, ◌≤ℤ◌}
+use Rattle.std.proofs.Common.{◌≡◌, ◌∙◌, ℕ, ◌<◌, ◌≤◌, Bool, true, false, ◌⊎◌, inl, inr, Option, Some, None, Result, Ok, Err, List, length, refl, sym, ap, subst, arith, ℤ, pos, ◌*ℤ◌, ◌≤ℤ◌}
 use Rattle.std.proofs.lemmas.Int.{ints}
 use Rattle.polcert_text.specs.Cut.{Lexeme, Rest, TakesToken, Ends, IsCut}
 use Rattle.polcert_text.specs.Reading.{GivesNext, lexeme_of}
-use Rattle.polcert_text.specs.Numbers.{millionth, exponent_size, IsReadable, IsExact, IsFloor, IsRefused, IsRefusedExactly}
+use Rattle.polcert_text.specs.Numbers.{millionth, size_of, signed, exponent_size, IsReadable, IsExact, IsFloor, IsCeil, IsRounded, IsRefused, IsRefusedExactly}
 use Rattle.polcert_text.specs.declared.tokens.Token.{Token}
 use Rattle.polcert_text.specs.declared.tokens.TokenFault.{TokenFault}
+use Rattle.polcert_text.specs.declared.number.Rounding.{Rounding}
+use Rattle.polcert_text.specs.declared.number.Rounding.TheVariants.{Down, Up}
 use Rattle.polcert_text.specs.declared.number.NumberFault.{NumberFault}
 use Rattle.polcert_text.specs.declared.number.NumberFault.TheVariants.{NotANumeral, TooLong, TooLarge, TooFine}
 use Rattle.polcert_text.proofs.CutLaws as cuts
 use Rattle.polcert_text.proofs.SizeLaws.{millionth_pos}
-use Rattle.polcert_text.proofs.SignedLaws.{one_quotient}
+use Rattle.polcert_text.proofs.SignedLaws.{one_quotient, le_times_back}
 
 pub one_cut : (rest : Rest) (ss ts : List Lexeme) (x y : Option TokenFault) → IsCut rest ss x → IsCut rest ts y → (ss ≡ ts) × (x ≡ y)
 one_cut = cuts.one_cut
@@ -56,6 +58,36 @@ one_floor negative bs h k a b =
     let up : h ≤ℤ k = b.greatest h a.not_above in
     let down : k ≤ℤ h = a.greatest k b.not_above in
     omega (arith, ints)
+
+pub one_ceil : (negative : Bool) (bs : List ℕ) (h k : ℤ) → IsCeil negative bs h → IsCeil negative bs k → h ≡ k
+one_ceil negative bs h k a b =
+    let up : h ≤ℤ k = a.least k b.not_below in
+    let down : k ≤ℤ h = b.least h a.not_below in
+    omega (arith, ints)
+
+pub one_rounded : (rounding : Rounding) (negative : Bool) (bs : List ℕ) (h k : ℤ) → IsRounded rounding negative bs h → IsRounded rounding negative bs k → h ≡ k
+one_rounded Down = one_floor
+one_rounded Up = one_ceil
+
+le_refl : (x y : ℤ) → x ≡ y → x ≤ℤ y
+le_refl x y e = omega (arith, ints)
+
+le_through : (x y z : ℤ) → x ≤ℤ y → y ≤ℤ z → x ≤ℤ z
+le_through x y z a b = omega (arith, ints)
+
+pub exact_is_rounded : (rounding : Rounding) (negative : Bool) (bs : List ℕ) (h : ℤ) → IsExact negative bs h → IsRounded rounding negative bs h
+exact_is_rounded Down negative bs h e = record {
+  not_above = le_refl (h *ℤ pos millionth) (signed negative (size_of bs)) e;
+  greatest = λ k l. le_times_back millionth millionth_pos k h (subst (λ z. (k *ℤ pos millionth) ≤ℤ z) (sym e) l);
+}
+exact_is_rounded Up negative bs h e = record {
+  not_below = le_refl (signed negative (size_of bs)) (h *ℤ pos millionth) (sym e);
+  least = λ k l. le_times_back millionth millionth_pos h k (subst (λ z. z ≤ℤ (k *ℤ pos millionth)) (sym e) l);
+}
+
+pub floor_below_ceil : (negative : Bool) (bs : List ℕ) (h k : ℤ) → IsFloor negative bs h → IsCeil negative bs k → h ≤ℤ k
+floor_below_ceil negative bs h k f c =
+    le_times_back millionth millionth_pos h k (le_through (h *ℤ pos millionth) (signed negative (size_of bs)) (k *ℤ pos millionth) f.not_above c.not_below)
 
 true≢false : {b : Bool} → b ≡ true → b ≡ false → ⊥
 true≢false e f = cc

@@ -7,6 +7,8 @@ use Rattle.polcert_text.specs.Bytes.{class_of, is_point, is_sign, is_exponent_ma
 use Rattle.polcert_text.specs.Lexemes.{before, after, is_numeral}
 use Rattle.polcert_text.specs.declared.bytes.ByteClass.{ByteClass}
 use Rattle.polcert_text.specs.declared.bytes.ByteClass.TheVariants.{Minus}
+use Rattle.polcert_text.specs.declared.number.Rounding.{Rounding}
+use Rattle.polcert_text.specs.declared.number.Rounding.TheVariants.{Down, Up}
 use Rattle.polcert_text.specs.declared.number.NumberFault.{NumberFault}
 use Rattle.polcert_text.specs.declared.number.NumberFault.TheVariants.{NotANumeral, TooLong, TooLarge, TooFine}
 
@@ -77,6 +79,16 @@ Denotes text h = (negative : Bool) × ((numeral : List ℕ)
 pub record IsFloor (negative : Bool) (bs : List ℕ) (h : ℤ) : Type 0 where
   pub not_above : (h *ℤ pos millionth) ≤ℤ signed negative (size_of bs)
   pub greatest : (k : ℤ) → (k *ℤ pos millionth) ≤ℤ signed negative (size_of bs) → k ≤ℤ h
+
+-- h is the least whole number of millionths that isn't below the value
+pub record IsCeil (negative : Bool) (bs : List ℕ) (h : ℤ) : Type 0 where
+  pub not_below : signed negative (size_of bs) ≤ℤ (h *ℤ pos millionth)
+  pub least : (k : ℤ) → signed negative (size_of bs) ≤ℤ (k *ℤ pos millionth) → h ≤ℤ k
+
+-- h is the value in whole millionths, rounded this way
+abbrev pub IsRounded : Rounding → Bool → List ℕ → ℤ → Type 0
+IsRounded Down negative bs h = IsFloor negative bs h
+IsRounded Up negative bs h = IsCeil negative bs h
 
 -- a numeral within the limits of length and size
 pub record IsReadable (bs : List ℕ) : Type 0 where

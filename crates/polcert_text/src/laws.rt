@@ -1,15 +1,15 @@
 //! Laws of the definitions, each the contract of a function with nothing to do.
-ghost use Rattle.std.specs.Prelude.{◌≡◌, ℕ, Bool, Option, Some, None, Result, Err, List, ℤ, IfSome};
+ghost use Rattle.std.specs.Prelude.{◌≡◌, ℕ, Bool, Option, Some, None, Result, Err, List, ℤ, ◌≤ℤ◌, IfSome};
 ghost use Rattle.std.specs.Io.KnownBytes.{Appends};
 ghost use Rattle.polcert_text.specs.Cut.{Lexeme, Rest, TakesToken, Ends, IsCut, HasCut};
 ghost use Rattle.polcert_text.specs.Reading.{GivesNext};
-ghost use Rattle.polcert_text.specs.Numbers.{IsReadable, IsExact, IsFloor, IsRefused, IsRefusedExactly};
+ghost use Rattle.polcert_text.specs.Numbers.{IsReadable, IsExact, IsFloor, IsCeil, IsRounded, IsRefused, IsRefusedExactly};
 ghost use Rattle.polcert_text.specs.Source.{IsText};
 ghost use Rattle.polcert_text.specs.Sink.{Takes};
 ghost use Rattle.polcert_text.specs.Memory.{ReadsSlice};
 ghost use Rattle.polcert_text.specs.Known.{ReadsKnown, WritesKnown};
 
-use crate::{NumberFault, Token, TokenFault};
+use crate::{NumberFault, Rounding, Token, TokenFault};
 
 /// A text has one cut: one list of tokens, and one end.
 pub fn one_cut()
@@ -44,12 +44,22 @@ pub fn same_answer_again()
         GivesNext old None new → GivesNext new answer later → (answer ≡ None) × (later ≡ new) }
 {}
 
-/// A sign and a numeral denote at most one whole number of millionths exactly, and one rounded down.
+/// A sign and a numeral denote at most one whole number of millionths exactly, one rounded down, and one rounded up.
 pub fn one_value()
     ensures exact { (negative : Bool) (bs : List ℕ) (h k : ℤ) →
         IsExact negative bs h → IsExact negative bs k → h ≡ k }
     ensures floor { (negative : Bool) (bs : List ℕ) (h k : ℤ) →
         IsFloor negative bs h → IsFloor negative bs k → h ≡ k }
+    ensures ceil { (negative : Bool) (bs : List ℕ) (h k : ℤ) →
+        IsCeil negative bs h → IsCeil negative bs k → h ≡ k }
+{}
+
+/// Rounding leaves a whole number of millionths as it is; and a value rounded down is at most the value rounded up.
+pub fn rounding_either_way()
+    ensures exact { (rounding : Rounding) (negative : Bool) (bs : List ℕ) (h : ℤ) →
+        IsExact negative bs h → IsRounded rounding negative bs h }
+    ensures ordered { (negative : Bool) (bs : List ℕ) (h k : ℤ) →
+        IsFloor negative bs h → IsCeil negative bs k → h ≤ℤ k }
 {}
 
 /// Bytes are refused for one reason, and only where they are not readable, or have no exact value.

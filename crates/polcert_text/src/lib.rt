@@ -21,13 +21,13 @@ mod window;
 pub use buffer::{BUFFER_SIZE, Buffer};
 pub use buffered::BufferedSink;
 pub use laws::{
-    bytes_of_a_writer, one_cut, one_end, one_next_token, one_refusal, one_value, same_answer_again,
-    some_cut, text_of_a_reader, text_of_a_slice,
+    bytes_of_a_writer, one_cut, one_end, one_next_token, one_refusal, one_value,
+    rounding_either_way, same_answer_again, some_cut, text_of_a_reader, text_of_a_slice,
 };
 pub use lexeme::TokenKind;
 pub use memory::{SliceSink, SliceSource};
 pub use millionths::write_scaled;
-pub use number::{NumberFault, floor_of, scaled_of};
+pub use number::{NumberFault, Rounding, ceil_of, floor_of, rounded_of, scaled_of};
 pub use sink::{Sink, SinkFailed, write_all};
 pub use source::{ReadFault, Source, SourceFailed, SourceFault, read_all};
 pub use std_io::{ReaderSource, WriterSink};

@@ -4,8 +4,8 @@ ghost use Rattle.std.specs.List.{list_all, list_any};
 ghost use Rattle.std.specs.Str.Parse.{digits_value};
 ghost use Rattle.polcert_text.specs.Bytes.{class_of, is_digit};
 ghost use Rattle.polcert_text.specs.Lexemes.{before, after, is_numeral};
-ghost use Rattle.polcert_text.specs.Numbers.{whole_of, fraction_of, exponent_of, is_lowering, without_sign, largest, signed, IsExact, IsFloor, IsReadable, IsRefused, IsRefusedExactly};
-ghost use Rattle.polcert_text.specs.Scaling.{separates, cap, is_nonzero, IsScaled, Measures, ceiling, rounded};
+ghost use Rattle.polcert_text.specs.Numbers.{whole_of, fraction_of, exponent_of, is_lowering, without_sign, largest, signed, IsExact, IsFloor, IsCeil, IsRounded, IsReadable, IsRefused, IsRefusedExactly};
+ghost use Rattle.polcert_text.specs.Scaling.{separates, cap, is_nonzero, IsScaled, Measures, ceiling, rounded, is_away};
 
 use crate::bytes::{ByteClass, class_of, is_surely_digit, is_surely_point};
 use crate::lexeme::State;
@@ -27,6 +27,28 @@ pub enum NumberFault {
     /// N4: a digit past the sixth decimal isn't 0, where the exact value is asked for.
     #[error("a number with more than six decimals")]
     TooFine,
+}
+
+/// Which way a number is rounded to whole millionths.
+#[derive(Clone, Copy, Debug, PartialEq, Eq)]
+pub enum Rounding {
+    /// To the greatest whole number of millionths that isn't above it.
+    Down,
+    /// To the least whole number of millionths that isn't below it.
+    Up,
+}
+
+impl Rounding {
+    /// Whether a number is rounded away from 0, where it is negative or not.
+    #[inline(always)]
+    fn is_away(self, negative: bool) -> bool
+        ensures { result ≡ is_away self negative }
+    {
+        match self {
+            Rounding::Down => negative,
+            Rounding::Up => !negative,
+        }
+    }
 }
 
 const LONGEST: usize = 400;
@@ -98,8 +120,34 @@ pub fn floor_of(negative: bool, numeral: &[u8]) -> Result<i64, NumberFault>
     ensures value { IfOk result (λ h. IsReadable numeral.now × IsFloor negative numeral.now h) }
     ensures fault { IfErr result (IsRefused numeral.now) }
 {
+    rounded_of(Rounding::Down, negative, numeral)
+}
+
+/// The value of a numeral with the sign before it, in millionths and rounded up (a negative one towards 0).
+///
+/// # Errors
+///
+/// Those of `floor_of`.
+#[inline]
+pub fn ceil_of(negative: bool, numeral: &[u8]) -> Result<i64, NumberFault>
+    ensures value { IfOk result (λ h. IsReadable numeral.now × IsCeil negative numeral.now h) }
+    ensures fault { IfErr result (IsRefused numeral.now) }
+{
+    rounded_of(Rounding::Up, negative, numeral)
+}
+
+/// The value of a numeral with the sign before it, in millionths and rounded down or up.
+///
+/// # Errors
+///
+/// Those of `floor_of`.
+#[inline]
+pub fn rounded_of(rounding: Rounding, negative: bool, numeral: &[u8]) -> Result<i64, NumberFault>
+    ensures value { IfOk result (λ h. IsReadable numeral.now × IsRounded rounding negative numeral.now h) }
+    ensures fault { IfErr result (IsRefused numeral.now) }
+{
     let size = size_of(numeral)?;
-    Ok(signed(negative, size.rounded(negative)))
+    Ok(signed(negative, size.rounded(rounding.is_away(negative))))
 }
 
 #[inline(always)]

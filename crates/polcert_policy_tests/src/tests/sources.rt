@@ -1,6 +1,9 @@
 //! Policy files that come from a source, in any pieces.
 
-use polcert_policy::{Graph, GraphFault, VectorFault, Vectors, read_graph_from, read_vectors_from};
+use polcert_policy::{
+    Graph, GraphFault, VectorFault, Vectors, read_graph_from, read_vectors_from,
+    read_vectors_up_from,
+};
 use polcert_text::{Source, SourceFailed, SourceFault, TokenFault};
 use std::alloc::Global;
 
@@ -89,6 +92,20 @@ fn first_value(
     }
 }
 
+/// The same where values are rounded up.
+fn first_value_up(
+    alloc: Global,
+    source: &mut Pieces<'_>,
+) -> Option<Result<i64, SourceFault<VectorFault>>> {
+    let Ok(graph) = read_graph_from(alloc, &mut Pieces::new(GRAPH, 4096, false), 2, 2) else {
+        return None;
+    };
+    match read_vectors_up_from(alloc, source, &graph, 2) {
+        Ok(vectors) => Some(Ok(value_of(&vectors))),
+        Err(fault) => Some(Err(fault)),
+    }
+}
+
 fn value_of(vectors: &Vectors) -> i64 {
     if 0 < vectors.nodes() && 0 < vectors.states() {
         vectors.at(0, 0)
@@ -153,5 +170,26 @@ fn refused_or_failed_vectors(rt: HostRuntime) {
             assert_eq!(rt; first_value(rt.alloc(), &mut source), Some(Err(fault)));
             assert_eq!(rt; (source.failures, source.reads), (failures, reads));
         }
+    }
+}
+
+/// A source whose values are rounded up is read as one whose values are rounded down is.
+#[test]
+fn rounded_up_in_any_pieces(rt: HostRuntime) {
+    let text = b"1 -1.5000009 0 0 0 0".as_slice();
+    for most in [1usize, 3, 4096] {
+        let mut source = Pieces::new(text, most, false);
+        assert_eq!(rt; first_value(rt.alloc(), &mut source), Some(Ok(-1_500_001)));
+        let mut source = Pieces::new(text, most, false);
+        assert_eq!(rt;
+            first_value_up(rt.alloc(), &mut source),
+            Some(Ok(-1_500_000))
+        );
+        let mut source = Pieces::new(text, most, true);
+        assert_eq!(rt;
+            first_value_up(rt.alloc(), &mut source),
+            Some(Err(SourceFault::Device))
+        );
+        assert_eq!(rt; source.failures, 1);
     }
 }

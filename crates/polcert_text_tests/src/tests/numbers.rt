@@ -1,5 +1,5 @@
 //! The values of numerals.
-use polcert_text::{NumberFault, floor_of, scaled_of, whole_number};
+use polcert_text::{NumberFault, ceil_of, floor_of, scaled_of, whole_number};
 
 #[test]
 fn exact_values(rt: HostRuntime) {
@@ -68,6 +68,33 @@ fn floors(rt: HostRuntime) {
     );
     assert_eq!(rt; floor_of(true, b"1e401"), Err(NumberFault::TooLong));
     assert_eq!(rt; floor_of(true, b"."), Err(NumberFault::NotANumeral));
+}
+
+#[test]
+fn ceilings(rt: HostRuntime) {
+    let rows = [
+        (true, b"1e-400".as_slice(), 0),
+        (false, b"1e-400".as_slice(), 1),
+        (false, b"1.9999999".as_slice(), 2_000_000),
+        (true, b"1.9999999".as_slice(), -1_999_999),
+        (false, b"0.0000009".as_slice(), 1),
+        (true, b"0.0000009".as_slice(), 0),
+        (true, b"19.9999999999999964".as_slice(), -19_999_999),
+        (false, b"1.3333333".as_slice(), 1_333_334),
+        (false, b"0.6666667".as_slice(), 666_667),
+        (true, b"20".as_slice(), -20_000_000),
+        (false, b"0.5".as_slice(), 500_000),
+        (true, b"0.0".as_slice(), 0),
+    ];
+    for (negative, numeral, want) in rows {
+        assert_eq!(rt; ceil_of(negative, numeral), Ok(want));
+    }
+    assert_eq!(rt;
+        ceil_of(true, b"10000000.0000001"),
+        Err(NumberFault::TooLarge)
+    );
+    assert_eq!(rt; ceil_of(false, b"1e401"), Err(NumberFault::TooLong));
+    assert_eq!(rt; ceil_of(false, b"."), Err(NumberFault::NotANumeral));
 }
 
 /// A numeral of 400 bytes is read, one of 401 is too long.

@@ -2,4 +2,7 @@ use Rattle.polcert_policy.proofs.FullFormLaws.{reads_back}
 use Rattle.polcert_policy.proofs.laws.full_form_reads_back.Goals as goal
 
 pub returns : goal.returns
-returns c = λ graph v proper_graph proper_vectors same. reads_back graph v proper_graph proper_vectors same
+returns c = record {
+  down = λ graph v proper_graph proper_vectors same. reads_back graph v proper_graph proper_vectors same;
+  either_way = λ rounding graph v proper_graph proper_vectors same. reads_back graph v proper_graph proper_vectors same;
+}

@@ -2,4 +2,4 @@ use Rattle.polcert_policy.proofs.OneText as texts
 use Rattle.polcert_policy.proofs.laws.one_vectors.Goals as goal
 
 pub returns : goal.returns
-returns c = texts.one_vectors
+returns c = record { down = texts.one_vectors; either_way = λ rounding. texts.one_vectors }

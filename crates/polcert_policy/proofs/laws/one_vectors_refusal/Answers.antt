@@ -1,5 +1,6 @@
+use Rattle.polcert_text.specs.declared.number.Rounding.TheVariants.{Down}
 use Rattle.polcert_policy.proofs.OneVectorsRefusal as laws
 use Rattle.polcert_policy.proofs.laws.one_vectors_refusal.Goals as goal
 
 pub returns : goal.returns
-returns c = laws.one_refusal
+returns c = record { down = laws.one_refusal Down; either_way = laws.one_refusal }

@@ -1,21 +1,21 @@
 use Rattle.std.proofs.Common.{◌<◌, refl, sym, subst, arith}
 use Rattle.polcert_policy.specs.Graphs.{nodes}
-use Rattle.polcert_policy.specs.Vectors.{IsVectors}
+use Rattle.polcert_policy.specs.Vectors.{IsRoundedVectors}
 use Rattle.polcert_policy.proofs.VectorEndLaws.{unfinished_vector, too_few, vectors_read, proper_read}
 use Rattle.polcert_policy.proofs.vectors_reading.VectorsReading.finish.Goals as goal
 
 pub returns-then-self-gt0 : goal.returns-then-self-gt0
-returns-then-self-gt0 c = λ seen h. (refl, (c.args.self.node, (c.args.self.column, unfinished_vector _ seen c.args.self c.args.self.some_states c.if-self-gt0.true h, c.if-self-gt0.true)))
+returns-then-self-gt0 c = λ way seen h. (refl, (c.args.self.node, (c.args.self.column, unfinished_vector _ seen c.args.self c.args.self.some_states c.if-self-gt0.true h, c.if-self-gt0.true)))
 
 pub returns-then-self-nodes : goal.returns-then-self-nodes
-returns-then-self-nodes c = λ seen h.
+returns-then-self-nodes c = λ way seen h.
     let fewer : c.args.self.node < nodes c.args.graph.now = omega (arith, c.if-self-nodes.true, c.nodes.ensures.count) in
     (refl, (c.args.self.node, too_few _ seen c.args.self c.args.self.some_states c.if-self-gt0.false fewer h, fewer))
 
 pub new-requires : goal.new-requires
 new-requires c =
-    proper_read _ c.requires.0 c.args.self c.args.self.some_states c.args.self.few_states c.if-self-gt0.false (omega (arith, c.if-self-nodes.false, c.nodes.ensures.count)) c.requires.1
+    proper_read _ c.requires.1.0 c.args.self c.args.self.some_states c.args.self.few_states c.if-self-gt0.false (omega (arith, c.if-self-nodes.false, c.nodes.ensures.count)) c.requires.1.1
 
 pub returns : goal.returns
-returns c = λ seen h.
-    subst (λ v. IsVectors c.args.graph.now c.args.self.states seen v) (sym c.new.ensures) (vectors_read _ seen c.args.self c.if-self-gt0.false (omega (arith, c.if-self-nodes.false, c.nodes.ensures.count)) h)
+returns c = λ way seen h.
+    subst (λ v. IsRoundedVectors way c.args.graph.now c.args.self.states seen v) (sym c.new.ensures) (vectors_read _ seen c.args.self c.if-self-gt0.false (omega (arith, c.if-self-nodes.false, c.nodes.ensures.count)) h)

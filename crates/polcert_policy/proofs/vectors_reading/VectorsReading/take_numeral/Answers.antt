@@ -1,8 +1,8 @@
 use Rattle.std.proofs.Common.{refl, subst}
-use Rattle.polcert_text.specs.Numbers.{IsFloor}
+use Rattle.polcert_text.specs.Numbers.{IsRounded}
 use Rattle.std.proofs.lemmas.Int.{to_z-of_z}
 use mir.Syntax.{w64}
-use Rattle.polcert_policy.proofs.VectorEndLaws.{floor_in_range, in_range_fits}
+use Rattle.polcert_policy.proofs.VectorEndLaws.{rounded_in_range, in_range_fits}
 use Rattle.polcert_policy.proofs.VectorReadLaws.{refuse_numeral, read_value}
 use Rattle.polcert_policy.proofs.vectors_reading.VectorsReading.take_numeral.Goals as goal
 
@@ -13,7 +13,7 @@ returns-in-Err-clause-takes c = λ graph seen h.
 pub returns-in_ok-push-in-Ok-clause-takes : goal.returns-in_ok-push-in-Ok-clause-takes
 returns-in_ok-push-in-Ok-clause-takes c = λ graph seen h.
     let value = c.in-Ok.ensures.value in
-    let fits = in_range_fits c.in-Ok.value (floor_in_range _ _ c.in-Ok.value value.0 value.1) in
+    let fits = in_range_fits c.in-Ok.value (rounded_in_range c.args.rounding _ _ c.in-Ok.value value.0 value.1) in
     let pushed = rw (to_z-of_z w64 c.in-Ok.value fits) at c.in_ok-push-in-Ok.ensures in
-    read_value graph c.args.self.now _ _ seen _ c.in-Ok.value c.requires.column c.requires.numeral value.0 (subst (λ b. IsFloor b c.args.token.bytes.now c.in-Ok.value) c.is_negative.ensures value.1)
+    read_value graph c.args.self.now _ _ seen _ c.in-Ok.value c.requires.column c.requires.numeral value.0 (subst (λ b. IsRounded c.args.rounding b c.args.token.bytes.now c.in-Ok.value) c.is_negative.ensures value.1)
     refl refl refl refl pushed c.advance.ensures h

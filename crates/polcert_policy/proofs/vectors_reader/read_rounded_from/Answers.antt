@@ -3,15 +3,15 @@ use Rattle.polcert_text.specs.Cut.{text_limit}
 use Rattle.polcert_text.specs.Reading.{lexeme_of}
 use Rattle.polcert_text.specs.Source.{EachTextThatFits}
 use Rattle.polcert_text.proofs.StreamTaken.{none_taken, token_taken, failed_since, place_grows, place_within}
-use Rattle.polcert_policy.specs.VectorText.{IsRefusedVectorsText}
+use Rattle.polcert_policy.specs.VectorText.{IsRefusedRoundedVectorsText}
 use Rattle.polcert_policy.specs.declared.fault.VectorFault.TheVariants as faults
 use Rattle.polcert_policy.proofs.VectorReadLaws.{possible_seen}
 use Rattle.polcert_policy.proofs.VectorStreams.{vectors_refused_at_token, vectors_refused_tokens, vectors_at_end, vectors_refused_at_end}
-use Rattle.polcert_policy.proofs.vectors_reader.read_vectors_from.Goals as goal
+use Rattle.polcert_policy.proofs.vectors_reader.read_rounded_from.Goals as goal
 
 pub loop-token-init : goal.loop-token-init
 loop-token-init g c = record {
-  seen = ([], none_taken _ _ _ _ c.new-tokens.result c.new-tokens.ensures.fresh c.new-tokens.ensures.text, c.new-reading.ensures.read c.args.graph.now c.nodes-nodes.ensures.proper);
+  seen = ([], none_taken _ _ _ _ c.new-tokens.result c.new-tokens.ensures.fresh c.new-tokens.ensures.text, c.new-reading.ensures.read c.args.rounding c.args.graph.now c.nodes-nodes.ensures.proper);
   states = c.new-reading.ensures.states;
 }
 
@@ -41,22 +41,22 @@ returns-in-Err-clause-refused g c = λ fault is.
     let new = c.next_token.follows.lender-at-none in
     let gives = rw (c.in-Ok-Some.is ∙ ap Ok c.in-Ok-Some.field-0-is) at c.next_token.follows.holds-at-none.answers in
     let taken = token_taken _ _ _ _ was.0 c.loop-token.tokens c.loop-token.source (lexeme_of c.in-Ok-Some.token) new c.next_token.new.source was.1 gives.0 gives.2 in
-    subst (λ f. EachTextThatFits g.S.Source.reads c.args.source.now c.next_token.new.source (IsRefusedVectorsText c.args.graph.now c.args.states f)) same
-    (vectors_refused_at_token _ _ _ c.args.graph.now _ _ _ new c.next_token.new.source c.in-Err.fault c.loop-token.invariant.states taken (c.in-Err.ensures.takes was.0 was.2))
+    subst (λ f. EachTextThatFits g.S.Source.reads c.args.source.now c.next_token.new.source (IsRefusedRoundedVectorsText c.args.rounding c.args.graph.now c.args.states f)) same
+    (vectors_refused_at_token c.args.rounding _ _ _ c.args.graph.now _ _ _ new c.next_token.new.source c.in-Err.fault c.loop-token.invariant.states taken (c.in-Err.ensures.takes was.0 was.2))
 
 pub returns-in-Ok-clause-accepted : goal.returns-in-Ok-clause-accepted
 returns-in-Ok-clause-accepted g c =
     let was = c.loop-token.invariant.seen in
     let gives = rw (c.in-Ok-None.is ∙ ap Ok c.in-Ok-None.field-0-is) at c.next_token.follows.holds-at-none.answers in
-    vectors_at_end _ _ _ c.args.graph.now _ _ was.0 _ _ _ _ c.in-Ok.vectors c.loop-token.invariant.states was.1 gives.0 (c.in-Ok.ensures was.0 was.2)
+    vectors_at_end c.args.rounding _ _ _ c.args.graph.now _ _ was.0 _ _ _ _ c.in-Ok.vectors c.loop-token.invariant.states was.1 gives.0 (c.in-Ok.ensures c.args.rounding was.0 was.2)
 
 pub returns-in-Err-finish-clause-refused : goal.returns-in-Err-finish-clause-refused
 returns-in-Err-finish-clause-refused g c = λ fault is.
     let same : c.in-Err-finish.fault ≡ fault = cc in
     let was = c.loop-token.invariant.seen in
     let gives = rw (c.in-Ok-None.is ∙ ap Ok c.in-Ok-None.field-0-is) at c.next_token.follows.holds-at-none.answers in
-    subst (λ f. EachTextThatFits g.S.Source.reads c.args.source.now c.next_token.new.source (IsRefusedVectorsText c.args.graph.now c.args.states f)) same
-    (vectors_refused_at_end _ _ _ c.args.graph.now _ _ was.0 _ _ _ _ c.in-Err-finish.fault c.place.result c.loop-token.invariant.states was.1 gives.0 c.place.ensures (c.in-Err-finish.ensures was.0 was.2))
+    subst (λ f. EachTextThatFits g.S.Source.reads c.args.source.now c.next_token.new.source (IsRefusedRoundedVectorsText c.args.rounding c.args.graph.now c.args.states f)) same
+    (vectors_refused_at_end c.args.rounding _ _ _ c.args.graph.now _ _ was.0 _ _ _ _ c.in-Err-finish.fault c.place.result c.loop-token.invariant.states was.1 gives.0 c.place.ensures (c.in-Err-finish.ensures c.args.rounding was.0 was.2))
 
 pub returns-in-Err-Token-clause-refused : goal.returns-in-Err-Token-clause-refused
 returns-in-Err-Token-clause-refused g c = λ fault is.
@@ -65,8 +65,8 @@ returns-in-Err-Token-clause-refused g c = λ fault is.
     let r = c.loop-token.reading in
     let new = c.next_token.follows.lender-at-none in
     let gives = rw (c.in-Err-Token.is ∙ ap Err c.in-Err-Token.field-0-is) at c.next_token.follows.holds-at-none.answers in
-    subst (λ f. EachTextThatFits g.S.Source.reads c.args.source.now c.next_token.new.source (IsRefusedVectorsText c.args.graph.now c.args.states f)) same
-    (vectors_refused_tokens _ _ _ c.args.graph.now _ _ was.0 c.loop-token.tokens c.loop-token.source c.in-Err-Token.fault new.ahead c.next_token.new.source c.loop-token.invariant.states was.1 gives.0
+    subst (λ f. EachTextThatFits g.S.Source.reads c.args.source.now c.next_token.new.source (IsRefusedRoundedVectorsText c.args.rounding c.args.graph.now c.args.states f)) same
+    (vectors_refused_tokens c.args.rounding _ _ _ c.args.graph.now _ _ was.0 c.loop-token.tokens c.loop-token.source c.in-Err-Token.fault new.ahead c.next_token.new.source c.loop-token.invariant.states was.1 gives.0
     (possible_seen c.args.graph.now was.0 r r.some_states was.2))
 
 pub returns-in-Err-Device-clause-device : goal.returns-in-Err-Device-clause-device
