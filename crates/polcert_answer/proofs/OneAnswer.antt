@@ -10,6 +10,7 @@ use Rattle.polcert_policy.specs.declared.fault.GraphFault.{GraphFault}
 use Rattle.polcert_policy.specs.declared.fault.GraphFault.TheVariants as graphs
 use Rattle.polcert_policy.specs.declared.fault.VectorFault.{VectorFault}
 use Rattle.polcert_policy.specs.declared.fault.VectorFault.TheVariants as values
+use Rattle.polcert_text.specs.declared.number.Rounding.TheVariants.{Down}
 use Rattle.polcert_policy.specs.GraphText.{IsGraphText, IsNoGraphText}
 use Rattle.polcert_policy.specs.Vectors.{PolicyVectors}
 use Rattle.polcert_policy.specs.VectorText.{IsVectorsText, IsNoVectorsText}
@@ -59,7 +60,7 @@ module _ (model graph vectors : List ℕ) where
   pub one_vectors_refusal : (f g : VectorFault) → (f ≡ values.Memory → ⊥) → (g ≡ values.Memory → ⊥)
       → IsAnswer model graph vectors (Err (Vectors f)) → IsAnswer model graph vectors (Err (Vectors g)) → f ≡ g
   one_vectors_refusal f g f_says g_says h other =
-      vectors_refusals.one_refusal _ _ vectors f g f_says g_says (h.refusal h.meaning h.policy h.has_graph) (other.refusal h.meaning h.policy h.has_graph)
+      vectors_refusals.one_refusal Down _ _ vectors f g f_says g_says (h.refusal h.meaning h.policy h.has_graph) (other.refusal h.meaning h.policy h.has_graph)
 
   pub one_verdict : (x y : Verdict) → IsAnswer model graph vectors (Ok x) → IsAnswer model graph vectors (Ok y) → x ≡ y
   one_verdict x y h other = checks.one_verdict (controller h.0) x y (h.1 h.0) (other.1 h.0)

@@ -33,3 +33,6 @@ pub mod Answering
 pub mod Greatest
 pub mod Passing
 pub mod Figures
+pub mod Mirrored
+pub mod FromAbove
+pub mod Interval

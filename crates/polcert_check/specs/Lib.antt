@@ -7,3 +7,5 @@ pub mod Worst
 pub mod Examples
 pub mod StartWorth
 pub mod Factored
+pub mod Above
+pub mod Mirrored

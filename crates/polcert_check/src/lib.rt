@@ -1,6 +1,7 @@
 //! The check of a policy certificate: whether a policy graph earns what its vectors say.
 #![tactic(auto)]
 
+mod above;
 mod actions;
 mod buffers;
 mod earned;
@@ -20,6 +21,7 @@ mod walk;
 mod watch;
 mod worst;
 
+pub use above::AboveVerdict;
 pub use examples::{a_missing_successor, minus_one_for_each_step, runs_of_four_steps};
 pub use fault::LowerFault;
 pub use laws::{
