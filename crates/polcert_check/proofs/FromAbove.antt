@@ -9,6 +9,8 @@ use Rattle.polcert_check.specs.Shortfall.{short, PairPasses, Passes}
 use Rattle.polcert_check.specs.Verdict.{PassesBefore, IsVerdict}
 use Rattle.polcert_check.specs.Above.{PromiseAbove, AtLeast, RewardPromiseAbove, MeetsEveryHorizonAbove, MeetsHorizonAbove, PairPassesAbove, PassesAbove, PassesAboveBefore, IsAboveVerdict}
 use Rattle.polcert_check.specs.Mirrored.{mirrored, above_of}
+use Rattle.polcert_check.specs.Rows.{IsController}
+use Rattle.polcert_check.proofs.EveryHorizon.{every_horizon, passes_if_promised}
 use Rattle.polcert_check.proofs.Ring.{linear}
 use Rattle.polcert_check.proofs.Mirrored.{neg_product, mirrored_short, mirrored_runs, mirrored_cut, mirrored_weight, mirrored_weights, mirrored_worth, mirrored_earned}
 
@@ -120,3 +122,19 @@ pub horizon_above : (c : Controller) (v : Verdict) → MeetsHorizon (mirrored c)
 horizon_above c Yes h = every_horizon_above c h
 horizon_above c (Short n s amount) h = λ p. h (promise_below c 1 n s p)
 horizon_above c (NoSuccessor n s z) h = ((λ p. h.0 (promise_below c 1 n s p)), cut_run_above c n s z h.1)
+
+-- ---- where every pair passes, and only there
+mirrored_proper : (c : Controller) → IsController c → IsController (mirrored c)
+mirrored_proper c p = record {
+  cells = record { t_rows = p.cells.t_rows; o_rows = p.cells.o_rows };
+  closed = record { actions_in_range = p.closed.actions_in_range; next_in_range = p.closed.next_in_range };
+}
+
+pub horizons_above : (c : Controller) → IsController c → PassesAbove c → MeetsEveryHorizonAbove c
+horizons_above c p h = every_horizon_above c (every_horizon (mirrored c) (mirrored_proper c p) (passes_below c h))
+
+pub promised_above : (c : Controller) → IsController c → PassesAbove c → (k n s : ℕ) → n < c.nodes → s < c.cells.states → PromiseAbove c k n s
+promised_above c p h k n s nl sl = (horizons_above c p h k n s nl sl).0
+
+pub passes_if_promised_above : (c : Controller) (n s : ℕ) → PromiseAbove c 1 n s → PairPassesAbove c n s
+passes_if_promised_above c n s h = pair_above c n s (passes_if_promised (mirrored c) n s (promise_below c 1 n s h))

@@ -36,3 +36,4 @@ pub mod Figures
 pub mod Mirrored
 pub mod FromAbove
 pub mod Interval
+pub mod StartMosts

@@ -8,4 +8,5 @@ pub mod Examples
 pub mod StartWorth
 pub mod Factored
 pub mod Above
+pub mod StartMost
 pub mod Mirrored
