@@ -1,8 +1,10 @@
 //! Worked rows, from texts to verdicts.
 use polcert_cells::Cells;
-use polcert_check::{LowerFault, Verdict, check, fits, least_constant, lowered, start_worth};
+use polcert_check::{
+    LowerFault, Verdict, check, fits, least_constant, lowered, start_most, start_worth,
+};
 use polcert_model::{Model, dense_of, read_model};
-use polcert_policy::{Graph, Vectors, read_graph, read_vectors};
+use polcert_policy::{Graph, Vectors, read_graph, read_vectors, read_vectors_up};
 use std::alloc::{AllocError, Global};
 use std::test::Fail;
 
@@ -455,5 +457,49 @@ fn worths_from_the_start(rt: HostRuntime) {
     let alloc = rt.alloc();
     for (model, graph, vectors, answer) in WORTHS {
         assert_eq!(rt; worth(alloc, model, graph, vectors), Some(answer));
+    }
+}
+
+/// What no node is worth more than from the start, where the texts are read, with values rounded up, and fit.
+fn most(alloc: Global, model: &[u8], graph: &[u8], vectors: &[u8]) -> Option<i64> {
+    let model = read_model(alloc, model).ok()?;
+    let graph = read_graph(alloc, graph, model.actions(), model.observations()).ok()?;
+    let vectors = read_vectors_up(alloc, vectors, &graph, model.states()).ok()?;
+    most_of(&model, &graph, &vectors)
+}
+
+fn most_of(model: &Model, graph: &Graph, vectors: &Vectors) -> Option<i64> {
+    if fits(model, graph, vectors) {
+        Some(start_most(model, graph, vectors))
+    } else {
+        None
+    }
+}
+
+/// The texts of a model, a graph and vectors, and what no node is worth more than from the start.
+const MOSTS: [(&[u8], &[u8], &[u8], i64); 6] = [
+    (TIGER, b"0 0 0 0", b"0 -20 -20", -20_000_000),
+    (
+        TIGER,
+        b"0 0 0 0 1 0 1 1",
+        b"0 -20 -20 0 -19 -20",
+        -19_500_000,
+    ),
+    (PLAIN, b"0 0 0", b"0 -0.000001 -0.000002", -1),
+    (PLAIN, b"0 0 0 1 0 1", b"0 1 1 0 1 1", 1_000_000),
+    (MDP, b"0 0 0 0", b"0 1.3333333 0.6666667", 1_000_001),
+    (
+        b"discount: 1 values: reward states: 3 actions: 1 observations: 1 start: 0.25 0 0.75 T: 0 identity O: 0 uniform",
+        b"0 0 0 1 0 1",
+        b"0 4 9 0 0 1 -9 2",
+        1_750_000,
+    ),
+];
+
+#[test]
+fn most_from_the_start(rt: HostRuntime) {
+    let alloc = rt.alloc();
+    for (model, graph, vectors, answer) in MOSTS {
+        assert_eq!(rt; most(alloc, model, graph, vectors), Some(answer));
     }
 }
