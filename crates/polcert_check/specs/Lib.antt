@@ -7,3 +7,4 @@ pub mod Worst
 pub mod Examples
 pub mod StartWorth
 pub mod Factored
+pub mod Certificate

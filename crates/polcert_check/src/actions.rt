@@ -1,17 +1,15 @@
 //! The first pair that fails, action by action: nodes that take the same action have its rewards in common.
 ghost use Rattle.std.specs.Prelude.{◌≡◌, ◌≤◌};
-ghost use Rattle.polcert_policy.specs.Graphs.{nodes};
-ghost use Rattle.polcert_check.specs.Horizon.{Fits, controller_of};
-ghost use Rattle.polcert_check.specs.Rows.{IsController, ValuesAreWithin};
+ghost use Rattle.polcert_check.specs.Certificate.{controller};
 ghost use Rattle.polcert_check.specs.Verdict.{IsVerdict};
 ghost use Rattle.polcert_check.specs.Factored.{node_or, or_verdict, IsActionVerdict};
 
 use crate::buffers::Buffers;
+use crate::certificate::Certificate;
 use crate::pairs::{is_yes, visit};
 use crate::verdict::Verdict;
 use crate::watch::Watch;
 use polcert_model::Cells;
-use polcert_policy::{Graph, Vectors};
 
 /// The node that the verdict names, or this one where it is yes.
 fn node_or(n: usize, verdict: Verdict) -> usize
@@ -35,27 +33,22 @@ fn or_verdict(verdict: Verdict, other: Verdict) -> Verdict
 
 /// The first pair that fails, of the nodes below `limit` that take action `a`.
 fn first_of_action<C: Cells, W: Watch>(
-    cells: &C,
-    graph: &Graph,
-    vectors: &Vectors,
+    certificate: &Certificate<'_, C>,
     a: usize,
     limit: usize,
     buffers: &mut Buffers,
     watch: &mut W,
 ) -> Verdict
-    requires fits { Fits (C.table cells.now) graph.now vectors.now }
-    requires proper { IsController (controller_of (C.table cells.now) graph.now vectors.now) }
-    requires values { ValuesAreWithin (controller_of (C.table cells.now) graph.now vectors.now) }
-    requires limit { limit ≤ nodes graph.now }
-    ensures { IsActionVerdict (controller_of (C.table cells.now) graph.now vectors.now) a limit result }
+    requires limit { limit ≤ (controller certificate.now).nodes }
+    ensures { IsActionVerdict (controller certificate.now) a limit result }
 {
     buffers.clear();
     for n in 0..limit {
-        let found = visit(cells, graph, vectors, a, n, buffers);
+        let found = visit(certificate, a, n, buffers);
         if !is_yes(found) {
             return found;
         }
-        if graph.action(n) == a {
+        if certificate.graph.action(n) == a {
             watch.node_done();
         }
     }
@@ -64,22 +57,17 @@ fn first_of_action<C: Cells, W: Watch>(
 
 /// Yes, or the first pair of a node and a state that doesn't pass.
 pub(crate) fn first_failing<C: Cells, W: Watch>(
-    cells: &C,
-    graph: &Graph,
-    vectors: &Vectors,
+    certificate: &Certificate<'_, C>,
     watch: &mut W,
 ) -> Verdict
-    requires { Fits (C.table cells.now) graph.now vectors.now }
-    ensures { IsVerdict (controller_of (C.table cells.now) graph.now vectors.now) result }
+    ensures { IsVerdict (controller certificate.now) result }
 {
-    let nodes = graph.nodes();
-    let vector_count = vectors.nodes();
-    prove!(nodes == vector_count);
+    let nodes = certificate.graph.nodes();
     let mut buffers = Buffers::new();
     let mut answer = Verdict::Yes;
-    for a in 0..cells.actions() {
+    for a in 0..certificate.cells.actions() {
         let limit = node_or(nodes, answer);
-        let found = first_of_action(cells, graph, vectors, a, limit, &mut buffers, watch);
+        let found = first_of_action(certificate, a, limit, &mut buffers, watch);
         answer = or_verdict(found, answer);
     }
     answer

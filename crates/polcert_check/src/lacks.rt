@@ -2,16 +2,18 @@
 ghost use Rattle.std.specs.Prelude.{◌≡◌, ◌<◌, ◌≤◌, length};
 ghost use Rattle.polcert_policy.specs.Graphs.{nodes};
 ghost use Rattle.polcert_policy.specs.Vectors.{PolicyVectors};
-ghost use Rattle.polcert_check.specs.Horizon.{Fits, controller_of};
+ghost use Rattle.polcert_check.specs.Certificate.{controller};
+ghost use Rattle.polcert_check.specs.Horizon.{controller_of};
 ghost use Rattle.polcert_check.specs.Verdict.{IsLeastLacking};
 ghost use Rattle.polcert_check.specs.Worst.{IsFirstLacking};
 ghost use Rattle.polcert_check.specs.Factored.{IsLeastOf, Misses, AreMissing};
 
+use crate::certificate::Certificate;
 use crate::ends::lesser;
 use crate::walk::{next_end, next_seen};
 use crate::watch::Watch;
 use polcert_cells::{Cells, MOST_STATES};
-use polcert_policy::{Graph, Vectors};
+use polcert_policy::Graph;
 
 /// The least observation that can be received behind end state `e` and for which node `n` has no successor.
 fn missing_behind<C: Cells>(cells: &C, graph: &Graph, n: usize, e: usize) -> Option<usize>
@@ -82,19 +84,22 @@ pub(crate) struct Lack {
 
 /// The first pair of a node and a state that lacks an observation, and the least that it lacks.
 pub(crate) fn first_lacking<C: Cells, W: Watch>(
-    cells: &C,
-    graph: &Graph,
-    vectors: &Vectors,
+    certificate: &Certificate<'_, C>,
     watch: &mut W,
 ) -> Option<Lack>
-    requires fits { Fits (C.table cells.now) graph.now vectors.now }
-    ensures { IsFirstLacking (controller_of (C.table cells.now) graph.now vectors.now) result }
+    ensures { IsFirstLacking (controller certificate.now) result }
 {
     let mut missing = [None; MOST_STATES];
-    for n in 0..graph.nodes() {
-        fill_missing(cells, graph, n, &mut missing);
-        for s in 0..cells.states() {
-            if let Some(observation) = lacking(cells, graph, n, s, &missing) {
+    for n in 0..certificate.graph.nodes() {
+        fill_missing(certificate.cells, certificate.graph, n, &mut missing);
+        for s in 0..certificate.cells.states() {
+            if let Some(observation) = lacking(
+                certificate.cells,
+                certificate.graph,
+                n,
+                s,
+                &missing,
+            ) {
                 return Some(Lack {
                     node: n,
                     state: s,

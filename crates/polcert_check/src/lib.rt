@@ -3,6 +3,7 @@
 
 mod actions;
 mod buffers;
+mod certificate;
 mod earned;
 mod ends;
 mod examples;

@@ -1,12 +1,13 @@
 //! The least constant by which all vectors can be lowered to pass.
 ghost use Rattle.std.specs.Prelude.{◌≡◌, ℕ, ◌+◌, ◌*◌, ◌^◌, ◌<◌, ◌≤◌, pos, neg_ℤ, ◌+ℤ◌, ◌⊎◌, ◌↔◌, IsTrue, IfOk, IfErr};
 ghost use Rattle.polcert_policy.specs.Vectors.{IsInRange, shifted_by};
+ghost use Rattle.polcert_check.specs.Certificate.{controller};
 ghost use Rattle.polcert_check.specs.Horizon.{Fits, controller_of, one};
 ghost use Rattle.polcert_check.specs.Shortfall.{Passes};
-ghost use Rattle.polcert_check.specs.Rows.{IsController};
 ghost use Rattle.polcert_check.specs.Lower.{NoneLacks, IsLeast, CanLower, IsLeastConstant, HasLeastConstant, IsNotLowered, RefusesSmallAmount};
 ghost use Rattle.polcert_check.specs.declared.fault.LowerFault.TheVariants.{Memory};
 
+use crate::certificate::Certificate;
 use crate::fault::LowerFault;
 use crate::lacks::first_lacking;
 use crate::verdict::{Verdict, check_watched};
@@ -49,39 +50,41 @@ fn stays_in_range(vectors: &Vectors, by: u128) -> bool
 }
 
 /// The least constant where the discount is below 1, whether or not it leaves the values in range.
-fn candidate<C: Cells, W: Watch>(cells: &C, graph: &Graph, vectors: &Vectors, watch: &mut W) -> u128
-    requires fits { Fits (C.table cells.now) graph.now vectors.now }
-    requires proper { IsController (controller_of (C.table cells.now) graph.now vectors.now) }
-    requires none { NoneLacks (controller_of (C.table cells.now) graph.now vectors.now) }
-    requires discount { (C.table cells.now).discount < one }
-    ensures { IsLeast (controller_of (C.table cells.now) graph.now vectors.now) result }
+fn candidate<C: Cells, W: Watch>(certificate: &Certificate<'_, C>, watch: &mut W) -> u128
+    requires none { NoneLacks (controller certificate.now) }
+    requires discount { (controller certificate.now).cells.discount < one }
+    ensures { IsLeast (controller certificate.now) result }
 {
-    let scale = (cells.t_scale() * cells.o_scale()) as u128;
-    watch.begin(graph.nodes());
-    let worst = worst_short(cells, graph, vectors, watch);
+    let scale = (certificate.cells.t_scale() * certificate.cells.o_scale()) as u128;
+    watch.begin(certificate.graph.nodes());
+    let worst = worst_short(certificate, watch);
     watch.end();
-    ceil_quotient(worst, scale * (1_000_000 - cells.discount()) as u128)
+    ceil_quotient(
+        worst,
+        scale * (1_000_000 - certificate.cells.discount()) as u128,
+    )
 }
 
 /// The least constant by which the vectors pass, whether or not it leaves the values in range.
 fn least_passing<C: Cells, W: Watch>(
-    cells: &C,
-    graph: &Graph,
-    vectors: &Vectors,
+    certificate: &Certificate<'_, C>,
     watch: &mut W,
 ) -> Result<u128, LowerFault>
-    requires fits { Fits (C.table cells.now) graph.now vectors.now }
-    requires proper { IsController (controller_of (C.table cells.now) graph.now vectors.now) }
-    requires none { NoneLacks (controller_of (C.table cells.now) graph.now vectors.now) }
-    ensures least { IfOk result (IsLeast (controller_of (C.table cells.now) graph.now vectors.now)) }
+    requires none { NoneLacks (controller certificate.now) }
+    ensures least { IfOk result (IsLeast (controller certificate.now)) }
     ensures refused { IfErr result
-        (IsNotLowered (controller_of (C.table cells.now) graph.now vectors.now) vectors.now) }
-    ensures small { IfErr result (RefusesSmallAmount (controller_of (C.table cells.now) graph.now vectors.now)) }
+        (IsNotLowered (controller certificate.now) certificate.now.vectors.now) }
+    ensures small { IfErr result (RefusesSmallAmount (controller certificate.now)) }
 {
-    if cells.discount() < 1_000_000 {
-        return Ok(candidate(cells, graph, vectors, watch));
+    if certificate.cells.discount() < 1_000_000 {
+        return Ok(candidate(certificate, watch));
     }
-    match check_watched(cells, graph, vectors, watch) {
+    match check_watched(
+        certificate.cells,
+        certificate.graph,
+        certificate.vectors,
+        watch,
+    ) {
         Verdict::Yes => Ok(0),
         Verdict::Short {
             node,
@@ -117,6 +120,35 @@ pub fn least_constant<C: Cells>(
     least_watched(cells, graph, vectors, &mut Unwatched)
 }
 
+/// The same of a certificate.
+fn least_of<C: Cells, W: Watch>(
+    certificate: &Certificate<'_, C>,
+    watch: &mut W,
+) -> Result<i64, LowerFault>
+    ensures least { IfOk result
+        (IsLeastConstant (controller certificate.now) certificate.now.vectors.now) }
+    ensures refused { IfErr result
+        (IsNotLowered (controller certificate.now) certificate.now.vectors.now) }
+    ensures small { IfErr result (RefusesSmallAmount (controller certificate.now)) }
+{
+    watch.begin(certificate.graph.nodes());
+    let lack = first_lacking(certificate, watch);
+    watch.end();
+    if let Some(lack) = lack {
+        return Err(LowerFault::NoSuccessor {
+            node: lack.node,
+            state: lack.state,
+            observation: lack.observation,
+        });
+    }
+    let by = least_passing(certificate, watch)?;
+    if stays_in_range(certificate.vectors, by) {
+        Ok(by as i64)
+    } else {
+        Err(LowerFault::OutOfRange)
+    }
+}
+
 /// The same, and `watch` is told how far it is: first whether a node lacks a successor, then how short each is.
 fn least_watched<C: Cells, W: Watch>(
     cells: &C,
@@ -131,25 +163,7 @@ fn least_watched<C: Cells, W: Watch>(
         (IsNotLowered (controller_of (C.table cells.now) graph.now vectors.now) vectors.now) }
     ensures small { IfErr result (RefusesSmallAmount (controller_of (C.table cells.now) graph.now vectors.now)) }
 {
-    let nodes = graph.nodes();
-    let vector_count = vectors.nodes();
-    prove!(nodes == vector_count);
-    watch.begin(nodes);
-    let lack = first_lacking(cells, graph, vectors, watch);
-    watch.end();
-    if let Some(lack) = lack {
-        return Err(LowerFault::NoSuccessor {
-            node: lack.node,
-            state: lack.state,
-            observation: lack.observation,
-        });
-    }
-    let by = least_passing(cells, graph, vectors, watch)?;
-    if stays_in_range(vectors, by) {
-        Ok(by as i64)
-    } else {
-        Err(LowerFault::OutOfRange)
-    }
+    least_of(&Certificate::new(cells, graph, vectors), watch)
 }
 
 /// The least constant, in millionths, by which all vectors can be lowered so that they pass the check, and the vectors

@@ -1,19 +1,18 @@
 //! Whether a pair of a node and a state passes, from what was added up for its action and its node.
 ghost use Rattle.std.specs.Prelude.{◌≡◌, ◌*◌, ◌<◌, ◌≤◌, pos, ◌+ℤ◌, ◌-ℤ◌, ◌*ℤ◌, unsigned_abs, length, IsTrue, ◌↔◌};
 ghost use Rattle.polcert_text.specs.Numbers.{largest};
-ghost use Rattle.polcert_policy.specs.Graphs.{nodes};
-ghost use Rattle.polcert_check.specs.Horizon.{Fits, controller_of, one};
-ghost use Rattle.polcert_check.specs.Rows.{IsController, ValuesAreWithin};
+ghost use Rattle.polcert_check.specs.Certificate.{controller};
+ghost use Rattle.polcert_check.specs.Horizon.{one};
 ghost use Rattle.polcert_check.specs.declared.verdict.Verdict.TheVariants.{Yes};
 ghost use Rattle.polcert_check.specs.Factored.{reward_ahead, AreRewards, AreEnds, IsPairVerdict, IsNodeVerdict, IsVisit};
 
 use crate::buffers::Buffers;
+use crate::certificate::Certificate;
 use crate::earned::weighed;
 use crate::ends::{Ends, steps_ahead};
 use crate::shortfall::scaled_value;
 use crate::verdict::Verdict;
 use polcert_model::Cells;
-use polcert_policy::{Graph, Vectors};
 
 /// How far a value is above what it is backed by: what its action earns, and what its node expects.
 pub(crate) fn amount_above<C: Cells>(cells: &C, value: i64, earned: i128, expected: i128) -> i128
@@ -30,24 +29,20 @@ pub(crate) fn amount_above<C: Cells>(cells: &C, value: i64, earned: i128, expect
 
 /// Whether node `n` passes at state `s`; else why it doesn't.
 fn at_pair<C: Cells>(
-    cells: &C,
-    graph: &Graph,
-    vectors: &Vectors,
+    certificate: &Certificate<'_, C>,
     n: usize,
     s: usize,
     earned: i128,
     ends: Ends<'_>,
 ) -> Verdict
-    requires fits { Fits (C.table cells.now) graph.now vectors.now }
-    requires node { n < nodes graph.now }
-    requires start { s < (C.table cells.now).states }
-    requires proper { IsController (controller_of (C.table cells.now) graph.now vectors.now) }
-    requires values { ValuesAreWithin (controller_of (C.table cells.now) graph.now vectors.now) }
-    requires earned { earned ≡ reward_ahead (C.table cells.now) ((controller_of (C.table cells.now) graph.now vectors.now).action n) s }
-    requires ends { AreEnds (controller_of (C.table cells.now) graph.now vectors.now) n ends.worths.now ends.missing.now }
-    ensures { IsPairVerdict (controller_of (C.table cells.now) graph.now vectors.now) n s result }
+    requires node { n < (controller certificate.now).nodes }
+    requires start { s < (controller certificate.now).cells.states }
+    requires earned { earned ≡ reward_ahead (controller certificate.now).cells ((controller certificate.now).action n) s }
+    requires ends { AreEnds (controller certificate.now) n ends.worths.now ends.missing.now }
+    ensures { IsPairVerdict (controller certificate.now) n s result }
 {
-    let steps = steps_ahead(cells, graph.action(n), s, ends);
+    let cells = certificate.cells;
+    let steps = steps_ahead(cells, certificate.graph.action(n), s, ends);
     if let Some(observation) = steps.missing {
         return Verdict::NoSuccessor {
             node: n,
@@ -55,7 +50,7 @@ fn at_pair<C: Cells>(
             observation,
         };
     }
-    let amount = amount_above(cells, vectors.at(n, s), earned, steps.worth);
+    let amount = amount_above(cells, certificate.vectors.at(n, s), earned, steps.worth);
     if amount > 0 {
         return Verdict::Short {
             node: n,
@@ -78,27 +73,22 @@ pub(crate) fn is_yes(verdict: Verdict) -> bool
 
 /// The first state at which node `n` doesn't pass.
 fn first_state<C: Cells>(
-    cells: &C,
-    graph: &Graph,
-    vectors: &Vectors,
+    certificate: &Certificate<'_, C>,
     n: usize,
     buffers: &mut Buffers,
 ) -> Verdict
-    requires fits { Fits (C.table cells.now) graph.now vectors.now }
-    requires node { n < nodes graph.now }
-    requires proper { IsController (controller_of (C.table cells.now) graph.now vectors.now) }
-    requires values { ValuesAreWithin (controller_of (C.table cells.now) graph.now vectors.now) }
-    requires ends { AreEnds (controller_of (C.table cells.now) graph.now vectors.now) n buffers.old.worths buffers.old.missing }
-    requires within { buffers.old.filled ≤ (C.table cells.now).states }
-    requires kept { AreRewards (C.table cells.now) ((controller_of (C.table cells.now) graph.now vectors.now).action n) buffers.old.sums buffers.old.filled }
-    ensures verdict { IsNodeVerdict (controller_of (C.table cells.now) graph.now vectors.now) n result }
-    ensures within { buffers.new.filled ≤ (C.table cells.now).states }
-    ensures kept { AreRewards (C.table cells.now) ((controller_of (C.table cells.now) graph.now vectors.now).action n) buffers.new.sums buffers.new.filled }
+    requires node { n < (controller certificate.now).nodes }
+    requires ends { AreEnds (controller certificate.now) n buffers.old.worths buffers.old.missing }
+    requires within { buffers.old.filled ≤ (controller certificate.now).cells.states }
+    requires kept { AreRewards (controller certificate.now).cells ((controller certificate.now).action n) buffers.old.sums buffers.old.filled }
+    ensures verdict { IsNodeVerdict (controller certificate.now) n result }
+    ensures within { buffers.new.filled ≤ (controller certificate.now).cells.states }
+    ensures kept { AreRewards (controller certificate.now).cells ((controller certificate.now).action n) buffers.new.sums buffers.new.filled }
 {
-    let a = graph.action(n);
-    for s in 0..cells.states() {
-        buffers.keep_reward(cells, a, s);
-        let found = at_pair(cells, graph, vectors, n, s, buffers.sums[s], buffers.ends());
+    let a = certificate.graph.action(n);
+    for s in 0..certificate.cells.states() {
+        buffers.keep_reward(certificate.cells, a, s);
+        let found = at_pair(certificate, n, s, buffers.sums[s], buffers.ends());
         if !is_yes(found) {
             return found;
         }
@@ -107,48 +97,34 @@ fn first_state<C: Cells>(
 }
 
 /// The first state at which node `n` doesn't pass, from the graph.
-fn at_node<C: Cells>(
-    cells: &C,
-    graph: &Graph,
-    vectors: &Vectors,
-    n: usize,
-    buffers: &mut Buffers,
-) -> Verdict
-    requires fits { Fits (C.table cells.now) graph.now vectors.now }
-    requires node { n < nodes graph.now }
-    requires proper { IsController (controller_of (C.table cells.now) graph.now vectors.now) }
-    requires values { ValuesAreWithin (controller_of (C.table cells.now) graph.now vectors.now) }
-    requires within { buffers.old.filled ≤ (C.table cells.now).states }
-    requires kept { AreRewards (C.table cells.now) ((controller_of (C.table cells.now) graph.now vectors.now).action n) buffers.old.sums buffers.old.filled }
-    ensures verdict { IsNodeVerdict (controller_of (C.table cells.now) graph.now vectors.now) n result }
-    ensures within { buffers.new.filled ≤ (C.table cells.now).states }
-    ensures kept { AreRewards (C.table cells.now) ((controller_of (C.table cells.now) graph.now vectors.now).action n) buffers.new.sums buffers.new.filled }
+fn at_node<C: Cells>(certificate: &Certificate<'_, C>, n: usize, buffers: &mut Buffers) -> Verdict
+    requires node { n < (controller certificate.now).nodes }
+    requires within { buffers.old.filled ≤ (controller certificate.now).cells.states }
+    requires kept { AreRewards (controller certificate.now).cells ((controller certificate.now).action n) buffers.old.sums buffers.old.filled }
+    ensures verdict { IsNodeVerdict (controller certificate.now) n result }
+    ensures within { buffers.new.filled ≤ (controller certificate.now).cells.states }
+    ensures kept { AreRewards (controller certificate.now).cells ((controller certificate.now).action n) buffers.new.sums buffers.new.filled }
 {
-    buffers.fill_ends(cells, graph, vectors, n);
-    first_state(cells, graph, vectors, n, buffers)
+    buffers.fill_ends(certificate, n);
+    first_state(certificate, n, buffers)
 }
 
 /// The first state at which node `n` doesn't pass, if the node takes action `a`.
 pub(crate) fn visit<C: Cells>(
-    cells: &C,
-    graph: &Graph,
-    vectors: &Vectors,
+    certificate: &Certificate<'_, C>,
     a: usize,
     n: usize,
     buffers: &mut Buffers,
 ) -> Verdict
-    requires fits { Fits (C.table cells.now) graph.now vectors.now }
-    requires node { n < nodes graph.now }
-    requires proper { IsController (controller_of (C.table cells.now) graph.now vectors.now) }
-    requires values { ValuesAreWithin (controller_of (C.table cells.now) graph.now vectors.now) }
-    requires within { buffers.old.filled ≤ (C.table cells.now).states }
-    requires kept { AreRewards (C.table cells.now) a buffers.old.sums buffers.old.filled }
-    ensures verdict { IsVisit (controller_of (C.table cells.now) graph.now vectors.now) a n result }
-    ensures within { buffers.new.filled ≤ (C.table cells.now).states }
-    ensures kept { AreRewards (C.table cells.now) a buffers.new.sums buffers.new.filled }
+    requires node { n < (controller certificate.now).nodes }
+    requires within { buffers.old.filled ≤ (controller certificate.now).cells.states }
+    requires kept { AreRewards (controller certificate.now).cells a buffers.old.sums buffers.old.filled }
+    ensures verdict { IsVisit (controller certificate.now) a n result }
+    ensures within { buffers.new.filled ≤ (controller certificate.now).cells.states }
+    ensures kept { AreRewards (controller certificate.now).cells a buffers.new.sums buffers.new.filled }
 {
-    if graph.action(n) != a {
+    if certificate.graph.action(n) != a {
         return Verdict::Yes;
     }
-    at_node(cells, graph, vectors, n, buffers)
+    at_node(certificate, n, buffers)
 }

@@ -3,6 +3,7 @@ ghost use Rattle.polcert_check.specs.Horizon.{Fits, controller_of, MeetsHorizon}
 ghost use Rattle.polcert_check.specs.Verdict.{IsVerdict, NamesSmallAmount};
 
 use crate::actions::first_failing;
+use crate::certificate::Certificate;
 use crate::watch::{Unwatched, Watch};
 use polcert_model::Cells;
 use polcert_policy::{Graph, Vectors};
@@ -57,11 +58,9 @@ pub fn check_watched<C: Cells, W: Watch>(
     ensures horizon { MeetsHorizon (controller_of (C.table cells.now) graph.now vectors.now) result }
     ensures small { NamesSmallAmount (controller_of (C.table cells.now) graph.now vectors.now) result }
 {
-    let nodes = graph.nodes();
-    let vector_count = vectors.nodes();
-    prove!(nodes == vector_count);
-    watch.begin(nodes);
-    let verdict = first_failing(cells, graph, vectors, watch);
+    let certificate = Certificate::new(cells, graph, vectors);
+    watch.begin(graph.nodes());
+    let verdict = first_failing(&certificate, watch);
     watch.end();
     verdict
 }

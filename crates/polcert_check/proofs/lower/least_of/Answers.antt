@@ -1,0 +1,16 @@
+use Rattle.std.proofs.Common.{◌≡◌, pos, FitsSigned, w64, refl, true, false}
+use Rattle.std.proofs.lemmas.Int.{to_z_pos}
+use Rattle.polcert_check.proofs.Least.{constant_fits}
+use Rattle.polcert_check.proofs.lower.least_of.Goals as goal
+
+pub overflow_cast-result : goal.overflow_cast-result
+overflow_cast-result g c = constant_fits c.args.certificate.now.vectors.now c.args.certificate.now.are_proper c.in_ok-by.by (c.if-stays_in_range.ensures.0 refl)
+
+pub returns-then-stays_in_range-clause-least : goal.returns-then-stays_in_range-clause-least
+returns-then-stays_in_range-clause-least g c =
+    let fits : FitsSigned w64 (pos c.in_ok-by.by) = constant_fits c.args.certificate.now.vectors.now c.args.certificate.now.are_proper c.in_ok-by.by (c.if-stays_in_range.ensures.0 refl) in
+    (c.in_ok-by.by, to_z_pos w64 c.in_ok-by.by fits.sfits, c.in_ok-by.ensures.least, c.if-stays_in_range.ensures.0 refl)
+
+pub returns-else-stays_in_range-clause-refused : goal.returns-else-stays_in_range-clause-refused
+returns-else-stays_in_range-clause-refused g c =
+    (c.in_default.ensures, (c.in_ok-by.by, c.in_ok-by.ensures.least, (λ h. let e : false ≡ true = c.if-stays_in_range.ensures.1 h in cc)))
