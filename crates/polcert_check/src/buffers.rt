@@ -2,7 +2,7 @@
 ghost use Rattle.std.specs.Prelude.{◌≡◌, ◌<◌, ◌≤◌, ℕ, false, None, length, slice_index_or};
 ghost use Rattle.polcert_cells.specs.Elements.{most_states, most_observations};
 ghost use Rattle.polcert_check.specs.Certificate.{controller};
-ghost use Rattle.polcert_check.specs.Factored.{AreEnds, AreRewards};
+ghost use Rattle.polcert_check.specs.Factored.{AreEnds, AreKept};
 
 use crate::certificate::Certificate;
 use crate::earned::reward_ahead;
@@ -57,11 +57,9 @@ impl Buffers {
         requires action { a < (C.table cells.now).actions }
         requires start { s < (C.table cells.now).states }
         requires before { s ≤ self.old.filled }
-        requires within { self.old.filled ≤ (C.table cells.now).states }
-        requires kept { AreRewards (C.table cells.now) a self.old.sums self.old.filled }
+        requires kept { AreKept (C.table cells.now) a self.old.sums self.old.filled }
         ensures here { s < self.new.filled }
-        ensures within { self.new.filled ≤ (C.table cells.now).states }
-        ensures kept { AreRewards (C.table cells.now) a self.new.sums self.new.filled }
+        ensures kept { AreKept (C.table cells.now) a self.new.sums self.new.filled }
         ensures worths { self.new.worths ≡ self.old.worths }
         ensures missing { self.new.missing ≡ self.old.missing }
     {

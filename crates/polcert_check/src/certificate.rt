@@ -2,7 +2,7 @@
 ghost use Rattle.std.specs.Prelude.{◌≡◌};
 ghost use Rattle.polcert_policy.specs.Vectors.{AreProperVectors};
 ghost use Rattle.polcert_check.specs.Horizon.{Fits, controller_of};
-ghost use Rattle.polcert_check.specs.Rows.{IsController, ValuesAreWithin};
+ghost use Rattle.polcert_check.specs.Ranges.{IsController, ValuesAreWithin};
 
 use polcert_model::Cells;
 use polcert_policy::{Graph, Vectors};

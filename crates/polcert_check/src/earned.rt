@@ -1,7 +1,7 @@
 //! What an action earns at a state, added up once for all nodes that take it.
-ghost use Rattle.std.specs.Prelude.{◌≡◌, ◌*◌, ◌<◌, ◌≤◌, ◌+◌, pos, ◌*ℤ◌, unsigned_abs, length};
+ghost use Rattle.std.specs.Prelude.{◌≡◌, ◌*◌, ◌<◌, ◌≤◌, pos, ◌*ℤ◌, unsigned_abs, length};
 ghost use Rattle.std.specs.Option.{ForSome};
-ghost use Rattle.polcert_check.specs.Rows.{most_sum};
+ghost use Rattle.polcert_check.specs.Ranges.{most_sum};
 ghost use Rattle.polcert_check.specs.Factored.{reward_behind, reward_ahead, AreRewardsBehind};
 
 use crate::ends::Sight;

@@ -1,5 +1,5 @@
 //! What a node expects behind each end state, added up once for all states that it may start in.
-ghost use Rattle.std.specs.Prelude.{◌≡◌, ◌<◌, ◌≤◌, ◌+◌, pos, ◌*ℤ◌, ℕ, false, None, length, slice_index_or, Option};
+ghost use Rattle.std.specs.Prelude.{◌≡◌, ◌<◌, ◌≤◌, pos, ◌*ℤ◌, ℕ, false, None, length, slice_index_or, Option};
 ghost use Rattle.polcert_check.specs.Certificate.{controller};
 ghost use Rattle.polcert_check.specs.Horizon.{sum_below};
 ghost use Rattle.polcert_check.specs.Factored.{value_term, value_behind, IsLeastOf, Misses, IsMissedAt, IsAhead, IsLesser, AreWithin};

@@ -1,14 +1,14 @@
 //! The check of a policy certificate: whether a policy graph earns what its vectors say.
 #![tactic(auto)]
 
-mod actions;
 mod buffers;
 mod certificate;
 mod earned;
 mod ends;
 mod examples;
 mod fault;
-mod lacks;
+mod findings;
+mod followed;
 mod laws;
 mod lower;
 mod pairs;
@@ -16,10 +16,10 @@ mod parts;
 mod rounded;
 mod shortfall;
 mod start;
+mod survey;
 mod verdict;
 mod walk;
 mod watch;
-mod worst;
 
 pub use examples::{a_missing_successor, minus_one_for_each_step, runs_of_four_steps};
 pub use fault::LowerFault;

@@ -5,14 +5,17 @@ ghost use Rattle.polcert_check.specs.Certificate.{controller};
 ghost use Rattle.polcert_check.specs.Horizon.{Fits, controller_of, one};
 ghost use Rattle.polcert_check.specs.Shortfall.{Passes};
 ghost use Rattle.polcert_check.specs.Lower.{NoneLacks, IsLeast, CanLower, IsLeastConstant, HasLeastConstant, IsNotLowered, RefusesSmallAmount};
+ghost use Rattle.polcert_check.specs.Findings.{IsFound, IsPair, IsRefused, IsWorstOf};
 ghost use Rattle.polcert_check.specs.declared.fault.LowerFault.TheVariants.{Memory};
+ghost use Rattle.polcert_check.specs.declared.findings.Aim.TheVariants.{Lowering};
+ghost use Rattle.polcert_check.specs.declared.verdict.Verdict.TheVariants.{Yes};
 
 use crate::certificate::Certificate;
 use crate::fault::LowerFault;
-use crate::lacks::first_lacking;
-use crate::verdict::{Verdict, check_watched};
+use crate::findings::{Aim, Findings};
+use crate::survey::survey;
+use crate::verdict::Verdict;
 use crate::watch::{Unwatched, Watch};
-use crate::worst::worst_short;
 use polcert_model::Cells;
 use polcert_policy::{Graph, Vectors};
 use std::alloc::Global;
@@ -50,42 +53,24 @@ fn stays_in_range(vectors: &Vectors, by: u128) -> bool
 }
 
 /// The least constant where the discount is below 1, whether or not it leaves the values in range.
-fn candidate<C: Cells, W: Watch>(certificate: &Certificate<'_, C>, watch: &mut W) -> u128
+fn candidate<C: Cells>(certificate: &Certificate<'_, C>, worst: u128) -> u128
     requires none { NoneLacks (controller certificate.now) }
+    requires worst { IsWorstOf (controller certificate.now) (IsPair (controller certificate.now)) worst }
     requires discount { (controller certificate.now).cells.discount < one }
     ensures { IsLeast (controller certificate.now) result }
 {
-    let scale = (certificate.cells.t_scale() * certificate.cells.o_scale()) as u128;
-    watch.begin(certificate.graph.nodes());
-    let worst = worst_short(certificate, watch);
-    watch.end();
-    ceil_quotient(
-        worst,
-        scale * (1_000_000 - certificate.cells.discount()) as u128,
-    )
+    let cells = certificate.cells;
+    let scale = (cells.t_scale() * cells.o_scale()) as u128;
+    ceil_quotient(worst, scale * (1_000_000 - cells.discount()) as u128)
 }
 
-/// The least constant by which the vectors pass, whether or not it leaves the values in range.
-fn least_passing<C: Cells, W: Watch>(
-    certificate: &Certificate<'_, C>,
-    watch: &mut W,
-) -> Result<u128, LowerFault>
-    requires none { NoneLacks (controller certificate.now) }
-    ensures least { IfOk result (IsLeast (controller certificate.now)) }
-    ensures refused { IfErr result
-        (IsNotLowered (controller certificate.now) certificate.now.vectors.now) }
-    ensures small { IfErr result (RefusesSmallAmount (controller certificate.now)) }
+/// Why vectors are not lowered that have this verdict, where no lowering changes it.
+fn refused(verdict: Verdict) -> Result<(), LowerFault>
+    ensures passes { IfOk result (λ _. verdict ≡ Yes) }
+    ensures refused { IfErr result (IsRefused verdict) }
 {
-    if certificate.cells.discount() < 1_000_000 {
-        return Ok(candidate(certificate, watch));
-    }
-    match check_watched(
-        certificate.cells,
-        certificate.graph,
-        certificate.vectors,
-        watch,
-    ) {
-        Verdict::Yes => Ok(0),
+    match verdict {
+        Verdict::Yes => Ok(()),
         Verdict::Short {
             node,
             state,
@@ -95,8 +80,36 @@ fn least_passing<C: Cells, W: Watch>(
             state,
             amount,
         }),
-        Verdict::NoSuccessor { .. } => unreachable!(),
+        Verdict::NoSuccessor {
+            node,
+            state,
+            observation,
+        } => Err(LowerFault::NoSuccessor {
+            node,
+            state,
+            observation,
+        }),
     }
+}
+
+/// The least constant by which the vectors pass, whether or not it leaves the values in range.
+fn least_passing<C: Cells>(
+    certificate: &Certificate<'_, C>,
+    findings: Findings,
+) -> Result<u128, LowerFault>
+    requires aim { findings.aim ≡ Lowering }
+    requires found { IsFound (controller certificate.now) (IsPair (controller certificate.now)) findings }
+    ensures least { IfOk result (IsLeast (controller certificate.now)) }
+    ensures none { IfOk result (λ _. NoneLacks (controller certificate.now)) }
+    ensures refused { IfErr result
+        (IsNotLowered (controller certificate.now) certificate.now.vectors.now) }
+{
+    refused(findings.first)?;
+    if certificate.cells.discount() < 1_000_000 {
+        return Ok(candidate(certificate, findings.worst));
+    }
+    refused(findings.short)?;
+    Ok(0)
 }
 
 /// The least constant, in millionths, by which all vectors can be lowered so that they pass the check.
@@ -131,17 +144,8 @@ fn least_of<C: Cells, W: Watch>(
         (IsNotLowered (controller certificate.now) certificate.now.vectors.now) }
     ensures small { IfErr result (RefusesSmallAmount (controller certificate.now)) }
 {
-    watch.begin(certificate.graph.nodes());
-    let lack = first_lacking(certificate, watch);
-    watch.end();
-    if let Some(lack) = lack {
-        return Err(LowerFault::NoSuccessor {
-            node: lack.node,
-            state: lack.state,
-            observation: lack.observation,
-        });
-    }
-    let by = least_passing(certificate, watch)?;
+    let findings = survey(certificate, Aim::Lowering, watch);
+    let by = least_passing(certificate, findings)?;
     if stays_in_range(certificate.vectors, by) {
         Ok(by as i64)
     } else {
@@ -149,7 +153,7 @@ fn least_of<C: Cells, W: Watch>(
     }
 }
 
-/// The same, and `watch` is told how far it is: first whether a node lacks a successor, then how short each is.
+/// The same, and `watch` is told how far it is: of each node once.
 fn least_watched<C: Cells, W: Watch>(
     cells: &C,
     graph: &Graph,
@@ -196,7 +200,7 @@ pub fn lowered<C: Cells>(
     lowered_watched(alloc, cells, graph, vectors, &mut Unwatched)
 }
 
-/// The same, and `watch` is told how far it is: over all nodes, whether one lacks a successor, and then again how short each is.
+/// The same, and `watch` is told how far it is: of each node once.
 pub fn lowered_watched<C: Cells, W: Watch>(
     alloc: Global,
     cells: &C,

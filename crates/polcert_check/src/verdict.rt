@@ -2,8 +2,9 @@
 ghost use Rattle.polcert_check.specs.Horizon.{Fits, controller_of, MeetsHorizon};
 ghost use Rattle.polcert_check.specs.Verdict.{IsVerdict, NamesSmallAmount};
 
-use crate::actions::first_failing;
 use crate::certificate::Certificate;
+use crate::findings::Aim;
+use crate::survey::survey;
 use crate::watch::{Unwatched, Watch};
 use polcert_model::Cells;
 use polcert_policy::{Graph, Vectors};
@@ -59,8 +60,5 @@ pub fn check_watched<C: Cells, W: Watch>(
     ensures small { NamesSmallAmount (controller_of (C.table cells.now) graph.now vectors.now) result }
 {
     let certificate = Certificate::new(cells, graph, vectors);
-    watch.begin(graph.nodes());
-    let verdict = first_failing(&certificate, watch);
-    watch.end();
-    verdict
+    survey(&certificate, Aim::Check, watch).first
 }

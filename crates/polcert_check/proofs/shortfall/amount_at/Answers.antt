@@ -1,79 +1,44 @@
-use Rattle.std.proofs.Common.{rules, arith, refl, ◌≡◌, FitsSigned, to_z, w64}
+use Rattle.std.proofs.Common.{rules, arith, ◌≡◌, ◌∙◌, List, Option, ℕ, ℤ, sym, subst, FitsSigned, to_z, of_z, w64}
 use mir.Syntax.{w128}
+use Rattle.std.proofs.lemmas.Int.{to_z-of_z}
 use Rattle.polcert_check.specs.Certificate.{controller}
 use Rattle.polcert_check.specs.Horizon.{Controller}
-use Rattle.polcert_check.specs.Rows.{IsController, ValuesAreWithin}
-use Rattle.polcert_check.proofs.Scales.{scales_le}
-use Rattle.polcert_check.proofs.Rows.{pair_step, short_final}
-use Rattle.polcert_check.proofs.Passing.{pair_passed, weight_small}
-use Rattle.polcert_cells.specs.LentRows.{reached}
+use Rattle.polcert_check.specs.Shortfall.{short}
+use Rattle.polcert_check.specs.Factored.{AreEnds}
+use Rattle.polcert_check.specs.Followed.{followed, followed_is_proper, followed_is_within}
+use Rattle.polcert_check.proofs.Earning.{reward_ahead_part_le}
+use Rattle.polcert_check.proofs.Expecting.{value_ahead_le}
+use Rattle.polcert_check.proofs.Amounts.{amount_is}
+use Rattle.polcert_check.proofs.Splitting.{followed_split}
+use Rattle.polcert_check.proofs.Shorts.{short_le}
 use Rattle.polcert_check.proofs.shortfall.amount_at.Goals as goal
 
-pub overflow_mul-backing : goal.overflow_mul-backing
-overflow_mul-backing g c =
+pub amount_above-requires-clause-earned : goal.amount_above-requires-clause-earned
+amount_above-requires-clause-earned g c =
     let k : Controller = controller c.args.certificate.now in
-    let proper : IsController k = c.args.certificate.now.proper in
-    let values : ValuesAreWithin k = c.args.certificate.now.values in
-    let f : FitsSigned w128 c.row_backing-behind.result = search rules in
-    let same : c.action-a.result ≡ k.action c.args.n = c.action-a.ensures.value in
-    let next = rw same at c.in-Some.ensures.0 in
-    (pair_step k proper (g.met.C.Cells.is_within_limits c.args.certificate.now.cells.now) values c.args.n c.args.s c.in-Some.end.column c.action-a.result c.in-Some.end.weight (to_z w128 c.loop-end.backing-bits) c.row_backing-behind.result c.requires.node c.requires.start next.1 c.action-a.ensures.value c.in-Some.ensures.0.2 (weight_small k proper (g.met.C.Cells.is_within_limits c.args.certificate.now.cells.now) c.args.n c.args.s c.in-Some.end.column c.in-Some.end.weight c.requires.node c.requires.start next.1 next.2) (pair_passed k c.args.n c.args.s (reached c.t_row-row.result c.loop-end.at) c.in-Some.end.column (to_z w128 c.loop-end.backing-bits) next.0 next.4 c.loop-end.invariant.sum) f c.row_backing-behind.ensures).0
+    let fits : FitsSigned w128 c.followed_reward-earned.result = search rules in
+    let same = to_z-of_z w128 c.followed_reward-earned.result fits ∙ c.followed_reward-earned.ensures in
+    rw same (reward_ahead_part_le (followed k c.args.n) (followed_is_proper k c.args.n c.args.certificate.now.proper.cells) (followed_is_within k c.args.n (g.met.C.Cells.is_within_limits c.args.certificate.now.cells.now)) (k.action c.args.n) c.args.s k.cells.states (c.args.certificate.now.proper.closed.actions_in_range c.args.n c.requires.node) c.requires.start (omega arith))
 
-pub overflow_add-backing : goal.overflow_add-backing
-overflow_add-backing g c =
+pub amount_above-requires-clause-expected : goal.amount_above-requires-clause-expected
+amount_above-requires-clause-expected g c =
     let k : Controller = controller c.args.certificate.now in
-    let proper : IsController k = c.args.certificate.now.proper in
-    let values : ValuesAreWithin k = c.args.certificate.now.values in
-    let f : FitsSigned w128 c.row_backing-behind.result = search rules in
-    let same : c.action-a.result ≡ k.action c.args.n = c.action-a.ensures.value in
-    let next = rw same at c.in-Some.ensures.0 in
-    (pair_step k proper (g.met.C.Cells.is_within_limits c.args.certificate.now.cells.now) values c.args.n c.args.s c.in-Some.end.column c.action-a.result c.in-Some.end.weight (to_z w128 c.loop-end.backing-bits) c.row_backing-behind.result c.requires.node c.requires.start next.1 c.action-a.ensures.value c.in-Some.ensures.0.2 (weight_small k proper (g.met.C.Cells.is_within_limits c.args.certificate.now.cells.now) c.args.n c.args.s c.in-Some.end.column c.in-Some.end.weight c.requires.node c.requires.start next.1 next.2) (pair_passed k c.args.n c.args.s (reached c.t_row-row.result c.loop-end.at) c.in-Some.end.column (to_z w128 c.loop-end.backing-bits) next.0 next.4 c.loop-end.invariant.sum) f c.row_backing-behind.ensures).1
-
-pub loop-end-preserved : goal.loop-end-preserved
-loop-end-preserved g c =
-    let k : Controller = controller c.args.certificate.now in
-    let proper : IsController k = c.args.certificate.now.proper in
-    let values : ValuesAreWithin k = c.args.certificate.now.values in
-    let f : FitsSigned w128 c.row_backing-behind.result = search rules in
-    let same : c.action-a.result ≡ k.action c.args.n = c.action-a.ensures.value in
-    let next = rw same at c.in-Some.ensures.0 in
-    rw c.in-Some.ensures.1 (record { sum = (pair_step k proper (g.met.C.Cells.is_within_limits c.args.certificate.now.cells.now) values c.args.n c.args.s c.in-Some.end.column c.action-a.result c.in-Some.end.weight (to_z w128 c.loop-end.backing-bits) c.row_backing-behind.result c.requires.node c.requires.start next.1 c.action-a.ensures.value c.in-Some.ensures.0.2 (weight_small k proper (g.met.C.Cells.is_within_limits c.args.certificate.now.cells.now) c.args.n c.args.s c.in-Some.end.column c.in-Some.end.weight c.requires.node c.requires.start next.1 next.2) (pair_passed k c.args.n c.args.s (reached c.t_row-row.result c.loop-end.at) c.in-Some.end.column (to_z w128 c.loop-end.backing-bits) next.0 next.4 c.loop-end.invariant.sum) f c.row_backing-behind.ensures).2; within = omega (arith, c.in-Some.ensures.0.1) })
-
-pub scaled_value-requires-clause-scales : goal.scaled_value-requires-clause-scales
-scaled_value-requires-clause-scales g c = rw (c.t_scale.ensures, c.o_scale.ensures) (scales_le (g.C.Cells.table c.args.certificate.now.cells.now) (g.met.C.Cells.is_within_limits c.args.certificate.now.cells.now))
-
-pub overflow_sub-result : goal.overflow_sub-result
-overflow_sub-result g c =
-    let k : Controller = controller c.args.certificate.now in
-    let proper : IsController k = c.args.certificate.now.proper in
-    let values : ValuesAreWithin k = c.args.certificate.now.values in
-    let f : FitsSigned w128 c.scaled_value.result = search rules in
-    let fv : FitsSigned w64 c.at-value.result = search rules in
-    let same : c.action-a.result ≡ k.action c.args.n = c.action-a.ensures.value in
-    let none = rw same at c.in_default.ensures in
-    let all = pair_passed k c.args.n c.args.s (reached c.t_row-row.result c.loop-end.at) k.cells.states (to_z w128 c.loop-end.backing-bits) c.loop-end.invariant.within none c.loop-end.invariant.sum in
-    (short_final k proper (g.met.C.Cells.is_within_limits c.args.certificate.now.cells.now) values c.args.n c.args.s c.t_scale.result c.o_scale.result k.cells.states c.scaled_value.result c.at-value.result (to_z w128 c.loop-end.backing-bits) c.requires.node c.requires.start f fv c.scaled_value.ensures c.t_scale.ensures c.o_scale.ensures c.at-value.ensures.value all refl).0
+    let fits : FitsSigned w128 c.steps_of-steps.result.worth = search rules in
+    let same = to_z-of_z w128 c.steps_of-steps.result.worth fits ∙ c.steps_of-steps.ensures.worth in
+    rw same (value_ahead_le k c.args.certificate.now.proper c.args.certificate.now.values c.args.n c.args.s c.requires.node c.requires.start)
 
 pub returns-clause-is : goal.returns-clause-is
 returns-clause-is g c =
     let k : Controller = controller c.args.certificate.now in
-    let proper : IsController k = c.args.certificate.now.proper in
-    let values : ValuesAreWithin k = c.args.certificate.now.values in
-    let f : FitsSigned w128 c.scaled_value.result = search rules in
+    let f : FitsSigned w128 c.amount_above.result = search rules in
+    let fe : FitsSigned w128 c.followed_reward-earned.result = search rules in
+    let fx : FitsSigned w128 c.steps_of-steps.result.worth = search rules in
     let fv : FitsSigned w64 c.at-value.result = search rules in
-    let same : c.action-a.result ≡ k.action c.args.n = c.action-a.ensures.value in
-    let none = rw same at c.in_default.ensures in
-    let all = pair_passed k c.args.n c.args.s (reached c.t_row-row.result c.loop-end.at) k.cells.states (to_z w128 c.loop-end.backing-bits) c.loop-end.invariant.within none c.loop-end.invariant.sum in
-    (short_final k proper (g.met.C.Cells.is_within_limits c.args.certificate.now.cells.now) values c.args.n c.args.s c.t_scale.result c.o_scale.result k.cells.states c.scaled_value.result c.at-value.result (to_z w128 c.loop-end.backing-bits) c.requires.node c.requires.start f fv c.scaled_value.ensures c.t_scale.ensures c.o_scale.ensures c.at-value.ensures.value all refl).1
+    to_z-of_z w128 c.amount_above.result f
+    ∙ amount_is k c.args.n c.args.s _ _ (followed_split k c.args.n c.args.s) c.amount_above.result _ _ _ c.amount_above.ensures (to_z-of_z w64 c.at-value.result fv ∙ c.at-value.ensures.value) (to_z-of_z w128 c.followed_reward-earned.result fe ∙ c.followed_reward-earned.ensures) (to_z-of_z w128 c.steps_of-steps.result.worth fx ∙ c.steps_of-steps.ensures.worth)
 
 pub returns-clause-small : goal.returns-clause-small
 returns-clause-small g c =
     let k : Controller = controller c.args.certificate.now in
-    let proper : IsController k = c.args.certificate.now.proper in
-    let values : ValuesAreWithin k = c.args.certificate.now.values in
-    let f : FitsSigned w128 c.scaled_value.result = search rules in
-    let fv : FitsSigned w64 c.at-value.result = search rules in
-    let same : c.action-a.result ≡ k.action c.args.n = c.action-a.ensures.value in
-    let none = rw same at c.in_default.ensures in
-    let all = pair_passed k c.args.n c.args.s (reached c.t_row-row.result c.loop-end.at) k.cells.states (to_z w128 c.loop-end.backing-bits) c.loop-end.invariant.within none c.loop-end.invariant.sum in
-    (short_final k proper (g.met.C.Cells.is_within_limits c.args.certificate.now.cells.now) values c.args.n c.args.s c.t_scale.result c.o_scale.result k.cells.states c.scaled_value.result c.at-value.result (to_z w128 c.loop-end.backing-bits) c.requires.node c.requires.start f fv c.scaled_value.ensures c.t_scale.ensures c.o_scale.ensures c.at-value.ensures.value all refl).2
+    let is : to_z w128 (of_z w128 c.amount_above.result) ≡ short k c.args.n c.args.s = returns-clause-is g c in
+    rw is (short_le k c.args.certificate.now.proper (g.met.C.Cells.is_within_limits c.args.certificate.now.cells.now) c.args.certificate.now.values c.args.n c.args.s c.requires.node c.requires.start)
