@@ -1,21 +1,18 @@
 -- The amount by which a value is above its backing, computed in 128 bits.
-use Rattle.std.proofs.Common.{◌≡◌, ℕ, ◌*◌, ◌<◌, ◌≤◌, ℤ, pos, ◌+ℤ◌, ◌-ℤ◌, ◌*ℤ◌, unsigned_abs, FitsSigned, to_z, of_z, None, refl, sym, ap, ◌∙◌, arith, lit<}
+use Rattle.std.proofs.Common.{◌≡◌, ℕ, ◌*◌, ◌≤◌, ℤ, pos, ◌+ℤ◌, ◌-ℤ◌, ◌*ℤ◌, unsigned_abs, FitsSigned, to_z, of_z, sym, ap, ◌∙◌, arith, lit<}
 use mir.Syntax.{w128}
-use Rattle.std.proofs.lemmas.Int.{ints}
+use Rattle.std.proofs.lemmas.Int.{ints, to_z-of_z}
 use Rattle.std.proofs.Math.Nat.{mul-le-mul}
 use Rattle.polcert_text.specs.Numbers.{largest}
 use Rattle.polcert_cells.specs.Tables.{Table, IsWithinLimits}
 use Rattle.polcert_check.specs.Horizon.{Controller, one}
-use Rattle.polcert_check.specs.Shortfall.{short}
-use Rattle.polcert_check.specs.Rows.{most_scales, most_sum}
-use Rattle.polcert_check.specs.Verdict.{IsLeastLacking}
-use Rattle.polcert_check.specs.declared.verdict.Verdict.{Verdict}
-use Rattle.polcert_check.specs.declared.verdict.Verdict.TheVariants.{Yes, Short, NoSuccessor}
-use Rattle.polcert_check.specs.Factored.{reward_ahead, value_ahead, StatesPass, IsPairVerdict, IsNodeVerdict}
+use Rattle.polcert_check.specs.Shortfall.{backing, short}
+use Rattle.polcert_check.specs.Ranges.{most_scales, most_sum}
 use Rattle.polcert_check.proofs.Bounds.{abs-*ℤ_le, fits_128}
-use Rattle.polcert_check.proofs.Rows.{back, discount_le}
-use Rattle.polcert_check.proofs.Scales.{scales_le, sum_room}
-use Rattle.polcert_check.proofs.Splitting.{backing_split}
+use Rattle.polcert_check.proofs.Scales.{scales_le, sum_room, discount_le}
+
+back : (x : ℤ) → FitsSigned w128 x → to_z w128 (of_z w128 x) ≡ x
+back x f = to_z-of_z w128 x f
 
 pub factor_room : (m : Table) → IsWithinLimits m → (w : ℕ) (x : ℤ) → w ≤ 1000000 → unsigned_abs x ≤ m.t_scale * (m.o_scale * largest) → w * unsigned_abs x ≤ most_sum
 factor_room m limits w x wl xl =
@@ -60,18 +57,7 @@ amount_fits x y z fx fy fz xl yl zl =
     let g : FitsSigned w128 (x -ℤ (y +ℤ z)) = fits_128 (x -ℤ (y +ℤ z)) (3 * most_sum) (sub_le x (y +ℤ z) xl (add_le y z yl zl)) (lit< tt) in
     (rw (inner, back x fx) g, rw (inner, back x fx) (back (x -ℤ (y +ℤ z)) g))
 
-pub amount_is : (c : Controller) (n s : ℕ) → IsLeastLacking c n s None → (amount v earned expected : ℤ) → amount ≡ pos (c.cells.t_scale * c.cells.o_scale * one) *ℤ v -ℤ (pos one *ℤ earned +ℤ pos c.cells.discount *ℤ expected) → v ≡ c.value n s → earned ≡ reward_ahead c.cells (c.action n) s → expected ≡ value_ahead c n s → amount ≡ short c n s
-amount_is c n s lacks amount v earned expected is ve ee xe =
-    is ∙ rw (ve, ee, xe) (ap (λ (b : ℤ). pos (c.cells.t_scale * c.cells.o_scale * one) *ℤ c.value n s -ℤ b) (sym (backing_split c n s lacks)))
-
--- ---- from pairs to nodes
-pub node_fails : (c : Controller) (n s : ℕ) (v : Verdict) → n < c.nodes → s < c.cells.states → StatesPass c n s → (v ≡ Yes → ⊥) → IsPairVerdict c n s v → IsNodeVerdict c n v
-node_fails c n s Yes nl sl before fails is = absurd (fails refl)
-node_fails c n s (Short m t amount) nl sl before fails is =
-    let me : m ≡ n = is.0 in
-    let te : t ≡ s = is.1 in
-    rw (me, te) (refl, (nl, sl, before, is.2, is.3, is.4))
-node_fails c n s (NoSuccessor m t z) nl sl before fails is =
-    let me : m ≡ n = is.0 in
-    let te : t ≡ s = is.1 in
-    rw (me, te) (refl, (nl, sl, before, is.2))
+pub amount_is : (c : Controller) (n s : ℕ) (e x : ℤ) → backing c n s ≡ pos one *ℤ e +ℤ pos c.cells.discount *ℤ x
+    → (amount v earned expected : ℤ) → amount ≡ pos (c.cells.t_scale * c.cells.o_scale * one) *ℤ v -ℤ (pos one *ℤ earned +ℤ pos c.cells.discount *ℤ expected) → v ≡ c.value n s → earned ≡ e → expected ≡ x → amount ≡ short c n s
+amount_is c n s e x split amount v earned expected is ve ee xe =
+    is ∙ rw (ve, ee, xe) (ap (λ (b : ℤ). pos (c.cells.t_scale * c.cells.o_scale * one) *ℤ c.value n s -ℤ b) (sym split))

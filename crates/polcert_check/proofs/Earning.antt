@@ -7,7 +7,7 @@ use Rattle.std.proofs.Math.Nat.{mul-le-mul}
 use Rattle.polcert_text.specs.Numbers.{largest}
 use Rattle.polcert_cells.specs.Tables.{Table, IsProper, IsWithinLimits}
 use Rattle.polcert_check.specs.Horizon.{sum_below}
-use Rattle.polcert_check.specs.Rows.{most_sum}
+use Rattle.polcert_check.specs.Ranges.{most_sum}
 use Rattle.polcert_check.specs.Factored.{reward_behind, reward_ahead}
 use Rattle.polcert_check.proofs.SumLaws.{sum_below_same, sum_below_scale}
 use Rattle.polcert_check.proofs.RowTotals.{t_rows, o_rows}

@@ -6,7 +6,7 @@ use Rattle.polcert_policy.specs.Graphs.{PolicyGraph, IsProperGraph}
 use Rattle.polcert_policy.specs.Vectors.{PolicyVectors}
 use Rattle.polcert_check.specs.Horizon.{Controller, controller_of, Fits, Promise, MeetsEveryHorizon}
 use Rattle.polcert_check.specs.Shortfall.{short, PairPasses, Passes}
-use Rattle.polcert_check.specs.Rows.{IsController}
+use Rattle.polcert_check.specs.Ranges.{IsController}
 use Rattle.polcert_check.proofs.Certificates.{controller_is}
 use Rattle.polcert_check.proofs.Cuts.{promise_all}
 use Rattle.polcert_check.proofs.Rewards.{rewards_all}

@@ -5,7 +5,7 @@ use mir.Syntax.{w128}
 use Rattle.polcert_text.specs.Numbers.{largest}
 use Rattle.polcert_cells.specs.Tables.{Table, IsProper, IsWithinLimits}
 use Rattle.polcert_check.specs.Horizon.{Controller, sum_below}
-use Rattle.polcert_check.specs.Rows.{IsController, ValuesAreWithin, most_sum}
+use Rattle.polcert_check.specs.Ranges.{IsController, ValuesAreWithin, most_sum}
 use Rattle.polcert_check.specs.Factored.{value_term, value_behind, value_ahead, AreValues, AreWithin}
 use Rattle.polcert_check.proofs.SumLaws.{sum_below_same}
 use Rattle.polcert_check.proofs.RowTotals.{t_rows, o_rows}
@@ -38,6 +38,12 @@ value_step c p limits values n e from z sum x nl el fl zl none before fx xe =
 pub value_done : (c : Controller) (n e from : ℕ) (sum : ℤ) → from ≤ c.cells.observations → ((k : ℕ) → from ≤ k → k < c.cells.observations → c.cells.o (c.action n) e k ≡ 0) → sum ≡ sum_below (λ z. value_term c n e z (c.next n z)) from → sum ≡ value_behind c n e
 value_done c n e from sum fl none before =
     before ∙ sym (gap (λ z. value_term c n e z (c.next n z)) from c.cells.observations fl (λ k kl kh. no_value c n e k (c.next n k) (none k kl kh)))
+
+pub value_ahead_le : (c : Controller) → IsController c → ValuesAreWithin c → (n s : ℕ) → n < c.nodes → s < c.cells.states → unsigned_abs (value_ahead c n s) ≤ c.cells.t_scale * (c.cells.o_scale * largest)
+value_ahead_le c p values n s nl sl =
+    abs_part_le (λ e. pos (c.cells.t (c.action n) s e) *ℤ value_behind c n e) (λ e. c.cells.t (c.action n) s e) (c.cells.o_scale * largest) c.cells.states c.cells.states c.cells.t_scale
+    (t_rows c.cells p.cells (c.action n) s (p.closed.actions_in_range n nl) sl) (omega arith)
+    (λ e el. abs-*ℤ_le (pos (c.cells.t (c.action n) s e)) (value_behind c n e) (c.cells.t (c.action n) s e) (c.cells.o_scale * largest) (omega arith) (value_part_le c p values n e c.cells.observations nl el (omega arith)))
 
 -- ---- ahead of a start state, over any numbers behind the end states
 module _ (m : Table) (p : IsProper m) (limits : IsWithinLimits m) (a s : ℕ) (al : a < m.actions) (sl : s < m.states) (worths : List ℤ) (small : AreWithin m worths) where

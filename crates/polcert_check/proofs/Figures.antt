@@ -6,9 +6,9 @@ use Rattle.polcert_policy.specs.Graphs.{PolicyGraph, IsProperGraph, nodes}
 use Rattle.polcert_policy.specs.Vectors.{PolicyVectors, AreProperVectors}
 use Rattle.polcert_check.specs.Horizon.{Controller, Fits, controller_of}
 use Rattle.polcert_check.specs.Shortfall.{short, most_short, largest_amount}
-use Rattle.polcert_check.specs.Rows.{most_sum}
+use Rattle.polcert_check.specs.Ranges.{most_sum}
 use Rattle.polcert_check.proofs.Certificates.{controller_is, values_are_within}
-use Rattle.polcert_check.proofs.Rows.{most_short_le, short_le}
+use Rattle.polcert_check.proofs.Shorts.{most_short_le, short_le}
 
 figures : 3 * most_sum ≤ largest_amount
 unfolding largest_amount

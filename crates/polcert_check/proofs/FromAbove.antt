@@ -9,7 +9,7 @@ use Rattle.polcert_check.specs.Shortfall.{short, PairPasses, Passes}
 use Rattle.polcert_check.specs.Verdict.{PassesBefore, IsVerdict}
 use Rattle.polcert_check.specs.Above.{PromiseAbove, AtLeast, RewardPromiseAbove, MeetsEveryHorizonAbove, MeetsHorizonAbove, PairPassesAbove, PassesAbove, PassesAboveBefore, IsAboveVerdict}
 use Rattle.polcert_check.specs.Mirrored.{mirrored, above_of}
-use Rattle.polcert_check.specs.Rows.{IsController}
+use Rattle.polcert_check.specs.Ranges.{IsController}
 use Rattle.polcert_check.proofs.EveryHorizon.{every_horizon, passes_if_promised}
 use Rattle.polcert_check.proofs.Ring.{linear}
 use Rattle.polcert_check.proofs.Mirrored.{neg_product, mirrored_short, mirrored_runs, mirrored_cut, mirrored_weight, mirrored_weights, mirrored_worth, mirrored_earned}

@@ -5,7 +5,7 @@ use Rattle.std.proofs.lemmas.Int.{ints, by_lt_z}
 use Rattle.std.proofs.Math.Nat.{mul-le-mul_left}
 use Rattle.polcert_check.specs.Horizon.{Controller, one, sum_below, step_weight, step_scale}
 use Rattle.polcert_check.specs.Shortfall.{backing, short, Passes}
-use Rattle.polcert_check.specs.Rows.{IsController}
+use Rattle.polcert_check.specs.Ranges.{IsController}
 use Rattle.polcert_check.specs.Above.{PassesAbove}
 use Rattle.polcert_check.proofs.Ring.{linear, products, sums, *ℤ-+ℤ, mul_le, ≤ℤ_trans, ≤ℤ_from_eq}
 use Rattle.polcert_check.proofs.SumLaws.{sum_below_le}

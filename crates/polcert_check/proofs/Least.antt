@@ -7,10 +7,9 @@ use Rattle.polcert_text.specs.Numbers.{largest}
 use Rattle.polcert_cells.specs.Tables.{Table, IsWithinLimits}
 use Rattle.polcert_check.specs.Horizon.{Controller, one, step_scale}
 use Rattle.polcert_check.specs.Shortfall.{short, Passes}
-use Rattle.polcert_check.specs.Verdict.{PassesBefore, IsBefore}
-use Rattle.polcert_check.specs.Rows.{IsController, most_scales, most_sum}
+use Rattle.polcert_check.specs.Ranges.{IsController, most_scales, most_sum}
 use Rattle.polcert_check.specs.Lower.{lowered_by, NoneLacks, IsLeast, CanLower}
-use Rattle.polcert_check.specs.Worst.{IsWorst}
+use Rattle.polcert_check.specs.Findings.{IsPair, IsWorstOf}
 use Rattle.std.proofs.Common.{w64}
 use Rattle.std.proofs.Math.Nat.{mul-le-mul}
 use Rattle.polcert_check.proofs.Verdicts.{positive_product}
@@ -30,16 +29,16 @@ at_most_nat : (a b : ℕ) → pos a ≤ℤ pos b → b < a → ⊥
 at_most_nat a b h l = omega (arith, linear)
 
 -- the least constant, where the discount is below 1: `by` is the worst short over the factor, rounded up
-pub least_passes : (c : Controller) → IsController c → c.cells.discount ≤ one → LacksNone c → (worst by : ℕ) → IsWorst c worst → worst ≤ step_scale c * (one - c.cells.discount) * by → Passes (lowered_by c by)
+pub least_passes : (c : Controller) → IsController c → c.cells.discount ≤ one → LacksNone c → (worst by : ℕ) → IsWorstOf c (IsPair c) worst → worst ≤ step_scale c * (one - c.cells.discount) * by → Passes (lowered_by c by)
 least_passes c p gl fine worst by w h =
-    passes_lowered c p gl by fine (λ n s nl sl. wider (short c n s) worst (step_scale c * ((one - c.cells.discount) * by)) (w.bounds n s nl sl) (omega arith))
+    passes_lowered c p gl by fine (λ n s nl sl. wider (short c n s) worst (step_scale c * ((one - c.cells.discount) * by)) (w.bounds n s (nl, sl)) (omega arith))
 
-pub less_fails : (c : Controller) → IsController c → c.cells.discount ≤ one → (worst d : ℕ) → IsWorst c worst → step_scale c * (one - c.cells.discount) * d < worst → Passes (lowered_by c d) → ⊥
+pub less_fails : (c : Controller) → IsController c → c.cells.discount ≤ one → (worst d : ℕ) → IsWorstOf c (IsPair c) worst → step_scale c * (one - c.cells.discount) * d < worst → Passes (lowered_by c d) → ⊥
 less_fails c p gl worst d w h passes =
     ⊎_elim (λ (e : worst ≡ 0). omega arith)
-    (λ (r : (n : ℕ) × (s : ℕ) × (n < c.nodes) × (s < c.cells.states) × (pos worst ≡ short c n s)).
-    let le : short c r.0 r.1 ≤ℤ pos (step_scale c * ((one - c.cells.discount) * d)) = from_passes_lowered c p gl d passes r.0 r.1 r.2 r.3 in
-    at_most_nat worst (step_scale c * (one - c.cells.discount) * d) (subst (λ (x : ℤ). x ≤ℤ pos (step_scale c * (one - c.cells.discount) * d)) (sym r.4) (subst (λ (x : ℕ). short c r.0 r.1 ≤ℤ pos x) (sym (mul_assoc (step_scale c) (one - c.cells.discount) d)) le)) h)
+    (λ (r : (n : ℕ) × (s : ℕ) × IsPair c n s × (pos worst ≡ short c n s)).
+    let le : short c r.0 r.1 ≤ℤ pos (step_scale c * ((one - c.cells.discount) * d)) = from_passes_lowered c p gl d passes r.0 r.1 r.2.0 r.2.1 in
+    at_most_nat worst (step_scale c * (one - c.cells.discount) * d) (subst (λ (x : ℤ). x ≤ℤ pos (step_scale c * (one - c.cells.discount) * d)) (sym r.3) (subst (λ (x : ℕ). short c r.0 r.1 ≤ℤ pos x) (sym (mul_assoc (step_scale c) (one - c.cells.discount) d)) le)) h)
     w.is_reached
 
 -- ---- the value less `by`
@@ -75,7 +74,7 @@ pub NoneLacks-gives : (c : Controller) → NoneLacks c → LacksNone c
 NoneLacks-gives c none n s z nl sl zl = none n s nl sl z zl
 
 -- the candidate is least
-pub candidate_least : (c : Controller) → IsController c → NoneLacks c → (ts os d worst by : ℕ) → ts ≡ c.cells.t_scale → os ≡ c.cells.o_scale → d ≡ c.cells.discount → c.cells.discount < one → IsWorst c worst → worst ≤ ts * os * (1000000 - d) * by → ((e : ℕ) → e < by → ts * os * (1000000 - d) * e < worst) → IsLeast c by
+pub candidate_least : (c : Controller) → IsController c → NoneLacks c → (ts os d worst by : ℕ) → ts ≡ c.cells.t_scale → os ≡ c.cells.o_scale → d ≡ c.cells.discount → c.cells.discount < one → IsWorstOf c (IsPair c) worst → worst ≤ ts * os * (1000000 - d) * by → ((e : ℕ) → e < by → ts * os * (1000000 - d) * e < worst) → IsLeast c by
 unfolding one
 candidate_least c p none ts os d worst by te oe de gl w enough least =
     let same : ts * os * (1000000 - d) ≡ step_scale c * (1000000 - c.cells.discount) = rw (te, oe, de) refl in (
@@ -85,7 +84,7 @@ candidate_least c p none ts os d worst by te oe de gl w enough least =
 
 pub least_zero : (c : Controller) → IsController c → c.cells.discount ≤ one → NoneLacks c → Passes c → IsLeast c 0
 least_zero c p gl none passes =
-    (least_passes c p gl (NoneLacks-gives c none) 0 0 (record { bounds = λ n s nl sl. (passes n s nl sl).not_short; is_reached = inl refl }) (omega arith), (λ d l. absurd (omega arith)))
+    (least_passes c p gl (NoneLacks-gives c none) 0 0 (record { bounds = λ n s p. (passes n s p.0 p.1).not_short; is_reached = inl refl }) (omega arith), (λ d l. absurd (omega arith)))
 
 -- at a discount of one nothing helps a pair that is short
 pub no_constant : (c : Controller) → IsController c → c.cells.discount ≡ one → (n s : ℕ) → n < c.nodes → s < c.cells.states → pos 0 <ℤ short c n s → (by : ℕ) → Passes (lowered_by c by) → ⊥
@@ -97,9 +96,6 @@ no_constant c p ge n s nl sl h by passes =
   where
     positive_not : (x : ℤ) (y : ℕ) → y ≡ 0 → x ≤ℤ pos y → pos 0 <ℤ x → ⊥
     positive_not x y e l h = omega (arith, linear)
-
-pub short_before : (c : Controller) (n s : ℕ) → PassesBefore c n s → (m t : ℕ) → m < c.nodes → t < c.cells.states → IsBefore m t n s → short c m t ≤ℤ pos 0
-short_before c n s before m t ml tl b = (before m t ml tl b).not_short
 
 constant_small : (v : PolicyVectors) → AreProperVectors v → (by : ℕ) → CanLower v by → by ≤ 2 * largest
 constant_small v proper by can =

@@ -9,7 +9,6 @@ pub mod Refused
 pub mod Rewards
 pub mod Bounds
 pub mod Scales
-pub mod Rows
 pub mod Verdicts
 pub mod RowTotals
 pub mod Certificates
@@ -30,8 +29,10 @@ pub mod Expecting
 pub mod Splitting
 pub mod Amounts
 pub mod Answering
-pub mod Greatest
-pub mod Passing
+pub mod Found
+pub mod Walked
+pub mod Outcomes
+pub mod Shorts
 pub mod Figures
 pub mod Mirrored
 pub mod FromAbove

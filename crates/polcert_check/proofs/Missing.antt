@@ -1,7 +1,6 @@
 -- The least observation that has no successor, gathered from steps.
 use Rattle.std.proofs.Common.{◌≡◌, ℕ, zero, suc, ◌+◌, ◌*◌, ◌<◌, ◌≤◌, ◌⊎◌, inl, inr, ⊎_elim, Option, Some, None, List, refl, sym, subst, arith}
 use Rattle.std.specs.Prelude.{slice_index_or}
-use Rattle.std.proofs.Common.{◌≢◌, length, get_or, set, get_or-set_other, get_or-set_same, below_more}
 use Rattle.std.proofs.lemmas.Bool.{cases_lt}
 use Rattle.polcert_cells.specs.Tables.{Table}
 use Rattle.polcert_check.specs.Horizon.{Controller}
@@ -120,29 +119,3 @@ pair_lacking c n s missing are None least = λ z zl lack. let found = lack_ahead
 pair_lacking c n s missing are (Some z) least =
     let here = ahead_lack c n s missing are z least.0 in
     (here.0, here.1, λ y l lack. let zl : z < c.cells.observations = here.0 in let found = lack_ahead c n s missing are y (omega (arith, l, zl)) lack in let le : found.0 ≤ y = found.1 in least.1 found.0 (omega (arith, l, le)) found.2)
-
--- ---- the first one behind an end state, without the values
-pub first_missing : (c : Controller) (n e from z w count : ℕ) → ((k : ℕ) → from ≤ k → k < z → c.cells.o (c.action n) e k ≡ 0) → w ≡ c.cells.o (c.action n) e z → 0 < w → z < count → c.next n z ≡ None → ((y : ℕ) → Misses c n e from y → ⊥) → IsLeastOf (Misses c n e count) (Some z)
-first_missing c n e from z w count none we some zl lacks before = ((zl, lacks, omega (arith, we, some)), λ y l k. go y l k (cases_lt y from))
-  where
-    go : (y : ℕ) → y < z → Misses c n e count y → (y < from) ⊎ (from ≤ y) → ⊥
-    go y l k (inl h) = before y (h, k.1, k.2)
-    go y l k (inr h) = not_zero _ (none y h l) k.2
-
-pub none_more : (c : Controller) (n e from z : ℕ) → ((k : ℕ) → from ≤ k → k < z → c.cells.o (c.action n) e k ≡ 0) → (c.next n z ≡ None → ⊥) → ((y : ℕ) → Misses c n e from y → ⊥) → (y : ℕ) → Misses c n e (z + 1) y → ⊥
-none_more c n e from z none has before y k =
-    ⊎_elim (λ (h : Misses c n e from y). before y h) (λ (h : MissesAt c n e z y). has (subst (λ (w : ℕ). c.next n w ≡ None) h.0 h.1)) (split_at c n e from z none y k)
-
-pub none_done : (c : Controller) (n e from count : ℕ) → ((k : ℕ) → from ≤ k → k < count → c.cells.o (c.action n) e k ≡ 0) → ((y : ℕ) → Misses c n e from y → ⊥) → (y : ℕ) → Misses c n e count y → ⊥
-none_done c n e from count none before y k = go (cases_lt y from)
-  where
-    go : (y < from) ⊎ (from ≤ y) → ⊥
-    go (inl h) = before y (h, k.1, k.2)
-    go (inr h) = not_zero _ (none y h k.0) k.2
-
--- one entry more of a list
-pub entry_more : (P : ℕ → Option ℕ → Type 0) (xs : List (Option ℕ)) (i : ℕ) (x : Option ℕ) → i < length xs → ((e : ℕ) → e < i → P e (get_or xs e None)) → P i x → (e : ℕ) → e < i + 1 → P e (get_or (set xs i x) e None)
-entry_more P xs i x l before here =
-    below_more (λ e. P e (get_or (set xs i x) e None)) i
-    (λ e k. let ne : e ≢ i = omega arith in rw get_or-set_other (before e k))
-    (rw get_or-set_same here)

@@ -4,7 +4,7 @@ use Rattle.std.proofs.Math.Nat.{mul-le-mul, mul-le-mul_right}
 use Rattle.polcert_text.specs.Numbers.{largest}
 use Rattle.polcert_cells.specs.Tables.{Table, IsWithinLimits}
 use Rattle.polcert_check.specs.Horizon.{one}
-use Rattle.polcert_check.specs.Rows.{most_scales, most_sum}
+use Rattle.polcert_check.specs.Ranges.{most_scales, most_sum}
 
 pub scales : (m : Table) → IsWithinLimits m → (0 < m.t_scale) × (0 < m.o_scale)
 unfolding one
@@ -16,12 +16,6 @@ scales_le m limits =
     let t : m.t_scale ≤ 1000000000 = omega (arith, limits.t_scale, limits.states.1) in
     let o : m.o_scale ≤ 1000000000 = omega (arith, limits.o_scale, limits.observations.1) in
     mul-le-mul t o
-
-pub t_scale_le : (m : Table) → IsWithinLimits m → m.t_scale ≤ most_scales
-t_scale_le m limits =
-    let some : 1 ≤ m.o_scale = (scales m limits).1 in
-    let q : 1 * m.t_scale ≤ m.o_scale * m.t_scale = mul-le-mul_right m.t_scale some in
-    omega (arith, q, scales_le m limits)
 
 -- a row of either table is no larger than a row of both
 row_of_both : (m : Table) → IsWithinLimits m → (x b : ℕ) → m.t_scale * (m.o_scale * x) ≤ b → m.o_scale * x ≤ b
@@ -42,15 +36,6 @@ ahead_room m limits = omega (arith, sum_room m limits)
 pub behind_room : (m : Table) → IsWithinLimits m → m.o_scale * largest ≤ most_sum
 behind_room m limits = row_of_both m limits largest most_sum (ahead_room m limits)
 
--- ---- sums of a reward and a discounted value each
-pub pair_room : (m : Table) → IsWithinLimits m → m.t_scale * (m.o_scale * (2 * largest * one)) ≤ 2 * most_sum
+pub discount_le : (m : Table) → IsWithinLimits m → m.discount ≤ one
 unfolding one
-pair_room m limits =
-    let q : (m.t_scale * m.o_scale) * 20000000000000000000 ≤ most_scales * 20000000000000000000 = mul-le-mul_right 20000000000000000000 (scales_le m limits) in
-    omega (arith, q)
-
-pub row_room : (m : Table) → IsWithinLimits m → m.o_scale * (2 * largest * one) ≤ 2 * most_sum
-row_room m limits = row_of_both m limits (2 * largest * one) (2 * most_sum) (pair_room m limits)
-
-pub below : (x b k : ℕ) → x ≤ b → b < k → x < k
-below x b k h l = omega arith
+discount_le m limits = limits.discount

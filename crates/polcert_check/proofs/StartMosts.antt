@@ -6,7 +6,7 @@ use Rattle.polcert_text.specs.Numbers.{largest}
 use Rattle.polcert_cells.specs.Meaning.{Meaning, states_of, start_weight, start_total}
 use Rattle.polcert_policy.specs.Vectors.{PolicyVectors}
 use Rattle.polcert_check.specs.Horizon.{Controller, one, sum_below, step_scale, worth_sum}
-use Rattle.polcert_check.specs.Rows.{IsController}
+use Rattle.polcert_check.specs.Ranges.{IsController}
 use Rattle.polcert_check.specs.StartWorth.{start_sum, IsFloorQuotient, IsCeilQuotient}
 use Rattle.polcert_check.specs.StartMost.{StartPromiseAbove}
 use Rattle.polcert_check.specs.Above.{PromiseAbove}

@@ -1,6 +1,6 @@
 -- Helper definitions of private functions: what pairs of a node and a state have in common, added up once. Nobody has to
 -- believe them.
-use Rattle.std.specs.Prelude.{◌≡◌, ℕ, ◌*◌, ◌<◌, ◌≤◌, ◌⊎◌, ℤ, pos, ◌*ℤ◌, ◌<ℤ◌, ⊤, unsigned_abs, Option, Some, None, List, length, slice_index_or}
+use Rattle.std.specs.Prelude.{◌≡◌, ℕ, ◌*◌, ◌<◌, ◌≤◌, ◌⊎◌, ℤ, pos, ◌*ℤ◌, ◌<ℤ◌, unsigned_abs, Option, Some, None, List, length, slice_index_or}
 use Rattle.polcert_text.specs.Numbers.{largest}
 use Rattle.polcert_cells.specs.Tables.{Table}
 use Rattle.polcert_check.specs.Horizon.{Controller, sum_below}
@@ -26,6 +26,11 @@ pub record AreRewardsBehind (m : Table) (a s e : ℕ) (rewards : List ℤ) : Typ
 -- the first of the list are the rewards of action a at the first states
 abbrev pub AreRewards : Table → ℕ → List ℤ → ℕ → Type 0
 AreRewards m a sums count = (s : ℕ) → s < count → slice_index_or sums s (pos 0) ≡ reward_ahead m a s
+
+-- the same of an action of which no more are filled in than there are states
+pub record AreKept (m : Table) (a : ℕ) (sums : List ℤ) (filled : ℕ) : Type 0 where
+  pub within : filled ≤ m.states
+  pub each : AreRewards m a sums filled
 
 -- ---- values, for each node and end state
 
@@ -82,58 +87,9 @@ pub record AreEnds (c : Controller) (n : ℕ) (worths : List ℤ) (missing : Lis
 abbrev pub AreWithin : Table → List ℤ → Type 0
 AreWithin m worths = (e : ℕ) → e < m.states → unsigned_abs (slice_index_or worths e (pos 0)) ≤ m.o_scale * largest
 
--- ---- the first pair that fails
+-- ---- the verdict on one pair
 
-abbrev pub NodePasses : Controller → ℕ → Type 0
-NodePasses c n = (s : ℕ) → s < c.cells.states → PairPasses c n s
-
--- no state before s fails at n
-abbrev pub StatesPass : Controller → ℕ → ℕ → Type 0
-StatesPass c n s = (t : ℕ) → t < s → PairPasses c n t
-
--- the pair that the verdict names fails as it says, and no state before it fails at its node
-abbrev pub IsFailure : Controller → Verdict → Type 0
-IsFailure c Yes = ⊤
-IsFailure c (Short n s amount) = (n < c.nodes) × (s < c.cells.states) × StatesPass c n s × IsLeastLacking c n s None × (amount ≡ short c n s) × (pos 0 <ℤ amount)
-IsFailure c (NoSuccessor n s z) = (n < c.nodes) × (s < c.cells.states) × StatesPass c n s × IsLeastLacking c n s (Some z)
-
--- what is found at one pair
 abbrev pub IsPairVerdict : Controller → ℕ → ℕ → Verdict → Type 0
 IsPairVerdict c n s Yes = PairPasses c n s
 IsPairVerdict c n s (Short m t amount) = (m ≡ n) × (t ≡ s) × IsLeastLacking c n s None × (amount ≡ short c n s) × (pos 0 <ℤ amount)
 IsPairVerdict c n s (NoSuccessor m t z) = (m ≡ n) × (t ≡ s) × IsLeastLacking c n s (Some z)
-
--- what is found at one node
-abbrev pub IsNodeVerdict : Controller → ℕ → Verdict → Type 0
-IsNodeVerdict c n Yes = NodePasses c n
-IsNodeVerdict c n (Short m s amount) = (m ≡ n) × IsFailure c (Short m s amount)
-IsNodeVerdict c n (NoSuccessor m s z) = (m ≡ n) × IsFailure c (NoSuccessor m s z)
-
--- what is found at one node if it takes action a
-abbrev pub IsVisit : Controller → ℕ → ℕ → Verdict → Type 0
-IsVisit c a n Yes = c.action n ≡ a → NodePasses c n
-IsVisit c a n (Short m s amount) = (m ≡ n) × IsFailure c (Short m s amount)
-IsVisit c a n (NoSuccessor m s z) = (m ≡ n) × IsFailure c (NoSuccessor m s z)
-
--- the node that the verdict names, or this one where it is yes
-abbrev pub node_or : ℕ → Verdict → ℕ
-node_or n Yes = n
-node_or _ (Short n s amount) = n
-node_or _ (NoSuccessor n s z) = n
-
--- the one verdict, or where it is yes the other
-abbrev pub or_verdict : Verdict → Verdict → Verdict
-or_verdict Yes other = other
-or_verdict (Short n s amount) other = Short n s amount
-or_verdict (NoSuccessor n s z) other = NoSuccessor n s z
-
--- what is found at the nodes below `limit` that take action a
-pub record IsActionVerdict (c : Controller) (a limit : ℕ) (v : Verdict) : Type 0 where
-  pub within : node_or limit v ≤ limit
-  pub fails : IsFailure c v
-  pub before : (m : ℕ) → m < node_or limit v → c.action m ≡ a → NodePasses c m
-
--- what was found at the nodes that take an action below a
-pub record IsAnswer (c : Controller) (a : ℕ) (v : Verdict) : Type 0 where
-  pub fails : IsFailure c v
-  pub before : (m : ℕ) → m < node_or c.nodes v → c.action m < a → NodePasses c m

@@ -1,12 +1,14 @@
 pub mod Horizon
 pub mod Shortfall
 pub mod Verdict
-pub mod Rows
+pub mod Ranges
 pub mod Lower
-pub mod Worst
+pub mod Findings
+pub mod Followed
 pub mod Examples
 pub mod StartWorth
 pub mod Factored
 pub mod Above
 pub mod StartMost
 pub mod Mirrored
+pub mod Certificate

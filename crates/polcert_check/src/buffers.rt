@@ -1,15 +1,13 @@
 //! Room for what is added up for an action and for its nodes.
 ghost use Rattle.std.specs.Prelude.{◌≡◌, ◌<◌, ◌≤◌, ℕ, false, None, length, slice_index_or};
 ghost use Rattle.polcert_cells.specs.Elements.{most_states, most_observations};
-ghost use Rattle.polcert_policy.specs.Graphs.{nodes};
-ghost use Rattle.polcert_check.specs.Horizon.{Fits, controller_of};
-ghost use Rattle.polcert_check.specs.Rows.{IsController, ValuesAreWithin};
-ghost use Rattle.polcert_check.specs.Factored.{AreEnds, AreRewards};
+ghost use Rattle.polcert_check.specs.Certificate.{controller};
+ghost use Rattle.polcert_check.specs.Factored.{AreEnds, AreKept};
 
+use crate::certificate::Certificate;
 use crate::earned::reward_ahead;
 use crate::ends::{Ends, end_of, misses_too};
 use polcert_cells::{Cells, MOST_OBSERVATIONS, MOST_STATES};
-use polcert_policy::{Graph, Vectors};
 
 /// What an action earns, kept for all nodes that take it, and room for what each of these nodes expects. They are made once for
 /// all actions.
@@ -59,11 +57,9 @@ impl Buffers {
         requires action { a < (C.table cells.now).actions }
         requires start { s < (C.table cells.now).states }
         requires before { s ≤ self.old.filled }
-        requires within { self.old.filled ≤ (C.table cells.now).states }
-        requires kept { AreRewards (C.table cells.now) a self.old.sums self.old.filled }
+        requires kept { AreKept (C.table cells.now) a self.old.sums self.old.filled }
         ensures here { s < self.new.filled }
-        ensures within { self.new.filled ≤ (C.table cells.now).states }
-        ensures kept { AreRewards (C.table cells.now) a self.new.sums self.new.filled }
+        ensures kept { AreKept (C.table cells.now) a self.new.sums self.new.filled }
         ensures worths { self.new.worths ≡ self.old.worths }
         ensures missing { self.new.missing ≡ self.old.missing }
     {
@@ -86,23 +82,14 @@ impl Buffers {
     }
 
     /// Fills in what node `n` expects behind each end state.
-    pub(crate) fn fill_ends<C: Cells>(
-        &mut self,
-        cells: &C,
-        graph: &Graph,
-        vectors: &Vectors,
-        n: usize,
-    )
-        requires fits { Fits (C.table cells.now) graph.now vectors.now }
-        requires node { n < nodes graph.now }
-        requires proper { IsController (controller_of (C.table cells.now) graph.now vectors.now) }
-        requires values { ValuesAreWithin (controller_of (C.table cells.now) graph.now vectors.now) }
-        ensures ends { AreEnds (controller_of (C.table cells.now) graph.now vectors.now) n self.new.worths self.new.missing }
+    pub(crate) fn fill_ends<C: Cells>(&mut self, certificate: &Certificate<'_, C>, n: usize)
+        requires node { n < (controller certificate.now).nodes }
+        ensures ends { AreEnds (controller certificate.now) n self.new.worths self.new.missing }
         ensures sums { self.new.sums ≡ self.old.sums }
         ensures filled { self.new.filled ≡ self.old.filled }
     {
-        for e in 0..cells.states() {
-            let end = end_of(cells, graph, vectors, n, e);
+        for e in 0..certificate.cells.states() {
+            let end = end_of(certificate, n, e);
             self.worths[e] = end.worth;
             self.misses = misses_too(self.misses, end.missing);
             self.missing[e] = end.missing;

@@ -1,9 +1,10 @@
 //! What an action earns at a state, added up once for all nodes that take it.
-ghost use Rattle.std.specs.Prelude.{◌≡◌, ◌*◌, ◌<◌, ◌≤◌, ◌+◌, pos, ◌*ℤ◌, unsigned_abs, length};
+ghost use Rattle.std.specs.Prelude.{◌≡◌, ◌*◌, ◌<◌, ◌≤◌, pos, ◌*ℤ◌, unsigned_abs, length};
 ghost use Rattle.std.specs.Option.{ForSome};
-ghost use Rattle.polcert_check.specs.Rows.{most_sum};
+ghost use Rattle.polcert_check.specs.Ranges.{most_sum};
 ghost use Rattle.polcert_check.specs.Factored.{reward_behind, reward_ahead, AreRewardsBehind};
 
+use crate::ends::Sight;
 use crate::walk::{next_end, next_seen};
 use polcert_cells::{Cells, Row};
 
@@ -20,24 +21,17 @@ pub(crate) fn weighed(weight: u64, number: i128) -> i128
 
 /// The reward of one observation, filled in or asked for.
 #[inline(always)]
-fn reward_of<C: Cells>(
-    cells: &C,
-    a: usize,
-    s: usize,
-    e: usize,
-    z: usize,
-    filled: Option<&[i64]>,
-) -> i64
+fn reward_of<C: Cells>(cells: &C, a: usize, s: usize, sight: Sight, filled: Option<&[i64]>) -> i64
     requires action { a < (C.table cells.now).actions }
     requires start { s < (C.table cells.now).states }
-    requires end { e < (C.table cells.now).states }
-    requires observation { z < (C.table cells.now).observations }
-    requires filled { ForSome filled (λ rewards. AreRewardsBehind (C.table cells.now) a s e rewards.now) }
-    ensures { result ≡ (C.table cells.now).r a s e z }
+    requires end { sight.end < (C.table cells.now).states }
+    requires observation { sight.observation < (C.table cells.now).observations }
+    requires filled { ForSome filled (λ rewards. AreRewardsBehind (C.table cells.now) a s sight.end rewards.now) }
+    ensures { result ≡ (C.table cells.now).r a s sight.end sight.observation }
 {
     match filled {
-        Some(rewards) => rewards[z],
-        None => cells.r(a, s, e, z),
+        Some(rewards) => rewards[sight.observation],
+        None => cells.r(a, s, sight.end, sight.observation),
     }
 }
 
@@ -53,7 +47,12 @@ fn each_reward<C: Cells>(cells: &C, a: usize, s: usize, e: usize, filled: Option
     let row = cells.o_row(a, e);
     let mut at = 0;
     while let Some(seen) = next_seen(cells, a, e, row, at) {
-        let reward = reward_of(cells, a, s, e, seen.column, filled);
+        let sight = Sight {
+            end: e,
+            observation: seen.column,
+            weight: seen.weight,
+        };
+        let reward = reward_of(cells, a, s, sight, filled);
         sum += weighed(seen.weight, reward as i128);
         at = seen.next;
     }

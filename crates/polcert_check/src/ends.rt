@@ -1,14 +1,13 @@
 //! What a node expects behind each end state, added up once for all states that it may start in.
-ghost use Rattle.std.specs.Prelude.{◌≡◌, ◌<◌, ◌≤◌, ◌+◌, pos, ◌*ℤ◌, ℕ, false, None, length, slice_index_or, Option};
-ghost use Rattle.polcert_policy.specs.Graphs.{nodes};
-ghost use Rattle.polcert_check.specs.Horizon.{Fits, controller_of, sum_below};
-ghost use Rattle.polcert_check.specs.Rows.{IsController, ValuesAreWithin};
+ghost use Rattle.std.specs.Prelude.{◌≡◌, ◌<◌, ◌≤◌, pos, ◌*ℤ◌, ℕ, false, None, length, slice_index_or, Option};
+ghost use Rattle.polcert_check.specs.Certificate.{controller};
+ghost use Rattle.polcert_check.specs.Horizon.{sum_below};
 ghost use Rattle.polcert_check.specs.Factored.{value_term, value_behind, IsLeastOf, Misses, IsMissedAt, IsAhead, IsLesser, AreWithin};
 
+use crate::certificate::Certificate;
 use crate::earned::weighed;
 use crate::walk::{next_end, next_seen};
 use polcert_model::Cells;
-use polcert_policy::{Graph, Vectors};
 
 /// A sum over some steps, and the least observation for which one of them has no successor.
 #[derive(Clone, Copy)]
@@ -47,25 +46,22 @@ pub(crate) fn lesser(x: Option<usize>, y: Option<usize>) -> Option<usize>
 }
 
 /// What one observation adds behind its end state.
-fn one_end<C: Cells>(cells: &C, graph: &Graph, vectors: &Vectors, n: usize, sight: Sight) -> Steps
-    requires fits { Fits (C.table cells.now) graph.now vectors.now }
-    requires node { n < nodes graph.now }
-    requires end { sight.end < (C.table cells.now).states }
-    requires observation { sight.observation < (C.table cells.now).observations }
-    requires weight { sight.weight ≡ (C.table cells.now).o ((controller_of (C.table cells.now) graph.now vectors.now).action n) sight.end sight.observation }
+fn one_end<C: Cells>(certificate: &Certificate<'_, C>, n: usize, sight: Sight) -> Steps
+    requires node { n < (controller certificate.now).nodes }
+    requires end { sight.end < (controller certificate.now).cells.states }
+    requires observation { sight.observation < (controller certificate.now).cells.observations }
+    requires weight { sight.weight ≡ (controller certificate.now).cells.o ((controller certificate.now).action n) sight.end sight.observation }
     requires some { 0 < sight.weight }
-    requires proper { IsController (controller_of (C.table cells.now) graph.now vectors.now) }
-    requires values { ValuesAreWithin (controller_of (C.table cells.now) graph.now vectors.now) }
-    ensures worth { result.worth ≡ value_term (controller_of (C.table cells.now) graph.now vectors.now) n sight.end sight.observation
-        ((controller_of (C.table cells.now) graph.now vectors.now).next n sight.observation) }
-    ensures missing { IsMissedAt (controller_of (C.table cells.now) graph.now vectors.now) n sight.observation result.missing }
+    ensures worth { result.worth ≡ value_term (controller certificate.now) n sight.end sight.observation
+        ((controller certificate.now).next n sight.observation) }
+    ensures missing { IsMissedAt (controller certificate.now) n sight.observation result.missing }
 {
-    let observations = cells.observations();
+    let observations = certificate.cells.observations();
     let observation = sight.observation;
     prove!(observation < observations);
-    match graph.next(n, observation) {
+    match certificate.graph.next(n, observation) {
         Some(m) => Steps {
-            worth: weighed(sight.weight, vectors.at(m, sight.end) as i128),
+            worth: weighed(sight.weight, certificate.vectors.at(m, sight.end) as i128),
             missing: None,
         },
         None => Steps {
@@ -76,33 +72,24 @@ fn one_end<C: Cells>(cells: &C, graph: &Graph, vectors: &Vectors, n: usize, sigh
 }
 
 /// What node `n` expects behind end state `e`, without the weight of reaching it.
-pub(crate) fn end_of<C: Cells>(
-    cells: &C,
-    graph: &Graph,
-    vectors: &Vectors,
-    n: usize,
-    e: usize,
-) -> Steps
-    requires fits { Fits (C.table cells.now) graph.now vectors.now }
-    requires node { n < nodes graph.now }
-    requires end { e < (C.table cells.now).states }
-    requires proper { IsController (controller_of (C.table cells.now) graph.now vectors.now) }
-    requires values { ValuesAreWithin (controller_of (C.table cells.now) graph.now vectors.now) }
-    ensures worth { result.worth ≡ value_behind (controller_of (C.table cells.now) graph.now vectors.now) n e }
-    ensures missing { IsLeastOf (Misses (controller_of (C.table cells.now) graph.now vectors.now) n e (C.table cells.now).observations) result.missing }
+pub(crate) fn end_of<C: Cells>(certificate: &Certificate<'_, C>, n: usize, e: usize) -> Steps
+    requires node { n < (controller certificate.now).nodes }
+    requires end { e < (controller certificate.now).cells.states }
+    ensures worth { result.worth ≡ value_behind (controller certificate.now) n e }
+    ensures missing { IsLeastOf (Misses (controller certificate.now) n e (controller certificate.now).cells.observations) result.missing }
 {
-    let a = graph.action(n);
+    let a = certificate.graph.action(n);
     let mut worth: i128 = 0;
     let mut missing = None;
-    let row = cells.o_row(a, e);
+    let row = certificate.cells.o_row(a, e);
     let mut at = 0;
-    while let Some(seen) = next_seen(cells, a, e, row, at) {
+    while let Some(seen) = next_seen(certificate.cells, a, e, row, at) {
         let sight = Sight {
             end: e,
             observation: seen.column,
             weight: seen.weight,
         };
-        let step = one_end(cells, graph, vectors, n, sight);
+        let step = one_end(certificate, n, sight);
         worth += step.worth;
         missing = lesser(missing, step.missing);
         at = seen.next;

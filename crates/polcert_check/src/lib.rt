@@ -2,13 +2,14 @@
 #![tactic(auto)]
 
 mod above;
-mod actions;
 mod buffers;
+mod certificate;
 mod earned;
 mod ends;
 mod examples;
 mod fault;
-mod lacks;
+mod findings;
+mod followed;
 mod laws;
 mod lower;
 mod pairs;
@@ -17,10 +18,10 @@ mod rounded;
 mod shortfall;
 mod start;
 mod start_above;
+mod survey;
 mod verdict;
 mod walk;
 mod watch;
-mod worst;
 
 pub use above::{AboveVerdict, bounds_are_an_interval, promise_above_for_every_horizon};
 pub use examples::{a_missing_successor, minus_one_for_each_step, runs_of_four_steps};

@@ -1,17 +1,21 @@
 //! The least constant by which all vectors can be lowered to pass.
 ghost use Rattle.std.specs.Prelude.{◌≡◌, ℕ, ◌+◌, ◌*◌, ◌^◌, ◌<◌, ◌≤◌, pos, neg_ℤ, ◌+ℤ◌, ◌⊎◌, ◌↔◌, IsTrue, IfOk, IfErr};
 ghost use Rattle.polcert_policy.specs.Vectors.{IsInRange, shifted_by};
+ghost use Rattle.polcert_check.specs.Certificate.{controller};
 ghost use Rattle.polcert_check.specs.Horizon.{Fits, controller_of, one};
 ghost use Rattle.polcert_check.specs.Shortfall.{Passes};
-ghost use Rattle.polcert_check.specs.Rows.{IsController};
 ghost use Rattle.polcert_check.specs.Lower.{NoneLacks, IsLeast, CanLower, IsLeastConstant, HasLeastConstant, IsNotLowered, RefusesSmallAmount};
+ghost use Rattle.polcert_check.specs.Findings.{IsFound, IsPair, IsRefused, IsWorstOf};
 ghost use Rattle.polcert_check.specs.declared.fault.LowerFault.TheVariants.{Memory};
+ghost use Rattle.polcert_check.specs.declared.findings.Aim.TheVariants.{Lowering};
+ghost use Rattle.polcert_check.specs.declared.verdict.Verdict.TheVariants.{Yes};
 
+use crate::certificate::Certificate;
 use crate::fault::LowerFault;
-use crate::lacks::first_lacking;
-use crate::verdict::{Verdict, check_watched};
+use crate::findings::{Aim, Findings};
+use crate::survey::survey;
+use crate::verdict::Verdict;
 use crate::watch::{Unwatched, Watch};
-use crate::worst::worst_short;
 use polcert_model::Cells;
 use polcert_policy::{Graph, Vectors};
 use std::alloc::Global;
@@ -49,40 +53,24 @@ fn stays_in_range(vectors: &Vectors, by: u128) -> bool
 }
 
 /// The least constant where the discount is below 1, whether or not it leaves the values in range.
-fn candidate<C: Cells, W: Watch>(cells: &C, graph: &Graph, vectors: &Vectors, watch: &mut W) -> u128
-    requires fits { Fits (C.table cells.now) graph.now vectors.now }
-    requires proper { IsController (controller_of (C.table cells.now) graph.now vectors.now) }
-    requires none { NoneLacks (controller_of (C.table cells.now) graph.now vectors.now) }
-    requires discount { (C.table cells.now).discount < one }
-    ensures { IsLeast (controller_of (C.table cells.now) graph.now vectors.now) result }
+fn candidate<C: Cells>(certificate: &Certificate<'_, C>, worst: u128) -> u128
+    requires none { NoneLacks (controller certificate.now) }
+    requires worst { IsWorstOf (controller certificate.now) (IsPair (controller certificate.now)) worst }
+    requires discount { (controller certificate.now).cells.discount < one }
+    ensures { IsLeast (controller certificate.now) result }
 {
+    let cells = certificate.cells;
     let scale = (cells.t_scale() * cells.o_scale()) as u128;
-    watch.begin(graph.nodes());
-    let worst = worst_short(cells, graph, vectors, watch);
-    watch.end();
     ceil_quotient(worst, scale * (1_000_000 - cells.discount()) as u128)
 }
 
-/// The least constant by which the vectors pass, whether or not it leaves the values in range.
-fn least_passing<C: Cells, W: Watch>(
-    cells: &C,
-    graph: &Graph,
-    vectors: &Vectors,
-    watch: &mut W,
-) -> Result<u128, LowerFault>
-    requires fits { Fits (C.table cells.now) graph.now vectors.now }
-    requires proper { IsController (controller_of (C.table cells.now) graph.now vectors.now) }
-    requires none { NoneLacks (controller_of (C.table cells.now) graph.now vectors.now) }
-    ensures least { IfOk result (IsLeast (controller_of (C.table cells.now) graph.now vectors.now)) }
-    ensures refused { IfErr result
-        (IsNotLowered (controller_of (C.table cells.now) graph.now vectors.now) vectors.now) }
-    ensures small { IfErr result (RefusesSmallAmount (controller_of (C.table cells.now) graph.now vectors.now)) }
+/// Why vectors are not lowered that have this verdict, where no lowering changes it.
+fn refused(verdict: Verdict) -> Result<(), LowerFault>
+    ensures passes { IfOk result (λ _. verdict ≡ Yes) }
+    ensures refused { IfErr result (IsRefused verdict) }
 {
-    if cells.discount() < 1_000_000 {
-        return Ok(candidate(cells, graph, vectors, watch));
-    }
-    match check_watched(cells, graph, vectors, watch) {
-        Verdict::Yes => Ok(0),
+    match verdict {
+        Verdict::Yes => Ok(()),
         Verdict::Short {
             node,
             state,
@@ -92,8 +80,36 @@ fn least_passing<C: Cells, W: Watch>(
             state,
             amount,
         }),
-        Verdict::NoSuccessor { .. } => unreachable!(),
+        Verdict::NoSuccessor {
+            node,
+            state,
+            observation,
+        } => Err(LowerFault::NoSuccessor {
+            node,
+            state,
+            observation,
+        }),
     }
+}
+
+/// The least constant by which the vectors pass, whether or not it leaves the values in range.
+fn least_passing<C: Cells>(
+    certificate: &Certificate<'_, C>,
+    findings: Findings,
+) -> Result<u128, LowerFault>
+    requires aim { findings.aim ≡ Lowering }
+    requires found { IsFound (controller certificate.now) (IsPair (controller certificate.now)) findings }
+    ensures least { IfOk result (IsLeast (controller certificate.now)) }
+    ensures none { IfOk result (λ _. NoneLacks (controller certificate.now)) }
+    ensures refused { IfErr result
+        (IsNotLowered (controller certificate.now) certificate.now.vectors.now) }
+{
+    refused(findings.first)?;
+    if certificate.cells.discount() < 1_000_000 {
+        return Ok(candidate(certificate, findings.worst));
+    }
+    refused(findings.short)?;
+    Ok(0)
 }
 
 /// The least constant, in millionths, by which all vectors can be lowered so that they pass the check.
@@ -117,7 +133,27 @@ pub fn least_constant<C: Cells>(
     least_watched(cells, graph, vectors, &mut Unwatched)
 }
 
-/// The same, and `watch` is told how far it is: first whether a node lacks a successor, then how short each is.
+/// The same of a certificate.
+fn least_of<C: Cells, W: Watch>(
+    certificate: &Certificate<'_, C>,
+    watch: &mut W,
+) -> Result<i64, LowerFault>
+    ensures least { IfOk result
+        (IsLeastConstant (controller certificate.now) certificate.now.vectors.now) }
+    ensures refused { IfErr result
+        (IsNotLowered (controller certificate.now) certificate.now.vectors.now) }
+    ensures small { IfErr result (RefusesSmallAmount (controller certificate.now)) }
+{
+    let findings = survey(certificate, Aim::Lowering, watch);
+    let by = least_passing(certificate, findings)?;
+    if stays_in_range(certificate.vectors, by) {
+        Ok(by as i64)
+    } else {
+        Err(LowerFault::OutOfRange)
+    }
+}
+
+/// The same, and `watch` is told how far it is: of each node once.
 fn least_watched<C: Cells, W: Watch>(
     cells: &C,
     graph: &Graph,
@@ -131,25 +167,7 @@ fn least_watched<C: Cells, W: Watch>(
         (IsNotLowered (controller_of (C.table cells.now) graph.now vectors.now) vectors.now) }
     ensures small { IfErr result (RefusesSmallAmount (controller_of (C.table cells.now) graph.now vectors.now)) }
 {
-    let nodes = graph.nodes();
-    let vector_count = vectors.nodes();
-    prove!(nodes == vector_count);
-    watch.begin(nodes);
-    let lack = first_lacking(cells, graph, vectors, watch);
-    watch.end();
-    if let Some(lack) = lack {
-        return Err(LowerFault::NoSuccessor {
-            node: lack.node,
-            state: lack.state,
-            observation: lack.observation,
-        });
-    }
-    let by = least_passing(cells, graph, vectors, watch)?;
-    if stays_in_range(vectors, by) {
-        Ok(by as i64)
-    } else {
-        Err(LowerFault::OutOfRange)
-    }
+    least_of(&Certificate::new(cells, graph, vectors), watch)
 }
 
 /// The least constant, in millionths, by which all vectors can be lowered so that they pass the check, and the vectors
@@ -182,7 +200,7 @@ pub fn lowered<C: Cells>(
     lowered_watched(alloc, cells, graph, vectors, &mut Unwatched)
 }
 
-/// The same, and `watch` is told how far it is: over all nodes, whether one lacks a successor, and then again how short each is.
+/// The same, and `watch` is told how far it is: of each node once.
 pub fn lowered_watched<C: Cells, W: Watch>(
     alloc: Global,
     cells: &C,

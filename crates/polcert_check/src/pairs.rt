@@ -1,19 +1,26 @@
 //! Whether a pair of a node and a state passes, from what was added up for its action and its node.
-ghost use Rattle.std.specs.Prelude.{◌≡◌, ◌*◌, ◌<◌, ◌≤◌, pos, ◌+ℤ◌, ◌-ℤ◌, ◌*ℤ◌, unsigned_abs, length, IsTrue, ◌↔◌};
+ghost use Rattle.std.specs.Prelude.{◌≡◌, ◌*◌, ◌<◌, ◌≤◌, pos, ◌+ℤ◌, ◌-ℤ◌, ◌*ℤ◌, unsigned_abs};
 ghost use Rattle.polcert_text.specs.Numbers.{largest};
-ghost use Rattle.polcert_policy.specs.Graphs.{nodes};
-ghost use Rattle.polcert_check.specs.Horizon.{Fits, controller_of, one};
-ghost use Rattle.polcert_check.specs.Rows.{IsController, ValuesAreWithin};
-ghost use Rattle.polcert_check.specs.declared.verdict.Verdict.TheVariants.{Yes};
-ghost use Rattle.polcert_check.specs.Factored.{reward_ahead, AreRewards, AreEnds, IsPairVerdict, IsNodeVerdict, IsVisit};
+ghost use Rattle.polcert_check.specs.Certificate.{controller};
+ghost use Rattle.polcert_check.specs.Horizon.{one};
+ghost use Rattle.polcert_check.specs.Verdict.{IsLeastLacking};
+ghost use Rattle.polcert_check.specs.Ranges.{most_scales};
+ghost use Rattle.polcert_check.specs.Factored.{reward_ahead, value_ahead, AreEnds, IsPairVerdict};
 
-use crate::buffers::Buffers;
+use crate::certificate::Certificate;
 use crate::earned::weighed;
-use crate::ends::{Ends, steps_ahead};
-use crate::shortfall::scaled_value;
+use crate::ends::{Ends, Steps, steps_ahead};
 use crate::verdict::Verdict;
 use polcert_model::Cells;
-use polcert_policy::{Graph, Vectors};
+
+/// A value on the scale of the weights of one step, in millionths of millionths.
+fn scaled_value(t_scale: u64, o_scale: u64, value: i64) -> i128
+    requires scales { t_scale * o_scale ≤ most_scales }
+    requires value { unsigned_abs value ≤ largest }
+    ensures { result ≡ pos (t_scale * o_scale * one) *ℤ value }
+{
+    (t_scale * o_scale) as i128 * 1_000_000 * (value as i128)
+}
 
 /// How far a value is above what it is backed by: what its action earns, and what its node expects.
 pub(crate) fn amount_above<C: Cells>(cells: &C, value: i64, earned: i128, expected: i128) -> i128
@@ -28,26 +35,37 @@ pub(crate) fn amount_above<C: Cells>(cells: &C, value: i64, earned: i128, expect
     scaled_value(cells.t_scale(), cells.o_scale(), value) - backing
 }
 
+/// What node `n` expects at state `s`, over what was filled in behind each end state, and the least observation that it lacks there.
+pub(crate) fn steps_of<C: Cells>(
+    certificate: &Certificate<'_, C>,
+    n: usize,
+    s: usize,
+    ends: Ends<'_>,
+) -> Steps
+    requires node { n < (controller certificate.now).nodes }
+    requires start { s < (controller certificate.now).cells.states }
+    requires ends { AreEnds (controller certificate.now) n ends.worths.now ends.missing.now }
+    ensures worth { result.worth ≡ value_ahead (controller certificate.now) n s }
+    ensures missing { IsLeastLacking (controller certificate.now) n s result.missing }
+{
+    steps_ahead(certificate.cells, certificate.graph.action(n), s, ends)
+}
+
 /// Whether node `n` passes at state `s`; else why it doesn't.
-fn at_pair<C: Cells>(
-    cells: &C,
-    graph: &Graph,
-    vectors: &Vectors,
+pub(crate) fn at_pair<C: Cells>(
+    certificate: &Certificate<'_, C>,
     n: usize,
     s: usize,
     earned: i128,
     ends: Ends<'_>,
 ) -> Verdict
-    requires fits { Fits (C.table cells.now) graph.now vectors.now }
-    requires node { n < nodes graph.now }
-    requires start { s < (C.table cells.now).states }
-    requires proper { IsController (controller_of (C.table cells.now) graph.now vectors.now) }
-    requires values { ValuesAreWithin (controller_of (C.table cells.now) graph.now vectors.now) }
-    requires earned { earned ≡ reward_ahead (C.table cells.now) ((controller_of (C.table cells.now) graph.now vectors.now).action n) s }
-    requires ends { AreEnds (controller_of (C.table cells.now) graph.now vectors.now) n ends.worths.now ends.missing.now }
-    ensures { IsPairVerdict (controller_of (C.table cells.now) graph.now vectors.now) n s result }
+    requires node { n < (controller certificate.now).nodes }
+    requires start { s < (controller certificate.now).cells.states }
+    requires earned { earned ≡ reward_ahead (controller certificate.now).cells ((controller certificate.now).action n) s }
+    requires ends { AreEnds (controller certificate.now) n ends.worths.now ends.missing.now }
+    ensures { IsPairVerdict (controller certificate.now) n s result }
 {
-    let steps = steps_ahead(cells, graph.action(n), s, ends);
+    let steps = steps_of(certificate, n, s, ends);
     if let Some(observation) = steps.missing {
         return Verdict::NoSuccessor {
             node: n,
@@ -55,7 +73,8 @@ fn at_pair<C: Cells>(
             observation,
         };
     }
-    let amount = amount_above(cells, vectors.at(n, s), earned, steps.worth);
+    let value = certificate.vectors.at(n, s);
+    let amount = amount_above(certificate.cells, value, earned, steps.worth);
     if amount > 0 {
         return Verdict::Short {
             node: n,
@@ -64,91 +83,4 @@ fn at_pair<C: Cells>(
         };
     }
     Verdict::Yes
-}
-
-/// Whether the verdict is yes.
-pub(crate) fn is_yes(verdict: Verdict) -> bool
-    ensures { IsTrue result ↔ (verdict ≡ Yes) }
-{
-    match verdict {
-        Verdict::Yes => true,
-        Verdict::Short { .. } | Verdict::NoSuccessor { .. } => false,
-    }
-}
-
-/// The first state at which node `n` doesn't pass.
-fn first_state<C: Cells>(
-    cells: &C,
-    graph: &Graph,
-    vectors: &Vectors,
-    n: usize,
-    buffers: &mut Buffers,
-) -> Verdict
-    requires fits { Fits (C.table cells.now) graph.now vectors.now }
-    requires node { n < nodes graph.now }
-    requires proper { IsController (controller_of (C.table cells.now) graph.now vectors.now) }
-    requires values { ValuesAreWithin (controller_of (C.table cells.now) graph.now vectors.now) }
-    requires ends { AreEnds (controller_of (C.table cells.now) graph.now vectors.now) n buffers.old.worths buffers.old.missing }
-    requires within { buffers.old.filled ≤ (C.table cells.now).states }
-    requires kept { AreRewards (C.table cells.now) ((controller_of (C.table cells.now) graph.now vectors.now).action n) buffers.old.sums buffers.old.filled }
-    ensures verdict { IsNodeVerdict (controller_of (C.table cells.now) graph.now vectors.now) n result }
-    ensures within { buffers.new.filled ≤ (C.table cells.now).states }
-    ensures kept { AreRewards (C.table cells.now) ((controller_of (C.table cells.now) graph.now vectors.now).action n) buffers.new.sums buffers.new.filled }
-{
-    let a = graph.action(n);
-    for s in 0..cells.states() {
-        buffers.keep_reward(cells, a, s);
-        let found = at_pair(cells, graph, vectors, n, s, buffers.sums[s], buffers.ends());
-        if !is_yes(found) {
-            return found;
-        }
-    }
-    Verdict::Yes
-}
-
-/// The first state at which node `n` doesn't pass, from the graph.
-fn at_node<C: Cells>(
-    cells: &C,
-    graph: &Graph,
-    vectors: &Vectors,
-    n: usize,
-    buffers: &mut Buffers,
-) -> Verdict
-    requires fits { Fits (C.table cells.now) graph.now vectors.now }
-    requires node { n < nodes graph.now }
-    requires proper { IsController (controller_of (C.table cells.now) graph.now vectors.now) }
-    requires values { ValuesAreWithin (controller_of (C.table cells.now) graph.now vectors.now) }
-    requires within { buffers.old.filled ≤ (C.table cells.now).states }
-    requires kept { AreRewards (C.table cells.now) ((controller_of (C.table cells.now) graph.now vectors.now).action n) buffers.old.sums buffers.old.filled }
-    ensures verdict { IsNodeVerdict (controller_of (C.table cells.now) graph.now vectors.now) n result }
-    ensures within { buffers.new.filled ≤ (C.table cells.now).states }
-    ensures kept { AreRewards (C.table cells.now) ((controller_of (C.table cells.now) graph.now vectors.now).action n) buffers.new.sums buffers.new.filled }
-{
-    buffers.fill_ends(cells, graph, vectors, n);
-    first_state(cells, graph, vectors, n, buffers)
-}
-
-/// The first state at which node `n` doesn't pass, if the node takes action `a`.
-pub(crate) fn visit<C: Cells>(
-    cells: &C,
-    graph: &Graph,
-    vectors: &Vectors,
-    a: usize,
-    n: usize,
-    buffers: &mut Buffers,
-) -> Verdict
-    requires fits { Fits (C.table cells.now) graph.now vectors.now }
-    requires node { n < nodes graph.now }
-    requires proper { IsController (controller_of (C.table cells.now) graph.now vectors.now) }
-    requires values { ValuesAreWithin (controller_of (C.table cells.now) graph.now vectors.now) }
-    requires within { buffers.old.filled ≤ (C.table cells.now).states }
-    requires kept { AreRewards (C.table cells.now) a buffers.old.sums buffers.old.filled }
-    ensures verdict { IsVisit (controller_of (C.table cells.now) graph.now vectors.now) a n result }
-    ensures within { buffers.new.filled ≤ (C.table cells.now).states }
-    ensures kept { AreRewards (C.table cells.now) a buffers.new.sums buffers.new.filled }
-{
-    if graph.action(n) != a {
-        return Verdict::Yes;
-    }
-    at_node(cells, graph, vectors, n, buffers)
 }

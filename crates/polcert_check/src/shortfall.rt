@@ -1,97 +1,48 @@
 //! How far a value is above what the next step backs.
-ghost use Rattle.std.specs.Prelude.{◌≡◌, ◌*◌, ◌<◌, ◌≤◌, pos, ◌+ℤ◌, ◌*ℤ◌, unsigned_abs};
-ghost use Rattle.polcert_text.specs.Numbers.{largest};
+ghost use Rattle.std.specs.Prelude.{◌≡◌, ◌<◌, ◌≤◌, unsigned_abs};
 ghost use Rattle.polcert_policy.specs.Graphs.{nodes};
-ghost use Rattle.polcert_check.specs.Horizon.{Fits, controller_of, one};
+ghost use Rattle.polcert_check.specs.Certificate.{controller};
+ghost use Rattle.polcert_check.specs.Horizon.{Fits, controller_of};
 ghost use Rattle.polcert_check.specs.Shortfall.{most_short, short};
-ghost use Rattle.polcert_check.specs.Rows.{IsController, ValuesAreWithin, most_scales, row_term, row_backing_of};
+ghost use Rattle.polcert_check.specs.Factored.{reward_ahead};
+ghost use Rattle.polcert_check.specs.Followed.{followed};
 
-use crate::ends::Sight;
-use crate::walk::{next_end, next_seen};
-use polcert_model::Cells;
+use crate::buffers::Buffers;
+use crate::certificate::Certificate;
+use crate::earned::reward_ahead;
+use crate::followed::Followed;
+use crate::pairs::{amount_above, steps_of};
+use polcert_cells::{Cells, MOST_OBSERVATIONS};
 use polcert_policy::{Graph, Vectors};
 
-/// One reward and the discounted value behind it, in millionths of millionths.
-fn step_worth(reward: i64, discount: u32, value: i64) -> i128
-    requires reward { unsigned_abs reward ≤ largest }
-    requires value { unsigned_abs value ≤ largest }
-    requires discount { discount ≤ one }
-    ensures is { result ≡ pos one *ℤ reward +ℤ pos discount *ℤ value }
-    ensures small { unsigned_abs result ≤ 2 * largest * one }
+/// What the action of node `n` earns in state `s`, as far as the node has successors.
+fn followed_reward<C: Cells>(certificate: &Certificate<'_, C>, n: usize, s: usize) -> i128
+    requires node { n < (controller certificate.now).nodes }
+    requires start { s < (controller certificate.now).cells.states }
+    ensures { result ≡ reward_ahead (followed (controller certificate.now) n) ((controller certificate.now).action n) s }
 {
-    1_000_000 * (reward as i128) + (discount as i128) * (value as i128)
+    let mut rewards = [0; MOST_OBSERVATIONS];
+    reward_ahead(
+        &Followed { certificate, n },
+        certificate.graph.action(n),
+        s,
+        &mut rewards,
+    )
 }
 
-/// What the step from node `n` and state `s` to an end state with one observation adds, without the weight of reaching it.
-fn cell_worth<C: Cells>(
-    cells: &C,
-    graph: &Graph,
-    vectors: &Vectors,
-    n: usize,
-    s: usize,
-    sight: Sight,
-) -> i128
-    requires fits { Fits (C.table cells.now) graph.now vectors.now }
-    requires node { n < nodes graph.now }
-    requires start { s < (C.table cells.now).states }
-    requires end { sight.end < (C.table cells.now).states }
-    requires observation { sight.observation < (C.table cells.now).observations }
-    requires weight { sight.weight ≡ (C.table cells.now).o ((controller_of (C.table cells.now) graph.now vectors.now).action n) sight.end sight.observation }
-    requires proper { IsController (controller_of (C.table cells.now) graph.now vectors.now) }
-    requires values { ValuesAreWithin (controller_of (C.table cells.now) graph.now vectors.now) }
-    ensures { result ≡ row_term (controller_of (C.table cells.now) graph.now vectors.now) n s sight.end sight.observation
-        ((controller_of (C.table cells.now) graph.now vectors.now).next n sight.observation) }
+/// The same of a certificate.
+fn amount_at<C: Cells>(certificate: &Certificate<'_, C>, n: usize, s: usize) -> i128
+    requires node { n < (controller certificate.now).nodes }
+    requires start { s < (controller certificate.now).cells.states }
+    ensures is { result ≡ short (controller certificate.now) n s }
+    ensures small { unsigned_abs result ≤ most_short (controller certificate.now) }
 {
-    match graph.next(n, sight.observation) {
-        Some(m) => {
-            let reward = cells.r(graph.action(n), s, sight.end, sight.observation);
-            let worth = step_worth(reward, cells.discount(), vectors.at(m, sight.end));
-            (sight.weight as i128) * worth
-        }
-        None => 0,
-    }
-}
-
-/// What backs the value of node `n` at state `s` where the step ends in state `e`, without the weight of reaching `e`.
-fn row_backing<C: Cells>(
-    cells: &C,
-    graph: &Graph,
-    vectors: &Vectors,
-    n: usize,
-    s: usize,
-    e: usize,
-) -> i128
-    requires fits { Fits (C.table cells.now) graph.now vectors.now }
-    requires node { n < nodes graph.now }
-    requires start { s < (C.table cells.now).states }
-    requires end { e < (C.table cells.now).states }
-    requires proper { IsController (controller_of (C.table cells.now) graph.now vectors.now) }
-    requires values { ValuesAreWithin (controller_of (C.table cells.now) graph.now vectors.now) }
-    ensures { result ≡ row_backing_of (controller_of (C.table cells.now) graph.now vectors.now) n s e }
-{
-    let a = graph.action(n);
-    let mut sum: i128 = 0;
-    let row = cells.o_row(a, e);
-    let mut at = 0;
-    while let Some(seen) = next_seen(cells, a, e, row, at) {
-        let sight = Sight {
-            end: e,
-            observation: seen.column,
-            weight: seen.weight,
-        };
-        sum += cell_worth(cells, graph, vectors, n, s, sight);
-        at = seen.next;
-    }
-    sum
-}
-
-/// A value on the scale of the weights of one step, in millionths of millionths.
-pub(crate) fn scaled_value(t_scale: u64, o_scale: u64, value: i64) -> i128
-    requires scales { t_scale * o_scale ≤ most_scales }
-    requires value { unsigned_abs value ≤ largest }
-    ensures { result ≡ pos (t_scale * o_scale * one) *ℤ value }
-{
-    (t_scale * o_scale) as i128 * 1_000_000 * (value as i128)
+    let mut buffers = Buffers::new();
+    buffers.fill_ends(certificate, n);
+    let steps = steps_of(certificate, n, s, buffers.ends());
+    let earned = followed_reward(certificate, n, s);
+    let value = certificate.vectors.at(n, s);
+    amount_above(certificate.cells, value, earned, steps.worth)
 }
 
 /// How far the value of node `n` at state `s` is above what the next step backs: above 0 where it is short.
@@ -111,17 +62,5 @@ pub fn amount_short<C: Cells>(
     ensures is { result ≡ short (controller_of (C.table cells.now) graph.now vectors.now) n s }
     ensures small { unsigned_abs result ≤ most_short (controller_of (C.table cells.now) graph.now vectors.now) }
 {
-    let nodes = graph.nodes();
-    let vector_count = vectors.nodes();
-    prove!(nodes == vector_count);
-    let mut backing: i128 = 0;
-    let a = graph.action(n);
-    let row = cells.t_row(a, s);
-    let mut at = 0;
-    while let Some(end) = next_end(cells, a, s, row, at) {
-        let behind = row_backing(cells, graph, vectors, n, s, end.column);
-        backing += (end.weight as i128) * behind;
-        at = end.next;
-    }
-    scaled_value(cells.t_scale(), cells.o_scale(), vectors.at(n, s)) - backing
+    amount_at(&Certificate::new(cells, graph, vectors), n, s)
 }

@@ -2,7 +2,9 @@
 ghost use Rattle.polcert_check.specs.Horizon.{Fits, controller_of, MeetsHorizon};
 ghost use Rattle.polcert_check.specs.Verdict.{IsVerdict, NamesSmallAmount};
 
-use crate::actions::first_failing;
+use crate::certificate::Certificate;
+use crate::findings::Aim;
+use crate::survey::survey;
 use crate::watch::{Unwatched, Watch};
 use polcert_model::Cells;
 use polcert_policy::{Graph, Vectors};
@@ -57,11 +59,6 @@ pub fn check_watched<C: Cells, W: Watch>(
     ensures horizon { MeetsHorizon (controller_of (C.table cells.now) graph.now vectors.now) result }
     ensures small { NamesSmallAmount (controller_of (C.table cells.now) graph.now vectors.now) result }
 {
-    let nodes = graph.nodes();
-    let vector_count = vectors.nodes();
-    prove!(nodes == vector_count);
-    watch.begin(nodes);
-    let verdict = first_failing(cells, graph, vectors, watch);
-    watch.end();
-    verdict
+    let certificate = Certificate::new(cells, graph, vectors);
+    survey(&certificate, Aim::Check, watch).first
 }

@@ -6,7 +6,7 @@ use Rattle.polcert_cells.specs.Meaning.{Meaning, start_total}
 use Rattle.polcert_cells.specs.Tables.{table_of}
 use Rattle.polcert_check.specs.Horizon.{Controller, controller_of}
 use Rattle.polcert_check.specs.StartWorth.{IsCeilQuotient, start_sum}
-use Rattle.polcert_check.specs.Rows.{IsController}
+use Rattle.polcert_check.specs.Ranges.{IsController}
 use Rattle.polcert_check.proofs.Certificates.{controller_is}
 use Rattle.polcert_check.proofs.FromAbove.{promised_above}
 use Rattle.polcert_check.proofs.StartMosts.{start_promise_above}

@@ -1,0 +1,40 @@
+//! The three parts of a certificate, which belong together.
+ghost use Rattle.std.specs.Prelude.{◌≡◌};
+ghost use Rattle.polcert_policy.specs.Vectors.{AreProperVectors};
+ghost use Rattle.polcert_check.specs.Horizon.{Fits, controller_of};
+ghost use Rattle.polcert_check.specs.Ranges.{IsController, ValuesAreWithin};
+
+use polcert_model::Cells;
+use polcert_policy::{Graph, Vectors};
+
+/// A model's cells, a policy graph and its vectors, which fit.
+#[derive(Drop)]
+pub(crate) struct Certificate<'a, C: Cells> {
+    pub cells: &'a C,
+    pub graph: &'a Graph,
+    pub vectors: &'a Vectors,
+    ghost fits: { Fits (C.table cells.now) graph.now vectors.now },
+    ghost proper: { IsController (controller_of (C.table cells.now) graph.now vectors.now) },
+    ghost values: { ValuesAreWithin (controller_of (C.table cells.now) graph.now vectors.now) },
+    ghost are_proper: { AreProperVectors vectors.now },
+}
+
+impl<'a, C: Cells> Certificate<'a, C> {
+    ghost use Rattle.polcert_check.specs.Certificate.{controller};
+
+    /// Of parts that fit.
+    pub(crate) fn new(cells: &'a C, graph: &'a Graph, vectors: &'a Vectors) -> Self
+        requires { Fits (C.table cells.now) graph.now vectors.now }
+        ensures controller { controller result ≡ controller_of (C.table cells.now) graph.now vectors.now }
+        ensures vectors { result.vectors.now ≡ vectors.now }
+    {
+        let nodes = graph.nodes();
+        let vector_count = vectors.nodes();
+        prove!(nodes == vector_count);
+        Certificate {
+            cells,
+            graph,
+            vectors,
+        }
+    }
+}

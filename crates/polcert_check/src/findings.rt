@@ -1,0 +1,102 @@
+//! What a walk over the pairs of a node and a state has found.
+ghost use Rattle.std.specs.Prelude.{◌≡◌, ◌≤◌, ◌+◌, ◌⊎◌, ◌↔◌, ℕ, IsTrue};
+ghost use Rattle.polcert_check.specs.Horizon.{Controller};
+ghost use Rattle.polcert_check.specs.Factored.{IsPairVerdict};
+ghost use Rattle.polcert_check.specs.Findings.{IsEarlier, IsFoundBefore, IsPair, NamesUntil};
+ghost use Rattle.polcert_check.specs.declared.verdict.Verdict.TheVariants.{Yes};
+
+use crate::verdict::Verdict;
+
+/// What the pairs are walked for.
+#[derive(Clone, Copy)]
+pub(crate) enum Aim {
+    /// The first pair that fails.
+    Check,
+    /// The first pair that lacks an observation; or where none does, which no lowering would mend, how short the others are.
+    Lowering,
+}
+
+/// What a walk over pairs of a node and a state has found so far.
+#[derive(Clone, Copy)]
+pub(crate) struct Findings {
+    pub aim: Aim,
+    /// The first pair of those that are sought, by node and then by state; yes where there is none.
+    pub first: Verdict,
+    /// Where only those are sought that lack an observation: the first pair that is short, or yes.
+    pub short: Verdict,
+    /// And the greatest shortfall, or 0.
+    pub worst: u128,
+}
+
+/// The greater of two numbers.
+fn greater(x: u128, y: u128) -> u128
+    ensures left { x ≤ result }
+    ensures right { y ≤ result }
+    ensures is_one { (result ≡ x) ⊎ (result ≡ y) }
+{
+    if x < y { y } else { x }
+}
+
+/// Whether the verdict names a pair of node `n` or of one before it.
+fn names_until(verdict: Verdict, n: usize) -> bool
+    ensures { IsTrue result ↔ NamesUntil verdict n }
+{
+    match verdict {
+        Verdict::Yes => false,
+        Verdict::Short { node, .. } | Verdict::NoSuccessor { node, .. } => node <= n,
+    }
+}
+
+/// What was found so far, where that names a pair of node `n` or of one before it, else what was found at a pair of `n`.
+fn earlier(so_far: Verdict, n: usize, found: Verdict) -> Verdict
+    ensures { IsEarlier so_far n found result }
+{
+    if names_until(so_far, n) {
+        so_far
+    } else {
+        found
+    }
+}
+
+impl Findings {
+    /// Nothing is found yet.
+    pub(crate) fn new(aim: Aim) -> Self
+        ensures aim { result.aim ≡ aim }
+        ensures first { result.first ≡ Yes }
+        ensures short { result.short ≡ Yes }
+        ensures worst { result.worst ≡ 0 }
+    {
+        Findings {
+            aim,
+            first: Verdict::Yes,
+            short: Verdict::Yes,
+            worst: 0,
+        }
+    }
+
+    /// Whether the first pair that is sought is one of node `n` or of one before it, so that those behind are not.
+    pub(crate) fn is_settled(&self, n: usize) -> bool
+        ensures { IsTrue result ↔ NamesUntil self.now.first n }
+    {
+        names_until(self.first, n)
+    }
+
+    /// Takes in what is found at the next pair, one of node `n`.
+    pub(crate) fn note(&mut self, n: usize, found: Verdict)
+        ensures aim { self.new.aim ≡ self.old.aim }
+        ensures found { (c : Controller) (s : ℕ) → IsPair c n s → IsPairVerdict c n s found →
+            IsFoundBefore c (c.action n) n s self.old → IsFoundBefore c (c.action n) n (s + 1) self.new }
+    {
+        match found {
+            Verdict::Yes => {}
+            Verdict::Short { amount, .. } => match self.aim {
+                Aim::Check => self.first = earlier(self.first, n, found),
+                Aim::Lowering => {
+                    self.short = earlier(self.short, n, found);
+                    self.worst = greater(self.worst, amount.unsigned_abs());
+                }
+            },
+            Verdict::NoSuccessor { .. } => self.first = earlier(self.first, n, found),
+        }
+    }
+}

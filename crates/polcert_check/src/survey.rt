@@ -1,0 +1,103 @@
+//! The walk over all pairs of a node and a state, action by action: nodes that take the same action have its rewards in common.
+ghost use Rattle.std.specs.Prelude.{◌≡◌, ◌<◌, ◌+◌};
+ghost use Rattle.polcert_check.specs.Certificate.{controller};
+ghost use Rattle.polcert_check.specs.Factored.{AreEnds, AreKept};
+ghost use Rattle.polcert_check.specs.Findings.{IsFound, IsFoundBefore, IsPair};
+
+use crate::buffers::Buffers;
+use crate::certificate::Certificate;
+use crate::findings::{Aim, Findings};
+use crate::pairs::at_pair;
+use crate::watch::Watch;
+use polcert_model::Cells;
+
+/// Notes what is found at each state of node `n`, over what was filled in behind each end state.
+fn survey_states<C: Cells>(
+    certificate: &Certificate<'_, C>,
+    n: usize,
+    buffers: &mut Buffers,
+    findings: &mut Findings,
+)
+    requires node { n < (controller certificate.now).nodes }
+    requires ends { AreEnds (controller certificate.now) n buffers.old.worths buffers.old.missing }
+    requires kept { AreKept (controller certificate.now).cells ((controller certificate.now).action n) buffers.old.sums buffers.old.filled }
+    requires found { IsFoundBefore (controller certificate.now) ((controller certificate.now).action n) n 0 findings.old }
+    ensures kept { AreKept (controller certificate.now).cells ((controller certificate.now).action n) buffers.new.sums buffers.new.filled }
+    ensures found { IsFoundBefore (controller certificate.now) ((controller certificate.now).action n) (n + 1) 0 findings.new }
+    ensures aim { findings.new.aim ≡ findings.old.aim }
+{
+    let a = certificate.graph.action(n);
+    for s in 0..certificate.cells.states() {
+        buffers.keep_reward(certificate.cells, a, s);
+        let found = at_pair(certificate, n, s, buffers.sums[s], buffers.ends());
+        findings.note(n, found);
+        if findings.is_settled(n) {
+            return;
+        }
+    }
+}
+
+/// Notes what is found at each pair of node `n`, if the node takes action `a`.
+fn survey_node<C: Cells>(
+    certificate: &Certificate<'_, C>,
+    a: usize,
+    n: usize,
+    buffers: &mut Buffers,
+    findings: &mut Findings,
+)
+    requires node { n < (controller certificate.now).nodes }
+    requires kept { AreKept (controller certificate.now).cells a buffers.old.sums buffers.old.filled }
+    requires found { IsFoundBefore (controller certificate.now) a n 0 findings.old }
+    ensures kept { AreKept (controller certificate.now).cells a buffers.new.sums buffers.new.filled }
+    ensures found { IsFoundBefore (controller certificate.now) a (n + 1) 0 findings.new }
+    ensures aim { findings.new.aim ≡ findings.old.aim }
+{
+    if certificate.graph.action(n) == a {
+        buffers.fill_ends(certificate, n);
+        survey_states(certificate, n, buffers, findings);
+    }
+}
+
+/// Notes what is found at each pair of the nodes that take action `a`, as far as it can matter.
+fn survey_action<C: Cells, W: Watch>(
+    certificate: &Certificate<'_, C>,
+    a: usize,
+    buffers: &mut Buffers,
+    findings: &mut Findings,
+    watch: &mut W,
+)
+    requires found { IsFoundBefore (controller certificate.now) a 0 0 findings.old }
+    ensures found { IsFoundBefore (controller certificate.now) (a + 1) 0 0 findings.new }
+    ensures aim { findings.new.aim ≡ findings.old.aim }
+{
+    buffers.clear();
+    for n in 0..certificate.graph.nodes() {
+        survey_node(certificate, a, n, buffers, findings);
+        if findings.is_settled(n) {
+            return;
+        }
+        if certificate.graph.action(n) == a {
+            watch.node_done();
+        }
+    }
+}
+
+/// What is found at the pairs of all nodes and states. `watch` is told of each node when all of its pairs have been walked, and none
+/// of them is the first that is sought.
+pub(crate) fn survey<C: Cells, W: Watch>(
+    certificate: &Certificate<'_, C>,
+    aim: Aim,
+    watch: &mut W,
+) -> Findings
+    ensures found { IsFound (controller certificate.now) (IsPair (controller certificate.now)) result }
+    ensures aim { result.aim ≡ aim }
+{
+    watch.begin(certificate.graph.nodes());
+    let mut buffers = Buffers::new();
+    let mut findings = Findings::new(aim);
+    for a in 0..certificate.cells.actions() {
+        survey_action(certificate, a, &mut buffers, &mut findings, watch);
+    }
+    watch.end();
+    findings
+}
