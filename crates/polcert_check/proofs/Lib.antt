@@ -35,6 +35,7 @@ pub mod Outcomes
 pub mod Shorts
 pub mod Figures
 pub mod Mirrored
+pub mod Sides
 pub mod FromAbove
 pub mod Interval
 pub mod StartMosts

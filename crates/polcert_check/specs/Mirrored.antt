@@ -1,19 +1,24 @@
 -- A helper definition: the controller by which bounds from above are bounds from below. Nobody has to believe it.
-use Rattle.std.specs.Prelude.{neg_ℤ}
-use Rattle.polcert_cells.specs.Tables.{Table}
+use Rattle.std.specs.Prelude.{ℤ, neg_ℤ}
+use Rattle.polcert_check.specs.declared.side.Side.{Side}
+use Rattle.polcert_check.specs.declared.side.Side.TheVariants.{Below, Above}
 use Rattle.polcert_check.specs.Horizon.{Controller}
 use Rattle.polcert_check.specs.declared.verdict.Verdict.{Verdict}
 use Rattle.polcert_check.specs.declared.verdict.Verdict.TheVariants.{Yes, Short, NoSuccessor}
 use Rattle.polcert_check.specs.declared.above.AboveVerdict.{AboveVerdict}
 use Rattle.polcert_check.specs.declared.above.AboveVerdict.TheVariants as above
 
--- the same table with each reward negated
-abbrev pub mirrored_table : Table → Table
-mirrored_table m = record m { r = λ a s e z. neg_ℤ (m.r a s e z) }
+-- a number, or from above its negative
+abbrev pub turned : Side → ℤ → ℤ
+turned Below x = x
+turned Above x = neg_ℤ x
 
--- the same controller with each reward and each value negated
+-- the same controller, from above with each reward and each value negated
+abbrev pub sided : Side → Controller → Controller
+sided side c = record c { cells = record c.cells { r = λ a s e z. turned side (c.cells.r a s e z) }; value = λ n s. turned side (c.value n s) }
+
 abbrev pub mirrored : Controller → Controller
-mirrored c = record c { cells = mirrored_table c.cells; value = λ n s. neg_ℤ (c.value n s) }
+mirrored c = sided Above c
 
 -- what a verdict on the mirror image says from above
 abbrev pub above_of : Verdict → AboveVerdict

@@ -4,15 +4,17 @@ ghost use Rattle.polcert_policy.specs.Vectors.{AreProperVectors};
 ghost use Rattle.polcert_check.specs.Horizon.{Fits, controller_of};
 ghost use Rattle.polcert_check.specs.Ranges.{IsController, ValuesAreWithin};
 
+use crate::side::Side;
 use polcert_model::Cells;
 use polcert_policy::{Graph, Vectors};
 
-/// A model's cells, a policy graph and its vectors, which fit.
+/// A model's cells, a policy graph and its vectors, which fit, and from which side the values are bounds.
 #[derive(Drop)]
 pub(crate) struct Certificate<'a, C: Cells> {
     pub cells: &'a C,
     pub graph: &'a Graph,
     pub vectors: &'a Vectors,
+    pub side: Side,
     ghost fits: { Fits (C.table cells.now) graph.now vectors.now },
     ghost proper: { IsController (controller_of (C.table cells.now) graph.now vectors.now) },
     ghost values: { ValuesAreWithin (controller_of (C.table cells.now) graph.now vectors.now) },
@@ -20,12 +22,14 @@ pub(crate) struct Certificate<'a, C: Cells> {
 }
 
 impl<'a, C: Cells> Certificate<'a, C> {
-    ghost use Rattle.polcert_check.specs.Certificate.{controller};
+    ghost use Rattle.polcert_check.specs.Certificate.{controller, judged};
+    ghost use Rattle.polcert_check.specs.Mirrored.{sided};
 
-    /// Of parts that fit.
-    pub(crate) fn new(cells: &'a C, graph: &'a Graph, vectors: &'a Vectors) -> Self
+    /// Of parts that fit, whose values are bounds from this side.
+    pub(crate) fn new(side: Side, cells: &'a C, graph: &'a Graph, vectors: &'a Vectors) -> Self
         requires { Fits (C.table cells.now) graph.now vectors.now }
         ensures controller { controller result ≡ controller_of (C.table cells.now) graph.now vectors.now }
+        ensures judged { judged result ≡ sided side (controller_of (C.table cells.now) graph.now vectors.now) }
         ensures vectors { result.vectors.now ≡ vectors.now }
     {
         let nodes = graph.nodes();
@@ -35,6 +39,7 @@ impl<'a, C: Cells> Certificate<'a, C> {
             cells,
             graph,
             vectors,
+            side,
         }
     }
 }

@@ -16,6 +16,7 @@ mod pairs;
 mod parts;
 mod rounded;
 mod shortfall;
+mod side;
 mod start;
 mod start_above;
 mod survey;

@@ -1,7 +1,7 @@
 //! The least constant by which all vectors can be lowered to pass.
 ghost use Rattle.std.specs.Prelude.{◌≡◌, ℕ, ◌+◌, ◌*◌, ◌^◌, ◌<◌, ◌≤◌, pos, neg_ℤ, ◌+ℤ◌, ◌⊎◌, ◌↔◌, IsTrue, IfOk, IfErr};
 ghost use Rattle.polcert_policy.specs.Vectors.{IsInRange, shifted_by};
-ghost use Rattle.polcert_check.specs.Certificate.{controller};
+ghost use Rattle.polcert_check.specs.Certificate.{judged};
 ghost use Rattle.polcert_check.specs.Horizon.{Fits, controller_of, one};
 ghost use Rattle.polcert_check.specs.Shortfall.{Passes};
 ghost use Rattle.polcert_check.specs.Lower.{NoneLacks, IsLeast, CanLower, IsLeastConstant, HasLeastConstant, IsNotLowered, RefusesSmallAmount};
@@ -13,6 +13,7 @@ ghost use Rattle.polcert_check.specs.declared.verdict.Verdict.TheVariants.{Yes};
 use crate::certificate::Certificate;
 use crate::fault::LowerFault;
 use crate::findings::{Aim, Findings};
+use crate::side::Side;
 use crate::survey::survey;
 use crate::verdict::Verdict;
 use crate::watch::{Unwatched, Watch};
@@ -54,10 +55,10 @@ fn stays_in_range(vectors: &Vectors, by: u128) -> bool
 
 /// The least constant where the discount is below 1, whether or not it leaves the values in range.
 fn candidate<C: Cells>(certificate: &Certificate<'_, C>, worst: u128) -> u128
-    requires none { NoneLacks (controller certificate.now) }
-    requires worst { IsWorstOf (controller certificate.now) (IsPair (controller certificate.now)) worst }
-    requires discount { (controller certificate.now).cells.discount < one }
-    ensures { IsLeast (controller certificate.now) result }
+    requires none { NoneLacks (judged certificate.now) }
+    requires worst { IsWorstOf (judged certificate.now) (IsPair (judged certificate.now)) worst }
+    requires discount { (judged certificate.now).cells.discount < one }
+    ensures { IsLeast (judged certificate.now) result }
 {
     let cells = certificate.cells;
     let scale = (cells.t_scale() * cells.o_scale()) as u128;
@@ -98,11 +99,11 @@ fn least_passing<C: Cells>(
     findings: Findings,
 ) -> Result<u128, LowerFault>
     requires aim { findings.aim ≡ Lowering }
-    requires found { IsFound (controller certificate.now) (IsPair (controller certificate.now)) findings }
-    ensures least { IfOk result (IsLeast (controller certificate.now)) }
-    ensures none { IfOk result (λ _. NoneLacks (controller certificate.now)) }
+    requires found { IsFound (judged certificate.now) (IsPair (judged certificate.now)) findings }
+    ensures least { IfOk result (IsLeast (judged certificate.now)) }
+    ensures none { IfOk result (λ _. NoneLacks (judged certificate.now)) }
     ensures refused { IfErr result
-        (IsNotLowered (controller certificate.now) certificate.now.vectors.now) }
+        (IsNotLowered (judged certificate.now) certificate.now.vectors.now) }
 {
     refused(findings.first)?;
     if certificate.cells.discount() < 1_000_000 {
@@ -139,10 +140,10 @@ fn least_of<C: Cells, W: Watch>(
     watch: &mut W,
 ) -> Result<i64, LowerFault>
     ensures least { IfOk result
-        (IsLeastConstant (controller certificate.now) certificate.now.vectors.now) }
+        (IsLeastConstant (judged certificate.now) certificate.now.vectors.now) }
     ensures refused { IfErr result
-        (IsNotLowered (controller certificate.now) certificate.now.vectors.now) }
-    ensures small { IfErr result (RefusesSmallAmount (controller certificate.now)) }
+        (IsNotLowered (judged certificate.now) certificate.now.vectors.now) }
+    ensures small { IfErr result (RefusesSmallAmount (judged certificate.now)) }
 {
     let findings = survey(certificate, Aim::Lowering, watch);
     let by = least_passing(certificate, findings)?;
@@ -167,7 +168,7 @@ fn least_watched<C: Cells, W: Watch>(
         (IsNotLowered (controller_of (C.table cells.now) graph.now vectors.now) vectors.now) }
     ensures small { IfErr result (RefusesSmallAmount (controller_of (C.table cells.now) graph.now vectors.now)) }
 {
-    least_of(&Certificate::new(cells, graph, vectors), watch)
+    least_of(&Certificate::new(Side::Below, cells, graph, vectors), watch)
 }
 
 /// The least constant, in millionths, by which all vectors can be lowered so that they pass the check, and the vectors

@@ -1,7 +1,7 @@
 //! Whether a pair of a node and a state passes, from what was added up for its action and its node.
 ghost use Rattle.std.specs.Prelude.{◌≡◌, ◌*◌, ◌<◌, ◌≤◌, pos, ◌+ℤ◌, ◌-ℤ◌, ◌*ℤ◌, unsigned_abs};
 ghost use Rattle.polcert_text.specs.Numbers.{largest};
-ghost use Rattle.polcert_check.specs.Certificate.{controller};
+ghost use Rattle.polcert_check.specs.Certificate.{controller, judged};
 ghost use Rattle.polcert_check.specs.Horizon.{one};
 ghost use Rattle.polcert_check.specs.Verdict.{IsLeastLacking};
 ghost use Rattle.polcert_check.specs.Ranges.{most_scales};
@@ -63,7 +63,7 @@ pub(crate) fn at_pair<C: Cells>(
     requires start { s < (controller certificate.now).cells.states }
     requires earned { earned ≡ reward_ahead (controller certificate.now).cells ((controller certificate.now).action n) s }
     requires ends { AreEnds (controller certificate.now) n ends.worths.now ends.missing.now }
-    ensures { IsPairVerdict (controller certificate.now) n s result }
+    ensures { IsPairVerdict (judged certificate.now) n s result }
 {
     let steps = steps_of(certificate, n, s, ends);
     if let Some(observation) = steps.missing {
@@ -74,7 +74,8 @@ pub(crate) fn at_pair<C: Cells>(
         };
     }
     let value = certificate.vectors.at(n, s);
-    let amount = amount_above(certificate.cells, value, earned, steps.worth);
+    let above = amount_above(certificate.cells, value, earned, steps.worth);
+    let amount = certificate.side.turned(above);
     if amount > 0 {
         return Verdict::Short {
             node: n,

@@ -12,6 +12,7 @@ use crate::certificate::Certificate;
 use crate::earned::reward_ahead;
 use crate::followed::Followed;
 use crate::pairs::{amount_above, steps_of};
+use crate::side::Side;
 use polcert_cells::{Cells, MOST_OBSERVATIONS};
 use polcert_policy::{Graph, Vectors};
 
@@ -62,5 +63,5 @@ pub fn amount_short<C: Cells>(
     ensures is { result ≡ short (controller_of (C.table cells.now) graph.now vectors.now) n s }
     ensures small { unsigned_abs result ≤ most_short (controller_of (C.table cells.now) graph.now vectors.now) }
 {
-    amount_at(&Certificate::new(cells, graph, vectors), n, s)
+    amount_at(&Certificate::new(Side::Below, cells, graph, vectors), n, s)
 }

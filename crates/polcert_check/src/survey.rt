@@ -1,6 +1,6 @@
 //! The walk over all pairs of a node and a state, action by action: nodes that take the same action have its rewards in common.
 ghost use Rattle.std.specs.Prelude.{◌≡◌, ◌<◌, ◌+◌};
-ghost use Rattle.polcert_check.specs.Certificate.{controller};
+ghost use Rattle.polcert_check.specs.Certificate.{controller, judged};
 ghost use Rattle.polcert_check.specs.Factored.{AreEnds, AreKept};
 ghost use Rattle.polcert_check.specs.Findings.{IsFound, IsFoundBefore, IsPair};
 
@@ -21,9 +21,9 @@ fn survey_states<C: Cells>(
     requires node { n < (controller certificate.now).nodes }
     requires ends { AreEnds (controller certificate.now) n buffers.old.worths buffers.old.missing }
     requires kept { AreKept (controller certificate.now).cells ((controller certificate.now).action n) buffers.old.sums buffers.old.filled }
-    requires found { IsFoundBefore (controller certificate.now) ((controller certificate.now).action n) n 0 findings.old }
+    requires found { IsFoundBefore (judged certificate.now) ((controller certificate.now).action n) n 0 findings.old }
     ensures kept { AreKept (controller certificate.now).cells ((controller certificate.now).action n) buffers.new.sums buffers.new.filled }
-    ensures found { IsFoundBefore (controller certificate.now) ((controller certificate.now).action n) (n + 1) 0 findings.new }
+    ensures found { IsFoundBefore (judged certificate.now) ((controller certificate.now).action n) (n + 1) 0 findings.new }
     ensures aim { findings.new.aim ≡ findings.old.aim }
 {
     let a = certificate.graph.action(n);
@@ -47,9 +47,9 @@ fn survey_node<C: Cells>(
 )
     requires node { n < (controller certificate.now).nodes }
     requires kept { AreKept (controller certificate.now).cells a buffers.old.sums buffers.old.filled }
-    requires found { IsFoundBefore (controller certificate.now) a n 0 findings.old }
+    requires found { IsFoundBefore (judged certificate.now) a n 0 findings.old }
     ensures kept { AreKept (controller certificate.now).cells a buffers.new.sums buffers.new.filled }
-    ensures found { IsFoundBefore (controller certificate.now) a (n + 1) 0 findings.new }
+    ensures found { IsFoundBefore (judged certificate.now) a (n + 1) 0 findings.new }
     ensures aim { findings.new.aim ≡ findings.old.aim }
 {
     if certificate.graph.action(n) == a {
@@ -66,8 +66,8 @@ fn survey_action<C: Cells, W: Watch>(
     findings: &mut Findings,
     watch: &mut W,
 )
-    requires found { IsFoundBefore (controller certificate.now) a 0 0 findings.old }
-    ensures found { IsFoundBefore (controller certificate.now) (a + 1) 0 0 findings.new }
+    requires found { IsFoundBefore (judged certificate.now) a 0 0 findings.old }
+    ensures found { IsFoundBefore (judged certificate.now) (a + 1) 0 0 findings.new }
     ensures aim { findings.new.aim ≡ findings.old.aim }
 {
     buffers.clear();
@@ -89,7 +89,7 @@ pub(crate) fn survey<C: Cells, W: Watch>(
     aim: Aim,
     watch: &mut W,
 ) -> Findings
-    ensures found { IsFound (controller certificate.now) (IsPair (controller certificate.now)) result }
+    ensures found { IsFound (judged certificate.now) (IsPair (judged certificate.now)) result }
     ensures aim { result.aim ≡ aim }
 {
     watch.begin(certificate.graph.nodes());

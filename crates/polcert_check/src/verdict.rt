@@ -4,6 +4,7 @@ ghost use Rattle.polcert_check.specs.Verdict.{IsVerdict, NamesSmallAmount};
 
 use crate::certificate::Certificate;
 use crate::findings::Aim;
+use crate::side::Side;
 use crate::survey::survey;
 use crate::watch::{Unwatched, Watch};
 use polcert_model::Cells;
@@ -59,6 +60,6 @@ pub fn check_watched<C: Cells, W: Watch>(
     ensures horizon { MeetsHorizon (controller_of (C.table cells.now) graph.now vectors.now) result }
     ensures small { NamesSmallAmount (controller_of (C.table cells.now) graph.now vectors.now) result }
 {
-    let certificate = Certificate::new(cells, graph, vectors);
+    let certificate = Certificate::new(Side::Below, cells, graph, vectors);
     survey(&certificate, Aim::Check, watch).first
 }

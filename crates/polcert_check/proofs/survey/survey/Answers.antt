@@ -1,15 +1,16 @@
 use Rattle.std.proofs.Common.{arith}
-use Rattle.polcert_check.specs.Certificate.{controller}
+use Rattle.polcert_check.specs.Certificate.{controller, judged}
 use Rattle.polcert_check.specs.Horizon.{Controller}
+use Rattle.polcert_check.proofs.Sides.{sided_proper}
 use Rattle.polcert_check.proofs.Walked.{nothing_found, all_walked}
 use Rattle.polcert_check.proofs.survey.survey.Goals as goal
 
 pub loop-a-init : goal.loop-a-init
 loop-a-init g c = record {
-  found = nothing_found (controller c.args.certificate.now) c.new-findings.result c.new-findings.ensures.first c.new-findings.ensures.short c.new-findings.ensures.worst;
+  found = nothing_found (judged c.args.certificate.now) c.new-findings.result c.new-findings.ensures.first c.new-findings.ensures.short c.new-findings.ensures.worst;
   aim = c.new-findings.ensures.aim;
 }
 
 pub returns-clause-found : goal.returns-clause-found
 returns-clause-found g c =
-    all_walked (controller c.args.certificate.now) c.args.certificate.now.proper.closed c.loop-a.a c.loop-a.findings c.loop-a.invariant.found (omega (arith, c.actions-a-end.ensures))
+    all_walked (judged c.args.certificate.now) (sided_proper c.args.certificate.now.side (controller c.args.certificate.now) c.args.certificate.now.proper).closed c.loop-a.a c.loop-a.findings c.loop-a.invariant.found (omega (arith, c.actions-a-end.ensures))

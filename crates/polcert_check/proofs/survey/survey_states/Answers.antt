@@ -1,5 +1,5 @@
 use Rattle.std.proofs.Common.{arith, ◌≡◌, ◌+◌, ◌∙◌, ℤ, List, Option, ℕ, true, refl, sym, subst}
-use Rattle.polcert_check.specs.Certificate.{controller}
+use Rattle.polcert_check.specs.Certificate.{controller, judged}
 use Rattle.polcert_check.specs.Horizon.{Controller}
 use Rattle.polcert_check.specs.Factored.{AreEnds}
 use Rattle.polcert_check.specs.Findings.{IsFoundBefore}
@@ -9,20 +9,21 @@ use Rattle.polcert_check.proofs.survey.survey_states.Goals as goal
 pub loop-s-preserved : goal.loop-s-preserved
 loop-s-preserved g c =
     let k : Controller = controller c.args.certificate.now in
+    let j : Controller = judged c.args.certificate.now in
     record {
       before = omega (arith, c.keep_reward.ensures.here);
       kept = rw c.action-a.ensures.value at c.keep_reward.ensures.kept;
       ends = subst (λ (ws : List ℤ). AreEnds k c.args.n ws c.keep_reward.new.self.missing) (sym c.keep_reward.ensures.worths) (subst (λ (ms : List (Option ℕ)). AreEnds k c.args.n c.loop-s.buffers.worths ms) (sym c.keep_reward.ensures.missing) c.loop-s.invariant.ends);
-      found = c.note.ensures.found k c.loop-s.s (c.requires.node, omega (arith, c.states-s-end.ensures)) c.at_pair-found.ensures c.loop-s.invariant.found;
+      found = c.note.ensures.found j c.loop-s.s (c.requires.node, omega (arith, c.states-s-end.ensures)) c.at_pair-found.ensures c.loop-s.invariant.found;
       aim = c.note.ensures.aim ∙ c.loop-s.invariant.aim;
     }
 
 pub returns-then-is_settled-clause-found : goal.returns-then-is_settled-clause-found
 returns-then-is_settled-clause-found g c =
-    let k : Controller = controller c.args.certificate.now in
+    let k : Controller = judged c.args.certificate.now in
     node_settled k c.args.n (c.loop-s.s + 1) c.note.new.self (c.note.ensures.found k c.loop-s.s (c.requires.node, omega (arith, c.states-s-end.ensures)) c.at_pair-found.ensures c.loop-s.invariant.found) (c.if-is_settled.ensures.0 refl)
 
 pub returns-clause-found : goal.returns-clause-found
 returns-clause-found g c =
-    let k : Controller = controller c.args.certificate.now in
+    let k : Controller = judged c.args.certificate.now in
     node_done k (k.action c.args.n) c.args.n c.loop-s.s c.loop-s.findings c.loop-s.invariant.found (omega (arith, c.states-s-end.ensures))
