@@ -20,11 +20,11 @@ pub(crate) enum Aim {
 #[derive(Clone, Copy)]
 pub(crate) struct Findings {
     pub aim: Aim,
-    /// The first pair of those that are sought, by node and then by state; yes where there is none.
+    /// The first pair that is sought, by node and then by state, and why it fails; yes where there is none.
     pub first: Verdict,
-    /// Where only those are sought that lack an observation: the first pair that is short, or yes.
+    /// For a lowering the first pair that is short, and by how much; yes where there is none.
     pub short: Verdict,
-    /// And the greatest shortfall, or 0.
+    /// For a lowering the greatest shortfall, or 0.
     pub worst: u128,
 }
 
@@ -74,14 +74,14 @@ impl Findings {
         }
     }
 
-    /// Whether the first pair that is sought is one of node `n` or of one before it, so that those behind are not.
+    /// Whether the first pair that is sought is one of node `n` or of a node before it, whatever is found behind `n`.
     pub(crate) fn is_settled(&self, n: usize) -> bool
         ensures { IsTrue result ↔ NamesUntil self.now.first n }
     {
         names_until(self.first, n)
     }
 
-    /// Takes in what is found at the next pair, one of node `n`.
+    /// Takes in what is found at the next pair, which is one of node `n`.
     pub(crate) fn note(&mut self, n: usize, found: Verdict)
         ensures aim { self.new.aim ≡ self.old.aim }
         ensures found { (c : Controller) (s : ℕ) → IsPair c n s → IsPairVerdict c n s found →

@@ -65,7 +65,7 @@ fn candidate<C: Cells>(certificate: &Certificate<'_, C>, worst: u128) -> u128
     ceil_quotient(worst, scale * (1_000_000 - cells.discount()) as u128)
 }
 
-/// Why vectors are not lowered that have this verdict, where no lowering changes it.
+/// Why vectors with this verdict are not lowered, where no lowering changes it.
 fn refused(verdict: Verdict) -> Result<(), LowerFault>
     ensures passes { IfOk result (λ _. verdict ≡ Yes) }
     ensures refused { IfErr result (IsRefused verdict) }
@@ -134,7 +134,7 @@ pub fn least_constant<C: Cells>(
     least_watched(cells, graph, vectors, &mut Unwatched)
 }
 
-/// The same of a certificate.
+/// The same of a certificate, of which `watch` is told how far it is.
 fn least_of<C: Cells, W: Watch>(
     certificate: &Certificate<'_, C>,
     watch: &mut W,
@@ -154,7 +154,7 @@ fn least_of<C: Cells, W: Watch>(
     }
 }
 
-/// The same, and `watch` is told how far it is: of each node once.
+/// The same of the parts of a certificate.
 fn least_watched<C: Cells, W: Watch>(
     cells: &C,
     graph: &Graph,

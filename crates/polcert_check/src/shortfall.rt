@@ -16,7 +16,7 @@ use crate::side::Side;
 use polcert_cells::{Cells, MOST_OBSERVATIONS};
 use polcert_policy::{Graph, Vectors};
 
-/// What the action of node `n` earns in state `s`, as far as the node has successors.
+/// What the action of node `n` earns in state `s`, without the observations for which the node has no successor.
 fn followed_reward<C: Cells>(certificate: &Certificate<'_, C>, n: usize, s: usize) -> i128
     requires node { n < (controller certificate.now).nodes }
     requires start { s < (controller certificate.now).cells.states }
@@ -31,7 +31,7 @@ fn followed_reward<C: Cells>(certificate: &Certificate<'_, C>, n: usize, s: usiz
     )
 }
 
-/// The same of a certificate.
+/// How far the value of node `n` at state `s` is above what the next step backs.
 fn amount_at<C: Cells>(certificate: &Certificate<'_, C>, n: usize, s: usize) -> i128
     requires node { n < (controller certificate.now).nodes }
     requires start { s < (controller certificate.now).cells.states }
