@@ -6,8 +6,8 @@ use Rattle.polcert_check.specs.declared.verdict.Verdict.{Verdict}
 use Rattle.polcert_check.specs.declared.verdict.Verdict.TheVariants.{Yes, Short, NoSuccessor}
 use Rattle.polcert_check.specs.Horizon.{Controller, one, step_scale, runs, is_cut, weight, weights_sum, worth_sum, rewards_sum, Promise, RewardPromise, AtMost, MeetsEveryHorizon, MeetsHorizon, HasCutRun}
 use Rattle.polcert_check.specs.Shortfall.{short, PairPasses, Passes}
-use Rattle.polcert_check.specs.Verdict.{PassesBefore, IsVerdict}
-use Rattle.polcert_check.specs.Above.{PromiseAbove, AtLeast, RewardPromiseAbove, MeetsEveryHorizonAbove, MeetsHorizonAbove, PairPassesAbove, PassesAbove, PassesAboveBefore, IsAboveVerdict}
+use Rattle.polcert_check.specs.Verdict.{PassesBefore, IsVerdict, NamesSmallAmount}
+use Rattle.polcert_check.specs.Above.{PromiseAbove, AtLeast, RewardPromiseAbove, MeetsEveryHorizonAbove, MeetsHorizonAbove, PairPassesAbove, PassesAbove, PassesAboveBefore, IsAboveVerdict, NamesSmallAmountAbove}
 use Rattle.polcert_check.specs.Mirrored.{mirrored, above_of}
 use Rattle.polcert_check.specs.Ranges.{IsController}
 use Rattle.polcert_check.proofs.EveryHorizon.{every_horizon, passes_if_promised}
@@ -50,6 +50,11 @@ pub verdict_above : (c : Controller) (v : Verdict) → IsVerdict (mirrored c) v 
 verdict_above c Yes h = passes_above c h
 verdict_above c (Short n s amount) h = (h.0, h.1, before_above c n s h.2, h.3, h.4 ∙ mirrored_short c n s, h.5)
 verdict_above c (NoSuccessor n s z) h = (h.0, h.1, before_above c n s h.2, h.3)
+
+pub small_above : (c : Controller) (v : Verdict) → NamesSmallAmount (mirrored c) v → NamesSmallAmountAbove c (above_of v)
+small_above c Yes h = h
+small_above c (Short n s amount) h = h
+small_above c (NoSuccessor n s z) h = h
 
 -- ---- promises
 abbrev CutsWeighNothing : Controller → ℕ → ℕ → List (ℕ × ℕ) → Type 0

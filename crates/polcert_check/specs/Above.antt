@@ -1,10 +1,10 @@
 -- The promise from above, for every number of steps: what a controller earns is expected to be at most what its vectors say.
 -- Runs, weights, totals and shortfalls are those of the promise from below.
-use Rattle.std.specs.Prelude.{◌≡◌, ℕ, ◌*◌, ◌^◌, ◌<◌, ℤ, pos, neg_ℤ, ◌+ℤ◌, ◌*ℤ◌, ◌≤ℤ◌, ◌<ℤ◌, IsTrue, All, Some, None}
+use Rattle.std.specs.Prelude.{◌≡◌, ℕ, ◌*◌, ◌^◌, ◌<◌, ◌≤◌, unsigned_abs, ⊤, ℤ, pos, neg_ℤ, ◌+ℤ◌, ◌*ℤ◌, ◌≤ℤ◌, ◌<ℤ◌, IsTrue, All, Some, None}
 use Rattle.polcert_check.specs.declared.above.AboveVerdict.{AboveVerdict}
 use Rattle.polcert_check.specs.declared.above.AboveVerdict.TheVariants.{Yes, Long, NoSuccessor}
 use Rattle.polcert_check.specs.Horizon.{Controller, one, step_scale, runs, is_cut, weight, weights_sum, worth_sum, rewards_sum, HasCutRun}
-use Rattle.polcert_check.specs.Shortfall.{short, Lacks}
+use Rattle.polcert_check.specs.Shortfall.{short, most_short, Lacks}
 use Rattle.polcert_check.specs.Verdict.{IsBefore, IsLeastLacking}
 
 -- From n and s each cut run of k steps weighs nothing, and the others are worth at most the vector's value.
@@ -54,3 +54,9 @@ abbrev pub IsAboveVerdict : Controller → AboveVerdict → Type 0
 IsAboveVerdict c Yes = PassesAbove c
 IsAboveVerdict c (Long n s amount) = (n < c.nodes) × (s < c.cells.states) × PassesAboveBefore c n s × IsLeastLacking c n s None × (amount ≡ neg_ℤ (short c n s)) × (pos 0 <ℤ amount)
 IsAboveVerdict c (NoSuccessor n s z) = (n < c.nodes) × (s < c.cells.states) × PassesAboveBefore c n s × IsLeastLacking c n s (Some z)
+
+-- the amount that a verdict from above names, if any, is no larger than a shortfall can be
+abbrev pub NamesSmallAmountAbove : Controller → AboveVerdict → Type 0
+NamesSmallAmountAbove c Yes = ⊤
+NamesSmallAmountAbove c (Long n s amount) = unsigned_abs amount ≤ most_short c
+NamesSmallAmountAbove c (NoSuccessor n s z) = ⊤

@@ -1,11 +1,21 @@
 //! The verdict from above: whether the vectors bound what a policy graph earns from above.
-ghost use Rattle.std.specs.Prelude.{ℕ, ◌<◌, ◌≤ℤ◌};
+ghost use Rattle.std.specs.Prelude.{◌≡◌, ℕ, ◌<◌, ◌≤ℤ◌};
 ghost use Rattle.polcert_cells.specs.Tables.{Table, IsProper, IsWithinLimits};
 ghost use Rattle.polcert_policy.specs.Graphs.{PolicyGraph, IsProperGraph, nodes};
 ghost use Rattle.polcert_policy.specs.Vectors.{PolicyVectors, value_of};
 ghost use Rattle.polcert_check.specs.Horizon.{Controller, Fits, controller_of, one};
 ghost use Rattle.polcert_check.specs.Shortfall.{Passes};
-ghost use Rattle.polcert_check.specs.Above.{PromiseAbove, MeetsEveryHorizonAbove, PairPassesAbove, PassesAbove};
+ghost use Rattle.polcert_check.specs.Above.{PromiseAbove, MeetsEveryHorizonAbove, MeetsHorizonAbove, PairPassesAbove, PassesAbove, IsAboveVerdict, NamesSmallAmountAbove};
+ghost use Rattle.polcert_check.specs.Mirrored.{above_of};
+
+use crate::certificate::Certificate;
+use crate::findings::Aim;
+use crate::side::Side;
+use crate::survey::survey;
+use crate::verdict::Verdict;
+use crate::watch::{Unwatched, Watch};
+use polcert_model::Cells;
+use polcert_policy::{Graph, Vectors};
 
 /// What a check from above finds: yes, or the first pair of a node and a state that doesn't pass, by node and then by state.
 #[derive(Clone, Copy, Debug, PartialEq, Eq)]
@@ -26,6 +36,74 @@ pub enum AboveVerdict {
         state: usize,
         observation: usize,
     },
+}
+
+/// What a verdict on the mirror image says from above.
+fn above_of(verdict: Verdict) -> AboveVerdict
+    ensures { result ≡ above_of verdict }
+{
+    match verdict {
+        Verdict::Yes => AboveVerdict::Yes,
+        Verdict::Short {
+            node,
+            state,
+            amount,
+        } => AboveVerdict::Long {
+            node,
+            state,
+            amount,
+        },
+        Verdict::NoSuccessor {
+            node,
+            state,
+            observation,
+        } => AboveVerdict::NoSuccessor {
+            node,
+            state,
+            observation,
+        },
+    }
+}
+
+/// Whether what the next step comes to is at most each value, so that the graph earns no more than the values say for every number
+/// of steps; else the first pair of a node and a state that doesn't pass.
+pub fn check_above<C: Cells>(cells: &C, graph: &Graph, vectors: &Vectors) -> AboveVerdict
+    requires fits { Fits (C.table cells.now) graph.now vectors.now }
+
+    // Yes where every pair passes, else the first that doesn't, and why.
+    ensures verdict { IsAboveVerdict (controller_of (C.table cells.now) graph.now vectors.now) result }
+
+    // The promise from above for every horizon, or that one step breaks it.
+    ensures horizon { MeetsHorizonAbove (controller_of (C.table cells.now) graph.now vectors.now) result }
+
+    // How large an amount can be.
+    ensures small { NamesSmallAmountAbove (controller_of (C.table cells.now) graph.now vectors.now) result }
+
+    // Where the discount is below 1, vectors that pass from below are nowhere above these.
+    ensures interval { (result ≡ AboveVerdict.Yes) → (C.table cells.now).discount < one → (low : PolicyVectors) →
+        Fits (C.table cells.now) graph.now low → Passes (controller_of (C.table cells.now) graph.now low) →
+        (n s : ℕ) → n < nodes graph.now → s < (C.table cells.now).states → value_of low n s ≤ℤ value_of vectors.now n s }
+{
+    let nodes = graph.nodes();
+    let vector_count = vectors.nodes();
+    prove!(nodes == vector_count);
+    check_above_watched(cells, graph, vectors, &mut Unwatched)
+}
+
+/// The same, and `watch` is told how far the check is: of each node when all of its pairs have passed.
+pub fn check_above_watched<C: Cells, W: Watch>(
+    cells: &C,
+    graph: &Graph,
+    vectors: &Vectors,
+    watch: &mut W,
+) -> AboveVerdict
+    requires fits { Fits (C.table cells.now) graph.now vectors.now }
+    ensures verdict { IsAboveVerdict (controller_of (C.table cells.now) graph.now vectors.now) result }
+    ensures horizon { MeetsHorizonAbove (controller_of (C.table cells.now) graph.now vectors.now) result }
+    ensures small { NamesSmallAmountAbove (controller_of (C.table cells.now) graph.now vectors.now) result }
+{
+    let certificate = Certificate::new(Side::Above, cells, graph, vectors);
+    above_of(survey(&certificate, Aim::Check, watch).first)
 }
 
 /// Where every pair passes from above, the promise from above holds for every number of steps, with the vectors at the end and

@@ -24,7 +24,10 @@ mod verdict;
 mod walk;
 mod watch;
 
-pub use above::{AboveVerdict, bounds_are_an_interval, promise_above_for_every_horizon};
+pub use above::{
+    AboveVerdict, bounds_are_an_interval, check_above, check_above_watched,
+    promise_above_for_every_horizon,
+};
 pub use examples::{a_missing_successor, minus_one_for_each_step, runs_of_four_steps};
 pub use fault::LowerFault;
 pub use laws::{
