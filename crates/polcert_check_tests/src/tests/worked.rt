@@ -1,7 +1,8 @@
 //! Worked rows, from texts to verdicts.
 use polcert_cells::Cells;
 use polcert_check::{
-    LowerFault, Verdict, check, fits, least_constant, lowered, start_most, start_worth,
+    AboveVerdict, LowerFault, Verdict, check, check_above, fits, least_constant, lowered,
+    start_most, start_worth,
 };
 use polcert_model::{Model, dense_of, read_model};
 use polcert_policy::{Graph, Vectors, read_graph, read_vectors, read_vectors_up};
@@ -460,20 +461,41 @@ fn worths_from_the_start(rt: HostRuntime) {
     }
 }
 
-/// What no node is worth more than from the start, where the texts are read, with values rounded up, and fit.
-fn most(alloc: Global, model: &[u8], graph: &[u8], vectors: &[u8]) -> Option<i64> {
+/// The parts, where the texts are read, with values rounded up.
+fn read_parts_up(alloc: Global, model: &[u8], graph: &[u8], vectors: &[u8]) -> Option<Parts> {
     let model = read_model(alloc, model).ok()?;
     let graph = read_graph(alloc, graph, model.actions(), model.observations()).ok()?;
     let vectors = read_vectors_up(alloc, vectors, &graph, model.states()).ok()?;
-    most_of(&model, &graph, &vectors)
+    Some(Parts {
+        model,
+        graph,
+        vectors,
+    })
 }
 
-fn most_of(model: &Model, graph: &Graph, vectors: &Vectors) -> Option<i64> {
-    if fits(model, graph, vectors) {
-        Some(start_most(model, graph, vectors))
-    } else {
-        None
+impl Parts {
+    /// What no node is worth more than from the start.
+    fn most(&self) -> Option<i64> {
+        if fits(&self.model, &self.graph, &self.vectors) {
+            Some(start_most(&self.model, &self.graph, &self.vectors))
+        } else {
+            None
+        }
     }
+
+    /// The verdict from above.
+    fn verdict_above(&self) -> Option<AboveVerdict> {
+        if fits(&self.model, &self.graph, &self.vectors) {
+            Some(check_above(&self.model, &self.graph, &self.vectors))
+        } else {
+            None
+        }
+    }
+}
+
+/// What no node is worth more than from the start, where the texts are read, with values rounded up, and fit.
+fn most(alloc: Global, model: &[u8], graph: &[u8], vectors: &[u8]) -> Option<i64> {
+    read_parts_up(alloc, model, graph, vectors)?.most()
 }
 
 /// The texts of a model, a graph and vectors, and what no node is worth more than from the start.
@@ -501,5 +523,83 @@ fn most_from_the_start(rt: HostRuntime) {
     let alloc = rt.alloc();
     for (model, graph, vectors, answer) in MOSTS {
         assert_eq!(rt; most(alloc, model, graph, vectors), Some(answer));
+    }
+}
+
+/// The verdict from above, where the texts are read, with values rounded up, and fit.
+fn verdict_above(
+    alloc: Global,
+    model: &[u8],
+    graph: &[u8],
+    vectors: &[u8],
+) -> Option<AboveVerdict> {
+    read_parts_up(alloc, model, graph, vectors)?.verdict_above()
+}
+
+/// The texts of a model, a graph and vectors, and the verdict from above.
+const ABOVE: [(&[u8], &[u8], &[u8], AboveVerdict); 10] = [
+    (TIGER, b"0 0 0 0", b"0 -20 -20", AboveVerdict::Yes),
+    (
+        TIGER,
+        b"0 0 0 0",
+        b"0 -19.9999999999999964 -19.9999999999999964",
+        AboveVerdict::Yes,
+    ),
+    (
+        TIGER,
+        b"0 0 0 0",
+        b"0 -20.000001 -20.000001",
+        AboveVerdict::Long {
+            node: 0,
+            state: 0,
+            amount: 200_000_000_000_000_000,
+        },
+    ),
+    (
+        b"discount: 1 values: reward states: 1 actions: 1 observations: 1 T: 0 identity O: 0 uniform R: 0 : 0 : 0 : 0 1",
+        b"0 0 0",
+        b"0 5",
+        AboveVerdict::Long {
+            node: 0,
+            state: 0,
+            amount: 1_000_000_000_000_000_000_000_000,
+        },
+    ),
+    (MDP, b"0 0 0 0", b"0 1.3333333 0.6666667", AboveVerdict::Yes),
+    (
+        MDP,
+        b"0 0 0 0",
+        b"0 1.333333 0.666666",
+        AboveVerdict::Long {
+            node: 0,
+            state: 1,
+            amount: 2_000_000_000_000_000_000,
+        },
+    ),
+    (PLAIN, b"0 0 0", b"0 -0.000001 -0.000002", AboveVerdict::Yes),
+    (PLAIN, b"0 0 0 1 0 1", b"0 1 1 0 1 1", AboveVerdict::Yes),
+    (
+        b"discount: 0.5 values: reward states: 1 actions: 1 observations: 2 T: 0 identity O: 0 1 0",
+        b"0 0 0 -",
+        b"0 0",
+        AboveVerdict::Yes,
+    ),
+    (
+        b"discount: 0.5 values: reward states: 1 actions: 1 observations: 2 T: 0 identity O: 0 0.5 0.5",
+        b"0 0 0 -",
+        b"0 -5",
+        AboveVerdict::NoSuccessor {
+            node: 0,
+            state: 0,
+            observation: 1,
+        },
+    ),
+];
+
+#[test]
+fn verdicts_from_above(rt: HostRuntime) {
+    let alloc = rt.alloc();
+    for (model, graph, vectors, answer) in ABOVE {
+        assert_eq!(rt; verdict_above(alloc, model, graph, vectors), Some(answer));
     }
 }
