@@ -1,3 +1,4 @@
+pub mod AheadLaws
 pub mod ElementLaws
 pub mod FirstNumberLaws
 pub mod FormLaws
