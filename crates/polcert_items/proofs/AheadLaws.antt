@@ -43,7 +43,7 @@ fed_then k a b c bytes m n first second = record {
 }
 
 -- a numeral begins no item
-numeral_inside : (l : Lexeme) → l.kind ≡ Numeral → begins_item l ≡ false
+pub numeral_inside : (l : Lexeme) → l.kind ≡ Numeral → begins_item l ≡ false
 numeral_inside l is = subst (λ (kind : TokenKind). begins_item (record l { kind = kind }) ≡ false) (sym is) refl
 
 -- one probability

@@ -2,11 +2,8 @@ use Rattle.std.proofs.Common.{◌≡◌, ◌≢◌, subst, sym, refl}
 use Rattle.polcert_format.specs.KnownPreamble.{indices_in}
 use Rattle.polcert_items.specs.AheadSteps.{FedAhead, with_probabilities}
 use Rattle.polcert_items.specs.EntrySteps.{IsStateWithin}
-use Rattle.polcert_items.proofs.AheadLaws.{fed_none, if_ok_map, same_state}
+use Rattle.polcert_items.proofs.AheadLaws.{if_ok_map, same_state}
 use Rattle.polcert_items.proofs.entry_reader.EntryReader.feed_ahead.Goals as goal
-
-pub returns-in_default : goal.returns-in_default
-returns-in_default c = fed_none c.args.known.now c.args.self.now c.args.bytes.now
 
 pub returns-in-Probabilities : goal.returns-in-Probabilities
 returns-in-Probabilities c =
