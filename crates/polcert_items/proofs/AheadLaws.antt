@@ -1,7 +1,7 @@
 -- An entry that goes on with several lexemes at once.
-use Rattle.std.proofs.Common.{◌≡◌, ◌≢◌, ◌∙◌, ℕ, ◌+◌, ◌<◌, ◌≤◌, false, true, Option, None, List, [], ◌∷◌, ◌++◌, length, drop, pos, refl, sym, ap, subst, append-nil, append_assoc, length-append, Result, Ok, Err, IfOk, arith}
+use Rattle.std.proofs.Common.{◌≡◌, ◌≢◌, ℕ, ◌+◌, ◌<◌, ◌≤◌, false, None, List, [], ◌∷◌, ◌++◌, length, drop, pos, refl, sym, ap, subst, append-nil, append_assoc, length-append, Result, Ok, Err, IfOk, arith}
 use Rattle.std.proofs.lemmas.List.{length-drop}
-use Rattle.polcert_text.specs.Beginning.{BeginWith, BeginWithNumber}
+use Rattle.polcert_text.specs.Beginning.{BeginWithNumber}
 use Rattle.polcert_text.specs.Cut.{Lexeme}
 use Rattle.polcert_text.specs.declared.beginning.FrontNumber.{FrontNumber}
 use Rattle.polcert_text.specs.declared.lexeme.TokenKind.{TokenKind}
@@ -14,7 +14,6 @@ use Rattle.polcert_format.specs.KnownPreamble.{preamble_in}
 use Rattle.polcert_format.specs.Reasons.{is_sign}
 use Rattle.polcert_format.specs.Text.{Known}
 use Rattle.polcert_items.specs.AheadSteps.{IsFed, AreFed, none, more, FedAhead, with_probabilities}
-use Rattle.polcert_items.specs.EntrySteps.{HasRoom}
 use Rattle.polcert_items.specs.NumberSteps.{is_negative}
 use Rattle.polcert_items.specs.declared.entry_reader.EntryReader.{EntryReader}
 use Rattle.polcert_items.specs.declared.entry_reader.EntryState.TheVariants as states

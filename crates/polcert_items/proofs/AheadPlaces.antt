@@ -1,19 +1,18 @@
 -- The places of an entry and the first number behind them, taken at once.
-use Rattle.std.proofs.Common.{◌≡◌, ◌≢◌, ◌∙◌, ◌⊎◌, ⊎_elim, inl, ℕ, zero, suc, ◌+◌, ◌<◌, ◌≤◌, true, false, None, List, [], ◌∷◌, ◌++◌, length, drop, get_or, ℤ, pos, refl, sym, ap, subst, length-append, arith}
-use Rattle.polcert_text.specs.Beginning.{BeginWith, BeginWithOne, BeginWithNumber, BeginWithDigits}
+use Rattle.std.proofs.Common.{◌≡◌, ◌∙◌, ⊎_elim, inl, ℕ, zero, suc, ◌+◌, ◌<◌, ◌≤◌, true, false, None, List, [], ◌∷◌, ◌++◌, length, drop, get_or, ℤ, pos, refl, sym, ap, subst, length-append, arith}
+use Rattle.polcert_text.specs.Beginning.{BeginWithOne, BeginWithNumber, BeginWithDigits}
 use Rattle.polcert_text.specs.Cut.{Lexeme}
 use Rattle.polcert_text.specs.declared.beginning.FrontNumber.{FrontNumber}
 use Rattle.polcert_text.specs.declared.lexeme.TokenKind.{TokenKind}
-use Rattle.polcert_text.specs.declared.lexeme.TokenKind.TheVariants.{Colon, Numeral, Name}
+use Rattle.polcert_text.specs.declared.lexeme.TokenKind.TheVariants.{Colon, Numeral}
 use Rattle.polcert_text.proofs.BeginLaws.{begin_then}
-use Rattle.polcert_cells.specs.Elements.{count_of, StandsFor, by_number}
+use Rattle.polcert_cells.specs.Elements.{count_of, by_number}
 use Rattle.polcert_cells.specs.Entry.{cells_in, IsPlace}
-use Rattle.polcert_cells.specs.Numbers.{IsMillionths, IsWhole, one}
-use Rattle.polcert_cells.specs.Preamble.{Preamble, is_mdp, named, dimensions}
+use Rattle.polcert_cells.specs.Numbers.{IsMillionths, IsWhole}
+use Rattle.polcert_cells.specs.Preamble.{Preamble, is_mdp}
 use Rattle.polcert_cells.specs.Words.{begins_item}
 use Rattle.polcert_cells.specs.declared.elements.Elements.{Elements}
 use Rattle.polcert_cells.specs.declared.elements.Elements.TheVariants.{Count}
-use Rattle.polcert_cells.specs.declared.entry.Entry.{Entry}
 use Rattle.polcert_cells.specs.declared.entry.Place.{Place}
 use Rattle.polcert_cells.specs.declared.entry.Place.TheVariants.{Only}
 use Rattle.polcert_cells.specs.declared.entry.Table.{Table}
@@ -24,9 +23,8 @@ use Rattle.polcert_format.specs.Reasons.{is_sign}
 use Rattle.polcert_format.specs.Text.{Known}
 use Rattle.polcert_format.specs.Wants.{least_written, numbers_want}
 use Rattle.polcert_format.specs.Wants as wants
-use Rattle.polcert_items.specs.AheadSteps.{IsFed, AreFed, none, more, FedAhead, BeginWithPlace, AwaitsColon, AreBegunWith}
-use Rattle.polcert_items.specs.EntrySteps.{StateGoes, EntryGoes, IsFirstPlace, IsEntryBehind, IsStateWithin, IsWithinIndices, AreBegun, no_numbers, entry_sign}
-use Rattle.polcert_items.specs.LineSteps.{Takes}
+use Rattle.polcert_items.specs.AheadSteps.{IsFed, none, more, FedAhead, BeginWithPlace, AwaitsColon, AreBegunWith}
+use Rattle.polcert_items.specs.EntrySteps.{StateGoes, IsFirstPlace, IsEntryBehind, IsStateWithin, IsWithinIndices, AreBegun, no_numbers, entry_sign}
 use Rattle.polcert_items.specs.NumberSteps.{SignIs}
 use Rattle.polcert_items.specs.WantSteps.{Leads, state_wants, entry_wants}
 use Rattle.polcert_items.specs.declared.entry_reader.EntryReader.{EntryReader}
@@ -78,11 +76,6 @@ same_count : (k : Known) (table : Table) → length (named_in k table) ≡ lengt
 same_count k Transition = refl
 same_count k Observation = refl
 same_count k Reward = refl
-
-pub few_indices : (k : Known) (table : Table) → length (indices_in k table) ≤ 4
-few_indices k Transition = omega arith
-few_indices k Observation = omega arith
-few_indices k Reward = omega arith
 
 place_fed : (k : Known) (r : EntryReader) (l : Lexeme) (p : Place) → r.state ≡ states.Place → length r.places < length (indices_in k r.table) → l.kind ≡ Numeral → IsFirstPlace (drop (length r.places) (named_in k r.table)) l p
     → IsFed k r l (record { table = r.table; places = r.places ++ p ∷ []; state = states.Body })

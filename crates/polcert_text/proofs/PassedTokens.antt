@@ -1,5 +1,5 @@
 -- Tokens that stand whole at the front of what is ahead, taken from a source together.
-use Rattle.std.proofs.Common.{◌≡◌, ◌∙◌, ◌+◌, ◌++◌, ℕ, Option, List, length, take, drop, refl, sym, ap, subst, arith}
+use Rattle.std.proofs.Common.{◌≡◌, ◌∙◌, ◌+◌, ◌++◌, ℕ, Option, List, drop, sym, ap, subst, arith}
 use Rattle.std.proofs.lemmas.List.{length-drop, drop-append-le}
 use Rattle.polcert_text.specs.Beginning.{rest_at, BeginWith, passed}
 use Rattle.polcert_text.specs.Cut.{Lexeme}

@@ -1,7 +1,6 @@
-use Rattle.std.proofs.Common.{◌≡◌, ◌∙◌, ◌-◌, ◌+◌, ◌*◌, ◌<◌, ◌≤◌, [], length, take, get_or, refl, sym, ap, arith}
+use Rattle.std.proofs.Common.{◌≡◌, ◌∙◌, ◌-◌, ◌+◌, ◌<◌, ◌≤◌, [], length, take, get_or, refl, ap, arith}
 use Rattle.std.specs.Str.Parse.{digits_value}
 use Rattle.polcert_text.specs.Bytes.{class_of}
-use Rattle.polcert_text.specs.Numbers.{largest}
 use Rattle.polcert_text.specs.declared.lexeme.State.TheVariants.{Whole, Fraction}
 use Rattle.polcert_text.specs.declared.lexeme.TokenKind.TheVariants.{Numeral}
 use Rattle.polcert_text.proofs.FrontNumbers.{whole_read, fraction_read, blank_behind, whole_exact, decimal_exact}

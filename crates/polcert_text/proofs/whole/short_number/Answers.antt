@@ -1,8 +1,6 @@
-use Rattle.std.proofs.Common.{◌≡◌, ◌∙◌, ℕ, suc, ◌-◌, ◌<◌, ◌&&◌, true, List, [], ◌∷◌, length, take, take_all, get_or, refl, ap, arith}
-use Rattle.std.specs.List.{list_all}
+use Rattle.std.proofs.Common.{◌≡◌, ◌∙◌, ◌-◌, [], take, take_all, refl, ap, arith}
 use Rattle.std.specs.Str.Parse.{digits_value}
-use Rattle.polcert_text.specs.Bytes.{is_digit, digit_class}
-use Rattle.polcert_text.specs.Lexemes.{are_digits}
+use Rattle.polcert_text.specs.Bytes.{digit_class}
 use Rattle.polcert_text.proofs.FrontNumbers.{all_of_each, some_digits}
 use Rattle.polcert_text.proofs.whole.short_number.Goals as goal
 

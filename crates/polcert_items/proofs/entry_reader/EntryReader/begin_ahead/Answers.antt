@@ -1,7 +1,6 @@
-use Rattle.std.proofs.Common.{◌≡◌, ◌≤◌, ◌∙◌, length, drop, sym, ap, subst, arith}
+use Rattle.std.proofs.Common.{◌≡◌, ◌≤◌, ◌∙◌, length, drop, ap, subst, arith}
 use Rattle.polcert_cells.specs.Entry.{cells_in}
-use Rattle.polcert_cells.specs.Preamble.{is_mdp}
-use Rattle.polcert_format.specs.KnownPreamble.{preamble_in, indices_in}
+use Rattle.polcert_format.specs.KnownPreamble.{indices_in}
 use Rattle.polcert_format.specs.Wants.{least_written}
 use Rattle.polcert_items.specs.EntrySteps.{IsStateWithin}
 use Rattle.polcert_items.specs.declared.entry_reader.EntryState.TheVariants as states

@@ -1,4 +1,4 @@
-use Rattle.std.proofs.Common.{◌≡◌, ◌≢◌, subst, sym, refl}
+use Rattle.std.proofs.Common.{subst, sym}
 use Rattle.polcert_format.specs.KnownPreamble.{indices_in}
 use Rattle.polcert_items.specs.AheadSteps.{FedAhead, with_probabilities}
 use Rattle.polcert_items.specs.EntrySteps.{IsStateWithin}

@@ -1,4 +1,4 @@
-use Rattle.std.proofs.Common.{◌≡◌, ◌-◌, ◌≤◌, length}
+use Rattle.std.proofs.Common.{◌-◌, ◌≤◌, length}
 use Rattle.polcert_format.specs.KnownPreamble.{indices_in}
 use Rattle.polcert_items.specs.AheadSteps.{FedAhead}
 use Rattle.polcert_items.specs.EntrySteps.{IsWithinIndices}

@@ -1,4 +1,4 @@
-use Rattle.std.proofs.Common.{◌≡◌, ◌<◌, length, arith}
+use Rattle.std.proofs.Common.{◌<◌, length, arith}
 use Rattle.polcert_format.specs.KnownPreamble.{indices_in}
 use Rattle.polcert_items.specs.declared.entry_reader.EntryState.TheVariants as states
 use Rattle.polcert_items.proofs.AheadPlaces.{index_fed}

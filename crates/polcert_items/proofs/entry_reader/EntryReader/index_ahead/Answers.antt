@@ -1,4 +1,4 @@
-use Rattle.std.proofs.Common.{◌≡◌, ◌+◌, ◌≤◌, ℕ, length, drop, rules, subst, arith}
+use Rattle.std.proofs.Common.{◌+◌, ◌≤◌, ℕ, length, rules, subst, arith}
 use Rattle.std.proofs.lemmas.List.{take_rest, length-drop}
 use Rattle.polcert_text.specs.Beginning.{BeginWithDigits}
 use Rattle.polcert_items.proofs.AheadPlaces.{place_begins}

@@ -1,4 +1,4 @@
-use Rattle.std.proofs.Common.{Some, sym, subst}
+use Rattle.std.proofs.Common.{sym, subst}
 use Rattle.polcert_items.proofs.AheadLaws.{if_ok_map}
 use Rattle.polcert_model.specs.TextSteps.{IsReadAhead}
 use Rattle.polcert_model.proofs.ReadingAhead.{nothing_ahead, item_ahead, within_item, same_item}
