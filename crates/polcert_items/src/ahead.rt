@@ -43,7 +43,8 @@ impl ItemReader {
 }
 
 impl EntryReader {
-    /// The same of an entry.
+    /// The same of an entry. Only where its line begins is it tried whether places come next: others are mostly names.
+    #[inline(always)]
     fn feed_ahead(
         &mut self,
         alloc: Global,
@@ -55,12 +56,13 @@ impl EntryReader {
     {
         match &mut self.state {
             EntryState::Probabilities(numbers) => numbers.feed_ahead(bytes),
-            _ => self.feed_line(alloc, known, bytes),
+            EntryState::Colon => self.feed_line(alloc, known, bytes),
+            _ => Ok(0),
         }
     }
 
     /// Goes on with places that are numbers, each behind a colon, and then with a number, which may be the first of more.
-    #[inline(always)]
+    #[inline(never)]
     fn feed_line(&mut self, alloc: Global, known: &Known, bytes: &[u8]) -> Result<usize, AllocError>
         requires { IsWithinIndices (indices_in known.now self.old.table) self.old }
         ensures { IfOk result (λ count. FedAhead known.now self.old bytes.now count self.new) }
@@ -218,6 +220,7 @@ fn begun_with(
 
 impl Numbers<u32> {
     /// Goes on with the probabilities that the bytes begin with, up to the last that is needed, and answers how many bytes they are.
+    #[inline(never)]
     fn feed_ahead(&mut self, bytes: &[u8]) -> Result<usize, AllocError>
         ensures { IfOk result (λ count. (k : K) (r : R) → (r.table ≢ Table.Reward) →
             FedAhead k (with_probabilities r self.old) bytes.now count (with_probabilities r self.new)) }
