@@ -1,3 +1,5 @@
+pub mod AheadLaws
+pub mod AheadPlaces
 pub mod ElementLaws
 pub mod FirstNumberLaws
 pub mod FormLaws

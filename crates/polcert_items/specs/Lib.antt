@@ -1,3 +1,4 @@
+pub mod AheadSteps
 pub mod ElementSteps
 pub mod EntrySteps
 pub mod ItemSteps

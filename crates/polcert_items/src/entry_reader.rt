@@ -428,7 +428,7 @@ fn every(token: Token<'_>) -> Result<Place, Refusal>
 
 /// How many indices the cells of a table have.
 #[inline(always)]
-fn indices_of(table: Table) -> usize
+pub(crate) fn indices_of(table: Table) -> usize
     ensures { (k : Known) → length (indices_in k table) ≡ result }
 {
     match table {
@@ -439,7 +439,7 @@ fn indices_of(table: Table) -> usize
 
 /// Whether numbers may stand behind so many places.
 #[inline(always)]
-fn takes_numbers(is_mdp: bool, table: Table, written: usize) -> bool
+pub(crate) fn takes_numbers(is_mdp: bool, table: Table, written: usize) -> bool
     ensures { IsTrue result ↔ (least_written is_mdp table ≤ written) }
 {
     match table {

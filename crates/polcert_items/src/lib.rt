@@ -1,6 +1,7 @@
 //! The items of a model's text, read token by token.
 #![tactic(auto)]
 
+mod ahead;
 mod elements;
 mod elements_reader;
 mod entry_reader;

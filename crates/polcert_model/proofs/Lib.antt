@@ -1,5 +1,6 @@
 pub mod Continuing
 pub mod ModelStreams
+pub mod ReadingAhead
 pub mod Refusing
 pub mod RefusingEnds
 pub mod SameRows

@@ -1,7 +1,10 @@
 -- A text, item by item: what its reader holds behind the lexemes so far.
 -- Nobody has to believe this: only contracts of private functions cite it.
-use Rattle.std.specs.Prelude.{◌≡◌, ℕ, ◌+◌, true, Option, Some, None, List, [], ◌∷◌, ◌++◌, length}
+use Rattle.std.specs.Prelude.{◌≡◌, ℕ, ◌+◌, ◌≤◌, true, Option, Some, None, List, [], ◌∷◌, ◌++◌, length}
+use Rattle.polcert_text.specs.Beginning.{BeginWith, passed}
 use Rattle.polcert_text.specs.Cut.{Lexeme, IsCut, text_rest, text_limit}
+use Rattle.polcert_text.specs.Stream.{Stream}
+use Rattle.polcert_text.specs.Streaming.{visible}
 use Rattle.polcert_text.specs.Reading.{fault_place}
 use Rattle.polcert_text.specs.declared.tokens.TokenFault.{TokenFault}
 use Rattle.polcert_text.specs.declared.tokens.TokenFault.TheVariants as token_faults
@@ -59,6 +62,19 @@ pub record IsNothingRead (seen : List Lexeme) (r : TextReader) : Type 0 where
 pub data IsTextRead (seen : List Lexeme) (r : TextReader) : Type 0 where
   nothing : IsNothingRead seen r → IsTextRead seen r
   item : IsItemRead seen r → IsTextRead seen r
+
+-- the first of these bytes, wherever they stand, are lexemes with which the reader went on
+pub record IsReadAhead (old : TextReader) (bytes : List ℕ) (count : ℕ) (new : TextReader) : Type 0 where
+  pub within : count ≤ length bytes
+  pub read : (place : ℕ) → (ls : List Lexeme) × (BeginWith place bytes count ls × ((seen : List Lexeme) → IsTextRead seen old → IsTextRead (seen ++ ls) new))
+
+-- lexemes ahead were given with which the reader went on
+pub record IsPassed (old : TextReader) (tokens : Stream) (new : TextReader) (passed_tokens : Stream) : Type 0 where
+  pub count : ℕ
+  pub ls : List Lexeme
+  pub front : BeginWith tokens.ahead.place (visible tokens.ahead) count ls
+  pub tokens_are : passed_tokens ≡ passed count tokens
+  pub read : (seen : List Lexeme) → IsTextRead seen old → IsTextRead (seen ++ ls) new
 
 -- behind right items, before the next
 pub record AreItemsRead (seen : List Lexeme) (r : TextReader) : Type 0 where

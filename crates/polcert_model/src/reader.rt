@@ -1,5 +1,5 @@
 //! A model's text, read item by item.
-ghost use Rattle.std.specs.Prelude.{None, IfOk, IfErr, IsErrOf, ◌≡◌, ◌≢◌, ◌+◌, ◌<◌, ◌≤◌, ◌^◌, ◌++◌, ◌∷◌, [], ℕ, Some, false, List, MatchResult};
+ghost use Rattle.std.specs.Prelude.{None, IfOk, OnOk, IfErr, IsErrOf, ◌≡◌, ◌≢◌, ◌+◌, ◌<◌, ◌≤◌, ◌^◌, ◌++◌, ◌∷◌, [], ℕ, Some, false, List, MatchResult};
 ghost use Rattle.polcert_text.specs.Device.{HasFailed};
 ghost use Rattle.polcert_text.specs.ReadFailures.{EndsInFailure};
 ghost use Rattle.polcert_text.specs.Source.{IsText, EachTextThatFits};
@@ -13,7 +13,7 @@ ghost use Rattle.polcert_format.specs.Refusals.{IsRefusal, IsPlacedRight, IsNoMo
 ghost use Rattle.polcert_format.specs.RefusedTexts.{IsRefusedModelText};
 ghost use Rattle.polcert_tables.specs.Contents.{meaning};
 ghost use Rattle.polcert_items.specs.KnownView.{IsWholeRead};
-ghost use Rattle.polcert_model.specs.TextSteps.{IsTextRead, AreItemsRead, IsTextOf, IsRefusedBehind, IsRefusedAt, IsRefusedWhole, Refuses, tokens_end, pending_at};
+ghost use Rattle.polcert_model.specs.TextSteps.{IsTextRead, IsReadAhead, IsPassed, AreItemsRead, IsTextOf, IsRefusedBehind, IsRefusedAt, IsRefusedWhole, Refuses, tokens_end, pending_at};
 
 use polcert_cells::{Topic, begun_topic};
 use polcert_format::{ItemFault, ModelFault};
@@ -92,6 +92,20 @@ impl TextReader {
             Err(Stop::Refused(refusal)) => Err(self.fault(refusal.kind, refusal.place)),
             Err(Stop::Memory) => Err(ModelFault::Memory),
         }
+    }
+
+    /// Goes on with tokens that stand whole at the front of the bytes, as far as it is known at once that it can, and answers how
+    /// many bytes they are. An error is want of memory.
+    #[inline(always)]
+    fn feed_ahead(&mut self, alloc: Global, bytes: &[u8]) -> Result<usize, AllocError>
+        requires { (seen : List Lexeme) × IsTextRead seen self.old }
+        ensures number { self.new.number ≡ self.old.number }
+        ensures read { IfOk result (λ count. IsReadAhead self.old bytes.now count self.new) }
+    {
+        let Some(item) = &mut self.item else {
+            return Ok(0);
+        };
+        item.feed_ahead(alloc, &self.known, bytes)
     }
 
     /// Ends the item that is open, where the next begins or the text ends.
@@ -201,6 +215,28 @@ fn read_text(alloc: Global, text: &[u8]) -> Result<Known, ModelFault>
     }
 }
 
+/// Goes on with the tokens ahead that were read whole, as far as it is known at once that it can.
+#[inline(always)]
+fn read_ahead(
+    alloc: Global,
+    tokens: &mut StreamTokens,
+    reader: &mut TextReader,
+) -> Result<(), ModelFault>
+    requires read { (seen : List Lexeme) × IsTextRead seen reader.old }
+    requires goes_on { tokens.old.stop ≡ None }
+    ensures number { reader.new.number ≡ reader.old.number }
+    ensures read { OnOk result (IsPassed reader.old tokens.old reader.new tokens.new) }
+    ensures refused { IfErr result (λ fault. fault ≡ ModelFault.Memory) }
+{
+    match reader.feed_ahead(alloc, tokens.ahead()) {
+        Ok(count) => {
+            tokens.pass(count);
+            Ok(())
+        }
+        Err(AllocError) => Err(ModelFault::Memory),
+    }
+}
+
 /// Reads the items of the whole text of a source.
 fn read_items_from<S: Source>(
     alloc: Global,
@@ -222,6 +258,9 @@ fn read_items_from<S: Source>(
             Ok(Some(token)) => {
                 if let Err(fault) = reader.take(alloc, token) {
                     return Err(SourceFault::Refused(fault));
+                }
+                if let Err(memory) = read_ahead(alloc, &mut tokens, reader) {
+                    return Err(SourceFault::Refused(memory));
                 }
             }
             Ok(None) => {

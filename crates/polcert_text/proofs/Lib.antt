@@ -24,6 +24,9 @@ pub mod StreamTaken
 pub mod WindowLaws
 pub mod TextLaws
 pub mod TakenTokens
+pub mod BeginLaws
+pub mod FrontNumbers
+pub mod PassedTokens
 pub mod Numerals
 pub mod PrintedCut
 pub mod PrintedWords

@@ -67,7 +67,7 @@ fault_at place [] ending fault some is = absurd (omega arith)
 fault_at place (b ∷ bs) ending fault some is = is
 
 -- what is ahead where the first bytes were given
-rest_skipped : (a : Ahead) (n : ℕ) (more : List ℕ) → n ≤ length (visible a)
+pub rest_skipped : (a : Ahead) (n : ℕ) (more : List ℕ) → n ≤ length (visible a)
     → rest_with (skip n a) more ≡ (let r : Rest = record { place = a.place + n; bytes = drop n (rest_with a more).bytes; ending = (rest_with a more).ending } in r)
 rest_skipped a n more few =
     let room : a.limit - a.place ≡ n + (a.limit - (a.place + n)) = omega (arith, visible_len a) in

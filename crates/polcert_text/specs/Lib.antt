@@ -5,6 +5,7 @@ pub mod Gaps
 pub mod Fronts
 pub mod Cut
 pub mod TakenTokens
+pub mod Beginning
 pub mod Reading
 pub mod Stream
 pub mod StreamTaken

@@ -1,6 +1,7 @@
 //! Numerals, tokens and devices of the text files that polcert reads and writes.
 #![tactic(auto)]
 
+mod beginning;
 mod buffer;
 mod buffered;
 mod bytes;
@@ -18,6 +19,7 @@ mod tokens;
 mod whole;
 mod window;
 
+pub use beginning::{FrontNumber, front_colon, front_digits, front_number};
 pub use buffer::{BUFFER_SIZE, Buffer};
 pub use buffered::BufferedSink;
 pub use laws::{

@@ -58,10 +58,10 @@ const LONGEST_PLAIN: usize = 64;
 
 const LARGEST_EXPONENT: usize = 400;
 
-const LARGEST: u64 = 10_000_000_000_000;
+pub(crate) const LARGEST: u64 = 10_000_000_000_000;
 
 /// How many millionths make one.
-const MILLION: u64 = 1_000_000;
+pub(crate) const MILLION: u64 = 1_000_000;
 
 /// A size in millionths, rounded down, and whether that left something out.
 #[derive(Clone, Copy)]
@@ -260,7 +260,8 @@ impl Scaling {
 }
 
 /// The number with so many zeros at its end, or one above the largest.
-fn with_zeros(number: u64, zeros: usize) -> u64
+#[inline(always)]
+pub(crate) fn with_zeros(number: u64, zeros: usize) -> u64
     requires { number ≤ cap }
     ensures { (n : ℕ) → number ≡ min cap n → result ≡ min cap (n * 10 ^ zeros) }
 {

@@ -69,7 +69,8 @@ impl StreamTokens {
     ghost use Rattle.polcert_text.specs.Cut.{text_rest};
     ghost use Rattle.polcert_text.specs.Reading.{lexeme_of};
     ghost use Rattle.polcert_text.specs.Stream.{fresh, rest_with, AnswersNext};
-    ghost use Rattle.polcert_text.specs.Streaming.{lent_lexeme, TakesNext};
+    ghost use Rattle.polcert_text.specs.Beginning.{passed};
+    ghost use Rattle.polcert_text.specs.Streaming.{visible, lent_lexeme, TakesNext};
 
     /// The tokens below the limit, an offset in the text. A byte at the limit is refused there.
     pub fn new(limit: u64) -> StreamTokens
@@ -107,6 +108,26 @@ impl StreamTokens {
     {
         let token = &self.bytes.visible()[..self.taken];
         self.bytes.place() + token.len() as u64
+    }
+
+    /// The bytes that were read and are not given yet, as far as they stand below the limit.
+    #[inline(always)]
+    pub fn ahead(&self) -> &[u8]
+        ensures { result.now ≡ visible self.now.ahead }
+    {
+        &self.bytes.visible()[self.taken..]
+    }
+
+    /// Gives so many of them, which are tokens whole.
+    #[inline(always)]
+    pub fn pass(&mut self, count: usize)
+        requires goes_on { self.old.stop ≡ None }
+        requires few { count ≤ length (visible self.old.ahead) }
+        ensures { self.new ≡ passed count self.old }
+    {
+        self.bytes.consume(self.taken);
+        self.bytes.consume(count);
+        self.taken = 0;
     }
 
     /// The token of this kind that was taken last.

@@ -4,7 +4,9 @@ use Rattle.polcert_text.specs.Reading.{lexeme_of}
 use Rattle.polcert_text.specs.Source.{EachTextThatFits}
 use Rattle.polcert_text.proofs.StreamTaken.{none_taken, token_taken, place_grows, place_within, failed_since}
 use Rattle.polcert_format.specs.RefusedTexts.{IsRefusedModelText}
+use Rattle.polcert_format.specs.declared.fault.ModelFault.TheVariants.{Memory}
 use Rattle.polcert_items.proofs.TokenTexts.{token_is_text}
+use Rattle.polcert_model.proofs.ReadingAhead.{all_passed}
 use Rattle.polcert_model.proofs.ModelStreams.{refused_at_token, refused_tokens, read_at_end, refused_at_end}
 use Rattle.polcert_model.proofs.reader.read_items_from.Goals as goal
 
@@ -41,11 +43,15 @@ loop-token-preserved g c =
     let new = c.next_token.follows.lender-at-none in
     let gives = rw (c.in-Ok-Some.is ∙ ap Ok c.in-Ok-Some.field-0-is) at c.next_token.follows.holds-at-none.answers in
     let grows : c.loop-token.tokens.ahead.place < new.ahead.place = place_grows c.loop-token.tokens.ahead new.ahead gives.0.given (lexeme_of c.in-Ok-Some.token) gives.0.next in
+    let taken = token_taken _ _ _ _ was.0 c.loop-token.tokens c.loop-token.source (lexeme_of c.in-Ok-Some.token) new c.next_token.new.source was.1 gives.0 gives.2 in
+    let ahead = c.in_default-read_ahead.ensures.read in
     let more = c.in_default.ensures.number in
+    let same = c.in_default-read_ahead.ensures.number in
+    let place = ap (λ s. s.ahead.place) ahead.tokens_are in
     let few = c.loop-token.invariant.few in
     record {
-      seen = (was.0 ++ lexeme_of c.in-Ok-Some.token ∷ [], token_taken _ _ _ _ was.0 _ _ _ _ _ was.1 gives.0 gives.2, c.in_default.ensures.read was.0 was.2);
-      few = omega (arith, grows, more, few);
+      seen = ((was.0 ++ lexeme_of c.in-Ok-Some.token ∷ []) ++ ahead.ls, all_passed _ _ _ _ _ _ _ _ _ _ taken ahead, ahead.read _ (c.in_default.ensures.read was.0 was.2));
+      few = omega (arith, grows, more, same, place, few);
     }
 
 pub loop-token-smaller : goal.loop-token-smaller
@@ -55,8 +61,25 @@ loop-token-smaller g c =
     let gives = rw (c.in-Ok-Some.is ∙ ap Ok c.in-Ok-Some.field-0-is) at c.next_token.follows.holds-at-none.answers in
     let grows : c.loop-token.tokens.ahead.place < new.ahead.place = place_grows c.loop-token.tokens.ahead new.ahead gives.0.given (lexeme_of c.in-Ok-Some.token) gives.0.next in
     let taken = token_taken _ _ _ _ was.0 c.loop-token.tokens c.loop-token.source (lexeme_of c.in-Ok-Some.token) new c.next_token.new.source was.1 gives.0 gives.2 in
-    let within : new.ahead.place ≤ text_limit = place_within _ _ _ _ _ new c.next_token.new.source taken in
-    omega (arith, grows, within)
+    let ahead = c.in_default-read_ahead.ensures.read in
+    let place = ap (λ s. s.ahead.place) ahead.tokens_are in
+    let within : c.read_ahead.new.tokens.ahead.place ≤ text_limit = place_within _ _ _ _ _ c.read_ahead.new.tokens c.next_token.new.source (all_passed _ _ _ _ _ _ _ _ _ _ taken ahead) in
+    omega (arith, grows, place, within)
+
+pub read_ahead-requires-clause-read : goal.read_ahead-requires-clause-read
+read_ahead-requires-clause-read g c =
+    let was = c.loop-token.invariant.seen in
+    (was.0 ++ lexeme_of c.in-Ok-Some.token ∷ [], c.in_default.ensures.read was.0 was.2)
+
+pub returns-in-Err-read_ahead-clause-refused : goal.returns-in-Err-read_ahead-clause-refused
+returns-in-Err-read_ahead-clause-refused g c = λ fault is.
+    let same : c.in-Err-read_ahead.memory ≡ fault = cc in
+    let was = c.loop-token.invariant.seen in
+    let new = c.next_token.follows.lender-at-none in
+    let gives = rw (c.in-Ok-Some.is ∙ ap Ok c.in-Ok-Some.field-0-is) at c.next_token.follows.holds-at-none.answers in
+    let taken = token_taken _ _ _ _ was.0 c.loop-token.tokens c.loop-token.source (lexeme_of c.in-Ok-Some.token) new c.next_token.new.source was.1 gives.0 gives.2 in
+    subst (λ f. EachTextThatFits g.S.Source.reads c.args.source.now c.next_token.new.source (IsRefusedModelText f)) (sym c.in-Err-read_ahead.ensures.refused ∙ same)
+    (refused_at_token _ _ _ _ new c.next_token.new.source Memory taken (λ text ts further tokens all. record { refusal = tt; placed = tt }))
 
 pub returns-in-Err-clause-refused : goal.returns-in-Err-clause-refused
 returns-in-Err-clause-refused g c = λ fault is.

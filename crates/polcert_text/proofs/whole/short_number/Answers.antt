@@ -1,17 +1,8 @@
-use Rattle.std.proofs.Common.{◌≡◌, ◌∙◌, ℕ, suc, ◌-◌, ◌<◌, ◌&&◌, true, List, [], ◌∷◌, length, take, take_all, get_or, refl, ap, arith}
-use Rattle.std.specs.List.{list_all}
+use Rattle.std.proofs.Common.{◌≡◌, ◌∙◌, ◌-◌, [], take, take_all, refl, ap, arith}
 use Rattle.std.specs.Str.Parse.{digits_value}
-use Rattle.polcert_text.specs.Bytes.{is_digit, digit_class}
-use Rattle.polcert_text.specs.Lexemes.{are_digits}
+use Rattle.polcert_text.specs.Bytes.{digit_class}
+use Rattle.polcert_text.proofs.FrontNumbers.{all_of_each, some_digits}
 use Rattle.polcert_text.proofs.whole.short_number.Goals as goal
-
-all_of_each : (bs : List ℕ) → ((k : ℕ) → k < length bs → is_digit (get_or bs k 0) ≡ true) → list_all is_digit bs ≡ true
-all_of_each [] each = refl
-all_of_each (b ∷ bs) each = (λ i. each 0 (omega arith) i && all_of_each bs (λ k below. each (suc k) (omega arith)) i)
-
-some_digits : (bs : List ℕ) → 0 < length bs → list_all is_digit bs ≡ true → are_digits bs ≡ true
-some_digits [] some all = absurd (omega arith)
-some_digits (b ∷ bs) some all = (λ i. all i && true)
 
 pub returns-clause-digits : goal.returns-clause-digits
 returns-clause-digits c =

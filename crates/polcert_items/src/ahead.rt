@@ -1,0 +1,244 @@
+//! An entry that goes on with several tokens at once: numbers that stand whole at the front of the bytes ahead.
+ghost use Rattle.std.specs.Prelude.{◌≡◌, ◌≢◌, ◌+◌, ◌<◌, ◌≤◌, ℕ, length, drop, get_or, IfOk, IfSome, IfNone, IsTrue};
+ghost use Rattle.polcert_cells.specs.Elements.{count_of};
+ghost use Rattle.polcert_cells.specs.declared.elements.Elements.TheVariants.{Count};
+ghost use Rattle.polcert_format.specs.KnownPreamble.{indices_in, named_in};
+ghost use Rattle.polcert_format.specs.Text.{Known as K};
+ghost use Rattle.polcert_items.specs.AheadSteps.{FedAhead, ItemFedAhead, BeginWithPlace, AwaitsColon, AreBegunWith, with_probabilities};
+ghost use Rattle.polcert_items.specs.EntrySteps.{IsWithinIndices};
+ghost use Rattle.polcert_items.specs.ItemSteps.{IsItemWithin};
+ghost use Rattle.polcert_items.specs.declared.entry_reader.EntryReader.{EntryReader as R};
+
+use crate::entry_reader::{EntryReader, EntryState, Numbers, indices_of, takes_numbers};
+use crate::item::ItemReader;
+use crate::known::Known;
+use polcert_cells::{Place, Table};
+use polcert_text::{FrontNumber, front_colon, front_digits, front_number};
+use std::alloc::{AllocError, Global};
+
+/// The largest probability, in millionths.
+const ONE: u64 = 1_000_000;
+
+/// The largest reward, in millionths.
+const LARGEST: u64 = 10_000_000_000_000;
+
+impl ItemReader {
+    /// Goes on with tokens that stand whole at the front of the bytes, as far as it is known at once that it can, and answers how
+    /// many bytes they are. An error is want of memory.
+    #[inline(always)]
+    pub fn feed_ahead(
+        &mut self,
+        alloc: Global,
+        known: &Known,
+        bytes: &[u8],
+    ) -> Result<usize, AllocError>
+        requires { IsItemWithin known.now self.old }
+        ensures { IfOk result (λ count. ItemFedAhead known.now self.old bytes.now count self.new) }
+    {
+        match self {
+            ItemReader::Entry(reader) => reader.feed_ahead(alloc, known, bytes),
+            _ => Ok(0),
+        }
+    }
+}
+
+impl EntryReader {
+    /// The same of an entry. Only where its line begins is it tried whether places come next: others are mostly names.
+    #[inline(always)]
+    fn feed_ahead(
+        &mut self,
+        alloc: Global,
+        known: &Known,
+        bytes: &[u8],
+    ) -> Result<usize, AllocError>
+        requires { IsWithinIndices (indices_in known.now self.old.table) self.old }
+        ensures { IfOk result (λ count. FedAhead known.now self.old bytes.now count self.new) }
+    {
+        match &mut self.state {
+            EntryState::Probabilities(numbers) => numbers.feed_ahead(bytes),
+            EntryState::Colon => self.feed_line(alloc, known, bytes),
+            _ => Ok(0),
+        }
+    }
+
+    /// Goes on with places that are numbers, each behind a colon, and then with a number, which may be the first of more.
+    #[inline(never)]
+    fn feed_line(&mut self, alloc: Global, known: &Known, bytes: &[u8]) -> Result<usize, AllocError>
+        requires { IsWithinIndices (indices_in known.now self.old.table) self.old }
+        ensures { IfOk result (λ count. FedAhead known.now self.old bytes.now count self.new) }
+    {
+        let mut at: usize = 0;
+        while let Some(len) = self.feed_place_ahead(known, &bytes[at..]) {
+            at += len;
+        }
+        let len = self.begin_ahead(alloc, known, &bytes[at..])?;
+        Ok(at + len)
+    }
+
+    /// Goes on with a colon and a place that is a number, and answers how many bytes they are, if they come next.
+    #[inline(always)]
+    fn feed_place_ahead(&mut self, known: &Known, bytes: &[u8]) -> Option<usize>
+        requires { IsWithinIndices (indices_in known.now self.old.table) self.old }
+        ensures fed { IfSome result (λ count. FedAhead known.now self.old bytes.now count self.new) }
+        ensures within { IsWithinIndices (indices_in known.now self.new.table) self.new }
+        ensures room { IfSome result (λ _. length self.old.places < length (indices_in known.now self.old.table)) }
+        ensures grows { IfSome result (λ _. length self.new.places ≡ length self.old.places + 1) }
+        ensures table { self.new.table ≡ self.old.table }
+        ensures none { IfNone result (self.new ≡ self.old) }
+    {
+        if self.places.len() >= indices_of(self.table) || !self.awaits_colon() {
+            return None;
+        }
+        let Some(index) = self.index_ahead(known, bytes) else {
+            return None;
+        };
+        match self.places.push(Place::Only(index.value as u16)) {
+            Ok(()) => {
+                self.state = EntryState::Body;
+                Some(index.len)
+            }
+            Err(AllocError) => None,
+        }
+    }
+
+    #[inline(always)]
+    fn awaits_colon(&self) -> bool
+        ensures { IsTrue result → AwaitsColon self.now.state }
+    {
+        match self.state {
+            EntryState::Colon => true,
+            EntryState::Body => true,
+            _ => false,
+        }
+    }
+
+    #[inline(always)]
+    fn awaits_body(&self) -> bool
+        ensures { IsTrue result → self.now.state ≡ EntryState.Body }
+    {
+        match self.state {
+            EntryState::Body => true,
+            _ => false,
+        }
+    }
+
+    /// The next place, where it is a number behind a colon.
+    #[inline(always)]
+    fn index_ahead(&self, known: &Known, bytes: &[u8]) -> Option<FrontNumber>
+        requires { length self.now.places < length (indices_in known.now self.now.table) }
+        ensures front { IfSome result (λ index. (position : ℕ) →
+            BeginWithPlace (drop (length self.now.places) (named_in known.now self.now.table)) position bytes.now index) }
+        ensures small { IfSome result (λ index. index.value < 1000) }
+    {
+        let count = self.next_count(known);
+        let Some(colon) = front_colon(bytes) else {
+            return None;
+        };
+        match front_digits(&bytes[colon..]) {
+            Some(index) if index.value < count as u64 => Some(FrontNumber {
+                len: colon + index.len,
+                value: index.value,
+            }),
+            _ => None,
+        }
+    }
+
+    /// How many elements the next place may name.
+    #[inline(always)]
+    fn next_count(&self, known: &Known) -> usize
+        requires { length self.now.places < length (indices_in known.now self.now.table) }
+        ensures count { result ≡ count_of (get_or (named_in known.now self.now.table) (length self.now.places) (Count 0)) }
+        ensures few { result ≤ 1000 }
+    {
+        match known.elements(self.table, self.places.len()) {
+            Some(elements) => elements.count(),
+            None => 0,
+        }
+    }
+
+    /// Goes on with the body's first number.
+    #[inline(always)]
+    fn begin_ahead(
+        &mut self,
+        alloc: Global,
+        known: &Known,
+        bytes: &[u8],
+    ) -> Result<usize, AllocError>
+        requires { IsWithinIndices (indices_in known.now self.old.table) self.old }
+        ensures { IfOk result (λ count. FedAhead known.now self.old bytes.now count self.new) }
+    {
+        let written = self.places.len();
+        if !self.awaits_body() || !takes_numbers(known.is_mdp(), self.table, written) {
+            return Ok(0);
+        }
+        let Some(number) = front_number(bytes) else {
+            return Ok(0);
+        };
+        let needed = known.cells_behind(self.table, written);
+        if needed == 0 {
+            return Ok(0);
+        }
+        match begun_with(alloc, self.table, needed, number.value)? {
+            Some(state) => {
+                self.state = state;
+                Ok(number.len)
+            }
+            None => Ok(0),
+        }
+    }
+}
+
+/// The body's numbers behind the first, which is so many millionths, where it is in their range.
+#[inline(always)]
+fn begun_with(
+    alloc: Global,
+    table: Table,
+    needed: usize,
+    value: u64,
+) -> Result<Option<EntryState>, AllocError>
+    ensures { IfOk result (λ state. IfSome state (AreBegunWith table needed value)) }
+{
+    match table {
+        Table::Reward => {
+            if value > LARGEST {
+                return Ok(None);
+            }
+            let mut numbers = Numbers::new(alloc, needed);
+            numbers.read.push(value as i64)?;
+            Ok(Some(EntryState::Rewards(numbers)))
+        }
+        Table::Transition | Table::Observation => {
+            if value > ONE {
+                return Ok(None);
+            }
+            let mut numbers = Numbers::new(alloc, needed);
+            numbers.read.push(value as u32)?;
+            Ok(Some(EntryState::Probabilities(numbers)))
+        }
+    }
+}
+
+impl Numbers<u32> {
+    /// Goes on with the probabilities that the bytes begin with, up to the last that is needed, and answers how many bytes they are.
+    #[inline(never)]
+    fn feed_ahead(&mut self, bytes: &[u8]) -> Result<usize, AllocError>
+        ensures { IfOk result (λ count. (k : K) (r : R) → (r.table ≢ Table.Reward) →
+            FedAhead k (with_probabilities r self.old) bytes.now count (with_probabilities r self.new)) }
+    {
+        let mut at: usize = 0;
+        if self.sign.is_some() {
+            return Ok(at);
+        }
+        while self.read.len() < self.needed {
+            let Some(number) = front_number(&bytes[at..]) else {
+                return Ok(at);
+            };
+            if number.value > ONE {
+                return Ok(at);
+            }
+            self.read.push(number.value as u32)?;
+            at += number.len;
+        }
+        Ok(at)
+    }
+}

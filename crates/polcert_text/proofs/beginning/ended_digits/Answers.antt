@@ -1,0 +1,25 @@
+use Rattle.std.proofs.Common.{◌≡◌, ◌∙◌, ◌-◌, ◌<◌, [], length, take, get_or, refl, sym, ap, arith}
+use Rattle.std.specs.Str.Parse.{digits_value}
+use Rattle.polcert_text.specs.Bytes.{class_of}
+use Rattle.polcert_text.specs.declared.lexeme.State.TheVariants.{Whole}
+use Rattle.polcert_text.specs.declared.lexeme.TokenKind.TheVariants.{Numeral}
+use Rattle.polcert_text.proofs.FrontNumbers.{whole_read, blank_behind, digits_there}
+use Rattle.polcert_text.proofs.Runs.{ends_within, ends_whole}
+use Rattle.polcert_text.proofs.beginning.ended_digits.Goals as goal
+
+pub returns : goal.returns
+returns c =
+    let bs = c.args.bytes.now in
+    let n = c.digits_behind-value.result.1 in
+    let read = c.digits_behind-value.ensures in
+    let blank = c.is_surely_blank.ensures c.if-not-is_surely_blank.false in
+    let inside : n < length bs = omega (arith, read.within.1) in
+    let all : n - 0 ≡ n = omega arith in
+    record {
+      digit = read.digits 0 (omega arith) (omega arith);
+      ends = ends_within bs n Whole Numeral inside (whole_read bs n (omega arith) (omega arith) read.digits) refl refl (ends_whole (class_of (get_or bs n 0)) blank);
+      short = omega (arith, read.within.1);
+      apart = blank_behind bs n inside blank;
+      digits = digits_there bs n (omega arith) (omega arith) read.digits;
+      value = sym (read.value [] refl ∙ ap (λ m. digits_value 10 (take m bs)) all);
+    }

@@ -1,0 +1,71 @@
+-- Tokens that stand whole at the front of some bytes.
+-- Nobody has to believe this: only contracts of private functions and of readers token by token cite it.
+use Rattle.std.specs.Prelude.{◌≡◌, ℕ, ◌+◌, ◌≤◌, ◌++◌, ◌∷◌, false, true, Option, List, [], length, take, drop, slice_index, pos}
+use Rattle.std.specs.Str.Parse.{digits_value}
+use Rattle.polcert_text.specs.Bytes.{class_of}
+use Rattle.polcert_text.specs.Lexemes.{are_digits}
+use Rattle.polcert_text.specs.ScanOf.{EndsWithin}
+use Rattle.polcert_text.specs.Cut.{Lexeme, Rest, is_glued}
+use Rattle.polcert_text.specs.Numbers.{IsReadable, IsExact}
+use Rattle.polcert_text.specs.Stream.{Stream}
+use Rattle.polcert_text.specs.Streaming.{skip}
+use Rattle.polcert_text.specs.TakenTokens.{Taken}
+use Rattle.polcert_text.specs.declared.bytes.ByteClass.TheVariants.{Digit}
+use Rattle.polcert_text.specs.declared.lexeme.TokenKind.{TokenKind}
+use Rattle.polcert_text.specs.declared.lexeme.TokenKind.TheVariants.{Numeral}
+use Rattle.polcert_text.specs.declared.tokens.TokenFault.{TokenFault}
+use Rattle.polcert_text.specs.declared.beginning.FrontNumber.{FrontNumber}
+
+-- what is still to be cut, from an offset on
+abbrev pub rest_at : ℕ → List ℕ → Option TokenFault → Rest
+rest_at place bytes ending = record { place = place; bytes = bytes; ending = ending }
+
+-- The first bytes, which stand at this offset, are these tokens and the gaps before them, whatever follows the bytes.
+pub record BeginWith (place : ℕ) (bytes : List ℕ) (count : ℕ) (tokens : List Lexeme) : Type 0 where
+  pub within : count ≤ length bytes
+  pub taken : (tail : List ℕ) (ending : Option TokenFault)
+      → Taken (rest_at place (bytes ++ tail) ending) tokens (rest_at (place + count) (drop count bytes ++ tail) ending)
+
+-- so many bytes were given of what is ahead, and no token since
+abbrev pub passed : ℕ → Stream → Stream
+passed n s = record { ahead = skip n s.ahead; lent = []; stop = s.stop }
+
+-- the first bytes are one token of this kind
+pub record BeginWithOne (place : ℕ) (bytes : List ℕ) (count : ℕ) (kind : TokenKind) : Type 0 where
+  pub token : Lexeme
+  pub kind_is : token.kind ≡ kind
+  pub front : BeginWith place bytes count (token ∷ [])
+
+-- the first bytes are a numeral of just so many millionths
+pub record BeginWithNumber (place : ℕ) (bytes : List ℕ) (number : FrontNumber) : Type 0 where
+  pub token : Lexeme
+  pub kind_is : token.kind ≡ Numeral
+  pub front : BeginWith place bytes number.len (token ∷ [])
+  pub readable : IsReadable token.bytes
+  pub exact : IsExact false token.bytes (pos number.value)
+
+-- the first bytes are digits that spell a number
+pub record BeginWithDigits (place : ℕ) (bytes : List ℕ) (number : FrontNumber) : Type 0 where
+  pub token : Lexeme
+  pub kind_is : token.kind ≡ Numeral
+  pub front : BeginWith place bytes number.len (token ∷ [])
+  pub digits : are_digits token.bytes ≡ true
+  pub value : digits_value 10 token.bytes ≡ number.value
+
+-- a numeral of just so many millionths ends within the bytes
+pub record EndsAsNumber (bytes : List ℕ) (number : FrontNumber) : Type 0 where
+  pub digit : class_of (slice_index bytes 0) ≡ Digit
+  pub ends : EndsWithin bytes (record { kind = Numeral; len = number.len })
+  pub short : number.len ≤ 400
+  pub apart : is_glued Numeral (drop number.len bytes) ≡ false
+  pub readable : IsReadable (take number.len bytes)
+  pub exact : IsExact false (take number.len bytes) (pos number.value)
+
+-- digits that spell a number end within the bytes
+pub record EndsAsDigits (bytes : List ℕ) (number : FrontNumber) : Type 0 where
+  pub digit : class_of (slice_index bytes 0) ≡ Digit
+  pub ends : EndsWithin bytes (record { kind = Numeral; len = number.len })
+  pub short : number.len ≤ 400
+  pub apart : is_glued Numeral (drop number.len bytes) ≡ false
+  pub digits : are_digits (take number.len bytes) ≡ true
+  pub value : digits_value 10 (take number.len bytes) ≡ number.value
