@@ -2,6 +2,10 @@
 use Rattle.std.specs.Prelude.{◌≡◌, ℕ, ◌<◌, ℤ, pos, neg_ℤ, ◌+ℤ◌}
 use Rattle.polcert_policy.specs.Vectors.{PolicyVectors, value_of, IsInRange}
 use Rattle.polcert_check.specs.Lower.{IsLeast}
+use Rattle.polcert_check.specs.declared.fault.LowerFault.{LowerFault}
+use Rattle.polcert_check.specs.declared.fault.LowerFault.TheVariants as lower
+use Rattle.polcert_check.specs.declared.fault.RaiseFault.{RaiseFault}
+use Rattle.polcert_check.specs.declared.fault.RaiseFault.TheVariants as raise
 use Rattle.polcert_check.specs.declared.side.Side.{Side}
 use Rattle.polcert_check.specs.declared.side.Side.TheVariants.{Below, Above}
 use Rattle.polcert_check.specs.Horizon.{Controller}
@@ -35,3 +39,10 @@ abbrev pub above_of : Verdict → AboveVerdict
 above_of Yes = above.Yes
 above_of (Short n s amount) = above.Long n s amount
 above_of (NoSuccessor n s z) = above.NoSuccessor n s z
+
+-- what a refusal to lower the mirror image says from above
+abbrev pub raise_of : LowerFault → RaiseFault
+raise_of (lower.NoSuccessor n s z) = raise.NoSuccessor n s z
+raise_of (lower.NoConstant n s amount) = raise.NoConstant n s amount
+raise_of lower.OutOfRange = raise.OutOfRange
+raise_of lower.Memory = raise.Memory
