@@ -11,9 +11,7 @@ use Rattle.polcert_check.proofs.Ring.{linear, products, sums, *ℤ-+ℤ, mul_le,
 use Rattle.polcert_check.proofs.SumLaws.{sum_below_le}
 use Rattle.polcert_check.proofs.Kept.{backing_term, sum_twice_scale, step_weights_sum}
 use Rattle.polcert_check.proofs.Lowering.{sum_twice_add}
-
-abbrev pub with_values : Controller → (ℕ → ℕ → ℤ) → Controller
-with_values c value = record c { value = value }
+use Rattle.polcert_check.proofs.Agreeing.{with_values}
 
 -- `low` is nowhere more than b above the values of c
 abbrev IsWithin : Controller → (ℕ → ℕ → ℤ) → ℕ → Type 0

@@ -12,6 +12,9 @@ use Rattle.polcert_check.specs.Lower.{lowered_by, NoneLacks, IsLeast, CanLower}
 use Rattle.polcert_check.specs.Findings.{IsPair, IsWorstOf}
 use Rattle.std.proofs.Common.{w64}
 use Rattle.std.proofs.Math.Nat.{mul-le-mul}
+use Rattle.polcert_check.specs.declared.side.Side.{Side}
+use Rattle.polcert_check.specs.declared.side.Side.TheVariants.{Below, Above}
+use Rattle.polcert_check.specs.Mirrored.{turned, CanMove}
 use Rattle.polcert_check.proofs.Verdicts.{positive_product}
 use Rattle.polcert_policy.specs.Vectors.{PolicyVectors, AreProperVectors, IsInRange, value_of}
 use Rattle.polcert_check.proofs.Certificates.{value_is_in_range}
@@ -97,20 +100,24 @@ no_constant c p ge n s nl sl h by passes =
     positive_not : (x : ℤ) (y : ℕ) → y ≡ 0 → x ≤ℤ pos y → pos 0 <ℤ x → ⊥
     positive_not x y e l h = omega (arith, linear)
 
-constant_small : (v : PolicyVectors) → AreProperVectors v → (by : ℕ) → CanLower v by → by ≤ 2 * largest
-constant_small v proper by can =
-    low_is_small (value_of v 0 0) by (value_is_in_range v proper 0 0 proper.some_nodes proper.some_states) (can 0 0 proper.some_nodes proper.some_states)
+turned_in_range : (side : Side) (x : ℤ) → IsInRange x → IsInRange (turned side x)
+turned_in_range Below x r = r
+turned_in_range Above x r = (omega (arith, ints, r.0, r.1), omega (arith, ints, r.0, r.1))
 
-pub constant_fits : (v : PolicyVectors) → AreProperVectors v → (by : ℕ) → CanLower v by → FitsSigned w64 (pos by)
-constant_fits v proper by can = let small : by ≤ 2 * largest = constant_small v proper by can in record { sfits = omega (arith, ints) }
+constant_small : (side : Side) (v : PolicyVectors) → AreProperVectors v → (by : ℕ) → CanMove side v by → by ≤ 2 * largest
+constant_small side v proper by can =
+    low_is_small (turned side (value_of v 0 0)) by (turned_in_range side (value_of v 0 0) (value_is_in_range v proper 0 0 proper.some_nodes proper.some_states)) (can 0 0 proper.some_nodes proper.some_states)
+
+pub constant_fits : (side : Side) (v : PolicyVectors) → AreProperVectors v → (by : ℕ) → CanMove side v by → FitsSigned w64 (pos by)
+constant_fits side v proper by can = let small : by ≤ 2 * largest = constant_small side v proper by can in record { sfits = omega (arith, ints) }
 
 minus : (by : ℕ) → pos 0 -ℤ pos by ≡ neg_ℤ (pos by)
 minus by = omega (arith, ints)
 
 pub negated : (v : PolicyVectors) → AreProperVectors v → (by : ℕ) → CanLower v by → (x : ℤ) → x ≡ pos by → to_z w64 (of_z w64 (pos 0 -ℤ to_z w64 (of_z w64 x))) ≡ neg_ℤ (pos by)
 negated v proper by can x e =
-    let small : by ≤ 2 * largest = constant_small v proper by can in
-    let fits : FitsSigned w64 (pos by) = constant_fits v proper by can in
+    let small : by ≤ 2 * largest = constant_small Below v proper by can in
+    let fits : FitsSigned w64 (pos by) = constant_fits Below v proper by can in
     let below : FitsSigned w64 (neg_ℤ (pos by)) = fits_signed_from_abs w64 (neg_ℤ (pos by)) (omega (arith, ints)) in
     rw (e, to_z-of_z w64 (pos by) fits, minus by) (to_z-of_z w64 (neg_ℤ (pos by)) below)
 

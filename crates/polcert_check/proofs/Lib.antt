@@ -37,5 +37,6 @@ pub mod Figures
 pub mod Mirrored
 pub mod Sides
 pub mod FromAbove
+pub mod Raising
 pub mod Interval
 pub mod StartMosts

@@ -2,11 +2,10 @@
 use Rattle.std.proofs.Common.{◌≡◌, ℕ, ◌<◌, ◌≤◌, ⊎_elim, ℤ, pos, ◌<ℤ◌, unsigned_abs, sym, subst, arith}
 use Rattle.std.proofs.lemmas.Int.{ints}
 use Rattle.polcert_cells.specs.Tables.{IsWithinLimits}
-use Rattle.polcert_policy.specs.Vectors.{PolicyVectors}
 use Rattle.polcert_check.specs.Horizon.{Controller, one}
 use Rattle.polcert_check.specs.Shortfall.{short, most_short}
 use Rattle.polcert_check.specs.Verdict.{IsVerdict}
-use Rattle.polcert_check.specs.Lower.{NoneLacks, IsNotLowered, RefusesSmallAmount}
+use Rattle.polcert_check.specs.Lower.{NoneLacks, IsNotMended, RefusesSmallAmount}
 use Rattle.polcert_check.specs.Ranges.{IsController, ValuesAreWithin}
 use Rattle.polcert_check.specs.Factored.{IsPairVerdict}
 use Rattle.polcert_check.specs.Findings.{IsPair, IsLackVerdict, IsVerdictFor, IsFirstOf, IsWorstOf, IsMeasured, IsFound, IsRefused}
@@ -36,29 +35,29 @@ module _ (c : Controller) where
   pub none_lacks : (f : Findings) → f.aim ≡ Lowering → IsFound c (IsPair c) f → f.first ≡ Yes → NoneLacks c
   none_lacks f aim is passed n s nl sl = subst (IsFirstOf (IsLackVerdict c) (IsPair c)) passed (first_lack f aim is) n s (nl, sl)
 
-  module _ (v : PolicyVectors) (fault : LowerFault) where
-    lack_refused : (x : Verdict) → IsFirstOf (IsLackVerdict c) (IsPair c) x → IsRefused x fault → IsNotLowered c v fault
+  module _ (Can : ℕ → Type 0) (fault : LowerFault) where
+    lack_refused : (x : Verdict) → IsFirstOf (IsLackVerdict c) (IsPair c) x → IsRefused x fault → IsNotMended c Can fault
     lack_refused Yes is refused = absurd refused
     lack_refused (Short n s amount) is refused = absurd is.1
-    lack_refused (NoSuccessor n s z) is refused = subst (IsNotLowered c v) (sym refused) (is.0.0, is.0.1, is.1.2, λ m t ml tl before. is.2 m t (ml, tl) before)
+    lack_refused (NoSuccessor n s z) is refused = subst (IsNotMended c Can) (sym refused) (is.0.0, is.0.1, is.1.2, λ m t ml tl before. is.2 m t (ml, tl) before)
 
-    pub refused_lack : (f : Findings) → f.aim ≡ Lowering → IsFound c (IsPair c) f → IsRefused f.first fault → IsNotLowered c v fault
+    pub refused_lack : (f : Findings) → f.aim ≡ Lowering → IsFound c (IsPair c) f → IsRefused f.first fault → IsNotMended c Can fault
     refused_lack f aim is refused = lack_refused f.first (first_lack f aim is) refused
 
-    pub refused_short : IsController c → c.cells.discount ≡ one → NoneLacks c → (x : Verdict) → IsFirstOf (IsPairVerdict c) (IsPair c) x → IsRefused x fault → IsNotLowered c v fault
+    pub refused_short : IsController c → c.cells.discount ≡ one → NoneLacks c → (x : Verdict) → IsFirstOf (IsPairVerdict c) (IsPair c) x → IsRefused x fault → IsNotMended c Can fault
     refused_short p is_one none Yes is refused = absurd refused
     refused_short p is_one none (Short n s amount) is refused =
         let positive : pos 0 <ℤ short c n s = subst (λ (x : ℤ). pos 0 <ℤ x) is.1.3 is.1.4 in
-        subst (IsNotLowered c v) (sym refused) (none, no_constant c p is_one n s is.0.0 is.0.1 positive, (is.0.0, is.0.1, is.1.3, is.1.4, λ m t ml tl before. (is.2 m t (ml, tl) before).not_short))
+        subst (IsNotMended c Can) (sym refused) (none, no_constant c p is_one n s is.0.0 is.0.1 positive, (is.0.0, is.0.1, is.1.3, is.1.4, λ m t ml tl before. (is.2 m t (ml, tl) before).not_short))
     refused_short p is_one none (NoSuccessor n s z) is refused = absurd (none n s is.0.0 is.0.1 z is.1.2.0 is.1.2.1)
 
   -- ---- how large an amount is
   module _ (p : IsController c) (limits : IsWithinLimits c.cells) (values : ValuesAreWithin c) where
-    pub refused_small : (v : PolicyVectors) (fault : LowerFault) → IsNotLowered c v fault → RefusesSmallAmount c fault
-    refused_small v (faults.NoSuccessor n s z) is = tt
-    refused_small v (faults.NoConstant n s amount) is = let first = is.2 in subst (λ (x : ℤ). unsigned_abs x ≤ most_short c) (sym first.2) (short_le c p limits values n s first.0 first.1)
-    refused_small v faults.OutOfRange is = tt
-    refused_small v faults.Memory is = tt
+    pub refused_small : (Can : ℕ → Type 0) (fault : LowerFault) → IsNotMended c Can fault → RefusesSmallAmount c fault
+    refused_small Can (faults.NoSuccessor n s z) is = tt
+    refused_small Can (faults.NoConstant n s amount) is = let first = is.2 in subst (λ (x : ℤ). unsigned_abs x ≤ most_short c) (sym first.2) (short_le c p limits values n s first.0 first.1)
+    refused_small Can faults.OutOfRange is = tt
+    refused_small Can faults.Memory is = tt
 
     reached_small : (x : ℤ) (worst b : ℕ) → pos worst ≡ x → unsigned_abs x ≤ b → worst ≤ b
     reached_small x worst b e l = subst (λ (y : ℤ). unsigned_abs y ≤ b) (sym e) l

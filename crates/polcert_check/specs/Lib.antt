@@ -9,6 +9,7 @@ pub mod Examples
 pub mod StartWorth
 pub mod Factored
 pub mod Above
+pub mod Raise
 pub mod StartMost
 pub mod Mirrored
 pub mod Certificate

@@ -32,12 +32,15 @@ abbrev pub IsFirstShort : Controller → ℕ → ℕ → ℤ → Type 0
 IsFirstShort c n s amount = (n < c.nodes) × (s < c.cells.states) × (amount ≡ short c n s) × (pos 0 <ℤ amount) × ((m t : ℕ) → m < c.nodes → t < c.cells.states → IsBefore m t n s → short c m t ≤ℤ pos 0)
 
 -- Why no constant serves: a pair lacks an observation, which no lowering mends; or none does, but no constant makes the
--- vectors pass, or the least that does takes a value out of range.
+-- vectors pass, or the least that does takes a value out of range. `Can` says by which constants all stay in range.
+abbrev pub IsNotMended : Controller → (ℕ → Type 0) → LowerFault → Type 0
+IsNotMended c Can (NoSuccessor n s z) = IsFirstLack c n s z
+IsNotMended c Can (NoConstant n s amount) = NoneLacks c × ((by : ℕ) → Passes (lowered_by c by) → ⊥) × IsFirstShort c n s amount
+IsNotMended c Can OutOfRange = NoneLacks c × ((by : ℕ) × IsLeast c by × (Can by → ⊥))
+IsNotMended c Can Memory = ⊥
+
 abbrev pub IsNotLowered : Controller → PolicyVectors → LowerFault → Type 0
-IsNotLowered c v (NoSuccessor n s z) = IsFirstLack c n s z
-IsNotLowered c v (NoConstant n s amount) = NoneLacks c × ((by : ℕ) → Passes (lowered_by c by) → ⊥) × IsFirstShort c n s amount
-IsNotLowered c v OutOfRange = NoneLacks c × ((by : ℕ) × IsLeast c by × (CanLower v by → ⊥))
-IsNotLowered c v Memory = ⊥
+IsNotLowered c v fault = IsNotMended c (CanLower v) fault
 
 -- the least constant, which leaves every value in range
 abbrev pub IsLeastConstant : Controller → PolicyVectors → ℤ → Type 0

@@ -30,6 +30,7 @@ impl<'a, C: Cells> Certificate<'a, C> {
         requires { Fits (C.table cells.now) graph.now vectors.now }
         ensures controller { controller result ≡ controller_of (C.table cells.now) graph.now vectors.now }
         ensures judged { judged result ≡ sided side (controller_of (C.table cells.now) graph.now vectors.now) }
+        ensures side { result.side ≡ side }
         ensures vectors { result.vectors.now ≡ vectors.now }
     {
         let nodes = graph.nodes();

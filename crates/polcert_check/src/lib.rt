@@ -14,6 +14,7 @@ mod laws;
 mod lower;
 mod pairs;
 mod parts;
+mod raises;
 mod rounded;
 mod shortfall;
 mod side;
@@ -29,13 +30,14 @@ pub use above::{
     promise_above_for_every_horizon,
 };
 pub use examples::{a_missing_successor, minus_one_for_each_step, runs_of_four_steps};
-pub use fault::LowerFault;
+pub use fault::{LowerFault, RaiseFault};
 pub use laws::{
     amounts_fit, one_best_start, one_list_of_runs, one_lowering, one_verdict,
     promise_for_every_horizon, same_cells_same_answers, same_models_same_answers,
 };
 pub use lower::{least_constant, lowered, lowered_watched};
 pub use parts::fits;
+pub use raises::{least_raise, raised, raised_watched};
 pub use rounded::millionths_short;
 pub use shortfall::amount_short;
 pub use start::start_worth;

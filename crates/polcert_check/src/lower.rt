@@ -4,7 +4,8 @@ ghost use Rattle.polcert_policy.specs.Vectors.{IsInRange, shifted_by};
 ghost use Rattle.polcert_check.specs.Certificate.{judged};
 ghost use Rattle.polcert_check.specs.Horizon.{Fits, controller_of, one};
 ghost use Rattle.polcert_check.specs.Shortfall.{Passes};
-ghost use Rattle.polcert_check.specs.Lower.{NoneLacks, IsLeast, CanLower, IsLeastConstant, HasLeastConstant, IsNotLowered, RefusesSmallAmount};
+ghost use Rattle.polcert_check.specs.Lower.{NoneLacks, IsLeast, IsLeastConstant, HasLeastConstant, IsNotMended, IsNotLowered, RefusesSmallAmount};
+ghost use Rattle.polcert_check.specs.Mirrored.{CanMove, IsLeastMove};
 ghost use Rattle.polcert_check.specs.Findings.{IsFound, IsPair, IsRefused, IsWorstOf};
 ghost use Rattle.polcert_check.specs.declared.fault.LowerFault.TheVariants.{Memory};
 ghost use Rattle.polcert_check.specs.declared.findings.Aim.TheVariants.{Lowering};
@@ -39,13 +40,13 @@ fn is_low_enough(value: i64, by: u128) -> bool
     (value as i128 + 10_000_000_000_000) as u128 >= by
 }
 
-/// Whether every value less `by` is in range.
-fn stays_in_range(vectors: &Vectors, by: u128) -> bool
-    ensures { IsTrue result ↔ CanLower vectors.now by }
+/// Whether every value less `by` is in range, or from above every value and `by`.
+fn stays_in_range(side: Side, vectors: &Vectors, by: u128) -> bool
+    ensures { IsTrue result ↔ CanMove side vectors.now by }
 {
     for n in 0..vectors.nodes() {
         for s in 0..vectors.states() {
-            if !is_low_enough(vectors.at(n, s), by) {
+            if !is_low_enough(side.turned_value(vectors.at(n, s)), by) {
                 return false;
             }
         }
@@ -103,7 +104,7 @@ fn least_passing<C: Cells>(
     ensures least { IfOk result (IsLeast (judged certificate.now)) }
     ensures none { IfOk result (λ _. NoneLacks (judged certificate.now)) }
     ensures refused { IfErr result
-        (IsNotLowered (judged certificate.now) certificate.now.vectors.now) }
+        (IsNotMended (judged certificate.now) (CanMove certificate.now.side certificate.now.vectors.now)) }
 {
     refused(findings.first)?;
     if certificate.cells.discount() < 1_000_000 {
@@ -135,19 +136,19 @@ pub fn least_constant<C: Cells>(
 }
 
 /// The same of a certificate, of which `watch` is told how far it is.
-fn least_of<C: Cells, W: Watch>(
+pub(crate) fn least_of<C: Cells, W: Watch>(
     certificate: &Certificate<'_, C>,
     watch: &mut W,
 ) -> Result<i64, LowerFault>
     ensures least { IfOk result
-        (IsLeastConstant (judged certificate.now) certificate.now.vectors.now) }
+        (IsLeastMove (judged certificate.now) (CanMove certificate.now.side certificate.now.vectors.now)) }
     ensures refused { IfErr result
-        (IsNotLowered (judged certificate.now) certificate.now.vectors.now) }
+        (IsNotMended (judged certificate.now) (CanMove certificate.now.side certificate.now.vectors.now)) }
     ensures small { IfErr result (RefusesSmallAmount (judged certificate.now)) }
 {
     let findings = survey(certificate, Aim::Lowering, watch);
     let by = least_passing(certificate, findings)?;
-    if stays_in_range(certificate.vectors, by) {
+    if stays_in_range(certificate.side, certificate.vectors, by) {
         Ok(by as i64)
     } else {
         Err(LowerFault::OutOfRange)

@@ -1,5 +1,6 @@
 //! From which side vectors bound what a graph earns.
 ghost use Rattle.std.specs.Prelude.{◌≡◌, ◌<◌, ◌^◌, unsigned_abs};
+ghost use Rattle.polcert_policy.specs.Vectors.{IsInRange};
 ghost use Rattle.polcert_check.specs.Mirrored.{turned};
 
 /// From which side the values are bounds of what the graph earns.
@@ -18,6 +19,18 @@ impl Side {
         match self {
             Side::Below => amount,
             Side::Above => -amount,
+        }
+    }
+
+    /// The value as it is, or from above its negative.
+    pub(crate) fn turned_value(self, value: i64) -> i64
+        requires { IsInRange value }
+        ensures is { result ≡ turned self value }
+        ensures in_range { IsInRange result }
+    {
+        match self {
+            Side::Below => value,
+            Side::Above => -value,
         }
     }
 }

@@ -1,0 +1,134 @@
+//! The least constant by which all vectors can be raised to pass from above.
+ghost use Rattle.std.specs.Prelude.{◌≡◌, ◌⊎◌, IfOk, IfErr};
+ghost use Rattle.polcert_policy.specs.Vectors.{shifted_by};
+ghost use Rattle.polcert_check.specs.Horizon.{Fits, controller_of};
+ghost use Rattle.polcert_check.specs.Above.{PassesAbove};
+ghost use Rattle.polcert_check.specs.Raise.{IsLeastRaise, HasLeastRaise, IsNotRaised, RefusesSmallRaise};
+ghost use Rattle.polcert_check.specs.Mirrored.{raise_of};
+ghost use Rattle.polcert_check.specs.declared.fault.RaiseFault.TheVariants.{Memory};
+
+use crate::certificate::Certificate;
+use crate::fault::{LowerFault, RaiseFault};
+use crate::lower::least_of;
+use crate::side::Side;
+use crate::watch::{Unwatched, Watch};
+use polcert_model::Cells;
+use polcert_policy::{Graph, Vectors};
+use std::alloc::Global;
+
+/// What a refusal to lower the mirror image says from above.
+fn raise_of(fault: LowerFault) -> RaiseFault
+    ensures { result ≡ raise_of fault }
+{
+    match fault {
+        LowerFault::NoConstant {
+            node,
+            state,
+            amount,
+        } => RaiseFault::NoConstant {
+            node,
+            state,
+            amount,
+        },
+        LowerFault::OutOfRange => RaiseFault::OutOfRange,
+        LowerFault::NoSuccessor {
+            node,
+            state,
+            observation,
+        } => RaiseFault::NoSuccessor {
+            node,
+            state,
+            observation,
+        },
+        LowerFault::Memory => RaiseFault::Memory,
+    }
+}
+
+/// The least constant, in millionths, by which all vectors can be raised so that they pass the check from above.
+///
+/// # Errors
+///
+/// Where an observation that can be received has no successor, where the discount is 1 and a value is too low, and where the
+/// least constant takes a value out of range. It takes no memory.
+pub fn least_raise<C: Cells>(cells: &C, graph: &Graph, vectors: &Vectors) -> Result<i64, RaiseFault>
+    requires fits { Fits (C.table cells.now) graph.now vectors.now }
+    ensures least { IfOk result (IsLeastRaise (controller_of (C.table cells.now) graph.now vectors.now) vectors.now) }
+    ensures refused { IfErr result (IsNotRaised (controller_of (C.table cells.now) graph.now vectors.now) vectors.now) }
+    ensures small { IfErr result (RefusesSmallRaise (controller_of (C.table cells.now) graph.now vectors.now)) }
+{
+    least_watched(cells, graph, vectors, &mut Unwatched)
+}
+
+/// The same, and `watch` is told how far it is: of each node once.
+fn least_watched<C: Cells, W: Watch>(
+    cells: &C,
+    graph: &Graph,
+    vectors: &Vectors,
+    watch: &mut W,
+) -> Result<i64, RaiseFault>
+    requires fits { Fits (C.table cells.now) graph.now vectors.now }
+    ensures least { IfOk result (IsLeastRaise (controller_of (C.table cells.now) graph.now vectors.now) vectors.now) }
+    ensures refused { IfErr result (IsNotRaised (controller_of (C.table cells.now) graph.now vectors.now) vectors.now) }
+    ensures small { IfErr result (RefusesSmallRaise (controller_of (C.table cells.now) graph.now vectors.now)) }
+{
+    let certificate = Certificate::new(Side::Above, cells, graph, vectors);
+    match least_of(&certificate, watch) {
+        Ok(by) => Ok(by),
+        Err(fault) => Err(raise_of(fault)),
+    }
+}
+
+/// The least constant, in millionths, by which all vectors can be raised so that they pass the check from above, and the vectors
+/// raised by it.
+///
+/// # Errors
+///
+/// Where there is no such constant, as `least_raise` says, and where memory ran out.
+pub fn raised<C: Cells>(
+    alloc: Global,
+    cells: &C,
+    graph: &Graph,
+    vectors: &Vectors,
+) -> Result<(i64, Vectors), RaiseFault>
+    requires fits { Fits (C.table cells.now) graph.now vectors.now }
+    ensures least { IfOk result (λ raised. IsLeastRaise (controller_of (C.table cells.now) graph.now vectors.now) vectors.now raised.0) }
+    ensures shifted { IfOk result (λ raised. raised.1 ≡ shifted_by vectors.now raised.0) }
+
+    // With the raised vectors every pair passes from above.
+    ensures fits_still { IfOk result (λ raised. Fits (C.table cells.now) graph.now raised.1) }
+    ensures passes { IfOk result (λ raised. PassesAbove (controller_of (C.table cells.now) graph.now raised.1)) }
+
+    // Want of memory is answered only where there is such a constant.
+    ensures refused { IfErr result (λ fault.
+        ((fault ≡ Memory) × HasLeastRaise (controller_of (C.table cells.now) graph.now vectors.now) vectors.now)
+        ⊎ IsNotRaised (controller_of (C.table cells.now) graph.now vectors.now) vectors.now fault) }
+    ensures small { IfErr result (RefusesSmallRaise (controller_of (C.table cells.now) graph.now vectors.now)) }
+{
+    raised_watched(alloc, cells, graph, vectors, &mut Unwatched)
+}
+
+/// The same, and `watch` is told how far it is: of each node once.
+pub fn raised_watched<C: Cells, W: Watch>(
+    alloc: Global,
+    cells: &C,
+    graph: &Graph,
+    vectors: &Vectors,
+    watch: &mut W,
+) -> Result<(i64, Vectors), RaiseFault>
+    requires fits { Fits (C.table cells.now) graph.now vectors.now }
+    ensures least { IfOk result (λ raised. IsLeastRaise (controller_of (C.table cells.now) graph.now vectors.now) vectors.now raised.0) }
+    ensures shifted { IfOk result (λ raised. raised.1 ≡ shifted_by vectors.now raised.0) }
+    ensures fits_still { IfOk result (λ raised. Fits (C.table cells.now) graph.now raised.1) }
+    ensures passes { IfOk result (λ raised. PassesAbove (controller_of (C.table cells.now) graph.now raised.1)) }
+    ensures refused { IfErr result (λ fault.
+        ((fault ≡ Memory) × HasLeastRaise (controller_of (C.table cells.now) graph.now vectors.now) vectors.now)
+        ⊎ IsNotRaised (controller_of (C.table cells.now) graph.now vectors.now) vectors.now fault) }
+    ensures small { IfErr result (RefusesSmallRaise (controller_of (C.table cells.now) graph.now vectors.now)) }
+{
+    let nodes = graph.nodes();
+    let vector_count = vectors.nodes();
+    prove!(nodes == vector_count);
+    let by = least_watched(cells, graph, vectors, watch)?;
+    let raised = vectors.shifted(alloc, by)?;
+    Ok((by, raised))
+}
