@@ -1,8 +1,8 @@
 //! Worked rows, from texts to verdicts.
 use polcert_cells::Cells;
 use polcert_check::{
-    AboveVerdict, LowerFault, Verdict, check, check_above, fits, least_constant, lowered,
-    start_most, start_worth,
+    AboveVerdict, LowerFault, RaiseFault, Verdict, check, check_above, fits, least_constant,
+    least_raise, lowered, raised, start_most, start_worth,
 };
 use polcert_model::{Model, dense_of, read_model};
 use polcert_policy::{Graph, Vectors, read_graph, read_vectors, read_vectors_up};
@@ -491,6 +491,24 @@ impl Parts {
             None
         }
     }
+
+    /// The least constant that raises the vectors.
+    fn raise(&self) -> Option<Result<i64, RaiseFault>> {
+        if fits(&self.model, &self.graph, &self.vectors) {
+            Some(least_raise(&self.model, &self.graph, &self.vectors))
+        } else {
+            None
+        }
+    }
+
+    /// The same, and the first and the last value raised by it.
+    fn raising(&self, alloc: Global) -> Option<(i64, (i64, i64))> {
+        if !fits(&self.model, &self.graph, &self.vectors) {
+            return None;
+        }
+        let (constant, vectors) = raised(alloc, &self.model, &self.graph, &self.vectors).ok()?;
+        Some((constant, ends(&vectors)?))
+    }
 }
 
 /// What no node is worth more than from the start, where the texts are read, with values rounded up, and fit.
@@ -601,5 +619,82 @@ fn verdicts_from_above(rt: HostRuntime) {
     let alloc = rt.alloc();
     for (model, graph, vectors, answer) in ABOVE {
         assert_eq!(rt; verdict_above(alloc, model, graph, vectors), Some(answer));
+    }
+}
+
+/// The least constant that raises the vectors, where the texts are read, with values rounded up, and fit.
+fn raise(
+    alloc: Global,
+    model: &[u8],
+    graph: &[u8],
+    vectors: &[u8],
+) -> Option<Result<i64, RaiseFault>> {
+    read_parts_up(alloc, model, graph, vectors)?.raise()
+}
+
+/// The same, and the first and the last value raised by it.
+fn raising(alloc: Global, model: &[u8], graph: &[u8], vectors: &[u8]) -> Option<(i64, (i64, i64))> {
+    read_parts_up(alloc, model, graph, vectors)?.raising(alloc)
+}
+
+/// The texts of a model, a graph and vectors, and the least constant that raises them.
+const LEAST_RAISES: [(&[u8], &[u8], &[u8], Result<i64, RaiseFault>); 5] = [
+    (TIGER, b"0 0 0 0", b"0 -20.000001 -20.000001", Ok(1)),
+    (TIGER, b"0 0 0 0", b"0 -20 -20", Ok(0)),
+    (
+        b"discount: 1 values: reward states: 1 actions: 1 observations: 1 T: 0 identity O: 0 uniform R: 0 : 0 : 0 : 0 1",
+        b"0 0 0",
+        b"0 5",
+        Err(RaiseFault::NoConstant {
+            node: 0,
+            state: 0,
+            amount: 1_000_000_000_000_000_000_000_000,
+        }),
+    ),
+    (
+        b"discount: 0.999999 values: reward states: 1 actions: 1 observations: 1 T: 0 identity O: 0 uniform R: 0 : 0 : 0 : 0 10000000",
+        b"0 0 0",
+        b"0 0",
+        Err(RaiseFault::OutOfRange),
+    ),
+    (
+        b"discount: 0.5 values: reward states: 1 actions: 1 observations: 2 T: 0 identity O: 0 0.5 0.5",
+        b"0 0 0 -",
+        b"0 0",
+        Err(RaiseFault::NoSuccessor {
+            node: 0,
+            state: 0,
+            observation: 1,
+        }),
+    ),
+];
+
+#[test]
+fn least_raises(rt: HostRuntime) {
+    let alloc = rt.alloc();
+    for (model, graph, vectors, answer) in LEAST_RAISES {
+        assert_eq!(rt; raise(alloc, model, graph, vectors), Some(answer));
+    }
+}
+
+#[test]
+fn raised_vectors(rt: HostRuntime) {
+    let alloc = rt.alloc();
+    let rows = [
+        (
+            TIGER,
+            b"0 0 0 0".as_slice(),
+            b"0 -20.000001 -20.000001".as_slice(),
+            (1, (-20_000_000, -20_000_000)),
+        ),
+        (
+            b"discount: 0.5 values: cost states: 1 actions: 1 observations: 1 T: 0 identity O: 0 uniform R: 0 : 0 : 0 : 0 1",
+            b"0 0 0",
+            b"0 -6",
+            (4_000_000, (-2_000_000, -2_000_000)),
+        ),
+    ];
+    for (model, graph, vectors, answer) in rows {
+        assert_eq!(rt; raising(alloc, model, graph, vectors), Some(answer));
     }
 }
