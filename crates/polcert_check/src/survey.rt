@@ -91,11 +91,17 @@ pub(crate) fn survey<C: Cells, W: Watch>(
     ensures found { IsFound (controller certificate.now) (IsPair (controller certificate.now)) result }
     ensures aim { result.aim ≡ aim }
 {
-    watch.begin(certificate.graph.nodes());
+    // (A copy of its own, so that where the parts stand is not looked up again at each step.)
+    let own = Certificate {
+        cells: certificate.cells,
+        graph: certificate.graph,
+        vectors: certificate.vectors,
+    };
+    watch.begin(own.graph.nodes());
     let mut buffers = Buffers::new();
     let mut findings = Findings::new(aim);
-    for a in 0..certificate.cells.actions() {
-        survey_action(certificate, a, &mut buffers, &mut findings, watch);
+    for a in 0..own.cells.actions() {
+        survey_action(&own, a, &mut buffers, &mut findings, watch);
     }
     watch.end();
     findings
