@@ -112,16 +112,6 @@ module _ (c : Controller) where
       found_wider c (IsWalked c a n 0) (IsWalked c (a + 1) 0 0) f is (into_action a n)
       (λ m t q. ⊎_elim (λ (p : IsWalked c a n 0 m t). inl p) (λ (e : (n ≤ m) × (c.action m ≡ a)). let l : m < c.nodes = q.0.0 in let k : n ≤ m = e.0 in absurd (omega (arith, l, k, all))) (from_action a n m t q))
 
-  no_pair : (a n m t : ℕ) → c.action m ≡ a → n < m → IsWalked c a (n + 1) 0 m t → ⊥
-  no_pair a n m t same later p = ⊎_elim (λ (l : c.action m < a). omega (arith, l, same)) (λ (e : (c.action m ≡ a) × IsBefore m t (n + 1) 0). let l : m < n + 1 = no_state m t (n + 1) e.1 in omega (arith, l, later)) p.1
-
-  pub action_settled : (a n : ℕ) (f : Findings) → IsFoundBefore c a (n + 1) 0 f → NamesUntil f.first n → IsFoundBefore c (a + 1) 0 0 f
-  action_settled a n f is until =
-      found_wider c (IsWalked c a (n + 1) 0) (IsWalked c (a + 1) 0 0) f is (into_action a (n + 1))
-      (λ m t q. ⊎_elim (λ (p : IsWalked c a (n + 1) 0 m t). inl p) (λ (e : (n + 1 ≤ m) × (c.action m ≡ a)).
-      inr (let later : n + 1 ≤ m = e.0 in behind_first (IsVerdictFor f.aim c) (IsWalked c a (n + 1) 0) f.first n m t is.first until (omega (arith, later)) (λ j p. absurd (no_pair a n m j e.1 (omega (arith, later)) p))))
-      (from_action a (n + 1) m t q))
-
   -- ---- the beginning and the end
   pub nothing_found : (f : Findings) → f.first ≡ Yes → f.short ≡ Yes → f.worst ≡ 0 → IsFoundBefore c 0 0 0 f
   nothing_found f first short worst = record {

@@ -81,8 +81,25 @@ impl Findings {
         names_until(self.first, n)
     }
 
+    /// Takes in what is found at the next pair, which is one of node `n`. True where the other pairs of the node cannot be the first that
+    /// is sought.
+    pub(crate) fn note(&mut self, n: usize, found: Verdict) -> bool
+        ensures aim { self.new.aim ≡ self.old.aim }
+        ensures found { (c : Controller) (s : ℕ) → IsPair c n s → IsPairVerdict c n s found →
+            IsFoundBefore c (c.action n) n s self.old → IsFoundBefore c (c.action n) n (s + 1) self.new }
+        ensures settled { IsTrue result → NamesUntil self.new.first n }
+    {
+        match found {
+            Verdict::Yes => false,
+            Verdict::Short { .. } | Verdict::NoSuccessor { .. } => {
+                self.keep(n, found);
+                self.is_settled(n)
+            }
+        }
+    }
+
     /// Takes in what is found at the next pair, which is one of node `n`.
-    pub(crate) fn note(&mut self, n: usize, found: Verdict)
+    fn keep(&mut self, n: usize, found: Verdict)
         ensures aim { self.new.aim ≡ self.old.aim }
         ensures found { (c : Controller) (s : ℕ) → IsPair c n s → IsPairVerdict c n s found →
             IsFoundBefore c (c.action n) n s self.old → IsFoundBefore c (c.action n) n (s + 1) self.new }

@@ -30,35 +30,38 @@ fn survey_states<C: Cells>(
     for s in 0..certificate.cells.states() {
         buffers.keep_reward(certificate.cells, a, s);
         let found = at_pair(certificate, n, s, buffers.sums[s], buffers.ends());
-        findings.note(n, found);
-        if findings.is_settled(n) {
+        if findings.note(n, found) {
             return;
         }
     }
 }
 
-/// Notes what is found at each pair of node `n`, if the node takes action `a`.
-fn survey_node<C: Cells>(
+/// Notes what is found at each pair of node `n`, unless none of them can be the first that is sought.
+fn survey_node<C: Cells, W: Watch>(
     certificate: &Certificate<'_, C>,
-    a: usize,
     n: usize,
     buffers: &mut Buffers,
     findings: &mut Findings,
+    watch: &mut W,
 )
     requires node { n < (controller certificate.now).nodes }
-    requires kept { AreKept (controller certificate.now).cells a buffers.old.sums buffers.old.filled }
-    requires found { IsFoundBefore (judged certificate.now) a n 0 findings.old }
-    ensures kept { AreKept (controller certificate.now).cells a buffers.new.sums buffers.new.filled }
-    ensures found { IsFoundBefore (judged certificate.now) a (n + 1) 0 findings.new }
+    requires kept { AreKept (controller certificate.now).cells ((controller certificate.now).action n) buffers.old.sums buffers.old.filled }
+    requires found { IsFoundBefore (judged certificate.now) ((controller certificate.now).action n) n 0 findings.old }
+    ensures kept { AreKept (controller certificate.now).cells ((controller certificate.now).action n) buffers.new.sums buffers.new.filled }
+    ensures found { IsFoundBefore (judged certificate.now) ((controller certificate.now).action n) (n + 1) 0 findings.new }
     ensures aim { findings.new.aim ≡ findings.old.aim }
 {
-    if certificate.graph.action(n) == a {
-        buffers.fill_ends(certificate, n);
-        survey_states(certificate, n, buffers, findings);
+    if findings.is_settled(n) {
+        return;
+    }
+    buffers.fill_ends(certificate, n);
+    survey_states(certificate, n, buffers, findings);
+    if !findings.is_settled(n) {
+        watch.node_done();
     }
 }
 
-/// Notes what is found at each pair of the nodes that take action `a`, as far as it can matter.
+/// Notes what is found at the pairs of the nodes that take action `a`.
 fn survey_action<C: Cells, W: Watch>(
     certificate: &Certificate<'_, C>,
     a: usize,
@@ -72,12 +75,8 @@ fn survey_action<C: Cells, W: Watch>(
 {
     buffers.clear();
     for n in 0..certificate.graph.nodes() {
-        survey_node(certificate, a, n, buffers, findings);
-        if findings.is_settled(n) {
-            return;
-        }
         if certificate.graph.action(n) == a {
-            watch.node_done();
+            survey_node(certificate, n, buffers, findings, watch);
         }
     }
 }
@@ -92,11 +91,18 @@ pub(crate) fn survey<C: Cells, W: Watch>(
     ensures found { IsFound (judged certificate.now) (IsPair (judged certificate.now)) result }
     ensures aim { result.aim ≡ aim }
 {
-    watch.begin(certificate.graph.nodes());
+    // (A copy of its own, so that where the parts stand is not looked up again at each step.)
+    let own = Certificate {
+        cells: certificate.cells,
+        graph: certificate.graph,
+        vectors: certificate.vectors,
+        side: certificate.side,
+    };
+    watch.begin(own.graph.nodes());
     let mut buffers = Buffers::new();
     let mut findings = Findings::new(aim);
-    for a in 0..certificate.cells.actions() {
-        survey_action(certificate, a, &mut buffers, &mut findings, watch);
+    for a in 0..own.cells.actions() {
+        survey_action(&own, a, &mut buffers, &mut findings, watch);
     }
     watch.end();
     findings

@@ -1,8 +1,8 @@
-use Rattle.std.proofs.Common.{◌≡◌, ◌∙◌, sym}
+use Rattle.std.proofs.Common.{refl}
 use Rattle.polcert_check.specs.Certificate.{judged}
-use Rattle.polcert_check.proofs.Walked.{node_passed}
+use Rattle.polcert_check.proofs.Walked.{node_settled}
 use Rattle.polcert_check.proofs.survey.survey_node.Goals as goal
 
-pub returns-else-action-a-clause-found : goal.returns-else-action-a-clause-found
-returns-else-action-a-clause-found g c =
-    node_passed (judged c.args.certificate.now) c.args.a c.args.n c.args.findings.now c.requires.found (λ same. c.if-action-a.false (c.action.ensures.value ∙ same))
+pub returns-then-is_settled-clause-found : goal.returns-then-is_settled-clause-found
+returns-then-is_settled-clause-found g c =
+    node_settled (judged c.args.certificate.now) c.args.n 0 c.args.findings.now c.requires.found (c.if-is_settled.ensures.0 refl)

@@ -18,10 +18,10 @@ loop-s-preserved g c =
       aim = c.note.ensures.aim ∙ c.loop-s.invariant.aim;
     }
 
-pub returns-then-is_settled-clause-found : goal.returns-then-is_settled-clause-found
-returns-then-is_settled-clause-found g c =
+pub returns-then-note-clause-found : goal.returns-then-note-clause-found
+returns-then-note-clause-found g c =
     let k : Controller = judged c.args.certificate.now in
-    node_settled k c.args.n (c.loop-s.s + 1) c.note.new.self (c.note.ensures.found k c.loop-s.s (c.requires.node, omega (arith, c.states-s-end.ensures)) c.at_pair-found.ensures c.loop-s.invariant.found) (c.if-is_settled.ensures.0 refl)
+    node_settled k c.args.n (c.loop-s.s + 1) c.note.new.self (c.note.ensures.found k c.loop-s.s (c.requires.node, omega (arith, c.states-s-end.ensures)) c.at_pair-found.ensures c.loop-s.invariant.found) (c.note.ensures.settled c.if-note.true)
 
 pub returns-clause-found : goal.returns-clause-found
 returns-clause-found g c =
