@@ -1,5 +1,6 @@
 -- What a run says of the texts of three sources, from what its calls say of what these denote.
 use Rattle.std.proofs.Common.{◌≡◌, ◌∙◌, ℕ, ◌<◌, ℤ, neg_ℤ, List, ◌⊎◌, inl, inr, Result, Ok, Err, IfOk, subst, ap, refl}
+use Rattle.polcert_text.specs.declared.number.Rounding.TheVariants.{Down}
 use Rattle.polcert_cells.specs.Meaning.{Meaning, states_of}
 use Rattle.polcert_policy.specs.Graphs.{PolicyGraph, nodes}
 use Rattle.polcert_policy.specs.Vectors.{PolicyVectors, shifted_by}
@@ -15,16 +16,16 @@ use Rattle.polcert_check.specs.Horizon.{Controller}
 use Rattle.polcert_check.specs.Lower.{HasLeastConstant, IsLeastConstant, IsNotLowered}
 use Rattle.polcert_check.specs.Shortfall.{Passes}
 use Rattle.polcert_check.specs.StartWorth.{IsBestStart}
+use Rattle.polcert_check.specs.Verdict.{IsVerdict}
+use Rattle.polcert_check.proofs.OneAnswer as checks
 use Rattle.polcert_answer.specs.Headline.{Certificate, controller}
+use Rattle.polcert_answer.specs.Lines.{IsVerdictLine}
 use Rattle.polcert_answer.specs.Reading.{AreDenoted, IsAnswerLine, AreLowered}
 use Rattle.polcert_answer.specs.Answer.{IsAnswer}
-use Rattle.polcert_answer.specs.Run.{AreCertified, HasVerdict, HavePromise, HasStartPromise, HasLowered, IsNotLowerable, IsWhy}
+use Rattle.polcert_answer.specs.Run.{HasVerdict, HavePromise, HasStartPromise, HasLowered, IsNotLowerable, IsWhy}
 use Rattle.polcert_answer.proofs.Denoted.{of_parts, certificate_of, verdict_of_each, line_of_each, best_of_each, worth_of_each, constant_of_each, reason_of_each, text_of_each, yes_certified, yes_rewarded, yes_started}
+use Rattle.polcert_answer.proofs.OfSources.{of_ok, ok_mapped, texts_of, rounded_verdict}
 use Rattle.polcert_answer.proofs.OneAnswer.{but_for_memory}
-
--- what two answers hold that are one
-pub same_ok : {V E : Type 0} (v w : V) (r : Result V E) → r ≡ Ok v → r ≡ Ok w → v ≡ w
-same_ok v w r e f = cc
 
 pub same_lower : {V : Type 0} (a b : LowerFault) (r : Result V RunFault) → r ≡ Err (Lower a) → r ≡ Err (Lower b) → a ≡ b
 same_lower a b r e f = cc
@@ -33,66 +34,58 @@ same_lower a b r e f = cc
 best_is_node : {model graph vectors : List ℕ} (c : Certificate model graph vectors) (n : ℕ) → IsBestStart c.meaning c.values n → n < nodes c.policy
 best_is_node c n best = subst (λ count. n < count) c.are_vectors.2.nodes_are best.is_below
 
-module _ (of_model of_graph of_vectors : List ℕ → Type 0) (m : Meaning) (g : PolicyGraph) (v : PolicyVectors) (d : AreDenoted of_model of_graph of_vectors m g v) where
-  abbrev texts : AreCertified of_model of_graph of_vectors
-  texts = record {
-    model = d.first;
-    graph = d.second;
-    vectors = d.third;
-    model_read = d.model_read;
-    graph_read = d.graph_read;
-    vectors_read = d.vectors_read;
-    certificate = certificate_of m g v d.has_graph d.are_vectors;
-  }
+module _ (of_model of_graph of_vectors : List ℕ → Type 0) (m : Meaning) (g : PolicyGraph) (v : PolicyVectors) (d : AreDenoted Down of_model of_graph of_vectors m g v) where
+  -- this verdict and line of what the sources denote
+  abbrev IsLineOf : Verdict → List ℕ → Type 0
+  IsLineOf verdict line = IsAnswerLine IsVerdict IsVerdictLine m g v verdict line
 
-  pub has_verdict : (verdict : Verdict) (line : List ℕ) → IsAnswerLine m g v verdict line → HasVerdict of_model of_graph of_vectors verdict line
-  has_verdict verdict line is = record {
-    texts = texts;
-    answer = (certificate_of m g v d.has_graph d.are_vectors, verdict_of_each m g v d.has_graph d.are_vectors verdict is.verdict_is);
-    is_line = line_of_each m g v d.has_graph d.are_vectors verdict line is.line_is;
-  }
+  pub has_verdict : (verdict : Verdict) (line : List ℕ) → IsLineOf verdict line → HasVerdict of_model of_graph of_vectors verdict line
+  has_verdict verdict line is =
+      rounded_verdict of_model of_graph of_vectors m g v d IsVerdict IsVerdictLine verdict line
+      (verdict_of_each m g v d.has_graph d.are_vectors verdict is.verdict_is) (line_of_each m g v d.has_graph d.are_vectors verdict line is.line_is)
 
-  has_promise : (line : List ℕ) → IsAnswerLine m g v Yes line → HavePromise of_model of_graph of_vectors
-  unfolding has_verdict
+  answer_is : (verdict : Verdict) (line : List ℕ) → IsLineOf verdict line → IsAnswer d.first d.second d.third (Ok verdict)
+  answer_is verdict line is = (certificate_of m g v d.has_graph d.are_vectors, verdict_of_each m g v d.has_graph d.are_vectors verdict is.verdict_is)
+
+  has_promise : (line : List ℕ) → IsLineOf Yes line → HavePromise of_model of_graph of_vectors
   has_promise line is =
-      let answer : IsAnswer d.first d.second d.third (Ok Yes) = (has_verdict Yes line is).answer in
-      record { texts = texts; promise = yes_certified d.first d.second d.third answer; rewards = yes_rewarded d.first d.second d.third answer }
+      let answer = answer_is Yes line is in
+      record {
+        texts = texts_of of_model of_graph of_vectors m g v d;
+        promise = yes_certified d.first d.second d.third answer;
+        rewards = yes_rewarded d.first d.second d.third answer;
+      }
 
   -- the line of a yes, and what is promised from the start
-  has_start_promise : (line : List ℕ) → IsAnswerLine m g v Yes line → HasStartPromise of_model of_graph of_vectors line
-  unfolding has_verdict
+  has_start_promise : (line : List ℕ) → IsLineOf Yes line → HasStartPromise of_model of_graph of_vectors line
   has_start_promise line is =
       let (node, worth, best, is_worth, spelled) = is.line_is in
       let each = best_of_each m g v d.has_graph d.are_vectors node best in
       let worths = worth_of_each m g v d.has_graph d.are_vectors node worth is_worth in
       record {
-        texts = texts;
+        texts = texts_of of_model of_graph of_vectors m g v d;
         node = node;
         worth = worth;
         is_line = spelled;
         best = each;
         is_worth = worths;
-        promise = λ c k. yes_started d.first d.second d.third (has_verdict Yes line is).answer c k node worth (best_is_node c node (each c)) (worths c);
+        promise = λ c k. yes_started d.first d.second d.third (answer_is Yes line is) c k node worth (best_is_node c node (each c)) (worths c);
       }
 
   -- what is answered of a line that a sink took, where one was written
   module _ (took : List ℕ → Type 0) where
-    pub answered_of : (r : Result Verdict RunFault) → IfOk r (λ verdict. (line : List ℕ) × IsAnswerLine m g v verdict line × took line)
-        → IfOk r (λ verdict. (line : List ℕ) × HasVerdict of_model of_graph of_vectors verdict line × took line)
-    answered_of (Ok verdict) (line, is, was_taken) = (line, has_verdict verdict line is, was_taken)
-    answered_of (Err fault) is = tt
+    abbrev WasWritten : Verdict → Type 0
+    WasWritten verdict = (line : List ℕ) × IsLineOf verdict line × took line
 
-    yes_of : (r : Result Verdict RunFault) → IfOk r (λ verdict. (line : List ℕ) × IsAnswerLine m g v verdict line × took line) → r ≡ Ok Yes
-        → (line : List ℕ) × IsAnswerLine m g v Yes line × took line
-    yes_of r is same = subst (λ (x : Result Verdict RunFault). IfOk x (λ verdict. (line : List ℕ) × IsAnswerLine m g v verdict line × took line)) same is
+    pub answered_of : (r : Result Verdict RunFault) → IfOk r WasWritten → IfOk r (λ verdict. (line : List ℕ) × HasVerdict of_model of_graph of_vectors verdict line × took line)
+    answered_of = ok_mapped WasWritten (λ verdict. (line : List ℕ) × HasVerdict of_model of_graph of_vectors verdict line × took line)
+        (λ verdict w. (w.0, has_verdict verdict w.0 w.1, w.2))
 
-    pub promise_of : (r : Result Verdict RunFault) → IfOk r (λ verdict. (line : List ℕ) × IsAnswerLine m g v verdict line × took line) → r ≡ Ok Yes
-        → HavePromise of_model of_graph of_vectors
-    promise_of r is same = let (line, of_yes, was_taken) = yes_of r is same in has_promise line of_yes
+    pub promise_of : (r : Result Verdict RunFault) → IfOk r WasWritten → r ≡ Ok Yes → HavePromise of_model of_graph of_vectors
+    promise_of r is same = let (line, of_yes, was_taken) = of_ok WasWritten r Yes is same in has_promise line of_yes
 
-    pub start_promise_of : (r : Result Verdict RunFault) → IfOk r (λ verdict. (line : List ℕ) × IsAnswerLine m g v verdict line × took line) → r ≡ Ok Yes
-        → (line : List ℕ) × HasStartPromise of_model of_graph of_vectors line × took line
-    start_promise_of r is same = let (line, of_yes, was_taken) = yes_of r is same in (line, has_start_promise line of_yes, was_taken)
+    pub start_promise_of : (r : Result Verdict RunFault) → IfOk r WasWritten → r ≡ Ok Yes → (line : List ℕ) × HasStartPromise of_model of_graph of_vectors line × took line
+    start_promise_of r is same = let (line, of_yes, was_taken) = of_ok WasWritten r Yes is same in (line, has_start_promise line of_yes, was_taken)
 
   -- the lowered vectors, as they are written and read back
   pub has_lowered : (by : ℤ) (text : List ℕ) → AreLowered m g v by text → HasLowered of_model of_graph of_vectors by text
@@ -101,19 +94,19 @@ module _ (of_model of_graph of_vectors : List ℕ → Type 0) (m : Meaning) (g :
       (certificate_of m g are.lower d.has_graph are.reads_back, verdict_of_each m g are.lower d.has_graph are.reads_back Yes are.passes) in
       let spelled : text ≡ vectors_text g (shifted_by v (neg_ℤ by)) = are.text_is ∙ ap (λ w. vectors_text g w) are.shifted in
       record {
-        texts = texts;
+        texts = texts_of of_model of_graph of_vectors m g v d;
         least = constant_of_each m g v d.has_graph d.are_vectors by are.least;
         is_text = λ c. spelled ∙ text_of_each m g v d.has_graph d.are_vectors (neg_ℤ by) c;
         answer = passed;
-        only_yes = but_for_memory d.first d.second text Yes passed;
+        only_yes = but_for_memory Down IsVerdict checks.one_verdict d.first d.second text Yes passed;
         promise = yes_certified d.first d.second text passed;
         rewards = yes_rewarded d.first d.second text passed;
       }
 
   pub lowered_of : (took : List ℕ → Type 0) (r : Result ℤ RunFault) → IfOk r (λ by. (text : List ℕ) × AreLowered m g v by text × took text)
       → IfOk r (λ by. (text : List ℕ) × HasLowered of_model of_graph of_vectors by text × took text)
-  lowered_of took (Ok by) (text, are, was_taken) = (text, has_lowered by text are, was_taken)
-  lowered_of took (Err fault) are = tt
+  lowered_of took = ok_mapped (λ by. (text : List ℕ) × AreLowered m g v by text × took text) (λ by. (text : List ℕ) × HasLowered of_model of_graph of_vectors by text × took text)
+      (λ by w. (w.0, has_lowered by w.0 w.1, w.2))
 
   why_of_each : (fault : LowerFault) → IsWhy (of_parts m g v) v fault → (c : Certificate d.first d.second d.third) → IsWhy (controller c) c.values fault
   why_of_each faults.Memory (by, least) c = (by, constant_of_each m g v d.has_graph d.are_vectors by least c)
@@ -122,7 +115,7 @@ module _ (of_model of_graph of_vectors : List ℕ → Type 0) (m : Meaning) (g :
   why_of_each (faults.NoSuccessor n s z) why c = reason_of_each m g v d.has_graph d.are_vectors (faults.NoSuccessor n s z) why c
 
   pub not_lowerable : (fault : LowerFault) → IsWhy (of_parts m g v) v fault → IsNotLowerable of_model of_graph of_vectors fault
-  not_lowerable fault why = record { texts = texts; reason = why_of_each fault why }
+  not_lowerable fault why = record { texts = texts_of of_model of_graph of_vectors m g v d; reason = why_of_each fault why }
 
 -- what is known of lowered vectors and of their full form
 pub are_lowered : (m : Meaning) (g : PolicyGraph) (v : PolicyVectors) (by : ℤ) (w : PolicyVectors) → IsLeastConstant (of_parts m g v) v by → w ≡ shifted_by v (neg_ℤ by)

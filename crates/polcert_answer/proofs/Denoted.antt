@@ -1,5 +1,7 @@
 -- What three texts denote: one controller, whatever stands for it.
 use Rattle.std.proofs.Common.{◌≡◌, ℕ, ◌*◌, ◌<◌, ℤ, List, Ok, ap, ap₂, refl, subst}
+use Rattle.polcert_text.specs.declared.number.Rounding.{Rounding}
+use Rattle.polcert_text.specs.declared.number.Rounding.TheVariants.{Down, Up}
 use Rattle.polcert_cells.specs.Elements.{count_of}
 use Rattle.polcert_cells.specs.Preamble.{Preamble, observed}
 use Rattle.polcert_cells.specs.Meaning.{Meaning, IsSame, states_of, actions_of, observations_of}
@@ -13,7 +15,7 @@ use Rattle.polcert_policy.specs.declared.fault.GraphFault.{GraphFault}
 use Rattle.polcert_policy.specs.declared.fault.VectorFault.{VectorFault}
 use Rattle.polcert_policy.specs.GraphText.{IsGraphText, IsGraphRefusal, IsNoGraphText}
 use Rattle.polcert_policy.specs.Vectors.{PolicyVectors, shifted_by}
-use Rattle.polcert_policy.specs.VectorText.{IsVectorsText, IsVectorsRefusal, IsNoVectorsText}
+use Rattle.polcert_policy.specs.VectorText.{IsVectorsText, IsRoundedVectorsText, IsRoundedVectorsRefusal, IsNoRoundedVectorsText}
 use Rattle.polcert_policy.specs.FullForm.{vectors_text}
 use Rattle.polcert_policy.proofs.LimitLaws.{graph_proper}
 use Rattle.polcert_policy.proofs.OneText as texts
@@ -23,15 +25,16 @@ use Rattle.polcert_check.specs.Horizon.{Controller, controller_of, Fits, MeetsHo
 use Rattle.polcert_check.specs.Lower.{IsLeastConstant, IsNotLowered}
 use Rattle.polcert_check.specs.declared.fault.LowerFault.{LowerFault}
 use Rattle.polcert_check.specs.StartWorth.{IsCeilQuotient, IsBestStart, IsStartWorth, StartPromise}
+use Rattle.polcert_check.specs.Ranges.{IsController}
 use Rattle.polcert_check.specs.Verdict.{IsVerdict}
 use Rattle.polcert_check.proofs.Certificates.{controller_is}
 use Rattle.polcert_check.proofs.EveryHorizon.{promised}
 use Rattle.polcert_check.proofs.SameAnswers as answers
 use Rattle.polcert_check.proofs.SameModels as models_same
 use Rattle.polcert_check.proofs.StartSums.{start_promise}
-use Rattle.polcert_answer.specs.Headline.{Certificate, controller, IsCertified, AreRewardsCertified}
+use Rattle.polcert_answer.specs.Headline.{RoundedCertificate, Certificate, controller, IsCertified, AreRewardsCertified}
 use Rattle.polcert_answer.specs.Lines.{IsVerdictLine}
-use Rattle.polcert_answer.specs.Answer.{HasGraph, IsGraphRefused, AreVectorsRefused, IsAnswer}
+use Rattle.polcert_answer.specs.Answer.{HasGraph, IsGraphRefused, AreRoundedVectorsRefused, IsAnswer}
 
 module _ {m n : Meaning} (same : IsSame m n) where
   pub same_states : states_of m ≡ states_of n
@@ -64,14 +67,15 @@ same_graph {model} {graph} m n g h x y =
     (same, texts.one_graph (actions_of n) (observations_of n) graph g h (for_counts same (λ a o. IsGraphText a o graph g) x.is_graph) y.is_graph)
 
 -- the same of vectors, for each model and graph that two texts denote
-pub vectors_refused : (model graph text : List ℕ) (fault : VectorFault) (m : Meaning) (g : PolicyGraph) → HasGraph model graph m g
-    → IsNoVectorsText g (states_of m) text fault → IsVectorsRefusal g (states_of m) text fault → AreVectorsRefused model graph fault text
-vectors_refused model graph text fault m g has no_vectors refusal = record {
+pub vectors_refused : (rounding : Rounding) (model graph text : List ℕ) (fault : VectorFault) (m : Meaning) (g : PolicyGraph) → HasGraph model graph m g
+    → IsNoRoundedVectorsText rounding g (states_of m) text fault → IsRoundedVectorsRefusal rounding g (states_of m) text fault
+    → AreRoundedVectorsRefused rounding model graph fault text
+vectors_refused rounding model graph text fault m g has no_vectors refusal = record {
   meaning = m;
   policy = g;
   has_graph = has;
-  no_vectors = λ n h other. moved n h other (λ p s. IsNoVectorsText p s text fault) no_vectors;
-  refusal = λ n h other. moved n h other (λ p s. IsVectorsRefusal p s text fault) refusal;
+  no_vectors = λ n h other. moved n h other (λ p s. IsNoRoundedVectorsText rounding p s text fault) no_vectors;
+  refusal = λ n h other. moved n h other (λ p s. IsRoundedVectorsRefusal rounding p s text fault) refusal;
 }
   where
     moved : (n : Meaning) (h : PolicyGraph) → HasGraph model graph n h → (P : PolicyGraph → ℕ → Type 0) → P g (states_of m) → P h (states_of n)
@@ -80,18 +84,20 @@ vectors_refused model graph text fault m g has no_vectors refusal = record {
         subst (P h) (same_states same.0) (subst (λ (p : PolicyGraph). P p (states_of m)) same.1 is)
 
 -- and three texts are one list of vectors for them
-pub same_vectors : {model graph vectors : List ℕ} (m : Meaning) (g : PolicyGraph) (v : PolicyVectors) → HasGraph model graph m g → IsVectorsText g (states_of m) vectors v
-    → (c : Certificate model graph vectors) → IsSame m c.meaning × (g ≡ c.policy) × (v ≡ c.values)
-same_vectors {model} {graph} {vectors} m g v has are c =
+pub same_vectors : {rounding : Rounding} {model graph vectors : List ℕ} (m : Meaning) (g : PolicyGraph) (v : PolicyVectors) → HasGraph model graph m g
+    → IsRoundedVectorsText rounding g (states_of m) vectors v
+    → (c : RoundedCertificate rounding model graph vectors) → IsSame m c.meaning × (g ≡ c.policy) × (v ≡ c.values)
+same_vectors {rounding} {model} {graph} {vectors} m g v has are c =
     let same = same_graph m c.meaning g c.policy has (record { is_model = c.is_model; is_graph = c.is_graph }) in
-    let moved = subst (λ (h : PolicyGraph). IsVectorsText h (states_of c.meaning) vectors v) same.1
-    (subst (λ s. IsVectorsText g s vectors v) (same_states same.0) are) in
+    let moved = subst (λ (h : PolicyGraph). IsRoundedVectorsText rounding h (states_of c.meaning) vectors v) same.1
+    (subst (λ s. IsRoundedVectorsText rounding g s vectors v) (same_states same.0) are) in
     (same.0, same.1, texts.one_vectors c.policy (states_of c.meaning) vectors v c.values moved c.are_vectors)
 
 -- What is said of what three texts denote, and carries to every same model, is said of whatever they denote.
-pub of_each : {model graph vectors : List ℕ} (m : Meaning) (g : PolicyGraph) (v : PolicyVectors) → HasGraph model graph m g → IsVectorsText g (states_of m) vectors v
+pub of_each : {rounding : Rounding} {model graph vectors : List ℕ} (m : Meaning) (g : PolicyGraph) (v : PolicyVectors) → HasGraph model graph m g
+    → IsRoundedVectorsText rounding g (states_of m) vectors v
     → (P : Meaning → PolicyGraph → PolicyVectors → Type 0) → ((n : Meaning) → IsSame m n → P n g v)
-    → (c : Certificate model graph vectors) → P c.meaning c.policy c.values
+    → (c : RoundedCertificate rounding model graph vectors) → P c.meaning c.policy c.values
 of_each m g v has are P carried c =
     let same = same_vectors m g v has are c in
     subst (λ (w : PolicyVectors). P c.meaning c.policy w) same.2 (subst (λ (h : PolicyGraph). P c.meaning h v) same.1 (carried c.meaning same.0))
@@ -107,8 +113,8 @@ proper_graph m g has =
     graph_proper (actions_of m) (observations_of m) has.is_graph.0 g limits.actions.1 limits.observations.0 limits.observations.1 has.is_graph.2
 
 -- graph and vectors are for the model
-pub fits_of : {model graph : List ℕ} (vectors : List ℕ) (m : Meaning) (g : PolicyGraph) (v : PolicyVectors) → HasGraph model graph m g
-    → IsVectorsText g (states_of m) vectors v → Fits (table_of m) g v
+pub fits_of : {rounding : Rounding} {model graph : List ℕ} (vectors : List ℕ) (m : Meaning) (g : PolicyGraph) (v : PolicyVectors) → HasGraph model graph m g
+    → IsRoundedVectorsText rounding g (states_of m) vectors v → Fits (table_of m) g v
 fits_of vectors m g v has are = record {
   actions = has.is_graph.2.loose.actions_are;
   observations = has.is_graph.2.loose.observations_are;
@@ -158,12 +164,14 @@ module _ {model graph vectors : List ℕ} (m : Meaning) (g : PolicyGraph) (v : P
   reason_of_each fault why = of_each m g v has are (λ n h w. IsNotLowered (of_parts n h w) w fault)
       (λ n same. answers.same_refused (table_of m) (table_of n) g v (models_same.same_cells m n same) (proper_graph m g has) (fits_of vectors m g v has are) fault why)
 
-  pub text_of_each : (by : ℤ) (c : Certificate model graph vectors) → vectors_text g (shifted_by v by) ≡ vectors_text c.policy (shifted_by c.values by)
-  text_of_each by = of_each m g v has are (λ n h w. vectors_text g (shifted_by v by) ≡ vectors_text h (shifted_by w by)) (λ n same. refl)
+pub text_of_each : {rounding : Rounding} {model graph vectors : List ℕ} (m : Meaning) (g : PolicyGraph) (v : PolicyVectors) → HasGraph model graph m g
+    → IsRoundedVectorsText rounding g (states_of m) vectors v → (by : ℤ) (c : RoundedCertificate rounding model graph vectors)
+    → vectors_text g (shifted_by v by) ≡ vectors_text c.policy (shifted_by c.values by)
+text_of_each m g v has are by = of_each m g v has are (λ n h w. vectors_text g (shifted_by v by) ≡ vectors_text h (shifted_by w by)) (λ n same. refl)
 
 -- what a graph and vectors denote, together with what the model denotes
-pub certificate_of : {model graph vectors : List ℕ} (m : Meaning) (g : PolicyGraph) (v : PolicyVectors) → HasGraph model graph m g
-    → IsVectorsText g (states_of m) vectors v → Certificate model graph vectors
+pub certificate_of : {rounding : Rounding} {model graph vectors : List ℕ} (m : Meaning) (g : PolicyGraph) (v : PolicyVectors) → HasGraph model graph m g
+    → IsRoundedVectorsText rounding g (states_of m) vectors v → RoundedCertificate rounding model graph vectors
 certificate_of m g v has are =
     record { meaning = m; policy = g; values = v; is_model = has.is_model; is_graph = has.is_graph; are_vectors = are }
 
@@ -175,12 +183,21 @@ certified c meets = record { certificate = c; promise = λ d k n s nl sl. (meets
 pub rewards_certified : {model graph vectors : List ℕ} → ((d : Certificate model graph vectors) → MeetsHorizon (controller d) Yes) → AreRewardsCertified model graph vectors
 rewards_certified meets = λ d k n s nl sl. (meets d k n s nl sl).1
 
+-- what three texts denote, as its parts are used: its graph, that they fit, and that the controller is proper
+module _ {rounding : Rounding} {model graph vectors : List ℕ} (c : RoundedCertificate rounding model graph vectors) where
+  pub graph_is : HasGraph model graph c.meaning c.policy
+  graph_is = record { is_model = c.is_model; is_graph = c.is_graph }
+
+  pub fits_is : Fits (table_of c.meaning) c.policy c.values
+  fits_is = fits_of vectors c.meaning c.policy c.values graph_is c.are_vectors
+
+  pub controller_proper : IsController (controller c)
+  controller_proper = controller_is (table_of c.meaning) c.policy c.values fits_is (table_rows c.meaning c.is_model.denotes.rows) (proper_graph c.meaning c.policy graph_is)
+
 -- where every pair of whatever the texts denote passes, every horizon is promised
 horizons : {model graph vectors : List ℕ} → ((c : Certificate model graph vectors) → IsVerdict (controller c) Yes) → (c : Certificate model graph vectors) → MeetsHorizon (controller c) Yes
 horizons {model} {graph} {vectors} passes c =
-    let has : HasGraph model graph c.meaning c.policy = record { is_model = c.is_model; is_graph = c.is_graph } in
-    promised (table_of c.meaning) c.policy c.values (table_rows c.meaning c.is_model.denotes.rows) (proper_graph c.meaning c.policy has)
-    (fits_of vectors c.meaning c.policy c.values has c.are_vectors) (passes c)
+    promised (table_of c.meaning) c.policy c.values (table_rows c.meaning c.is_model.denotes.rows) (proper_graph c.meaning c.policy (graph_is c)) (fits_is c) (passes c)
 
 -- the answer yes certifies the texts
 pub yes_certified : (model graph vectors : List ℕ) → IsAnswer model graph vectors (Ok Yes) → IsCertified model graph vectors
@@ -193,11 +210,7 @@ yes_rewarded model graph vectors answer = rewards_certified (horizons answer.1)
 -- and from the start no less is expected than a node is worth there
 pub started : {model graph vectors : List ℕ} → ((c : Certificate model graph vectors) → IsVerdict (controller c) Yes) → (c : Certificate model graph vectors)
     (k n : ℕ) (worth : ℤ) → n < nodes c.policy → IsStartWorth c.meaning c.values n worth → StartPromise c.meaning (controller c) k n worth
-started {model} {graph} {vectors} passes c k n worth nl is =
-    let has : HasGraph model graph c.meaning c.policy = record { is_model = c.is_model; is_graph = c.is_graph } in
-    let proper = controller_is (table_of c.meaning) c.policy c.values (fits_of vectors c.meaning c.policy c.values has c.are_vectors)
-    (table_rows c.meaning c.is_model.denotes.rows) (proper_graph c.meaning c.policy has) in
-    start_promise c.meaning (controller c) refl proper (passes c) n worth nl is k
+started passes c k n worth nl is = start_promise c.meaning (controller c) refl (controller_proper c) (passes c) n worth nl is k
 
 pub yes_started : (model graph vectors : List ℕ) → IsAnswer model graph vectors (Ok Yes) → (c : Certificate model graph vectors)
     (k n : ℕ) (worth : ℤ) → n < nodes c.policy → IsStartWorth c.meaning c.values n worth → StartPromise c.meaning (controller c) k n worth

@@ -1,5 +1,9 @@
 pub mod Refusing
 pub mod Denoted
+pub mod DenotedAbove
+pub mod OfSources
+pub mod OfTexts
 pub mod OneAnswer
 pub mod Passing
 pub mod Answering
+pub mod AnsweringAbove

@@ -10,18 +10,17 @@ use Rattle.polcert_policy.specs.declared.fault.GraphFault.{GraphFault}
 use Rattle.polcert_policy.specs.declared.fault.GraphFault.TheVariants as graphs
 use Rattle.polcert_policy.specs.declared.fault.VectorFault.{VectorFault}
 use Rattle.polcert_policy.specs.declared.fault.VectorFault.TheVariants as values
-use Rattle.polcert_text.specs.declared.number.Rounding.TheVariants.{Down}
+use Rattle.polcert_text.specs.declared.number.Rounding.{Rounding}
 use Rattle.polcert_policy.specs.GraphText.{IsGraphText, IsNoGraphText}
 use Rattle.polcert_policy.specs.Vectors.{PolicyVectors}
-use Rattle.polcert_policy.specs.VectorText.{IsVectorsText, IsNoVectorsText}
+use Rattle.polcert_policy.specs.VectorText.{IsRoundedVectorsText, IsNoRoundedVectorsText}
 use Rattle.polcert_policy.proofs.OneGraphRefusal as graph_refusals
 use Rattle.polcert_policy.proofs.OneVectorsRefusal as vectors_refusals
-use Rattle.polcert_check.specs.declared.verdict.Verdict.{Verdict}
-use Rattle.polcert_check.proofs.OneAnswer as checks
+use Rattle.polcert_check.specs.Horizon.{Controller}
 use Rattle.polcert_answer.specs.declared.fault.Fault.{Fault}
 use Rattle.polcert_answer.specs.declared.fault.Fault.TheVariants.{Model, Graph, Vectors}
 use Rattle.polcert_answer.specs.Headline.{controller}
-use Rattle.polcert_answer.specs.Answer.{HasGraph, IsModelFault, IsAnswer, IsWantOfMemory, IsButForMemory}
+use Rattle.polcert_answer.specs.Answer.{HasGraph, IsModelFault, IsRoundedAnswer, IsWantOfMemory, IsButForMemory}
 use Rattle.polcert_answer.proofs.Refusing.{refused_of}
 
 -- what is refused as a graph is none, or memory was wanting
@@ -29,43 +28,47 @@ graph_memory : (a o : ℕ) (text : List ℕ) (f : GraphFault) (g : PolicyGraph) 
 graph_memory a o text graphs.Memory g refused is = refl
 graph_memory a o text _ g refused is = absurd (refused g is)
 
-vectors_memory : (p : PolicyGraph) (states : ℕ) (text : List ℕ) (f : VectorFault) (v : PolicyVectors) → IsNoVectorsText p states text f → IsVectorsText p states text v
-    → f ≡ values.Memory
-vectors_memory p states text values.Memory v refused are = refl
-vectors_memory p states text _ v refused are = absurd (refused v are)
+vectors_memory : (rounding : Rounding) (p : PolicyGraph) (states : ℕ) (text : List ℕ) (f : VectorFault) (v : PolicyVectors) → IsNoRoundedVectorsText rounding p states text f
+    → IsRoundedVectorsText rounding p states text v → f ≡ values.Memory
+vectors_memory rounding p states text values.Memory v refused are = refl
+vectors_memory rounding p states text _ v refused are = absurd (refused v are)
 
-module _ (model graph vectors : List ℕ) where
+-- Where values are rounded this way, these are the verdicts, and a controller has one of them.
+module _ {V : Type 0} (rounding : Rounding) (Is : Controller → V → Type 0) (one : (c : Controller) (x y : V) → Is c x → Is c y → x ≡ y) (model graph vectors : List ℕ) where
+  abbrev Answers : Result V Fault → Type 0
+  Answers r = IsRoundedAnswer rounding Is model graph vectors r
+
   -- what is refused as a model, but for want of memory, is none
   no_model : (f : ModelFault) (m : Meaning) → SaysOfText f → IsModelFault model f → IsModelText model m → ⊥
   no_model f m says refused is = (refused_of f model says refused).no_model m is
 
   pub model_before_graph : (f : ModelFault) (g : GraphFault) → SaysOfText f
-      → IsAnswer model graph vectors (Err (Model f)) → IsAnswer model graph vectors (Err (Graph g)) → ⊥
+      → Answers (Err (Model f)) → Answers (Err (Graph g)) → ⊥
   model_before_graph f g says h other = no_model f other.meaning says h other.is_model
 
   pub model_before_vectors : (f : ModelFault) (g : VectorFault) → SaysOfText f
-      → IsAnswer model graph vectors (Err (Model f)) → IsAnswer model graph vectors (Err (Vectors g)) → ⊥
+      → Answers (Err (Model f)) → Answers (Err (Vectors g)) → ⊥
   model_before_vectors f g says h other = no_model f other.meaning says h other.has_graph.is_model
 
   pub graph_before_vectors : (f : GraphFault) (g : VectorFault) → (f ≡ graphs.Memory → ⊥)
-      → IsAnswer model graph vectors (Err (Graph f)) → IsAnswer model graph vectors (Err (Vectors g)) → ⊥
+      → Answers (Err (Graph f)) → Answers (Err (Vectors g)) → ⊥
   graph_before_vectors f g says h other =
       says (graph_memory _ _ graph f other.policy (h.no_graph other.meaning other.has_graph.is_model) other.has_graph.is_graph)
 
   pub one_graph_refusal : (f g : GraphFault) → (f ≡ graphs.Memory → ⊥) → (g ≡ graphs.Memory → ⊥)
-      → IsAnswer model graph vectors (Err (Graph f)) → IsAnswer model graph vectors (Err (Graph g)) → f ≡ g
+      → Answers (Err (Graph f)) → Answers (Err (Graph g)) → f ≡ g
   one_graph_refusal f g f_says g_says h other =
       graph_refusals.one_refusal _ _ graph f g f_says g_says (h.refusal h.meaning h.is_model) (other.refusal h.meaning h.is_model)
 
   pub one_vectors_refusal : (f g : VectorFault) → (f ≡ values.Memory → ⊥) → (g ≡ values.Memory → ⊥)
-      → IsAnswer model graph vectors (Err (Vectors f)) → IsAnswer model graph vectors (Err (Vectors g)) → f ≡ g
+      → Answers (Err (Vectors f)) → Answers (Err (Vectors g)) → f ≡ g
   one_vectors_refusal f g f_says g_says h other =
-      vectors_refusals.one_refusal Down _ _ vectors f g f_says g_says (h.refusal h.meaning h.policy h.has_graph) (other.refusal h.meaning h.policy h.has_graph)
+      vectors_refusals.one_refusal rounding _ _ vectors f g f_says g_says (h.refusal h.meaning h.policy h.has_graph) (other.refusal h.meaning h.policy h.has_graph)
 
-  pub one_verdict : (x y : Verdict) → IsAnswer model graph vectors (Ok x) → IsAnswer model graph vectors (Ok y) → x ≡ y
-  one_verdict x y h other = checks.one_verdict (controller h.0) x y (h.1 h.0) (other.1 h.0)
+  pub one_verdict : (x y : V) → Answers (Ok x) → Answers (Ok y) → x ≡ y
+  one_verdict x y h other = one (controller h.0) x y (h.1 h.0) (other.1 h.0)
 
-  pub no_refusal : (x : Verdict) (fault : Fault) → IsAnswer model graph vectors (Ok x) → IsAnswer model graph vectors (Err fault) → IsWantOfMemory fault
+  pub no_refusal : (x : V) (fault : Fault) → Answers (Ok x) → Answers (Err fault) → IsWantOfMemory fault
   no_refusal x (Model models.Memory) h refused = tt
   no_refusal x (Model (models.Item kind item place)) h refused = absurd (no_model (models.Item kind item place) h.0.meaning tt refused h.0.is_model)
   no_refusal x (Model (models.RowSum table action row)) h refused = absurd (no_model (models.RowSum table action row) h.0.meaning tt refused h.0.is_model)
@@ -74,10 +77,10 @@ module _ (model graph vectors : List ℕ) where
       subst (λ (g : GraphFault). IsWantOfMemory (Graph g)) (sym memory) tt
   no_refusal x (Vectors f) h refused =
       let has : HasGraph model graph h.0.meaning h.0.policy = record { is_model = h.0.is_model; is_graph = h.0.is_graph } in
-      let memory = vectors_memory _ _ vectors f h.0.values (refused.no_vectors h.0.meaning h.0.policy has) h.0.are_vectors in
+      let memory = vectors_memory rounding _ _ vectors f h.0.values (refused.no_vectors h.0.meaning h.0.policy has) h.0.are_vectors in
       subst (λ (g : VectorFault). IsWantOfMemory (Vectors g)) (sym memory) tt
 
   -- beside a verdict there is no other answer
-  pub but_for_memory : (x : Verdict) → IsAnswer model graph vectors (Ok x) → (r : Result Verdict Fault) → IsAnswer model graph vectors r → IsButForMemory x r
+  pub but_for_memory : (x : V) → Answers (Ok x) → (r : Result V Fault) → Answers r → IsButForMemory x r
   but_for_memory x h (Ok y) other = one_verdict y x other h
   but_for_memory x h (Err fault) other = no_refusal x fault h other

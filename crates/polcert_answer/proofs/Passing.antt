@@ -2,8 +2,9 @@
 use Rattle.std.proofs.Common.{◌≡◌, ◌∙◌, ℕ, Result, Ok, Err, IfOk, IfErr, ap, subst, sym}
 use Rattle.std.specs.Result.{IsErrAnd}
 use Rattle.polcert_check.specs.declared.fault.LowerFault.{LowerFault}
+use Rattle.polcert_check.specs.declared.fault.RaiseFault.{RaiseFault}
 use Rattle.polcert_answer.specs.declared.fault.RunFault.{RunFault}
-use Rattle.polcert_answer.specs.declared.fault.RunFault.TheVariants.{Text, ReadModel, ReadGraph, ReadVectors, Write, Lower}
+use Rattle.polcert_answer.specs.declared.fault.RunFault.TheVariants.{Text, ReadModel, ReadGraph, ReadVectors, Write, Lower, Raise}
 use Rattle.polcert_answer.specs.Run.{IsNamedRightly, ReadsInOrder}
 use Rattle.polcert_answer.specs.Reading.{IsReadFault, IsNoReadFault}
 
@@ -19,6 +20,9 @@ same_err f x same = cc
 
 lower_not_write : (fault : LowerFault) → Lower fault ≡ Write → ⊥
 lower_not_write fault same = cc
+
+raise_not_write : (fault : RaiseFault) → Raise fault ≡ Write → ⊥
+raise_not_write fault same = cc
 
 -- ---- the fault of a read
 module _ {T : Type 0} (r : Result T RunFault) (given : RunFault) (e : r ≡ Err given) where
@@ -53,6 +57,7 @@ no_read_fault ReadGraph of none = none
 no_read_fault ReadVectors of none = none
 no_read_fault Write of none = of
 no_read_fault (Lower fault) of none = of
+no_read_fault (Raise fault) of none = of
 
 module _ {T : Type 0} (r : Result T RunFault) (none : IfErr r IsNoReadFault) where
   pub not_read : (x : RunFault) → IsReadFault x → r ≡ Err x → ⊥
@@ -74,6 +79,7 @@ behind_all ReadGraph none graph graph' vectors vectors' = absurd none
 behind_all ReadVectors none graph graph' vectors vectors' = absurd none
 behind_all Write none graph graph' vectors vectors' = tt
 behind_all (Lower fault) none graph graph' vectors vectors' = tt
+behind_all (Raise fault) none graph graph' vectors vectors' = tt
 
 pub written_in_order : {T G V : Type 0} (r : Result T RunFault) → IfErr r IsNoReadFault → (graph graph' : G) (vectors vectors' : V)
     → IfErr r (λ fault. ReadsInOrder fault graph graph' vectors vectors')
@@ -87,3 +93,6 @@ module _ {T : Type 0} (r : Result T RunFault) (of_write : IfErr r (λ fault. fau
 
   pub not_lower : (fault : LowerFault) → r ≡ Err (Lower fault) → ⊥
   not_lower fault same = lower_not_write fault (is_write (Lower fault) same)
+
+  pub not_raise : (fault : RaiseFault) → r ≡ Err (Raise fault) → ⊥
+  not_raise fault same = raise_not_write fault (is_write (Raise fault) same)

@@ -4,27 +4,34 @@
 -- graph and value function files (the graph and the vectors); the textbook step relation of a finite controller (the
 -- promise). Each word is a definition of the crate that it comes from, and `docs/DEFINITIONS.md` walks through them all.
 use Rattle.std.specs.Prelude.{ℕ, ◌<◌, List}
+use Rattle.polcert_text.specs.declared.number.Rounding.{Rounding}
+use Rattle.polcert_text.specs.declared.number.Rounding.TheVariants.{Down}
 use Rattle.polcert_cells.specs.Meaning.{Meaning, states_of, actions_of, observations_of}
 use Rattle.polcert_cells.specs.Tables.{table_of}
 use Rattle.polcert_model.specs.Text.{IsModelText}
 use Rattle.polcert_policy.specs.Graphs.{PolicyGraph, nodes}
 use Rattle.polcert_policy.specs.GraphText.{IsGraphText}
 use Rattle.polcert_policy.specs.Vectors.{PolicyVectors}
-use Rattle.polcert_policy.specs.VectorText.{IsVectorsText}
+use Rattle.polcert_policy.specs.VectorText.{IsRoundedVectorsText}
 use Rattle.polcert_check.specs.Horizon.{Controller, controller_of, Promise, RewardPromise}
 
 -- Three texts and what they denote: the first is the text of a model, the second that of a policy graph for the model's
--- actions and observations, and the third that of vectors, one for each node of the graph with a value for each state.
-pub record Certificate (model graph vectors : List ℕ) : Type 0 where
+-- actions and observations, and the third that of vectors, one for each node of the graph with a value for each state, each
+-- rounded this way.
+pub record RoundedCertificate (rounding : Rounding) (model graph vectors : List ℕ) : Type 0 where
   pub meaning : Meaning
   pub policy : PolicyGraph
   pub values : PolicyVectors
   pub is_model : IsModelText model meaning
   pub is_graph : IsGraphText (actions_of meaning) (observations_of meaning) graph policy
-  pub are_vectors : IsVectorsText policy (states_of meaning) vectors values
+  pub are_vectors : IsRoundedVectorsText rounding policy (states_of meaning) vectors values
+
+-- the same with each value rounded down
+abbrev pub Certificate : List ℕ → List ℕ → List ℕ → Type 0
+Certificate model graph vectors = RoundedCertificate Down model graph vectors
 
 -- the controller that they denote: the model's cells, and at each node its action, its successors and its values
-abbrev pub controller : {model graph vectors : List ℕ} → Certificate model graph vectors → Controller
+abbrev pub controller : {rounding : Rounding} {model graph vectors : List ℕ} → RoundedCertificate rounding model graph vectors → Controller
 controller c = controller_of (table_of c.meaning) c.policy c.values
 
 -- The headline. The texts denote a controller; and whatever controller they denote: for every number of steps k, every

@@ -11,8 +11,11 @@ use Rattle.polcert_cells.specs.Meaning.{Meaning, states_of, actions_of, observat
 use Rattle.polcert_policy.specs.Vectors.{PolicyVectors}
 use Rattle.polcert_check.specs.declared.verdict.Verdict.{Verdict}
 use Rattle.polcert_check.specs.declared.verdict.Verdict.TheVariants.{Yes, Short, NoSuccessor}
+use Rattle.polcert_check.specs.declared.above.AboveVerdict.{AboveVerdict}
+use Rattle.polcert_check.specs.declared.above.AboveVerdict.TheVariants as above
 use Rattle.polcert_check.specs.Horizon.{Controller, step_scale, one}
 use Rattle.polcert_check.specs.StartWorth.{IsBestStart, IsStartWorth, IsCeilQuotient}
+use Rattle.polcert_check.specs.StartMost.{IsStartMost}
 
 -- a count, and the words behind it
 abbrev pub counted : ℕ → List ℕ → List ℕ
@@ -52,8 +55,12 @@ yes_line n worth = codes "yes: start node " ++ counted n (codes ", at least ") +
 abbrev pub pair_text : ℕ → ℕ → List ℕ → List ℕ
 pair_text n s words = codes "no: node " ++ counted n (codes ", state ") ++ counted s words
 
+-- a no for an amount, which these words lead to
+abbrev pub amount_line : ℕ → ℕ → List ℕ → ℤ → List ℕ
+amount_line n s words by = pair_text n s words ++ scaled_text by ++ codes "\n"
+
 abbrev pub short_line : ℕ → ℕ → ℤ → List ℕ
-short_line n s by = pair_text n s (codes ", short by ") ++ scaled_text by ++ codes "\n"
+short_line n s by = amount_line n s (codes ", short by ") by
 
 abbrev pub lack_line : ℕ → ℕ → ℕ → List ℕ
 lack_line n s z = pair_text n s (codes ", observation ") ++ counted z (codes " has no successor\n")
@@ -64,6 +71,23 @@ abbrev pub IsVerdictLine : Meaning → Controller → PolicyVectors → Verdict 
 IsVerdictLine m c v Yes line = (n : ℕ) × (worth : ℤ) × IsBestStart m v n × IsStartWorth m v n worth × (line ≡ yes_line n worth)
 IsVerdictLine m c v (Short n s amount) line = (by : ℤ) × IsCeilQuotient amount (step_scale c * one) by × (line ≡ short_line n s by)
 IsVerdictLine m c v (NoSuccessor n s z) line = line ≡ lack_line n s z
+
+-- ---- the lines of a verdict from above
+--
+-- `yes: every start node, at most -20`, `no: node 0, state 0, long by 0.000001`, and the line of a missing successor as before.
+
+abbrev pub yes_above_line : ℤ → List ℕ
+yes_above_line most = codes "yes: every start node, at most " ++ scaled_text most ++ codes "\n"
+
+abbrev pub long_line : ℕ → ℕ → ℤ → List ℕ
+long_line n s by = amount_line n s (codes ", long by ") by
+
+-- The line of a verdict from above: a yes names what no node is worth more than from the model's start, rounded up; an amount is
+-- divided by its scale and rounded up, so that it is never 0.
+abbrev pub IsAboveVerdictLine : Meaning → Controller → PolicyVectors → AboveVerdict → List ℕ → Type 0
+IsAboveVerdictLine m c v above.Yes line = (most : ℤ) × IsStartMost m v most × (line ≡ yes_above_line most)
+IsAboveVerdictLine m c v (above.Long n s amount) line = (by : ℤ) × IsCeilQuotient amount (step_scale c * one) by × (line ≡ long_line n s by)
+IsAboveVerdictLine m c v (above.NoSuccessor n s z) line = line ≡ lack_line n s z
 
 -- A call that writes a line: one of those lines, at `Ok` all of it, and at an `Err` a beginning.
 pub record WritesLine {S T E : Type 0} (writes : S → Option (List ℕ) → S → Type 0) (failures : S → ℕ) (old : S)

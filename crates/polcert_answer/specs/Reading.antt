@@ -1,24 +1,25 @@
 -- Helper definitions of private functions: what is read of three sources, and written of it. Nobody has to believe them.
 use Rattle.std.specs.Prelude.{◌≡◌, ℕ, ℤ, neg_ℤ, List}
+use Rattle.polcert_text.specs.declared.number.Rounding.{Rounding}
+use Rattle.polcert_text.specs.declared.number.Rounding.TheVariants.{Up}
 use Rattle.polcert_cells.specs.Meaning.{Meaning, states_of}
 use Rattle.polcert_cells.specs.Tables.{table_of}
 use Rattle.polcert_policy.specs.Graphs.{PolicyGraph}
 use Rattle.polcert_policy.specs.Vectors.{PolicyVectors, shifted_by}
-use Rattle.polcert_policy.specs.VectorText.{IsVectorsText}
+use Rattle.polcert_policy.specs.VectorText.{IsVectorsText, IsRoundedVectorsText}
 use Rattle.polcert_policy.specs.FullForm.{vectors_text}
-use Rattle.polcert_check.specs.declared.verdict.Verdict.{Verdict}
-use Rattle.polcert_check.specs.Horizon.{controller_of}
+use Rattle.polcert_check.specs.Horizon.{Controller, controller_of}
 use Rattle.polcert_check.specs.Lower.{IsLeastConstant}
+use Rattle.polcert_check.specs.Raise.{IsLeastRaise}
 use Rattle.polcert_check.specs.Shortfall.{Passes}
-use Rattle.polcert_check.specs.Verdict.{IsVerdict}
-use Rattle.polcert_answer.specs.Lines.{IsVerdictLine}
+use Rattle.polcert_check.specs.Above.{PassesAbove}
 use Rattle.polcert_answer.specs.declared.fault.Fault.TheVariants.{Model, Graph, Vectors}
 use Rattle.polcert_answer.specs.declared.fault.RunFault.{RunFault}
-use Rattle.polcert_answer.specs.declared.fault.RunFault.TheVariants.{Text, ReadModel, ReadGraph, ReadVectors, Write, Lower}
+use Rattle.polcert_answer.specs.declared.fault.RunFault.TheVariants.{Text, ReadModel, ReadGraph, ReadVectors, Write, Lower, Raise}
 use Rattle.polcert_answer.specs.Answer.{HasGraph}
 
--- the texts of the three sources are those of this model, graph and vectors
-pub record AreDenoted (of_model of_graph of_vectors : List ℕ → Type 0) (m : Meaning) (g : PolicyGraph) (v : PolicyVectors) : Type 0 where
+-- the texts of the three sources are those of this model, graph and vectors, with each value rounded this way
+pub record AreDenoted (rounding : Rounding) (of_model of_graph of_vectors : List ℕ → Type 0) (m : Meaning) (g : PolicyGraph) (v : PolicyVectors) : Type 0 where
   pub first : List ℕ
   pub second : List ℕ
   pub third : List ℕ
@@ -26,12 +27,13 @@ pub record AreDenoted (of_model of_graph of_vectors : List ℕ → Type 0) (m : 
   pub graph_read : of_graph second
   pub vectors_read : of_vectors third
   pub has_graph : HasGraph first second m g
-  pub are_vectors : IsVectorsText g (states_of m) third v
+  pub are_vectors : IsRoundedVectorsText rounding g (states_of m) third v
 
--- what these denote has this verdict, and this is the verdict's line
-pub record IsAnswerLine (m : Meaning) (g : PolicyGraph) (v : PolicyVectors) (verdict : Verdict) (line : List ℕ) : Type 0 where
-  pub verdict_is : IsVerdict (controller_of (table_of m) g v) verdict
-  pub line_is : IsVerdictLine m (controller_of (table_of m) g v) v verdict line
+-- where these are the verdicts and these their lines: what these denote has this verdict, and this is the verdict's line
+pub record IsAnswerLine {V : Type 0} (Is : Controller → V → Type 0) (IsLine : Meaning → Controller → PolicyVectors → V → List ℕ → Type 0)
+    (m : Meaning) (g : PolicyGraph) (v : PolicyVectors) (verdict : V) (line : List ℕ) : Type 0 where
+  pub verdict_is : Is (controller_of (table_of m) g v) verdict
+  pub line_is : IsLine m (controller_of (table_of m) g v) v verdict line
 
 -- this is the least constant by which these vectors can be lowered to pass, and the text is the full form of the lowered ones,
 -- which reads back
@@ -42,6 +44,15 @@ pub record AreLowered (m : Meaning) (g : PolicyGraph) (v : PolicyVectors) (by : 
   pub passes : Passes (controller_of (table_of m) g lower)
   pub text_is : text ≡ vectors_text g lower
   pub reads_back : IsVectorsText g (states_of m) text lower
+
+-- the same from above, with the vectors raised
+pub record AreRaised (m : Meaning) (g : PolicyGraph) (v : PolicyVectors) (by : ℤ) (text : List ℕ) : Type 0 where
+  pub raise : PolicyVectors
+  pub least : IsLeastRaise (controller_of (table_of m) g v) v by
+  pub shifted : raise ≡ shifted_by v by
+  pub passes : PassesAbove (controller_of (table_of m) g raise)
+  pub text_is : text ≡ vectors_text g raise
+  pub reads_back : IsRoundedVectorsText Up g (states_of m) text raise
 
 -- a fault of a model's text or of its source
 abbrev pub IsModelReadFault : RunFault → Type 0
@@ -69,9 +80,11 @@ IsReadFault ReadGraph = Unit {0}
 IsReadFault ReadVectors = Unit {0}
 IsReadFault Write = ⊥
 IsReadFault (Lower fault) = ⊥
+IsReadFault (Raise fault) = ⊥
 
--- a fault of the sink or of lowering
+-- a fault of the sink, of lowering or of raising
 abbrev pub IsNoReadFault : RunFault → Type 0
 IsNoReadFault Write = Unit {0}
 IsNoReadFault (Lower fault) = Unit {0}
+IsNoReadFault (Raise fault) = Unit {0}
 IsNoReadFault _ = ⊥

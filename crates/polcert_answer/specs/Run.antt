@@ -1,5 +1,7 @@
 -- What runs from sources to sinks promise.
 use Rattle.std.specs.Prelude.{◌≡◌, ℕ, ℤ, neg_ℤ, List, Option, Result, Ok}
+use Rattle.polcert_text.specs.declared.number.Rounding.{Rounding}
+use Rattle.polcert_text.specs.declared.number.Rounding.TheVariants.{Down}
 use Rattle.polcert_text.specs.Device.{HasFailed}
 use Rattle.polcert_text.specs.Source.{IsText}
 use Rattle.polcert_text.specs.Sink.{Takes, TakesFront}
@@ -14,13 +16,14 @@ use Rattle.polcert_check.specs.declared.verdict.Verdict.{Verdict}
 use Rattle.polcert_check.specs.declared.verdict.Verdict.TheVariants.{Yes}
 use Rattle.polcert_check.specs.Horizon.{Controller}
 use Rattle.polcert_check.specs.Lower.{HasLeastConstant, IsLeastConstant, IsNotLowered}
+use Rattle.polcert_check.specs.Verdict.{IsVerdict}
 use Rattle.polcert_check.specs.StartWorth.{IsBestStart, IsStartWorth, StartPromise}
 use Rattle.polcert_answer.specs.declared.fault.Fault.{Fault}
 use Rattle.polcert_answer.specs.declared.fault.Fault.TheVariants.{Model, Graph}
 use Rattle.polcert_answer.specs.declared.fault.RunFault.{RunFault}
 use Rattle.polcert_answer.specs.declared.fault.RunFault.TheVariants.{Text, ReadModel, ReadGraph, Write}
-use Rattle.polcert_answer.specs.Answer.{IsAnswer, IsButForMemory}
-use Rattle.polcert_answer.specs.Headline.{Certificate, controller, IsCertified, AreRewardsCertified}
+use Rattle.polcert_answer.specs.Answer.{IsRoundedAnswer, IsAnswer, IsButForMemory}
+use Rattle.polcert_answer.specs.Headline.{RoundedCertificate, Certificate, controller, IsCertified, AreRewardsCertified}
 use Rattle.polcert_answer.specs.Lines.{summary_line, yes_line, IsVerdictLine}
 
 -- ---- one source
@@ -93,22 +96,33 @@ ReadsInOrder ReadModel graph graph' vectors vectors' = (graph' ≡ graph) × (ve
 ReadsInOrder ReadGraph graph graph' vectors vectors' = vectors' ≡ vectors
 ReadsInOrder _ graph graph' vectors vectors' = Unit {0}
 
-module _ (of_model of_graph of_vectors : List ℕ → Type 0) where
-  -- the texts of the three sources, which denote a controller
-  pub record AreCertified : Type 0 where
+module _ (rounding : Rounding) (of_model of_graph of_vectors : List ℕ → Type 0) where
+  -- the texts of the three sources, which denote a controller, where values are rounded this way
+  pub record AreRoundedCertified : Type 0 where
     pub model : List ℕ
     pub graph : List ℕ
     pub vectors : List ℕ
     pub model_read : of_model model
     pub graph_read : of_graph graph
     pub vectors_read : of_vectors vectors
-    pub certificate : Certificate model graph vectors
+    pub certificate : RoundedCertificate rounding model graph vectors
+
+  -- Where these are the verdicts and these their lines: the answer to the texts of the three sources is this verdict, and this is
+  -- its line.
+  pub record HasRoundedVerdict {V : Type 0} (Is : Controller → V → Type 0) (IsLine : Meaning → Controller → PolicyVectors → V → List ℕ → Type 0)
+      (verdict : V) (line : List ℕ) : Type 0 where
+    pub texts : AreRoundedCertified
+    pub answer : IsRoundedAnswer rounding Is texts.model texts.graph texts.vectors (Ok verdict)
+    pub is_line : (c : RoundedCertificate rounding texts.model texts.graph texts.vectors) → IsLine c.meaning (controller c) c.values verdict line
+
+module _ (of_model of_graph of_vectors : List ℕ → Type 0) where
+  -- the texts of the three sources, which denote a controller
+  abbrev pub AreCertified : Type 0
+  AreCertified = AreRoundedCertified Down of_model of_graph of_vectors
 
   -- the answer to the texts of the three sources is this verdict, and this is its line
-  pub record HasVerdict (verdict : Verdict) (line : List ℕ) : Type 0 where
-    pub texts : AreCertified
-    pub answer : IsAnswer texts.model texts.graph texts.vectors (Ok verdict)
-    pub is_line : (c : Certificate texts.model texts.graph texts.vectors) → IsVerdictLine c.meaning (controller c) c.values verdict line
+  abbrev pub HasVerdict : Verdict → List ℕ → Type 0
+  HasVerdict verdict line = HasRoundedVerdict Down of_model of_graph of_vectors IsVerdict IsVerdictLine verdict line
 
   -- The headline holds of the texts of the three sources, with the vectors at the end and for the rewards alone.
   pub record HavePromise : Type 0 where

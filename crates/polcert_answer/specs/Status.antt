@@ -1,16 +1,19 @@
--- The exit status for a fault: 4 for want of memory, 3 for a device, 1 where the vectors can't be lowered, 2 for a text
--- that is refused. Of a verdict: 0 for a yes, 1 for a no.
+-- The exit status for a fault: 4 for want of memory, 3 for a device, 1 where the vectors can't be lowered or raised, 2 for a
+-- text that is refused. Of a verdict: 0 for a yes, 1 for a no.
 use Rattle.std.specs.Prelude.{ℕ}
 use Rattle.polcert_format.specs.declared.fault.ModelFault.TheVariants as models
 use Rattle.polcert_policy.specs.declared.fault.GraphFault.TheVariants as graphs
 use Rattle.polcert_policy.specs.declared.fault.VectorFault.TheVariants as values
 use Rattle.polcert_check.specs.declared.fault.LowerFault.TheVariants as lowering
+use Rattle.polcert_check.specs.declared.fault.RaiseFault.TheVariants as raising
 use Rattle.polcert_check.specs.declared.verdict.Verdict.{Verdict}
 use Rattle.polcert_check.specs.declared.verdict.Verdict.TheVariants.{Yes}
+use Rattle.polcert_check.specs.declared.above.AboveVerdict.{AboveVerdict}
+use Rattle.polcert_check.specs.declared.above.AboveVerdict.TheVariants as above
 use Rattle.polcert_answer.specs.declared.fault.Fault.{Fault}
 use Rattle.polcert_answer.specs.declared.fault.Fault.TheVariants.{Model, Graph, Vectors}
 use Rattle.polcert_answer.specs.declared.fault.RunFault.{RunFault}
-use Rattle.polcert_answer.specs.declared.fault.RunFault.TheVariants.{Text, ReadModel, ReadGraph, ReadVectors, Write, Lower}
+use Rattle.polcert_answer.specs.declared.fault.RunFault.TheVariants.{Text, ReadModel, ReadGraph, ReadVectors, Write, Lower, Raise}
 
 abbrev pub text_status : Fault → ℕ
 text_status (Model models.Memory) = 4
@@ -26,7 +29,13 @@ status ReadVectors = 3
 status Write = 3
 status (Lower lowering.Memory) = 4
 status (Lower _) = 1
+status (Raise raising.Memory) = 4
+status (Raise _) = 1
 
 abbrev pub verdict_status : Verdict → ℕ
 verdict_status Yes = 0
 verdict_status _ = 1
+
+abbrev pub above_verdict_status : AboveVerdict → ℕ
+above_verdict_status above.Yes = 0
+above_verdict_status _ = 1

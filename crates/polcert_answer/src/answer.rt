@@ -1,14 +1,17 @@
 //! The answer to three texts.
 ghost use Rattle.std.specs.Prelude.{◌≡◌, ℕ, ◌<◌, IfOk, Ok};
 ghost use Rattle.polcert_check.specs.Horizon.{MeetsHorizon};
+ghost use Rattle.polcert_check.specs.Above.{MeetsHorizonAbove};
 ghost use Rattle.polcert_check.specs.declared.verdict.Verdict.TheVariants.{Yes};
-ghost use Rattle.polcert_answer.specs.Answer.{IsAnswer};
+ghost use Rattle.polcert_answer.specs.Answer.{IsAnswer, IsAnswerAbove};
 ghost use Rattle.polcert_answer.specs.Headline.{Certificate, controller, IsCertified, AreRewardsCertified};
+ghost use Rattle.polcert_answer.specs.HeadlineAbove.{CertificateAbove, IsCertifiedAbove, AreRewardsCertifiedAbove};
 
 use crate::fault::Fault;
 use crate::texts::{graph_of, vectors_of};
-use polcert_check::{Verdict, check};
+use polcert_check::{AboveVerdict, Verdict, check, check_above};
 use polcert_model::read_model;
+use polcert_text::Rounding;
 use std::alloc::Global;
 
 /// The answer to the texts of a model, of a policy graph, and of the graph's vectors.
@@ -38,6 +41,38 @@ pub fn check_texts(
 {
     let model = read_model(alloc, model)?;
     let graph = graph_of(alloc, &model, graph)?;
-    let vectors = vectors_of(alloc, &model, &graph, vectors)?;
+    let vectors = vectors_of(alloc, Rounding::Down, &model, &graph, vectors)?;
     Ok(check(&model, &graph, &vectors))
+}
+
+/// The answer from above to the texts of a model, of a policy graph, and of the graph's vectors, each value rounded up: whether the
+/// vectors bound what the graph earns from above.
+///
+/// # Errors
+///
+/// Those of `check_texts`.
+pub fn check_texts_above(
+    alloc: Global,
+    model: &[u8],
+    graph: &[u8],
+    vectors: &[u8],
+) -> Result<AboveVerdict, Fault>
+    // The verdict from above on what the texts denote, or a right refusal of the first that denotes nothing.
+    ensures answer { IsAnswerAbove model.now graph.now vectors.now result }
+
+    // The headline from above: a yes bounds what is earned for every number of steps, every node and every state.
+    ensures promise { result ≡ Ok AboveVerdict.Yes → IsCertifiedAbove model.now graph.now vectors.now }
+
+    // And for the rewards alone, without the vectors at the end.
+    ensures rewards { result ≡ Ok AboveVerdict.Yes → AreRewardsCertifiedAbove model.now graph.now vectors.now }
+
+    // A no is refuted by one step: at the pair that it names the promise of one step is false, and a missing successor is a
+    // run of one step that is cut and weighs more than 0.
+    ensures horizon { IfOk result (λ verdict. (c : CertificateAbove model.now graph.now vectors.now)
+        → MeetsHorizonAbove (controller c) verdict) }
+{
+    let model = read_model(alloc, model)?;
+    let graph = graph_of(alloc, &model, graph)?;
+    let vectors = vectors_of(alloc, Rounding::Up, &model, &graph, vectors)?;
+    Ok(check_above(&model, &graph, &vectors))
 }

@@ -5,8 +5,8 @@ ghost use Rattle.polcert_model.specs.Contents.{meaning};
 ghost use Rattle.polcert_model.specs.Text.{IsModelText};
 ghost use Rattle.polcert_cells.specs.Meaning.{states_of, actions_of, observations_of};
 ghost use Rattle.polcert_policy.specs.GraphText.{IsGraphText};
-ghost use Rattle.polcert_policy.specs.VectorText.{IsVectorsText};
-ghost use Rattle.polcert_answer.specs.Answer.{HasGraph, IsModelFault, IsGraphRefused, AreVectorsRefused};
+ghost use Rattle.polcert_policy.specs.VectorText.{IsRoundedVectorsText};
+ghost use Rattle.polcert_answer.specs.Answer.{HasGraph, IsModelFault, IsGraphRefused, AreRoundedVectorsRefused};
 ghost use Rattle.polcert_answer.specs.Run.{text_of, IsNamedRightly, ReadsInOrder};
 ghost use Rattle.polcert_answer.specs.Reading.{AreDenoted, IsModelReadFault, IsGraphReadFault, IsVectorsReadFault, IsReadFault};
 
@@ -14,7 +14,7 @@ use crate::fault::{Fault, RunFault};
 use crate::sources::{graph_from, vectors_from};
 use polcert_model::{Model, read_model_from};
 use polcert_policy::{Graph, Vectors};
-use polcert_text::{Source, SourceFault};
+use polcert_text::{Rounding, Source, SourceFault};
 use std::alloc::Global;
 
 /// A model, a policy graph for it, and the graph's vectors.
@@ -72,36 +72,39 @@ pub fn graph_of_run<S: Source>(
     }
 }
 
-/// The vectors of the graph whose text the source gives, with the fault of a run where there are none.
+/// The vectors of the graph whose text the source gives, each value rounded this way, with the fault of a run where there are none.
 pub fn vectors_of_run<S: Source>(
     alloc: Global,
+    rounding: Rounding,
     model: &Model,
     graph: &Graph,
     source: &mut S,
 ) -> Result<Vectors, RunFault>
     ensures accepted { IfOk result (λ v. (text : List ℕ) × IsText S.reads source.old text source.new
-        × IsVectorsText graph.now (states_of (meaning model.now)) text v) }
+        × IsRoundedVectorsText rounding graph.now (states_of (meaning model.now)) text v) }
     ensures refused { (fault : _) → IsErrOf result (RunFault.Text (Fault.Vectors fault))
         → (first second : List ℕ) → HasGraph first second (meaning model.now) graph.now
-        → EachTextThatFits S.reads source.old source.new (AreVectorsRefused first second fault) }
+        → EachTextThatFits S.reads source.old source.new (AreRoundedVectorsRefused rounding first second fault) }
     ensures read { IsNamedRightly (IsErrOf result RunFault.ReadVectors) (S.failures source.old) (S.failures source.new) }
     ensures of_vectors { IfErr result IsVectorsReadFault }
 {
-    match vectors_from(alloc, model, graph, source) {
+    match vectors_from(alloc, rounding, model, graph, source) {
         Ok(vectors) => Ok(vectors),
         Err(SourceFault::Device) => Err(RunFault::ReadVectors),
         Err(SourceFault::Refused(fault)) => Err(RunFault::Text(Fault::Vectors(fault))),
     }
 }
 
-/// What the texts of three sources denote. Each source is read to its end before the next.
+/// What the texts of three sources denote, with each value of a vector rounded this way. Each source is read to its end before the
+/// next.
 pub fn read_controller<M: Source, G: Source, V: Source>(
     alloc: Global,
+    rounding: Rounding,
     model: &mut M,
     graph: &mut G,
     vectors: &mut V,
 ) -> Result<Controller, RunFault>
-    ensures accepted { IfOk result (λ c. AreDenoted (text_of M.reads model.old model.new) (text_of G.reads graph.old graph.new)
+    ensures accepted { IfOk result (λ c. AreDenoted rounding (text_of M.reads model.old model.new) (text_of G.reads graph.old graph.new)
         (text_of V.reads vectors.old vectors.new) (meaning c.model) c.graph c.vectors) }
     ensures model_refused { (fault : _) → IsErrOf result (RunFault.Text (Fault.Model fault))
         → EachTextThatFits M.reads model.old model.new (λ text. IsModelFault text fault) }
@@ -110,7 +113,7 @@ pub fn read_controller<M: Source, G: Source, V: Source>(
         × EachTextThatFits G.reads graph.old graph.new (IsGraphRefused first fault) }
     ensures vectors_refused { (fault : _) → IsErrOf result (RunFault.Text (Fault.Vectors fault))
         → (first second : List ℕ) × IsText M.reads model.old first model.new × IsText G.reads graph.old second graph.new
-        × EachTextThatFits V.reads vectors.old vectors.new (AreVectorsRefused first second fault) }
+        × EachTextThatFits V.reads vectors.old vectors.new (AreRoundedVectorsRefused rounding first second fault) }
     ensures model_read { IsNamedRightly (IsErrOf result RunFault.ReadModel) (M.failures model.old) (M.failures model.new) }
     ensures graph_read { IsNamedRightly (IsErrOf result RunFault.ReadGraph) (G.failures graph.old) (G.failures graph.new) }
     ensures vectors_read { IsNamedRightly (IsErrOf result RunFault.ReadVectors) (V.failures vectors.old) (V.failures vectors.new) }
@@ -119,7 +122,7 @@ pub fn read_controller<M: Source, G: Source, V: Source>(
 {
     let model = model_of_run(alloc, model)?;
     let graph = graph_of_run(alloc, &model, graph)?;
-    let vectors = vectors_of_run(alloc, &model, &graph, vectors)?;
+    let vectors = vectors_of_run(alloc, rounding, &model, &graph, vectors)?;
     Ok(Controller {
         model,
         graph,

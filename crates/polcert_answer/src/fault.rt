@@ -1,5 +1,5 @@
 //! Why a text, or a run, is refused.
-use polcert_check::LowerFault;
+use polcert_check::{LowerFault, RaiseFault};
 use polcert_model::ModelFault;
 use polcert_policy::{GraphFault, VectorFault};
 use thiserror::Error;
@@ -72,4 +72,7 @@ pub enum RunFault {
     /// The vectors can't be lowered to pass, or there is no memory for the lowered ones.
     #[error("lower: {0}")]
     Lower(LowerFault),
+    /// The vectors can't be raised to pass from above, or there is no memory for the raised ones.
+    #[error("raise: {0}")]
+    Raise(RaiseFault),
 }

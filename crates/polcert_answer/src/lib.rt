@@ -1,19 +1,25 @@
 //! The answer to three texts, and the runs that write it: a model, a policy graph and the graph's vectors go in, and a
-//! verdict, a full form or lowered vectors come out.
+//! verdict, a full form, or lowered or raised vectors come out.
 #![tactic(auto)]
 
 mod answer;
 mod controller;
 mod fault;
+mod forms;
 mod laws;
 mod lines;
 mod runs;
+mod runs_above;
 mod sources;
 mod status;
 mod texts;
 
-pub use answer::check_texts;
+pub use answer::{check_texts, check_texts_above};
 pub use fault::{Fault, RunFault};
-pub use laws::{one_answer, yes_is_a_certificate};
+pub use laws::{
+    bounds_of_texts_are_an_interval, one_answer, one_answer_above, yes_above_is_a_certificate,
+    yes_is_a_certificate,
+};
 pub use runs::{run_check, run_check_watched, run_lower, run_lower_watched, run_model, run_print};
-pub use status::{status_of, status_of_verdict};
+pub use runs_above::{run_check_above, run_check_above_watched, run_raise, run_raise_watched};
+pub use status::{status_of, status_of_above_verdict, status_of_verdict};

@@ -5,10 +5,11 @@ ghost use Rattle.polcert_model.specs.Contents.{meaning};
 ghost use Rattle.polcert_cells.specs.Tables.{table_of};
 ghost use Rattle.polcert_check.specs.Horizon.{Fits, controller_of};
 ghost use Rattle.polcert_check.specs.Verdict.{IsVerdict, NamesSmallAmount};
-ghost use Rattle.polcert_answer.specs.Lines.{counted, gains, kind_word, observations_text, counts_text, values_text, summary_line, pair_text, yes_line, short_line, lack_line, IsVerdictLine, WritesLine};
+ghost use Rattle.polcert_check.specs.Above.{IsAboveVerdict, NamesSmallAmountAbove};
+ghost use Rattle.polcert_answer.specs.Lines.{counted, gains, kind_word, observations_text, counts_text, values_text, summary_line, pair_text, amount_line, yes_line, yes_above_line, lack_line, IsVerdictLine, IsAboveVerdictLine, WritesLine};
 
 use itoa::Buffer;
-use polcert_check::{Verdict, millionths_short, start_worth};
+use polcert_check::{AboveVerdict, Verdict, millionths_short, start_most, start_worth};
 use polcert_model::Model;
 use polcert_policy::{Graph, Vectors};
 use polcert_text::{BufferedSink, Sink, SinkFailed, write_all, write_scaled};
@@ -121,8 +122,61 @@ fn write_verdict_line<W: Sink>(
             node,
             state,
             amount,
-        } => write_short(node, state, millionths_short(model, amount), sink),
+        } => {
+            let by = millionths_short(model, amount);
+            write_amount(node, state, b", short by ", by, sink)
+        }
         Verdict::NoSuccessor {
+            node,
+            state,
+            observation,
+        } => write_lack(node, state, observation, sink),
+    }
+}
+
+/// Writes the line of a verdict from above on the model, the graph and its vectors, through a buffer.
+pub fn write_above_verdict<W: Sink>(
+    model: &Model,
+    graph: &Graph,
+    vectors: &Vectors,
+    verdict: AboveVerdict,
+    sink: &mut W,
+) -> Result<(), SinkFailed>
+    requires fits { Fits (table_of (meaning model.now)) graph.now vectors.now }
+    requires verdict { IsAboveVerdict (controller_of (table_of (meaning model.now)) graph.now vectors.now) verdict }
+    requires small { NamesSmallAmountAbove (controller_of (table_of (meaning model.now)) graph.now vectors.now) verdict }
+    ensures { WritesLine W.writes W.failures sink.old (IsAboveVerdictLine (meaning model.now)
+        (controller_of (table_of (meaning model.now)) graph.now vectors.now) vectors.now verdict) result sink.new }
+{
+    let mut buffered = BufferedSink::new(sink);
+    write_above_verdict_line(model, graph, vectors, verdict, &mut buffered)?;
+    buffered.flush()
+}
+
+fn write_above_verdict_line<W: Sink>(
+    model: &Model,
+    graph: &Graph,
+    vectors: &Vectors,
+    verdict: AboveVerdict,
+    sink: &mut W,
+) -> Result<(), SinkFailed>
+    requires fits { Fits (table_of (meaning model.now)) graph.now vectors.now }
+    requires verdict { IsAboveVerdict (controller_of (table_of (meaning model.now)) graph.now vectors.now) verdict }
+    requires small { NamesSmallAmountAbove (controller_of (table_of (meaning model.now)) graph.now vectors.now) verdict }
+    ensures { WritesLine W.writes W.failures sink.old (IsAboveVerdictLine (meaning model.now)
+        (controller_of (table_of (meaning model.now)) graph.now vectors.now) vectors.now verdict) result sink.new }
+{
+    match verdict {
+        AboveVerdict::Yes => write_yes_above(start_most(model, graph, vectors), sink),
+        AboveVerdict::Long {
+            node,
+            state,
+            amount,
+        } => {
+            let by = millionths_short(model, amount);
+            write_amount(node, state, b", long by ", by, sink)
+        }
+        AboveVerdict::NoSuccessor {
             node,
             state,
             observation,
@@ -140,11 +194,26 @@ fn write_yes<W: Sink>(node: usize, worth: i64, sink: &mut W) -> Result<(), SinkF
     write_all(sink, b"\n")
 }
 
-/// Writes a no: the pair of a node and a state, and by how much it is short, in millionths.
-fn write_short<W: Sink>(node: usize, state: usize, by: i64, sink: &mut W) -> Result<(), SinkFailed>
-    ensures { WritesText W.writes W.failures sink.old (short_line node state by) result sink.new }
+/// Writes a yes from above: what no node is worth more than, in millionths.
+fn write_yes_above<W: Sink>(most: i64, sink: &mut W) -> Result<(), SinkFailed>
+    ensures { WritesText W.writes W.failures sink.old (yes_above_line most) result sink.new }
 {
-    write_pair(node, state, b", short by ", sink)?;
+    write_all(sink, b"yes: every start node, at most ")?;
+    write_scaled(most, sink)?;
+    write_all(sink, b"\n")
+}
+
+/// Writes a no: the pair of a node and a state, these words, and by how much it fails, in millionths.
+fn write_amount<W: Sink>(
+    node: usize,
+    state: usize,
+    words: &[u8],
+    by: i64,
+    sink: &mut W,
+) -> Result<(), SinkFailed>
+    ensures { WritesText W.writes W.failures sink.old (amount_line node state words.now by) result sink.new }
+{
+    write_pair(node, state, words, sink)?;
     write_scaled(by, sink)?;
     write_all(sink, b"\n")
 }

@@ -1,29 +1,26 @@
 //! Runs from sources to sinks.
 ghost use Rattle.std.specs.Prelude.{◌≡◌, ◌≢◌, ℕ, ℤ, List, Ok, OnOk, IfOk, IfErr, IsErrOf};
 ghost use Rattle.polcert_text.specs.Device.{HasFailed};
-ghost use Rattle.polcert_text.specs.Sink.{Takes, TakesFront, WritesText};
+ghost use Rattle.polcert_text.specs.Sink.{Takes, TakesFront};
 ghost use Rattle.polcert_text.specs.Source.{IsText, EachTextThatFits};
 ghost use Rattle.polcert_cells.specs.Tables.{table_of};
 ghost use Rattle.polcert_model.specs.Contents.{meaning};
-ghost use Rattle.polcert_model.specs.FullForm.{full_form};
 ghost use Rattle.polcert_model.specs.Refusals.{SaysOfText};
-ghost use Rattle.polcert_policy.specs.FullForm.{vectors_text};
-ghost use Rattle.polcert_policy.specs.Graphs.{nodes};
-ghost use Rattle.polcert_policy.specs.VectorText.{IsVectorsText};
 ghost use Rattle.polcert_check.specs.declared.verdict.Verdict.{Verdict};
 ghost use Rattle.polcert_check.specs.declared.verdict.Verdict.TheVariants.{Yes};
 ghost use Rattle.polcert_check.specs.Horizon.{Fits, controller_of};
+ghost use Rattle.polcert_check.specs.Verdict.{IsVerdict};
+ghost use Rattle.polcert_answer.specs.Lines.{IsVerdictLine};
 ghost use Rattle.polcert_answer.specs.Answer.{IsRefused, IsModelFault, IsGraphRefused, AreVectorsRefused};
 ghost use Rattle.polcert_answer.specs.Reading.{IsAnswerLine, AreLowered, IsNoReadFault};
 ghost use Rattle.polcert_answer.specs.Run.{SumsUp, BeginsToSumUp, Prints, BeginsToPrint, IsModelRunFault, IsNamedRightly, ReadsInOrder, text_of, HasVerdict, HavePromise, HasStartPromise, HasLowered, IsWhy, IsNotLowerable};
 
 use crate::controller::{Controller, model_of_run, read_controller};
 use crate::fault::{Fault, RunFault};
+use crate::forms::{write_full_form, write_full_vectors};
 use crate::lines::{write_summary, write_verdict};
 use polcert_check::{Unwatched, Verdict, Watch, check_watched, lowered_watched};
-use polcert_model::{Model, write_model};
-use polcert_policy::{Graph, Vectors, write_vectors};
-use polcert_text::{BufferedSink, Sink, SinkFailed, Source};
+use polcert_text::{Rounding, Sink, Source};
 use std::alloc::Global;
 
 /// Reads a model from the source, and writes the line that sums it up, and nothing else. Nothing is written before the
@@ -108,15 +105,6 @@ pub fn run_print<S: Source, W: Sink>(
     }
 }
 
-/// Writes a model in full form, through a buffer.
-fn write_full_form<W: Sink>(model: &Model, sink: &mut W) -> Result<(), SinkFailed>
-    ensures { WritesText W.writes W.failures sink.old (full_form (meaning model.now)) result sink.new }
-{
-    let mut buffered = BufferedSink::new(sink);
-    write_model(model, &mut buffered)?;
-    buffered.flush()
-}
-
 /// Reads a model, a policy graph and the graph's vectors from three sources, checks them, writes the line of the verdict,
 /// and nothing else, and answers the verdict. Nothing is written before all three texts are accepted and the verdict is
 /// known.
@@ -175,9 +163,10 @@ pub fn run_check<M: Source, G: Source, V: Source, W: Sink>(
     // Each source is read to its end before the next.
     ensures in_order { IfErr result (λ fault. ReadsInOrder fault graph.old graph.new vectors.old vectors.new) }
 
-    // With any other fault nothing was written; and lowering is no part of a check.
+    // With any other fault nothing was written; and lowering and raising are no part of a check.
     ensures untouched { (fault : RunFault) → IsErrOf result fault → fault ≢ RunFault.Write → sink.new ≡ sink.old }
     ensures not_lowering { (fault : _) → IsErrOf result (RunFault.Lower fault) → ⊥ }
+    ensures not_raising { (fault : _) → IsErrOf result (RunFault.Raise fault) → ⊥ }
 {
     run_check_watched(alloc, model, graph, vectors, sink, &mut Unwatched)
 }
@@ -221,8 +210,9 @@ pub fn run_check_watched<M: Source, G: Source, V: Source, W: Sink, O: Watch>(
     ensures in_order { IfErr result (λ fault. ReadsInOrder fault graph.old graph.new vectors.old vectors.new) }
     ensures untouched { (fault : RunFault) → IsErrOf result fault → fault ≢ RunFault.Write → sink.new ≡ sink.old }
     ensures not_lowering { (fault : _) → IsErrOf result (RunFault.Lower fault) → ⊥ }
+    ensures not_raising { (fault : _) → IsErrOf result (RunFault.Raise fault) → ⊥ }
 {
-    let read = read_controller(alloc, model, graph, vectors)?;
+    let read = read_controller(alloc, Rounding::Down, model, graph, vectors)?;
     write_answer(&read, sink, watch)
 }
 
@@ -234,10 +224,10 @@ fn write_answer<W: Sink, O: Watch>(
 ) -> Result<Verdict, RunFault>
     requires fits { Fits (table_of (meaning read.now.model)) read.now.graph read.now.vectors }
     ensures answered { IfOk result (λ verdict. (line : List ℕ)
-        × IsAnswerLine (meaning read.now.model) read.now.graph read.now.vectors verdict line
+        × IsAnswerLine IsVerdict IsVerdictLine (meaning read.now.model) read.now.graph read.now.vectors verdict line
         × Takes W.writes sink.old line sink.new) }
     ensures begun { IsErrOf result RunFault.Write → (verdict : Verdict) × (line : List ℕ)
-        × IsAnswerLine (meaning read.now.model) read.now.graph read.now.vectors verdict line
+        × IsAnswerLine IsVerdict IsVerdictLine (meaning read.now.model) read.now.graph read.now.vectors verdict line
         × TakesFront W.writes sink.old line sink.new }
     ensures write { IsNamedRightly (IsErrOf result RunFault.Write) (W.failures sink.old) (W.failures sink.new) }
     ensures of_write { IfErr result (λ fault. fault ≡ RunFault.Write) }
@@ -303,14 +293,14 @@ pub fn run_lower<M: Source, G: Source, V: Source, W: Sink>(
     // Each source is read to its end before the next.
     ensures in_order { IfErr result (λ fault. ReadsInOrder fault graph.old graph.new vectors.old vectors.new) }
 
-    // With any other fault nothing was written.
+    // With any other fault nothing was written; and raising is no part of a lowering.
     ensures untouched { (fault : RunFault) → IsErrOf result fault → fault ≢ RunFault.Write → sink.new ≡ sink.old }
+    ensures not_raising { (fault : _) → IsErrOf result (RunFault.Raise fault) → ⊥ }
 {
     run_lower_watched(alloc, model, graph, vectors, sink, &mut Unwatched)
 }
 
-/// The same, and `watch` is told how far it is: over all nodes, whether one lacks a successor, and then again how short each is. Every
-/// clause is that of `run_lower`.
+/// The same, and `watch` is told how far it is: of each node once. Every clause is that of `run_lower`.
 pub fn run_lower_watched<M: Source, G: Source, V: Source, W: Sink, O: Watch>(
     alloc: Global,
     model: &mut M,
@@ -344,8 +334,9 @@ pub fn run_lower_watched<M: Source, G: Source, V: Source, W: Sink, O: Watch>(
         × TakesFront W.writes sink.old text sink.new }
     ensures in_order { IfErr result (λ fault. ReadsInOrder fault graph.old graph.new vectors.old vectors.new) }
     ensures untouched { (fault : RunFault) → IsErrOf result fault → fault ≢ RunFault.Write → sink.new ≡ sink.old }
+    ensures not_raising { (fault : _) → IsErrOf result (RunFault.Raise fault) → ⊥ }
 {
-    let given = read_controller(alloc, model, graph, vectors)?;
+    let given = read_controller(alloc, Rounding::Down, model, graph, vectors)?;
     write_lower_vectors(alloc, &given, sink, watch)
 }
 
@@ -368,25 +359,15 @@ fn write_lower_vectors<W: Sink, O: Watch>(
     ensures write { IsNamedRightly (IsErrOf result RunFault.Write) (W.failures sink.old) (W.failures sink.new) }
     ensures untouched { (fault : RunFault) → IsErrOf result fault → fault ≢ RunFault.Write → sink.new ≡ sink.old }
     ensures no_read { IfErr result IsNoReadFault }
+    ensures not_raising { (fault : _) → IsErrOf result (RunFault.Raise fault) → ⊥ }
 {
     let found = lowered_watched(alloc, &given.model, &given.graph, &given.vectors, watch);
     let (by, lower) = match found {
         Ok(found) => found,
         Err(fault) => return Err(RunFault::Lower(fault)),
     };
-    match write_lowered(&given.graph, &lower, sink) {
+    match write_full_vectors(&given.graph, &lower, sink) {
         Ok(()) => Ok(by),
         Err(_) => Err(RunFault::Write),
     }
-}
-
-/// Writes the vectors of a graph in full form, through a buffer.
-fn write_lowered<W: Sink>(graph: &Graph, vectors: &Vectors, sink: &mut W) -> Result<(), SinkFailed>
-    requires { nodes graph.now ≡ vectors.now.nodes }
-    ensures written { WritesText W.writes W.failures sink.old (vectors_text graph.now vectors.now) result sink.new }
-    ensures reads_back { IsVectorsText graph.now vectors.now.states (vectors_text graph.now vectors.now) vectors.now }
-{
-    let mut buffered = BufferedSink::new(sink);
-    write_vectors(graph, vectors, &mut buffered)?;
-    buffered.flush()
 }

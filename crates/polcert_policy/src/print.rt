@@ -2,13 +2,13 @@
 ghost use Rattle.std.specs.Prelude.{◌≡◌, ◌<◌};
 ghost use Rattle.polcert_text.specs.Sink.{WritesText};
 ghost use Rattle.polcert_policy.specs.Graphs.{nodes};
-ghost use Rattle.polcert_policy.specs.VectorText.{IsVectorsText};
+ghost use Rattle.polcert_policy.specs.VectorText.{IsVectorsText, IsRoundedVectorsText};
 ghost use Rattle.polcert_policy.specs.FullForm.{behind_value, value_text, values_text, action_text, vector_text, vectors_text};
 
 use crate::graph::Graph;
 use crate::vectors::Vectors;
 use itoa::Buffer;
-use polcert_text::{Sink, SinkFailed, write_all, write_scaled};
+use polcert_text::{Rounding, Sink, SinkFailed, write_all, write_scaled};
 
 /// Writes the vectors of a graph in full form: for each node its action on a line, its values on a line with one blank
 /// between, and an empty line. Values are written as decimal numbers without trailing zeros.
@@ -26,6 +26,10 @@ pub fn write_vectors<W: Sink>(
 
     // Read with the same graph and number of states, the text is accepted and gives the same vectors.
     ensures reads_back { IsVectorsText graph.now vectors.now.states (vectors_text graph.now vectors.now) vectors.now }
+
+    // So it is whichever way values are rounded.
+    ensures either_way { (rounding : Rounding) →
+        IsRoundedVectorsText rounding graph.now vectors.now.states (vectors_text graph.now vectors.now) vectors.now }
 {
     let nodes = graph.nodes();
     let vector_count = vectors.nodes();

@@ -210,7 +210,7 @@ pub fn read_vectors(
         (IsNoVectorsText graph.now states text.now) }
     ensures refused { IfErr result (IsVectorsRefusal graph.now states text.now) }
 {
-    read_rounded(alloc, Rounding::Down, text, graph, states)
+    read_rounded_vectors(alloc, Rounding::Down, text, graph, states)
 }
 
 /// Reads the vectors of a graph as `read_vectors` does, but each value is rounded up to whole millionths: bounds from above.
@@ -231,11 +231,15 @@ pub fn read_vectors_up(
         (IsNoRoundedVectorsText Rounding.Up graph.now states text.now) }
     ensures refused { IfErr result (IsRoundedVectorsRefusal Rounding.Up graph.now states text.now) }
 {
-    read_rounded(alloc, Rounding::Up, text, graph, states)
+    read_rounded_vectors(alloc, Rounding::Up, text, graph, states)
 }
 
-/// Reads the vectors of a graph, and rounds each value this way.
-fn read_rounded(
+/// Reads the vectors of a graph as `read_vectors` does, but each value is rounded this way to whole millionths.
+///
+/// # Errors
+///
+/// Those of `read_vectors`.
+pub fn read_rounded_vectors(
     alloc: Global,
     rounding: Rounding,
     text: &[u8],
@@ -286,7 +290,7 @@ pub fn read_vectors_from<S: Source>(
     ensures device_last { IsErrOf result SourceFault.Device → EndsInFailure S.reads source.old source.new }
     ensures same_count { (result ≢ Err SourceFault.Device) → S.failures source.new ≡ S.failures source.old }
 {
-    read_rounded_from(alloc, Rounding::Down, source, graph, states)
+    read_rounded_vectors_from(alloc, Rounding::Down, source, graph, states)
 }
 
 /// Reads the vectors of a graph whose text the source gives, as `read_vectors_from` does, but each value is rounded up to whole
@@ -313,11 +317,16 @@ pub fn read_vectors_up_from<S: Source>(
     ensures device_last { IsErrOf result SourceFault.Device → EndsInFailure S.reads source.old source.new }
     ensures same_count { (result ≢ Err SourceFault.Device) → S.failures source.new ≡ S.failures source.old }
 {
-    read_rounded_from(alloc, Rounding::Up, source, graph, states)
+    read_rounded_vectors_from(alloc, Rounding::Up, source, graph, states)
 }
 
-/// Reads the vectors of a graph whose text the source gives, and rounds each value this way.
-fn read_rounded_from<S: Source>(
+/// Reads the vectors of a graph whose text the source gives, as `read_vectors_from` does, but each value is rounded this way to whole
+/// millionths.
+///
+/// # Errors
+///
+/// Those of `read_vectors_from`.
+pub fn read_rounded_vectors_from<S: Source>(
     alloc: Global,
     rounding: Rounding,
     source: &mut S,

@@ -1,33 +1,21 @@
-use Rattle.std.proofs.Common.{◌≡◌, ℕ, List, Result, Ok, Err, IsErr, refl, subst}
-use Rattle.std.specs.Result.{IsErrAnd}
+use Rattle.std.proofs.Common.{◌≡◌, ℕ, List, refl, subst}
+use Rattle.polcert_text.specs.declared.number.Rounding.TheVariants.{Down}
 use Rattle.polcert_model.specs.Contents.{meaning}
-use Rattle.polcert_format.specs.declared.fault.ModelFault.{ModelFault}
 use Rattle.polcert_check.specs.declared.verdict.Verdict.{Verdict}
 use Rattle.polcert_check.specs.declared.verdict.Verdict.TheVariants.{Yes}
 use Rattle.polcert_check.specs.Horizon.{MeetsHorizon}
-use Rattle.polcert_answer.specs.declared.fault.Fault.{Fault}
-use Rattle.polcert_answer.specs.declared.fault.Fault.TheVariants.{Model, Vectors}
-use Rattle.polcert_policy.specs.declared.fault.VectorFault.{VectorFault}
+use Rattle.polcert_check.specs.Verdict.{IsVerdict}
 use Rattle.polcert_answer.specs.Headline.{Certificate, controller}
-use Rattle.polcert_answer.specs.Answer.{HasGraph, IsModelFault, AreVectorsRefused, IsAnswer}
-use Rattle.polcert_answer.proofs.Answering.{same_ok}
+use Rattle.polcert_answer.specs.Answer.{HasGraph}
+use Rattle.polcert_answer.proofs.OfSources.{same_ok}
+use Rattle.polcert_answer.proofs.OfTexts.{refused_first, refused_last}
 use Rattle.polcert_answer.proofs.Denoted.{certificate_of, verdict_of_each, horizon_of_each, certified, rewards_certified}
 use Rattle.polcert_answer.proofs.Refusing.{model_fault}
 use Rattle.polcert_answer.proofs.answer.check_texts.Goals as goal
 
-refused_first : (model graph vectors : List ℕ) (r : Result Verdict Fault) (given : ModelFault) → IsErr r → IsErrAnd r (λ fault. fault ≡ Model given)
-    → IsModelFault model given → IsAnswer model graph vectors r
-refused_first model graph vectors (Ok verdict) given is_err is fault = cc
-refused_first model graph vectors (Err f) given is_err is fault = rw is fault
-
-refused_last : (model graph vectors : List ℕ) (r : Result Verdict Fault) (given : VectorFault) → IsErr r → IsErrAnd r (λ fault. fault ≡ Vectors given)
-    → AreVectorsRefused model graph given vectors → IsAnswer model graph vectors r
-refused_last model graph vectors (Ok verdict) given is_err is fault = cc
-refused_last model graph vectors (Err f) given is_err is fault = rw is fault
-
 pub returns-in_err-model-clause-answer : goal.returns-in_err-model-clause-answer
 returns-in_err-model-clause-answer c =
-    refused_first _ _ _ c.from_residual.result _ c.from_residual.ensures.0 c.from_residual.ensures.1
+    refused_first Down IsVerdict _ _ _ c.from_residual.result _ c.from_residual.ensures.0 c.from_residual.ensures.1
     (model_fault _ _ c.in_err-model.ensures.refused c.in_err-model.ensures.placed)
 
 pub returns-clause-answer : goal.returns-clause-answer
@@ -66,9 +54,5 @@ returns-in_err-vectors-clause-answer c =
     let m = meaning c.in_ok-model.model in
     let g = c.in_ok-graph.graph in
     let has : HasGraph c.args.model.now c.args.graph.now m g = record { is_model = c.in_ok-model.ensures.accepted; is_graph = c.in_ok-graph.ensures.accepted } in
-    refused_last _ _ _ c.from_residual-in_err-vectors.result _ c.from_residual-in_err-vectors.ensures.0 c.from_residual-in_err-vectors.ensures.1
+    refused_last Down IsVerdict _ _ _ c.from_residual-in_err-vectors.result _ c.from_residual-in_err-vectors.ensures.0 c.from_residual-in_err-vectors.ensures.1
     (c.in_err-vectors.ensures.refused c.args.model.now c.args.graph.now has)
-
--- x
-
--- y

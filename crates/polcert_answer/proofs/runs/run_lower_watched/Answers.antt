@@ -1,7 +1,7 @@
 use Rattle.std.proofs.Common.{refl}
 use Rattle.polcert_model.specs.Contents.{meaning}
 use Rattle.polcert_answer.specs.declared.fault.Fault.TheVariants.{Model, Graph, Vectors}
-use Rattle.polcert_answer.specs.declared.fault.RunFault.TheVariants.{Text, ReadModel, ReadGraph, ReadVectors, Write, Lower}
+use Rattle.polcert_answer.specs.declared.fault.RunFault.TheVariants.{Text, ReadModel, ReadGraph, ReadVectors, Write, Lower, Raise}
 use Rattle.polcert_answer.proofs.Denoted.{fits_of}
 use Rattle.polcert_answer.proofs.Answering.{has_lowered, lowered_of, not_lowerable}
 use Rattle.polcert_answer.proofs.Passing.{is_err, no_ok, of_fault, of_read, named_again, not_else, not_read, named_behind, written_in_order}
@@ -96,3 +96,9 @@ returns-clause-in_order g c = written_in_order _ c.write_lower_vectors.ensures.n
 
 pub returns-clause-untouched : goal.returns-clause-untouched
 returns-clause-untouched g c = c.write_lower_vectors.ensures.untouched
+
+pub returns-in_err-given-clause-not_raising : goal.returns-in_err-given-clause-not_raising
+returns-in_err-given-clause-not_raising g c = λ fault same. not_else _ _ (is_err _ _ c.from_residual.ensures.1) c.in_err-given.ensures.of_reading (Raise fault) (λ of. of) same
+
+pub returns-clause-not_raising : goal.returns-clause-not_raising
+returns-clause-not_raising g c = c.write_lower_vectors.ensures.not_raising

@@ -1,4 +1,5 @@
 use Rattle.std.proofs.Common.{◌≡◌, rules, to_z, of_z, w64, to_z-of_z, FitsSigned, refl}
+use Rattle.polcert_text.specs.declared.number.Rounding.TheVariants.{Down}
 use Rattle.polcert_model.specs.Contents.{meaning}
 use Rattle.polcert_answer.proofs.Answering.{same_lower, are_lowered, why_of}
 use Rattle.polcert_answer.proofs.runs.write_lower_vectors.Goals as goal
@@ -8,16 +9,16 @@ returns-in-Err-clause-not_lowered g c = λ fault same.
     let is_fault : c.in-Err.fault ≡ fault = same_lower _ _ _ refl same in
     why_of _ _ fault (rw is_fault at c.in-Err.ensures.refused)
 
-pub returns-in-Ok-write_lowered-clause-lowered : goal.returns-in-Ok-write_lowered-clause-lowered
-returns-in-Ok-write_lowered-clause-lowered g c =
+pub returns-in-Ok-write_full_vectors-clause-lowered : goal.returns-in-Ok-write_full_vectors-clause-lowered
+returns-in-Ok-write_full_vectors-clause-lowered g c =
     let fits : FitsSigned w64 c.in-Ok.found.0 = search rules in
     let back : to_z w64 (of_z w64 c.in-Ok.found.0) ≡ c.in-Ok.found.0 = to_z-of_z fits in
     let are = are_lowered (meaning c.args.given.now.model) c.args.given.now.graph c.args.given.now.vectors c.in-Ok.found.0 c.in-Ok.found.1
-    c.in-Ok.ensures.least c.in-Ok.ensures.shifted c.in-Ok.ensures.passes c.in-Ok.ensures.fits_still.states c.in-Ok-write_lowered.ensures.reads_back in
-    (_, rw back are, c.in-Ok-write_lowered.ensures.written.ok)
+    c.in-Ok.ensures.least c.in-Ok.ensures.shifted c.in-Ok.ensures.passes c.in-Ok.ensures.fits_still.states (c.in-Ok-write_full_vectors.ensures.reads_back Down) in
+    (_, rw back are, c.in-Ok-write_full_vectors.ensures.written.ok)
 
 pub returns-clause-begun : goal.returns-clause-begun
 returns-clause-begun g c = λ failed.
     let are = are_lowered (meaning c.args.given.now.model) c.args.given.now.graph c.args.given.now.vectors c.in-Ok.found.0 c.in-Ok.found.1
-    c.in-Ok.ensures.least c.in-Ok.ensures.shifted c.in-Ok.ensures.passes c.in-Ok.ensures.fits_still.states c.write_lowered.ensures.reads_back in
-    (c.in-Ok.found.0, _, are, c.in-Err-write_lowered.ensures.written.err)
+    c.in-Ok.ensures.least c.in-Ok.ensures.shifted c.in-Ok.ensures.passes c.in-Ok.ensures.fits_still.states (c.write_full_vectors.ensures.reads_back Down) in
+    (c.in-Ok.found.0, _, are, c.in-Err-write_full_vectors.ensures.written.err)

@@ -32,3 +32,11 @@ returns-clause-reads_back g c =
 pub returns-in_err-write_vector-clause-reads_back : goal.returns-in_err-write_vector-clause-reads_back
 returns-in_err-write_vector-clause-reads_back g c =
     reads_back c.args.graph.now c.args.vectors.now c.nodes-nodes.ensures.proper c.nodes-vector_count.ensures.proper (sym c.requires)
+
+pub returns-clause-either_way : goal.returns-clause-either_way
+returns-clause-either_way g c = λ rounding.
+    reads_back c.args.graph.now c.args.vectors.now c.nodes-nodes.ensures.proper c.nodes-vector_count.ensures.proper (sym c.requires)
+
+pub returns-in_err-write_vector-clause-either_way : goal.returns-in_err-write_vector-clause-either_way
+returns-in_err-write_vector-clause-either_way g c = λ rounding.
+    reads_back c.args.graph.now c.args.vectors.now c.nodes-nodes.ensures.proper c.nodes-vector_count.ensures.proper (sym c.requires)

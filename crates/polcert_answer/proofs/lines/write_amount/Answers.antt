@@ -3,12 +3,12 @@ use Rattle.polcert_text.specs.Millionths.{scaled_text}
 use Rattle.polcert_text.proofs.Taking.{wrote_front}
 use Rattle.polcert_answer.specs.Lines.{pair_text}
 use Rattle.polcert_text.proofs.Written.{wrote, one_more, fails_at, fails_before, ends_with}
-use Rattle.polcert_answer.proofs.lines.write_short.Goals as goal
+use Rattle.polcert_answer.proofs.lines.write_amount.Goals as goal
 
 pub returns-in_err-write_pair : goal.returns-in_err-write_pair
 returns-in_err-write_pair g c =
     let e = c.from_residual.ensures.0 in
-    let head = pair_text c.args.node c.args.state (codes ", short by ") in
+    let head = pair_text c.args.node c.args.state c.args.words.now in
     let by = scaled_text c.args.by in
     fails_before (head ++ by) (codes "\n") _ e (fails_before head by _ e
     (wrote_front head _ e c.in_err-write_pair.ensures.err c.in_err-write_pair.ensures.count))
@@ -18,7 +18,7 @@ returns-in_err-write_scaled g c =
     let fits : FitsSigned w64 c.args.by = search rules in
     let back : to_z w64 (of_z w64 c.args.by) ≡ c.args.by = to_z-of_z fits in
     let e = c.from_residual-in_err-write_scaled.ensures.0 in
-    let head = pair_text c.args.node c.args.state (codes ", short by ") in
+    let head = pair_text c.args.node c.args.state c.args.words.now in
     let by = scaled_text c.args.by in
     fails_before (head ++ by) (codes "\n") _ e
     (fails_at head by _ e (wrote c.in_ok-write_pair.ensures.ok c.in_ok-write_pair.ensures.same_count)
@@ -28,7 +28,7 @@ pub returns : goal.returns
 returns g c =
     let fits : FitsSigned w64 c.args.by = search rules in
     let back : to_z w64 (of_z w64 c.args.by) ≡ c.args.by = to_z-of_z fits in
-    let head = pair_text c.args.node c.args.state (codes ", short by ") in
+    let head = pair_text c.args.node c.args.state c.args.words.now in
     let by = scaled_text c.args.by in
     ends_with (head ++ by) (codes "\n") _
     (one_more head by (wrote c.in_ok-write_pair.ensures.ok c.in_ok-write_pair.ensures.same_count)

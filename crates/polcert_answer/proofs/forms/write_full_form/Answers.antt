@@ -5,7 +5,7 @@ use Rattle.polcert_text.proofs.Taking.{wrote_front}
 use Rattle.polcert_text.proofs.Buffering.{flushed, same_name, stopped, stopped_count, stopped_name, left_behind}
 use Rattle.polcert_model.specs.Contents.{meaning}
 use Rattle.polcert_model.specs.FullForm.{full_form}
-use Rattle.polcert_answer.proofs.runs.write_full_form.Goals as goal
+use Rattle.polcert_answer.proofs.forms.write_full_form.Goals as goal
 
 pub returns-in_err-write_model : goal.returns-in_err-write_model
 returns-in_err-write_model g c =

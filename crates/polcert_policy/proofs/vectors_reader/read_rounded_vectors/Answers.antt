@@ -9,7 +9,7 @@ use Rattle.polcert_policy.specs.declared.fault.VectorFault.TheVariants as faults
 use Rattle.polcert_policy.proofs.ReadLaws.{none_from_not}
 use Rattle.polcert_policy.proofs.VectorReadLaws.{possible_seen}
 use Rattle.polcert_policy.proofs.VectorTextLaws.{part_refusal, no_vectors, end_accepted}
-use Rattle.polcert_policy.proofs.vectors_reader.read_rounded.Goals as goal
+use Rattle.polcert_policy.proofs.vectors_reader.read_rounded_vectors.Goals as goal
 
 pub loop-next-init : goal.loop-next-init
 loop-next-init c = record {

@@ -4,7 +4,7 @@ use Rattle.polcert_text.specs.Sink.{TakesFront}
 use Rattle.polcert_text.proofs.Taking.{wrote_front}
 use Rattle.polcert_text.proofs.Buffering.{flushed, same_name, stopped, stopped_count, stopped_name, left_behind}
 use Rattle.polcert_policy.specs.FullForm.{vectors_text}
-use Rattle.polcert_answer.proofs.runs.write_lowered.Goals as goal
+use Rattle.polcert_answer.proofs.forms.write_full_vectors.Goals as goal
 
 pub returns-in_err-write_vectors-clause-written : goal.returns-in_err-write_vectors-clause-written
 returns-in_err-write_vectors-clause-written g c =
@@ -26,7 +26,7 @@ returns-clause-written g c =
     left_behind whole (search rules)
 
 pub returns-in_err-write_vectors-clause-reads_back : goal.returns-in_err-write_vectors-clause-reads_back
-returns-in_err-write_vectors-clause-reads_back g c = c.in_err-write_vectors.ensures.reads_back
+returns-in_err-write_vectors-clause-reads_back g c = c.in_err-write_vectors.ensures.either_way
 
 pub returns-clause-reads_back : goal.returns-clause-reads_back
-returns-clause-reads_back g c = c.in_ok-write_vectors.ensures.reads_back
+returns-clause-reads_back g c = c.in_ok-write_vectors.ensures.either_way

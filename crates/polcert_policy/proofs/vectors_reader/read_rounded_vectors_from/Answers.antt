@@ -7,7 +7,7 @@ use Rattle.polcert_policy.specs.VectorText.{IsRefusedRoundedVectorsText}
 use Rattle.polcert_policy.specs.declared.fault.VectorFault.TheVariants as faults
 use Rattle.polcert_policy.proofs.VectorReadLaws.{possible_seen}
 use Rattle.polcert_policy.proofs.VectorStreams.{vectors_refused_at_token, vectors_refused_tokens, vectors_at_end, vectors_refused_at_end}
-use Rattle.polcert_policy.proofs.vectors_reader.read_rounded_from.Goals as goal
+use Rattle.polcert_policy.proofs.vectors_reader.read_rounded_vectors_from.Goals as goal
 
 pub loop-token-init : goal.loop-token-init
 loop-token-init g c = record {

@@ -1,0 +1,59 @@
+use Rattle.std.proofs.Common.{◌≡◌, ℕ, List, refl, subst}
+use Rattle.polcert_text.specs.declared.number.Rounding.TheVariants.{Up}
+use Rattle.polcert_model.specs.Contents.{meaning}
+use Rattle.polcert_check.specs.declared.above.AboveVerdict.{AboveVerdict}
+use Rattle.polcert_check.specs.declared.above.AboveVerdict.TheVariants.{Yes}
+use Rattle.polcert_check.specs.Above.{IsAboveVerdict, MeetsHorizonAbove}
+use Rattle.polcert_answer.specs.Headline.{controller}
+use Rattle.polcert_answer.specs.HeadlineAbove.{CertificateAbove}
+use Rattle.polcert_answer.specs.Answer.{HasGraph}
+use Rattle.polcert_answer.proofs.OfSources.{same_ok}
+use Rattle.polcert_answer.proofs.OfTexts.{refused_first, refused_last}
+use Rattle.polcert_answer.proofs.Denoted.{certificate_of}
+use Rattle.polcert_answer.proofs.DenotedAbove.{verdict_of_each, horizon_of_each, certified, rewards_certified}
+use Rattle.polcert_answer.proofs.Refusing.{model_fault}
+use Rattle.polcert_answer.proofs.answer.check_texts_above.Goals as goal
+
+pub returns-in_err-model-clause-answer : goal.returns-in_err-model-clause-answer
+returns-in_err-model-clause-answer c =
+    refused_first Up IsAboveVerdict _ _ _ c.from_residual.result _ c.from_residual.ensures.0 c.from_residual.ensures.1
+    (model_fault _ _ c.in_err-model.ensures.refused c.in_err-model.ensures.placed)
+
+pub returns-clause-answer : goal.returns-clause-answer
+returns-clause-answer c =
+    let m = meaning c.in_ok-model.model in
+    let g = c.in_ok-graph.graph in
+    let v = c.in_ok-vectors.vectors in
+    let has : HasGraph c.args.model.now c.args.graph.now m g = record { is_model = c.in_ok-model.ensures.accepted; is_graph = c.in_ok-graph.ensures.accepted } in
+    let are = c.in_ok-vectors.ensures.accepted in
+    (certificate_of m g v has are, verdict_of_each m g v has are c.check_above.result c.check_above.ensures.verdict)
+
+pub returns-clause-horizon : goal.returns-clause-horizon
+returns-clause-horizon c =
+    let m = meaning c.in_ok-model.model in
+    let g = c.in_ok-graph.graph in
+    let v = c.in_ok-vectors.vectors in
+    let has : HasGraph c.args.model.now c.args.graph.now m g = record { is_model = c.in_ok-model.ensures.accepted; is_graph = c.in_ok-graph.ensures.accepted } in
+    horizon_of_each m g v has c.in_ok-vectors.ensures.accepted c.check_above.result c.check_above.ensures.verdict c.check_above.ensures.horizon
+
+yes_for_each : {model graph vectors : List ℕ} (verdict : AboveVerdict) → verdict ≡ Yes → ((d : CertificateAbove model graph vectors) → MeetsHorizonAbove (controller d) verdict)
+    → (d : CertificateAbove model graph vectors) → MeetsHorizonAbove (controller d) Yes
+yes_for_each {model} {graph} {vectors} verdict is = subst (λ (v : AboveVerdict). (d : CertificateAbove model graph vectors) → MeetsHorizonAbove (controller d) v) is
+
+pub returns-clause-promise : goal.returns-clause-promise
+returns-clause-promise c = λ yes.
+    let is_yes : c.check_above.result ≡ Yes = same_ok _ _ _ refl yes in
+    certified (returns-clause-answer c).0 (yes_for_each c.check_above.result is_yes (returns-clause-horizon c))
+
+pub returns-clause-rewards : goal.returns-clause-rewards
+returns-clause-rewards c = λ yes.
+    let is_yes : c.check_above.result ≡ Yes = same_ok _ _ _ refl yes in
+    rewards_certified (yes_for_each c.check_above.result is_yes (returns-clause-horizon c))
+
+pub returns-in_err-vectors-clause-answer : goal.returns-in_err-vectors-clause-answer
+returns-in_err-vectors-clause-answer c =
+    let m = meaning c.in_ok-model.model in
+    let g = c.in_ok-graph.graph in
+    let has : HasGraph c.args.model.now c.args.graph.now m g = record { is_model = c.in_ok-model.ensures.accepted; is_graph = c.in_ok-graph.ensures.accepted } in
+    refused_last Up IsAboveVerdict _ _ _ c.from_residual-in_err-vectors.result _ c.from_residual-in_err-vectors.ensures.0 c.from_residual-in_err-vectors.ensures.1
+    (c.in_err-vectors.ensures.refused c.args.model.now c.args.graph.now has)

@@ -1,0 +1,5 @@
+use Rattle.polcert_answer.proofs.DenotedAbove.{yes_certified, yes_rewarded, yes_started}
+use Rattle.polcert_answer.proofs.laws.yes_above_is_a_certificate.Goals as goal
+
+pub returns : goal.returns
+returns c = record { promise = yes_certified; rewards = yes_rewarded; start = yes_started }

@@ -1,0 +1,24 @@
+use Rattle.std.proofs.Common.{◌≡◌, rules, to_z, of_z, w64, to_z-of_z, FitsSigned, refl}
+use Rattle.polcert_text.specs.declared.number.Rounding.TheVariants.{Up}
+use Rattle.polcert_model.specs.Contents.{meaning}
+use Rattle.polcert_answer.proofs.AnsweringAbove.{same_raise, are_raised, why_of}
+use Rattle.polcert_answer.proofs.runs_above.write_raised_vectors.Goals as goal
+
+pub returns-in-Err-clause-not_raised : goal.returns-in-Err-clause-not_raised
+returns-in-Err-clause-not_raised g c = λ fault same.
+    let is_fault : c.in-Err.fault ≡ fault = same_raise _ _ _ refl same in
+    why_of _ _ fault (rw is_fault at c.in-Err.ensures.refused)
+
+pub returns-in-Ok-write_full_vectors-clause-raised : goal.returns-in-Ok-write_full_vectors-clause-raised
+returns-in-Ok-write_full_vectors-clause-raised g c =
+    let fits : FitsSigned w64 c.in-Ok.found.0 = search rules in
+    let back : to_z w64 (of_z w64 c.in-Ok.found.0) ≡ c.in-Ok.found.0 = to_z-of_z fits in
+    let are = are_raised (meaning c.args.given.now.model) c.args.given.now.graph c.args.given.now.vectors c.in-Ok.found.0 c.in-Ok.found.1
+    c.in-Ok.ensures.least c.in-Ok.ensures.shifted c.in-Ok.ensures.passes c.in-Ok.ensures.fits_still.states (c.in-Ok-write_full_vectors.ensures.reads_back Up) in
+    (_, rw back are, c.in-Ok-write_full_vectors.ensures.written.ok)
+
+pub returns-clause-begun : goal.returns-clause-begun
+returns-clause-begun g c = λ failed.
+    let are = are_raised (meaning c.args.given.now.model) c.args.given.now.graph c.args.given.now.vectors c.in-Ok.found.0 c.in-Ok.found.1
+    c.in-Ok.ensures.least c.in-Ok.ensures.shifted c.in-Ok.ensures.passes c.in-Ok.ensures.fits_still.states (c.write_full_vectors.ensures.reads_back Up) in
+    (c.in-Ok.found.0, _, are, c.in-Err-write_full_vectors.ensures.written.err)

@@ -1,0 +1,24 @@
+-- The headline from above: what a yes to three texts promises where the vectors are to bound what a controller earns from above.
+-- Each value is rounded up, and the inequality is turned; everything else is the headline's.
+use Rattle.std.specs.Prelude.{ℕ, ◌<◌, List}
+use Rattle.polcert_text.specs.declared.number.Rounding.TheVariants.{Up}
+use Rattle.polcert_cells.specs.Meaning.{states_of}
+use Rattle.polcert_policy.specs.Graphs.{nodes}
+use Rattle.polcert_check.specs.Above.{PromiseAbove, RewardPromiseAbove}
+use Rattle.polcert_answer.specs.Headline.{RoundedCertificate, controller}
+
+-- three texts and what they denote, with each value rounded up
+abbrev pub CertificateAbove : List ℕ → List ℕ → List ℕ → Type 0
+CertificateAbove model graph vectors = RoundedCertificate Up model graph vectors
+
+-- The texts denote a controller; and whatever controller they denote: for every number of steps k, every node n and every
+-- state s, the expected discounted reward of k steps together with the discounted vector value where they end is at most the
+-- vector's value at n and s, exactly, and no run that needs a missing successor weighs anything.
+pub record IsCertifiedAbove (model graph vectors : List ℕ) : Type 0 where
+  pub certificate : CertificateAbove model graph vectors
+  pub promise : (c : CertificateAbove model graph vectors) (k n s : ℕ) → n < nodes c.policy → s < states_of c.meaning → PromiseAbove (controller c) k n s
+
+-- The same of the rewards alone, without the vectors at the end: where no vector value is below m, the expected discounted reward
+-- of k steps is at most the vector's value less discount ^ k times m.
+abbrev pub AreRewardsCertifiedAbove : List ℕ → List ℕ → List ℕ → Type 0
+AreRewardsCertifiedAbove model graph vectors = (c : CertificateAbove model graph vectors) (k n s : ℕ) → n < nodes c.policy → s < states_of c.meaning → RewardPromiseAbove (controller c) k n s

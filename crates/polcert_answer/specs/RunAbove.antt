@@ -1,0 +1,68 @@
+-- What runs from above promise, over three sources.
+use Rattle.std.specs.Prelude.{◌≡◌, ℕ, ◌<◌, ℤ, List, Result, Ok}
+use Rattle.polcert_text.specs.declared.number.Rounding.TheVariants.{Up}
+use Rattle.polcert_policy.specs.Graphs.{nodes}
+use Rattle.polcert_policy.specs.Vectors.{PolicyVectors, shifted_by}
+use Rattle.polcert_policy.specs.FullForm.{vectors_text}
+use Rattle.polcert_check.specs.declared.fault.RaiseFault.{RaiseFault}
+use Rattle.polcert_check.specs.declared.fault.RaiseFault.TheVariants.{Memory}
+use Rattle.polcert_check.specs.declared.above.AboveVerdict.{AboveVerdict}
+use Rattle.polcert_check.specs.declared.above.AboveVerdict.TheVariants.{Yes}
+use Rattle.polcert_check.specs.Horizon.{Controller}
+use Rattle.polcert_check.specs.Above.{IsAboveVerdict}
+use Rattle.polcert_check.specs.Raise.{HasLeastRaise, IsLeastRaise, IsNotRaised}
+use Rattle.polcert_check.specs.StartMost.{IsStartMost, StartPromiseAbove}
+use Rattle.polcert_answer.specs.declared.fault.Fault.{Fault}
+use Rattle.polcert_answer.specs.Answer.{IsAnswerAbove, IsButForMemory}
+use Rattle.polcert_answer.specs.Headline.{controller}
+use Rattle.polcert_answer.specs.HeadlineAbove.{CertificateAbove, IsCertifiedAbove, AreRewardsCertifiedAbove}
+use Rattle.polcert_answer.specs.Lines.{yes_above_line, IsAboveVerdictLine}
+use Rattle.polcert_answer.specs.Run.{AreRoundedCertified, HasRoundedVerdict}
+
+-- why the vectors aren't raised: a reason of the definition, or want of memory where there is a constant
+abbrev pub IsWhyNotRaised : Controller → PolicyVectors → RaiseFault → Type 0
+IsWhyNotRaised c v Memory = HasLeastRaise c v
+IsWhyNotRaised c v fault = IsNotRaised c v fault
+
+module _ (of_model of_graph of_vectors : List ℕ → Type 0) where
+  -- the texts of the three sources, which denote a controller with its values rounded up
+  abbrev pub AreCertifiedAbove : Type 0
+  AreCertifiedAbove = AreRoundedCertified Up of_model of_graph of_vectors
+
+  -- the answer from above to the texts of the three sources is this verdict, and this is its line
+  abbrev pub HasVerdictAbove : AboveVerdict → List ℕ → Type 0
+  HasVerdictAbove verdict line = HasRoundedVerdict Up of_model of_graph of_vectors IsAboveVerdict IsAboveVerdictLine verdict line
+
+  -- The headline from above holds of the texts of the three sources, with the vectors at the end and for the rewards alone.
+  pub record HavePromiseAbove : Type 0 where
+    pub texts : AreCertifiedAbove
+    pub promise : IsCertifiedAbove texts.model texts.graph texts.vectors
+    pub rewards : AreRewardsCertifiedAbove texts.model texts.graph texts.vectors
+
+  -- What the line of a yes from above says of the start is promised. The line names a number; and of whatever controller the texts
+  -- of the three sources denote: no node is worth more from the model's start, rounded up, and from every node and for every number
+  -- of steps no more is expected from the start.
+  pub record HasStartPromiseAbove (line : List ℕ) : Type 0 where
+    pub texts : AreCertifiedAbove
+    pub most : ℤ
+    pub is_line : line ≡ yes_above_line most
+    pub is_most : (c : CertificateAbove texts.model texts.graph texts.vectors) → IsStartMost c.meaning c.values most
+    pub promise : (c : CertificateAbove texts.model texts.graph texts.vectors) (k n : ℕ) → n < nodes c.policy → StartPromiseAbove c.meaning (controller c) k n most
+
+  -- This is the least constant by which the vectors of the third source can be raised to pass from above, and the text is the full
+  -- form of the vectors raised by it. The answer from above to the first two texts and this one is yes, every answer to them is,
+  -- but for want of memory, and the headline from above holds of them.
+  pub record HasRaised (by : ℤ) (text : List ℕ) : Type 0 where
+    pub texts : AreCertifiedAbove
+    pub least : (c : CertificateAbove texts.model texts.graph texts.vectors) → IsLeastRaise (controller c) c.values by
+    pub is_text : (c : CertificateAbove texts.model texts.graph texts.vectors) → text ≡ vectors_text c.policy (shifted_by c.values by)
+    pub answer : IsAnswerAbove texts.model texts.graph text (Ok Yes)
+    pub only_yes : (result : Result AboveVerdict Fault) → IsAnswerAbove texts.model texts.graph text result → IsButForMemory Yes result
+    pub promise : IsCertifiedAbove texts.model texts.graph text
+    pub rewards : AreRewardsCertifiedAbove texts.model texts.graph text
+
+  -- The texts of the three sources denote a controller, and no constant raises its vectors so that they pass from above, for this
+  -- reason; or there is such a constant, and memory was wanting.
+  pub record IsNotRaisable (fault : RaiseFault) : Type 0 where
+    pub texts : AreCertifiedAbove
+    pub reason : (c : CertificateAbove texts.model texts.graph texts.vectors) → IsWhyNotRaised (controller c) c.values fault
