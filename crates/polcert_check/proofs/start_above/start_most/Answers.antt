@@ -8,8 +8,7 @@ use Rattle.polcert_check.specs.Horizon.{Controller, controller_of}
 use Rattle.polcert_check.specs.StartWorth.{IsCeilQuotient, start_sum}
 use Rattle.polcert_check.specs.Ranges.{IsController}
 use Rattle.polcert_check.proofs.Certificates.{controller_is}
-use Rattle.polcert_check.proofs.FromAbove.{promised_above}
-use Rattle.polcert_check.proofs.StartMosts.{start_promise_above}
+use Rattle.polcert_check.proofs.StartMosts.{start_above}
 use Rattle.polcert_check.proofs.start_above.start_most.Goals as goal
 
 abbrev ceil : goal.returns-clause-most
@@ -30,6 +29,4 @@ returns-clause-promise c =
     let m : Meaning = meaning c.args.model.now in
     let k : Controller = controller_of (table_of m) c.args.graph.now c.args.vectors.now in
     let proper : IsController k = controller_is _ _ _ c.requires.fits (record { t_rows = c.args.model.now.rows.transitions; o_rows = c.args.model.now.rows.observations }) c.nodes-nodes.ensures.proper in
-    let most = ceil c in
-    λ passes. start_promise_above m k refl (promised_above k proper passes) c.best_start-node.result.0 _
-    (λ n nl. c.best_start-node.ensures.node.none_greater n (omega (arith, nl, c.requires.fits.nodes_same))) most.2
+    λ passes. start_above m c.args.graph.now c.args.vectors.now c.requires.fits proper passes _ (ceil c)
