@@ -11,8 +11,8 @@ use Rattle.polcert_check.proofs.Certificates.{controller_is}
 use Rattle.polcert_check.proofs.StartMosts.{start_above}
 use Rattle.polcert_check.proofs.start_above.start_most.Goals as goal
 
-abbrev ceil : goal.returns-clause-most
-ceil c =
+pub returns-clause-most : goal.returns-clause-most
+returns-clause-most c =
     let m : Meaning = meaning c.args.model.now in
     let fx : FitsSigned w128 c.best_start-node.result.1 = search rules in
     let fq : FitsSigned w64 c.ceil_quotient.result = search rules in
@@ -21,12 +21,9 @@ ceil c =
     let quotient : IsCeilQuotient (start_sum m c.args.vectors.now c.best_start-node.result.0) (start_total m) (to_z w64 (of_z w64 c.ceil_quotient.result)) = rw back (rw (sum, c.start_total.ensures) at c.ceil_quotient.ensures) in
     (c.best_start-node.result.0, c.best_start-node.ensures.node, quotient)
 
-pub returns-clause-most : goal.returns-clause-most
-returns-clause-most = ceil
-
 pub returns-clause-promise : goal.returns-clause-promise
 returns-clause-promise c =
     let m : Meaning = meaning c.args.model.now in
     let k : Controller = controller_of (table_of m) c.args.graph.now c.args.vectors.now in
     let proper : IsController k = controller_is _ _ _ c.requires.fits (record { t_rows = c.args.model.now.rows.transitions; o_rows = c.args.model.now.rows.observations }) c.nodes-nodes.ensures.proper in
-    λ passes. start_above m c.args.graph.now c.args.vectors.now c.requires.fits proper passes _ (ceil c)
+    λ passes. start_above m c.args.graph.now c.args.vectors.now c.requires.fits proper passes _ (returns-clause-most c)
