@@ -1,5 +1,5 @@
 -- What the verdict says of every horizon, and how large an amount it names.
-use Rattle.std.proofs.Common.{◌≡◌, ◌≤◌, pos, ℤ, ◌<ℤ◌, unsigned_abs, sym, subst}
+use Rattle.std.proofs.Common.{◌≤◌, pos, ℤ, ◌<ℤ◌, unsigned_abs, sym, subst}
 use Rattle.polcert_check.specs.Horizon.{Controller, MeetsHorizon}
 use Rattle.polcert_cells.specs.Tables.{IsWithinLimits}
 use Rattle.polcert_check.specs.Shortfall.{most_short}

@@ -1,12 +1,12 @@
 -- What passes from below in the mirror image passes from above, and its promises are promises from above.
-use Rattle.std.proofs.Common.{◌≡◌, ◌∙◌, ℕ, ◌*◌, ◌^◌, ◌<◌, ℤ, pos, neg_ℤ, ◌+ℤ◌, ◌-ℤ◌, ◌*ℤ◌, ◌≤ℤ◌, ◌<ℤ◌, Bool, IsTrue, All, Option, Some, None, List, ◌∷◌, [], refl, sym, ap, subst, arith}
+use Rattle.std.proofs.Common.{◌≡◌, ◌∙◌, ℕ, ◌*◌, ◌^◌, ◌<◌, ℤ, pos, neg_ℤ, ◌+ℤ◌, ◌*ℤ◌, ◌≤ℤ◌, IsTrue, All, Some, List, ◌∷◌, [], refl, sym, subst, arith}
 use Rattle.std.proofs.lemmas.List.Elements.{All-weaker}
 use Rattle.polcert_check.specs.declared.above.AboveVerdict.{AboveVerdict}
 use Rattle.polcert_check.specs.declared.above.AboveVerdict.TheVariants as above
 use Rattle.polcert_check.specs.declared.verdict.Verdict.{Verdict}
 use Rattle.polcert_check.specs.declared.verdict.Verdict.TheVariants.{Yes, Short, NoSuccessor}
 use Rattle.polcert_check.specs.declared.side.Side.TheVariants.{Above}
-use Rattle.polcert_check.specs.Horizon.{Controller, one, step_scale, runs, is_cut, weight, weights_sum, worth_sum, rewards_sum, Promise, RewardPromise, AtMost, MeetsEveryHorizon, MeetsHorizon, HasCutRun}
+use Rattle.polcert_check.specs.Horizon.{Controller, one, step_scale, runs, is_cut, weight, worth_sum, rewards_sum, Promise, RewardPromise, AtMost, MeetsEveryHorizon, MeetsHorizon, HasCutRun}
 use Rattle.polcert_check.specs.Shortfall.{short, PairPasses, Passes}
 use Rattle.polcert_check.specs.Verdict.{PassesBefore, IsVerdict, NamesSmallAmount}
 use Rattle.polcert_check.specs.Above.{PromiseAbove, AtLeast, RewardPromiseAbove, MeetsEveryHorizonAbove, MeetsHorizonAbove, PairPassesAbove, PassesAbove, PassesAboveBefore, IsAboveVerdict, NamesSmallAmountAbove}

@@ -1,10 +1,10 @@
 -- What passes from below is nowhere above what passes from above, where the discount is below 1.
-use Rattle.std.proofs.Common.{◌≡◌, ℕ, zero, suc, ◌+◌, ◌*◌, ◌<◌, ◌≤◌, ℤ, pos, ◌+ℤ◌, ◌-ℤ◌, ◌*ℤ◌, ◌≤ℤ◌, ◌<ℤ◌, Option, Some, None, sym, refl, ap, ◌∙◌, arith, ⊎_elim, unsigned_abs}
+use Rattle.std.proofs.Common.{◌≡◌, ℕ, zero, suc, ◌+◌, ◌*◌, ◌<◌, ◌≤◌, ℤ, pos, ◌+ℤ◌, ◌-ℤ◌, ◌*ℤ◌, ◌≤ℤ◌, Option, Some, None, refl, ap, ◌∙◌, arith, ⊎_elim, unsigned_abs}
 use Rattle.std.proofs.lemmas.Bool.{cases_lt}
 use Rattle.std.proofs.lemmas.Int.{ints, by_lt_z}
 use Rattle.std.proofs.Math.Nat.{mul-le-mul_left}
 use Rattle.polcert_check.specs.Horizon.{Controller, one, sum_below, step_weight, step_scale}
-use Rattle.polcert_check.specs.Shortfall.{backing, short, Passes}
+use Rattle.polcert_check.specs.Shortfall.{backing, Passes}
 use Rattle.polcert_check.specs.Ranges.{IsController}
 use Rattle.polcert_check.specs.Above.{PassesAbove}
 use Rattle.polcert_check.proofs.Ring.{linear, products, sums, *ℤ-+ℤ, mul_le, ≤ℤ_trans, ≤ℤ_from_eq}

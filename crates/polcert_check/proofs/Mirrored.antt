@@ -1,11 +1,9 @@
 -- What is so of a controller, and what of its mirror image: each sum of rewards and values is negated, and weights stay.
-use Rattle.std.proofs.Common.{◌≡◌, ◌∙◌, ℕ, zero, suc, ◌-◌, ◌*◌, ◌^◌, ◌<◌, ℤ, pos, neg_ℤ, ◌+ℤ◌, ◌-ℤ◌, ◌*ℤ◌, ◌≤ℤ◌, ◌<ℤ◌, Bool, not, cond, IsTrue, All, Option, Some, None, List, [], ◌∷◌, ◌++◌, map, filter, flat_map, get_or, refl, sym, ap, subst, arith}
-use Rattle.std.proofs.lemmas.Int.{ints}
-use Rattle.polcert_check.specs.Horizon.{Controller, one, sum_below, sum_over, step_weight, step_scale, pairs, runs, is_cut, weight, rewards, end_value, reward_part, total, uncut, weights_sum, worth_sum, rewards_sum, Promise, RewardPromise, AtMost, MeetsEveryHorizon, MeetsHorizon, HasCutRun}
-use Rattle.polcert_check.specs.Shortfall.{at_node, backing, short, Lacks, PairPasses, Passes}
-use Rattle.polcert_check.specs.Above.{PromiseAbove, AtLeast, RewardPromiseAbove, MeetsEveryHorizonAbove, PairPassesAbove, PassesAbove}
+use Rattle.std.proofs.Common.{◌≡◌, ◌∙◌, ℕ, zero, suc, ◌-◌, ◌*◌, ◌^◌, ℤ, pos, neg_ℤ, ◌+ℤ◌, ◌-ℤ◌, ◌*ℤ◌, Bool, not, cond, Option, Some, None, List, [], ◌∷◌, map, filter, flat_map, get_or, refl, sym, ap, arith}
+use Rattle.polcert_check.specs.Horizon.{Controller, one, sum_below, sum_over, step_weight, step_scale, pairs, runs, is_cut, weight, rewards, end_value, reward_part, total, uncut, weights_sum, worth_sum, rewards_sum}
+use Rattle.polcert_check.specs.Shortfall.{at_node, backing, short}
 use Rattle.polcert_check.specs.Mirrored.{mirrored}
-use Rattle.polcert_check.proofs.Ring.{linear, products, sums, *ℤ-+ℤ}
+use Rattle.polcert_check.proofs.Ring.{linear, *ℤ-+ℤ}
 use Rattle.polcert_check.proofs.SumLaws.{sum_below_same, sum_over_same}
 
 -- ---- numbers

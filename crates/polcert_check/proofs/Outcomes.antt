@@ -1,6 +1,5 @@
 -- What is found over all pairs says: the verdict; and why vectors are not lowered.
-use Rattle.std.proofs.Common.{◌≡◌, ℕ, ◌<◌, ◌≤◌, ⊎_elim, ℤ, pos, ◌<ℤ◌, unsigned_abs, sym, subst, arith}
-use Rattle.std.proofs.lemmas.Int.{ints}
+use Rattle.std.proofs.Common.{◌≡◌, ℕ, ◌≤◌, ⊎_elim, ℤ, pos, ◌<ℤ◌, unsigned_abs, sym, subst, arith}
 use Rattle.polcert_cells.specs.Tables.{IsWithinLimits}
 use Rattle.polcert_check.specs.Horizon.{Controller, one}
 use Rattle.polcert_check.specs.Shortfall.{short, most_short}
@@ -8,7 +7,7 @@ use Rattle.polcert_check.specs.Verdict.{IsVerdict}
 use Rattle.polcert_check.specs.Lower.{NoneLacks, IsNotMended, RefusesSmallAmount}
 use Rattle.polcert_check.specs.Ranges.{IsController, ValuesAreWithin}
 use Rattle.polcert_check.specs.Factored.{IsPairVerdict}
-use Rattle.polcert_check.specs.Findings.{IsPair, IsLackVerdict, IsVerdictFor, IsFirstOf, IsWorstOf, IsMeasured, IsFound, IsRefused}
+use Rattle.polcert_check.specs.Findings.{IsPair, IsLackVerdict, IsVerdictFor, IsFirstOf, IsWorstOf, IsFound, IsRefused}
 use Rattle.polcert_check.specs.declared.fault.LowerFault.{LowerFault}
 use Rattle.polcert_check.specs.declared.fault.LowerFault.TheVariants as faults
 use Rattle.polcert_check.specs.declared.findings.Aim.{Aim}

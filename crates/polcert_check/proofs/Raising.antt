@@ -1,13 +1,12 @@
 -- What lowers the mirror image raises the controller.
-use Rattle.std.proofs.Common.{◌≡◌, ◌∙◌, ℕ, ◌<◌, ◌≤◌, ℤ, pos, neg_ℤ, ◌+ℤ◌, ◌-ℤ◌, ◌≤ℤ◌, ◌<ℤ◌, unsigned_abs, refl, sym, ap, subst, arith}
+use Rattle.std.proofs.Common.{◌≡◌, ◌∙◌, ℕ, ◌<◌, ℤ, pos, neg_ℤ, ◌+ℤ◌, ◌-ℤ◌, refl, sym, ap, subst, arith}
 use Rattle.std.proofs.lemmas.Int.{ints}
 use Rattle.polcert_cells.specs.Tables.{Table}
 use Rattle.polcert_policy.specs.Graphs.{PolicyGraph}
 use Rattle.polcert_policy.specs.Vectors.{PolicyVectors, IsInRange, value_of}
 use Rattle.polcert_check.specs.Horizon.{Controller, Fits, controller_of}
 use Rattle.polcert_check.specs.Shortfall.{short, Passes}
-use Rattle.polcert_check.specs.Verdict.{IsBefore}
-use Rattle.polcert_check.specs.Ranges.{IsClosed, IsController}
+use Rattle.polcert_check.specs.Ranges.{IsController}
 use Rattle.polcert_check.specs.Lower.{lowered_by, IsLeast, IsFirstShort, IsNotMended, RefusesSmallAmount}
 use Rattle.polcert_check.specs.Above.{PassesAbove}
 use Rattle.polcert_check.specs.Raise.{raised_by, IsLeastAbove, CanRaise, IsFirstLong, IsNotRaised, IsLeastRaise, RefusesSmallRaise}

@@ -9,7 +9,7 @@ use Rattle.polcert_policy.specs.Graphs.{PolicyGraph, nodes}
 use Rattle.polcert_policy.specs.Vectors.{PolicyVectors}
 use Rattle.polcert_check.specs.Horizon.{Controller, Fits, controller_of, one, sum_below, step_scale, worth_sum}
 use Rattle.polcert_check.specs.Ranges.{IsController}
-use Rattle.polcert_check.specs.StartWorth.{start_sum, IsFloorQuotient, IsCeilQuotient}
+use Rattle.polcert_check.specs.StartWorth.{IsFloorQuotient, IsCeilQuotient}
 use Rattle.polcert_check.specs.StartMost.{IsStartMost, StartPromiseAbove}
 use Rattle.polcert_check.specs.Above.{PromiseAbove, PassesAbove}
 use Rattle.polcert_check.proofs.Ring.{linear, *ℤ_assoc, *ℤ_left_comm, mul_le, ≤ℤ_trans, ≤ℤ_from_eq}

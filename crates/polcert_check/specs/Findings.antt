@@ -1,8 +1,8 @@
 -- Helper definitions of private functions: what a walk over the pairs of a node and a state has found so far. Nobody has to
 -- believe them.
-use Rattle.std.specs.Prelude.{◌≡◌, ℕ, ◌<◌, ◌≤◌, ℤ, pos, ◌≤ℤ◌, ◌⊎◌, Some, None}
+use Rattle.std.specs.Prelude.{◌≡◌, ℕ, ◌<◌, ◌≤◌, pos, ◌≤ℤ◌, ◌⊎◌, Some, None}
 use Rattle.polcert_check.specs.Horizon.{Controller}
-use Rattle.polcert_check.specs.Shortfall.{short, PairPasses}
+use Rattle.polcert_check.specs.Shortfall.{short}
 use Rattle.polcert_check.specs.Verdict.{IsBefore, IsLeastLacking}
 use Rattle.polcert_check.specs.Factored.{IsPairVerdict}
 use Rattle.polcert_check.specs.declared.fault.LowerFault.{LowerFault}

@@ -509,6 +509,15 @@ impl Parts {
         let (constant, vectors) = raised(alloc, &self.model, &self.graph, &self.vectors).ok()?;
         Some((constant, ends(&vectors)?))
     }
+
+    /// The verdict from above on the raised vectors.
+    fn raised_verdict(&self, alloc: Global) -> Option<AboveVerdict> {
+        if !fits(&self.model, &self.graph, &self.vectors) {
+            return None;
+        }
+        let (_, vectors) = raised(alloc, &self.model, &self.graph, &self.vectors).ok()?;
+        Some(check_above(&self.model, &self.graph, &vectors))
+    }
 }
 
 /// What no node is worth more than from the start, where the texts are read, with values rounded up, and fit.
@@ -517,8 +526,14 @@ fn most(alloc: Global, model: &[u8], graph: &[u8], vectors: &[u8]) -> Option<i64
 }
 
 /// The texts of a model, a graph and vectors, and what no node is worth more than from the start.
-const MOSTS: [(&[u8], &[u8], &[u8], i64); 6] = [
+const MOSTS: [(&[u8], &[u8], &[u8], i64); 8] = [
     (TIGER, b"0 0 0 0", b"0 -20 -20", -20_000_000),
+    (
+        TIGER,
+        b"0 0 0 0",
+        b"0 -19.9999999999999964 -19.9999999999999964",
+        -19_999_999,
+    ),
     (
         TIGER,
         b"0 0 0 0 1 0 1 1",
@@ -528,6 +543,12 @@ const MOSTS: [(&[u8], &[u8], &[u8], i64); 6] = [
     (PLAIN, b"0 0 0", b"0 -0.000001 -0.000002", -1),
     (PLAIN, b"0 0 0 1 0 1", b"0 1 1 0 1 1", 1_000_000),
     (MDP, b"0 0 0 0", b"0 1.3333333 0.6666667", 1_000_001),
+    (
+        b"discount: 0.5 values: reward states: 1 actions: 1 observations: 2 T: 0 identity O: 0 1 0",
+        b"0 0 0 -",
+        b"0 0",
+        0,
+    ),
     (
         b"discount: 1 values: reward states: 3 actions: 1 observations: 1 start: 0.25 0 0.75 T: 0 identity O: 0 uniform",
         b"0 0 0 1 0 1",
@@ -637,6 +658,16 @@ fn raising(alloc: Global, model: &[u8], graph: &[u8], vectors: &[u8]) -> Option<
     read_parts_up(alloc, model, graph, vectors)?.raising(alloc)
 }
 
+/// The verdict from above on the vectors raised by it.
+fn raised_verdict(
+    alloc: Global,
+    model: &[u8],
+    graph: &[u8],
+    vectors: &[u8],
+) -> Option<AboveVerdict> {
+    read_parts_up(alloc, model, graph, vectors)?.raised_verdict(alloc)
+}
+
 /// The texts of a model, a graph and vectors, and the least constant that raises them.
 const LEAST_RAISES: [(&[u8], &[u8], &[u8], Result<i64, RaiseFault>); 5] = [
     (TIGER, b"0 0 0 0", b"0 -20.000001 -20.000001", Ok(1)),
@@ -696,5 +727,9 @@ fn raised_vectors(rt: HostRuntime) {
     ];
     for (model, graph, vectors, answer) in rows {
         assert_eq!(rt; raising(alloc, model, graph, vectors), Some(answer));
+        assert_eq!(rt;
+            raised_verdict(alloc, model, graph, vectors),
+            Some(AboveVerdict::Yes)
+        );
     }
 }

@@ -16,15 +16,12 @@ use Rattle.polcert_check.proofs.Sides.{sided_proper, sided_limits, sided_values}
 use Rattle.polcert_check.proofs.Verdicts.{positive_product}
 use Rattle.polcert_check.proofs.above.check_above_watched.Goals as goal
 
-abbrev verdict : goal.returns-clause-verdict
-verdict g c =
+pub returns-clause-verdict : goal.returns-clause-verdict
+returns-clause-verdict g c =
     let k : Controller = controller_of (g.C.Cells.table c.args.cells.now) c.args.graph.now c.args.vectors.now in
     let j : Controller = judged c.new-certificate.result in
     let is : IsVerdict (mirrored k) c.survey.result.first = rw c.new-certificate.ensures.judged at (verdict_is j c.survey.result c.survey.ensures.aim c.survey.ensures.found) in
     subst (λ (v : AboveVerdict). IsAboveVerdict k v) (sym c.above_of.ensures) (verdict_above k c.survey.result.first is)
-
-pub returns-clause-verdict : goal.returns-clause-verdict
-returns-clause-verdict = verdict
 
 pub returns-clause-horizon : goal.returns-clause-horizon
 returns-clause-horizon g c =
@@ -50,5 +47,5 @@ returns-clause-interval g c = λ yes less low fits_low below n s nl sl.
     let k : Controller = controller_of x c.args.graph.now c.args.vectors.now in
     let both = scales x (g.met.C.Cells.is_within_limits c.args.cells.now) in
     let proper : IsController k = rw c.new-certificate.ensures.controller at c.new-certificate.result.proper in
-    let passes = subst (λ (v : AboveVerdict). IsAboveVerdict k v) yes (verdict g c) in
+    let passes = subst (λ (v : AboveVerdict). IsAboveVerdict k v) yes (returns-clause-verdict g c) in
     never_above k proper passes (value_of low) below less (positive_product x.t_scale x.o_scale both.0 both.1) n s nl sl

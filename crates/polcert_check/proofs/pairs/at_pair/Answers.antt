@@ -1,9 +1,9 @@
-use Rattle.std.proofs.Common.{rules, arith, ◌≡◌, ◌≤◌, ◌<◌, ◌^◌, Option, None, ℕ, ℤ, unsigned_abs, FitsSigned, to_z, of_z, w64, refl, sym, ap, subst, ◌∙◌}
+use Rattle.std.proofs.Common.{rules, arith, ◌≡◌, ◌≤◌, ◌<◌, ◌^◌, Option, None, ℕ, FitsSigned, to_z, of_z, w64, refl, sym, ap, subst, ◌∙◌}
 use mir.Syntax.{w128}
 use Rattle.std.proofs.lemmas.Int.{to_z-of_z}
 use Rattle.polcert_check.specs.Certificate.{controller, judged}
 use Rattle.polcert_check.specs.Horizon.{Controller}
-use Rattle.polcert_check.specs.Shortfall.{short, most_short, largest_amount}
+use Rattle.polcert_check.specs.Shortfall.{short, largest_amount}
 use Rattle.polcert_check.specs.Mirrored.{turned}
 use Rattle.polcert_check.specs.Verdict.{IsLeastLacking}
 use Rattle.polcert_check.specs.Factored.{reward_ahead}

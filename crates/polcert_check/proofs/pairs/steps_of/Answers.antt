@@ -1,6 +1,4 @@
-use Rattle.std.proofs.Common.{rules, ◌≡◌, ◌∙◌, FitsSigned, to_z, of_z}
-use mir.Syntax.{w128}
-use Rattle.std.proofs.lemmas.Int.{to_z-of_z}
+use Rattle.std.proofs.Common.{◌≡◌, ◌∙◌}
 use Rattle.polcert_check.specs.Certificate.{controller}
 use Rattle.polcert_check.specs.Horizon.{Controller}
 use Rattle.polcert_check.proofs.Expecting.{values_within, value_ahead_is}

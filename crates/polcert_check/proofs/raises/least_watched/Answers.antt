@@ -3,11 +3,10 @@ use Rattle.std.proofs.lemmas.Int.{to_z-of_z}
 use Rattle.polcert_policy.specs.Vectors.{PolicyVectors}
 use Rattle.polcert_check.specs.declared.fault.RaiseFault.{RaiseFault}
 use Rattle.polcert_check.specs.declared.side.Side.{Side}
-use Rattle.polcert_check.specs.declared.side.Side.TheVariants.{Above}
 use Rattle.polcert_check.specs.Horizon.{Controller, controller_of}
 use Rattle.polcert_check.specs.Lower.{IsNotMended, RefusesSmallAmount}
 use Rattle.polcert_check.specs.Raise.{IsLeastRaise, IsNotRaised, RefusesSmallRaise}
-use Rattle.polcert_check.specs.Mirrored.{mirrored, CanMove, IsLeastMove}
+use Rattle.polcert_check.specs.Mirrored.{CanMove, IsLeastMove}
 use Rattle.polcert_check.proofs.Raising.{least_raise_is, not_raised_is, small_raise}
 use Rattle.polcert_check.proofs.raises.least_watched.Goals as goal
 

@@ -1,10 +1,9 @@
-use Rattle.std.proofs.Common.{rules, arith, ◌≡◌, ◌∙◌, List, Option, ℕ, ℤ, sym, subst, FitsSigned, to_z, of_z, w64}
+use Rattle.std.proofs.Common.{rules, arith, ◌≡◌, ◌∙◌, FitsSigned, to_z, of_z, w64}
 use mir.Syntax.{w128}
 use Rattle.std.proofs.lemmas.Int.{to_z-of_z}
 use Rattle.polcert_check.specs.Certificate.{controller}
 use Rattle.polcert_check.specs.Horizon.{Controller}
 use Rattle.polcert_check.specs.Shortfall.{short}
-use Rattle.polcert_check.specs.Factored.{AreEnds}
 use Rattle.polcert_check.specs.Followed.{followed, followed_is_proper, followed_is_within}
 use Rattle.polcert_check.proofs.Earning.{reward_ahead_part_le}
 use Rattle.polcert_check.proofs.Expecting.{value_ahead_le}

@@ -1,6 +1,5 @@
 use Rattle.std.proofs.Common.{arith}
 use Rattle.polcert_check.specs.Certificate.{controller, judged}
-use Rattle.polcert_check.specs.Horizon.{Controller}
 use Rattle.polcert_check.proofs.Sides.{sided_proper}
 use Rattle.polcert_check.proofs.Walked.{nothing_found, all_walked}
 use Rattle.polcert_check.proofs.survey.survey.Goals as goal

@@ -1,8 +1,7 @@
-use Rattle.std.proofs.Common.{arith, ◌≡◌, ◌+◌, ◌∙◌, ℤ, List, Option, ℕ, true, refl, sym, subst}
+use Rattle.std.proofs.Common.{arith, ◌+◌, ◌∙◌, ℤ, List, Option, ℕ, sym, subst}
 use Rattle.polcert_check.specs.Certificate.{controller, judged}
 use Rattle.polcert_check.specs.Horizon.{Controller}
 use Rattle.polcert_check.specs.Factored.{AreEnds}
-use Rattle.polcert_check.specs.Findings.{IsFoundBefore}
 use Rattle.polcert_check.proofs.Walked.{node_done, node_settled}
 use Rattle.polcert_check.proofs.survey.survey_states.Goals as goal
 

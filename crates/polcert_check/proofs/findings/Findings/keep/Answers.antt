@@ -1,4 +1,4 @@
-use Rattle.std.proofs.Common.{rules, ◌≡◌, ◌+◌, ◌∙◌, ap, subst, unsigned_abs, FitsSigned, to_z, of_z}
+use Rattle.std.proofs.Common.{rules, ◌+◌, ◌∙◌, ap, subst, unsigned_abs, FitsSigned}
 use mir.Syntax.{w128}
 use Rattle.std.proofs.lemmas.Int.{to_z-of_z}
 use Rattle.polcert_check.specs.declared.verdict.Verdict.{Verdict}
