@@ -42,6 +42,6 @@ pub fn status_of_above_verdict(verdict: AboveVerdict) -> u8
 {
     match verdict {
         AboveVerdict::Yes => 0,
-        _ => 1,
+        AboveVerdict::Long { .. } | AboveVerdict::NoSuccessor { .. } => 1,
     }
 }

@@ -6,6 +6,7 @@ use polcert_text::{
 };
 use std::alloc::Global;
 
+mod above;
 mod answers;
 mod devices;
 mod streams;

@@ -9,7 +9,7 @@ use Rattle.polcert_check.specs.Ranges.{IsController}
 use Rattle.polcert_check.specs.Above.{PassesAbove}
 use Rattle.polcert_check.proofs.Ring.{linear, products, sums, *ℤ-+ℤ, mul_le, ≤ℤ_trans, ≤ℤ_from_eq}
 use Rattle.polcert_check.proofs.SumLaws.{sum_below_le}
-use Rattle.polcert_check.proofs.Kept.{backing_term, sum_twice_scale, step_weights_sum}
+use Rattle.polcert_check.proofs.Kept.{backing_term, not_short_is, sum_twice_scale, step_weights_sum}
 use Rattle.polcert_check.proofs.Lowering.{sum_twice_add}
 use Rattle.polcert_check.proofs.Agreeing.{with_values}
 
@@ -53,9 +53,6 @@ shrink_nat (suc q) u g b h l = let m : suc q * (suc b * suc g) ≤ suc q * (suc 
 
 step_up : (a b d : ℤ) → a ≤ℤ b → (a +ℤ d) ≤ℤ (b +ℤ d)
 step_up a b d h = omega (arith, linear)
-
-not_short_is : (a b : ℤ) → (a -ℤ b) ≤ℤ pos 0 → a ≤ℤ b
-not_short_is a b h = omega (arith, linear)
 
 not_long_is : (a b : ℤ) → pos 0 ≤ℤ (a -ℤ b) → b ≤ℤ a
 not_long_is a b h = omega (arith, linear)

@@ -40,3 +40,5 @@ pub mod FromAbove
 pub mod Raising
 pub mod Interval
 pub mod StartMosts
+pub mod SameAbove
+pub mod OneAbove

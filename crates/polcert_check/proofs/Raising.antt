@@ -13,11 +13,13 @@ use Rattle.polcert_check.specs.Above.{PassesAbove}
 use Rattle.polcert_check.specs.Raise.{raised_by, IsLeastAbove, CanRaise, IsFirstLong, IsNotRaised, IsLeastRaise, RefusesSmallRaise}
 use Rattle.polcert_check.specs.declared.fault.LowerFault.{LowerFault}
 use Rattle.polcert_check.specs.declared.fault.LowerFault.TheVariants as lower
+use Rattle.polcert_check.specs.declared.fault.RaiseFault.{RaiseFault}
+use Rattle.polcert_check.specs.declared.fault.RaiseFault.TheVariants as raise
 use Rattle.polcert_check.specs.declared.side.Side.TheVariants.{Above}
 use Rattle.polcert_check.specs.Mirrored.{mirrored, CanMove, IsLeastMove, raise_of}
 use Rattle.polcert_check.proofs.Ring.{linear}
 use Rattle.polcert_check.proofs.Mirrored.{mirrored_short}
-use Rattle.polcert_check.proofs.FromAbove.{passes_above, passes_below}
+use Rattle.polcert_check.proofs.FromAbove.{turn_short, turn_long, passes_above, passes_below}
 use Rattle.polcert_check.proofs.Agreeing.{passes_alike}
 
 turned_sum : (x : ℤ) (by : ℕ) → neg_ℤ x -ℤ pos by ≡ neg_ℤ (x +ℤ pos by)
@@ -36,6 +38,9 @@ passes_lowered c by h = subst Passes (sym (same_moved c by)) (passes_below (rais
 least_above : (c : Controller) (by : ℕ) → IsLeast (mirrored c) by → IsLeastAbove c by
 least_above c by h = (passes_raised c by h.0, λ d l p. h.1 d l (passes_lowered c d p))
 
+least_below : (c : Controller) (by : ℕ) → IsLeastAbove c by → IsLeast (mirrored c) by
+least_below c by h = (passes_lowered c by h.0, λ d l p. h.1 d l (passes_raised c d p))
+
 -- ---- the range
 range_up : (x : ℤ) (by : ℕ) → IsInRange (neg_ℤ x +ℤ neg_ℤ (pos by)) → IsInRange (x +ℤ pos by)
 range_up x by r = (omega (arith, ints, r.0, r.1), omega (arith, ints, r.0, r.1))
@@ -53,18 +58,41 @@ can_move v by h = λ n s nl sl. range_down (value_of v n s) by (h n s nl sl)
 pub least_raise_is : (c : Controller) (v : PolicyVectors) (x : ℤ) → IsLeastMove (mirrored c) (CanMove Above v) x → IsLeastRaise c v x
 least_raise_is c v x h = (h.0, h.1, least_above c h.0 h.2, can_raise v h.0 h.3)
 
-not_long : (x y : ℤ) → x ≡ neg_ℤ y → x ≤ℤ pos 0 → pos 0 ≤ℤ y
-not_long x y e h = omega (arith, linear)
+pub least_move_is : (c : Controller) (v : PolicyVectors) (x : ℤ) → IsLeastRaise c v x → IsLeastMove (mirrored c) (CanMove Above v) x
+least_move_is c v x h = (h.0, h.1, least_below c h.0 h.2, can_move v h.0 h.3)
 
 first_long : (c : Controller) (n s : ℕ) (amount : ℤ) → IsFirstShort (mirrored c) n s amount → IsFirstLong c n s amount
 first_long c n s amount h =
-    (h.0, h.1, h.2 ∙ mirrored_short c n s, h.3, λ m t ml tl b. not_long (short (mirrored c) m t) (short c m t) (mirrored_short c m t) (h.4 m t ml tl b))
+    (h.0, h.1, h.2 ∙ mirrored_short c n s, h.3, λ m t ml tl b. turn_short (short (mirrored c) m t) (short c m t) (mirrored_short c m t) (h.4 m t ml tl b))
+
+first_short : (c : Controller) (n s : ℕ) (amount : ℤ) → IsFirstLong c n s amount → IsFirstShort (mirrored c) n s amount
+first_short c n s amount h =
+    (h.0, h.1, h.2 ∙ sym (mirrored_short c n s), h.3, λ m t ml tl b. turn_long (short (mirrored c) m t) (short c m t) (mirrored_short c m t) (h.4 m t ml tl b))
 
 pub not_raised_is : (c : Controller) (v : PolicyVectors) (fault : LowerFault) → IsNotMended (mirrored c) (CanMove Above v) fault → IsNotRaised c v (raise_of fault)
 not_raised_is c v (lower.NoSuccessor n s z) h = h
 not_raised_is c v (lower.NoConstant n s amount) h = (h.0, (λ by p. h.1 by (passes_lowered c by p)), first_long c n s amount h.2)
 not_raised_is c v lower.OutOfRange h = (h.0, (h.1.0, least_above c h.1.0 h.1.1, (λ can. h.1.2 (can_move v h.1.0 can))))
 not_raised_is c v lower.Memory h = h
+
+-- the refusal to lower the mirror image that says this from above
+abbrev pub lower_of : RaiseFault → LowerFault
+lower_of (raise.NoSuccessor n s z) = lower.NoSuccessor n s z
+lower_of (raise.NoConstant n s amount) = lower.NoConstant n s amount
+lower_of raise.OutOfRange = lower.OutOfRange
+lower_of raise.Memory = lower.Memory
+
+pub raise_again : (fault : RaiseFault) → raise_of (lower_of fault) ≡ fault
+raise_again (raise.NoSuccessor n s z) = refl
+raise_again (raise.NoConstant n s amount) = refl
+raise_again raise.OutOfRange = refl
+raise_again raise.Memory = refl
+
+pub not_mended_is : (c : Controller) (v : PolicyVectors) (fault : RaiseFault) → IsNotRaised c v fault → IsNotMended (mirrored c) (CanMove Above v) (lower_of fault)
+not_mended_is c v (raise.NoSuccessor n s z) h = h
+not_mended_is c v (raise.NoConstant n s amount) h = (h.0, (λ by p. h.1 by (passes_raised c by p)), first_short c n s amount h.2)
+not_mended_is c v raise.OutOfRange h = (h.0, (h.1.0, least_below c h.1.0 h.1.1, (λ can. h.1.2 (can_raise v h.1.0 can))))
+not_mended_is c v raise.Memory h = h
 
 pub small_raise : (c : Controller) (fault : LowerFault) → RefusesSmallAmount (mirrored c) fault → RefusesSmallRaise c (raise_of fault)
 small_raise c (lower.NoSuccessor n s z) h = h

@@ -6,7 +6,7 @@ use Rattle.polcert_text.specs.Numbers.{largest}
 use Rattle.polcert_cells.specs.Tables.{IsWithinLimits}
 use Rattle.polcert_check.specs.Horizon.{Controller}
 use Rattle.polcert_check.specs.Shortfall.{short}
-use Rattle.polcert_check.specs.Ranges.{IsController, ValuesAreWithin}
+use Rattle.polcert_check.specs.Ranges.{IsClosed, IsController, ValuesAreWithin}
 use Rattle.polcert_check.specs.declared.side.Side.{Side}
 use Rattle.polcert_check.specs.declared.side.Side.TheVariants.{Below, Above}
 use Rattle.polcert_check.specs.Mirrored.{turned, sided}
@@ -23,10 +23,13 @@ pub sided_short : (side : Side) (c : Controller) (n s : ℕ) → short (sided si
 sided_short Below c n s = refl
 sided_short Above c n s = mirrored_short c n s
 
+pub sided_closed : (side : Side) (c : Controller) → IsClosed c → IsClosed (sided side c)
+sided_closed side c p = record { actions_in_range = p.actions_in_range; next_in_range = p.next_in_range }
+
 pub sided_proper : (side : Side) (c : Controller) → IsController c → IsController (sided side c)
 sided_proper side c p = record {
   cells = record { t_rows = p.cells.t_rows; o_rows = p.cells.o_rows };
-  closed = record { actions_in_range = p.closed.actions_in_range; next_in_range = p.closed.next_in_range };
+  closed = sided_closed side c p.closed;
 }
 
 pub sided_limits : (side : Side) (c : Controller) → IsWithinLimits c.cells → IsWithinLimits (sided side c).cells

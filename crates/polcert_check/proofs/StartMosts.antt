@@ -4,15 +4,18 @@ use mir.Syntax.{w128}
 use Rattle.std.proofs.lemmas.Int.{ints, to_z-of_z, fits_signed_from_abs}
 use Rattle.polcert_text.specs.Numbers.{largest}
 use Rattle.polcert_cells.specs.Meaning.{Meaning, states_of, start_weight, start_total}
+use Rattle.polcert_cells.specs.Tables.{table_of}
+use Rattle.polcert_policy.specs.Graphs.{PolicyGraph, nodes}
 use Rattle.polcert_policy.specs.Vectors.{PolicyVectors}
-use Rattle.polcert_check.specs.Horizon.{Controller, one, sum_below, step_scale, worth_sum}
+use Rattle.polcert_check.specs.Horizon.{Controller, Fits, controller_of, one, sum_below, step_scale, worth_sum}
 use Rattle.polcert_check.specs.Ranges.{IsController}
 use Rattle.polcert_check.specs.StartWorth.{start_sum, IsFloorQuotient, IsCeilQuotient}
-use Rattle.polcert_check.specs.StartMost.{StartPromiseAbove}
-use Rattle.polcert_check.specs.Above.{PromiseAbove}
+use Rattle.polcert_check.specs.StartMost.{IsStartMost, StartPromiseAbove}
+use Rattle.polcert_check.specs.Above.{PromiseAbove, PassesAbove}
 use Rattle.polcert_check.proofs.Ring.{linear, *ℤ_assoc, *ℤ_left_comm, mul_le, ≤ℤ_trans, ≤ℤ_from_eq}
 use Rattle.polcert_check.proofs.SumLaws.{sum_below_le, sum_below_scale}
 use Rattle.polcert_check.proofs.Mirrored.{neg_product}
+use Rattle.polcert_check.proofs.FromAbove.{promised_above}
 use Rattle.polcert_check.proofs.StartSums.{start_fits}
 
 -- ---- a quotient rounded up is that of the negative number rounded down
@@ -30,6 +33,23 @@ ceil_is sum total q h =
     let t : ℤ = pos total in (
       subst (λ (x : ℤ). sum ≤ℤ x) (sym (neg_product t q)) (turn_low sum (t *ℤ q) h.0),
       subst (λ (x : ℤ). x <ℤ sum) (sym (ap (λ (x : ℤ). t *ℤ x) (one_less q) ∙ neg_product t (q +ℤ pos 1))) (turn_high sum (t *ℤ (q +ℤ pos 1)) h.1),
+    )
+
+-- and back
+turn_up : (sum x : ℤ) → sum ≤ℤ x → neg_ℤ x ≤ℤ neg_ℤ sum
+turn_up sum x h = omega (arith, linear)
+
+turn_down : (sum x : ℤ) → x <ℤ sum → neg_ℤ sum <ℤ neg_ℤ x
+turn_down sum x h = omega (arith, linear)
+
+one_more : (q : ℤ) → neg_ℤ (q -ℤ pos 1) ≡ neg_ℤ q +ℤ pos 1
+one_more q = omega (arith, linear)
+
+pub floor_is_neg : (sum : ℤ) (total : ℕ) (q : ℤ) → IsCeilQuotient sum total q → IsFloorQuotient (neg_ℤ sum) total (neg_ℤ q)
+floor_is_neg sum total q h =
+    let t : ℤ = pos total in (
+      subst (λ (x : ℤ). x ≤ℤ neg_ℤ sum) (sym (neg_product t q)) (turn_up sum (t *ℤ q) h.0),
+      subst (λ (x : ℤ). neg_ℤ sum <ℤ x) (sym (neg_product t (q -ℤ pos 1)) ∙ ap (λ (x : ℤ). t *ℤ x) (one_more q)) (turn_down sum (t *ℤ (q -ℤ pos 1)) h.1),
     )
 
 -- ---- what the code negates
@@ -75,3 +95,10 @@ start_promise_above m c same promised best most greatest ceil k n nl =
       cut_runs = λ s sl some. (promised k n s nl sl).cut_runs;
       uncut_runs = start_all_above c promised (start_weight m) (start_total m) most n nl (subst (λ states. sums n states ≤ℤ (pos (start_total m) *ℤ most)) (sym same) mean) k;
     }
+
+-- the same of a graph and vectors that fit the model
+pub start_above : (m : Meaning) (graph : PolicyGraph) (v : PolicyVectors) → Fits (table_of m) graph v → IsController (controller_of (table_of m) graph v) → PassesAbove (controller_of (table_of m) graph v)
+    → (most : ℤ) → IsStartMost m v most → (k n : ℕ) → n < nodes graph → StartPromiseAbove m (controller_of (table_of m) graph v) k n most
+start_above m graph v fits proper passes most is =
+    let c : Controller = controller_of (table_of m) graph v in
+    start_promise_above m c refl (promised_above c proper passes) is.0 most (λ n nl. is.1.none_greater n (omega (arith, nl, fits.nodes_same))) is.2

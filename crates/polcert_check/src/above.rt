@@ -1,11 +1,10 @@
 //! The verdict from above: whether the vectors bound what a policy graph earns from above.
 ghost use Rattle.std.specs.Prelude.{◌≡◌, ℕ, ◌<◌, ◌≤ℤ◌};
-ghost use Rattle.polcert_cells.specs.Tables.{Table, IsProper, IsWithinLimits};
-ghost use Rattle.polcert_policy.specs.Graphs.{PolicyGraph, IsProperGraph, nodes};
+ghost use Rattle.polcert_policy.specs.Graphs.{nodes};
 ghost use Rattle.polcert_policy.specs.Vectors.{PolicyVectors, value_of};
-ghost use Rattle.polcert_check.specs.Horizon.{Controller, Fits, controller_of, one};
+ghost use Rattle.polcert_check.specs.Horizon.{Fits, controller_of, one};
 ghost use Rattle.polcert_check.specs.Shortfall.{Passes};
-ghost use Rattle.polcert_check.specs.Above.{PromiseAbove, MeetsEveryHorizonAbove, MeetsHorizonAbove, PairPassesAbove, PassesAbove, IsAboveVerdict, NamesSmallAmountAbove};
+ghost use Rattle.polcert_check.specs.Above.{MeetsHorizonAbove, IsAboveVerdict, NamesSmallAmountAbove};
 ghost use Rattle.polcert_check.specs.Mirrored.{above_of};
 
 use crate::certificate::Certificate;
@@ -84,9 +83,6 @@ pub fn check_above<C: Cells>(cells: &C, graph: &Graph, vectors: &Vectors) -> Abo
         Fits (C.table cells.now) graph.now low → Passes (controller_of (C.table cells.now) graph.now low) →
         (n s : ℕ) → n < nodes graph.now → s < (C.table cells.now).states → value_of low n s ≤ℤ value_of vectors.now n s }
 {
-    let nodes = graph.nodes();
-    let vector_count = vectors.nodes();
-    prove!(nodes == vector_count);
     check_above_watched(cells, graph, vectors, &mut Unwatched)
 }
 
@@ -101,24 +97,10 @@ pub fn check_above_watched<C: Cells, W: Watch>(
     ensures verdict { IsAboveVerdict (controller_of (C.table cells.now) graph.now vectors.now) result }
     ensures horizon { MeetsHorizonAbove (controller_of (C.table cells.now) graph.now vectors.now) result }
     ensures small { NamesSmallAmountAbove (controller_of (C.table cells.now) graph.now vectors.now) result }
+    ensures interval { (result ≡ AboveVerdict.Yes) → (C.table cells.now).discount < one → (low : PolicyVectors) →
+        Fits (C.table cells.now) graph.now low → Passes (controller_of (C.table cells.now) graph.now low) →
+        (n s : ℕ) → n < nodes graph.now → s < (C.table cells.now).states → value_of low n s ≤ℤ value_of vectors.now n s }
 {
     let certificate = Certificate::new(Side::Above, cells, graph, vectors);
     above_of(survey(&certificate, Aim::Check, watch).first)
 }
-
-/// Where every pair passes from above, the promise from above holds for every number of steps, with the vectors at the end and
-/// without; and where that of one step holds at a pair, the pair passes.
-pub fn promise_above_for_every_horizon()
-    ensures promised { (x : Table) (graph : PolicyGraph) (vectors : PolicyVectors) → IsProper x → IsProperGraph graph →
-        Fits x graph vectors → PassesAbove (controller_of x graph vectors) → MeetsEveryHorizonAbove (controller_of x graph vectors) }
-    ensures only_then { (c : Controller) (n s : ℕ) → PromiseAbove c 1 n s → PairPassesAbove c n s }
-{}
-
-/// Where the discount is below 1, vectors that pass from below are nowhere above vectors that pass from above: the two bound what
-/// the graph earns from both sides.
-pub fn bounds_are_an_interval()
-    ensures { (x : Table) (graph : PolicyGraph) (low high : PolicyVectors) → IsProper x → IsWithinLimits x → IsProperGraph graph →
-        Fits x graph low → Fits x graph high → x.discount < one →
-        Passes (controller_of x graph low) → PassesAbove (controller_of x graph high) →
-        (n s : ℕ) → n < nodes graph → s < x.states → value_of low n s ≤ℤ value_of high n s }
-{}

@@ -11,6 +11,7 @@ mod fault;
 mod findings;
 mod followed;
 mod laws;
+mod laws_above;
 mod lower;
 mod pairs;
 mod parts;
@@ -25,15 +26,16 @@ mod verdict;
 mod walk;
 mod watch;
 
-pub use above::{
-    AboveVerdict, bounds_are_an_interval, check_above, check_above_watched,
-    promise_above_for_every_horizon,
-};
+pub use above::{AboveVerdict, check_above, check_above_watched};
 pub use examples::{a_missing_successor, minus_one_for_each_step, runs_of_four_steps};
 pub use fault::{LowerFault, RaiseFault};
 pub use laws::{
     amounts_fit, one_best_start, one_list_of_runs, one_lowering, one_verdict,
     promise_for_every_horizon, same_cells_same_answers, same_models_same_answers,
+};
+pub use laws_above::{
+    bounds_are_an_interval, one_above_verdict, one_raising, one_start_most,
+    promise_above_for_every_horizon, same_cells_same_answers_above, same_models_same_answers_above,
 };
 pub use lower::{least_constant, lowered, lowered_watched};
 pub use parts::fits;

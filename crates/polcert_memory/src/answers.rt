@@ -1,9 +1,10 @@
 //! Calls of the answer: three texts, and each of the runs.
 use crate::ended::Ended;
 use polcert_answer::{
-    Fault, RunFault, check_texts, run_check, run_lower, run_model, run_print, status_of,
+    Fault, RunFault, check_texts, check_texts_above, run_check, run_check_above, run_lower,
+    run_model, run_print, run_raise, status_of,
 };
-use polcert_check::{LowerFault, Verdict};
+use polcert_check::{AboveVerdict, LowerFault, RaiseFault, Verdict};
 use polcert_model::ModelFault;
 use polcert_policy::{GraphFault, VectorFault};
 use polcert_text::{SliceSink, SliceSource};
@@ -30,8 +31,11 @@ const GRAPH: &[u8] = b"0 0 0 -";
 /// What the check of the value 0 writes.
 const BACKED: &[u8] = b"yes: start node 0, at least 0\n";
 
-/// The vectors that lowering writes.
-const LOWERED: &[u8] = b"0\n0\n\n";
+/// What the check from above of the value 0 writes.
+const BOUNDED: &[u8] = b"yes: every start node, at most 0\n";
+
+/// The vectors that lowering writes, and raising.
+const MOVED: &[u8] = b"0\n0\n\n";
 
 /// The most bytes that a run writes here.
 const ROOM: usize = 200;
@@ -45,12 +49,13 @@ fn is_memory(fault: Fault) -> bool {
     }
 }
 
-/// Whether a run stopped for want of memory (for one of the three texts, or for lowering), with the status of that and
+/// Whether a run stopped for want of memory (for one of the three texts, for lowering or for raising), with the status of that and
 /// with nothing written.
 fn is_memory_of_run(fault: RunFault, written: &[u8]) -> bool {
     let is_memory = match fault {
         RunFault::Text(fault) => is_memory(fault),
         RunFault::Lower(fault) => fault == LowerFault::Memory,
+        RunFault::Raise(fault) => fault == RaiseFault::Memory,
         _ => false,
     };
     is_memory && status_of(&fault) == 4 && written.is_empty()
@@ -60,6 +65,14 @@ fn is_memory_of_run(fault: RunFault, written: &[u8]) -> bool {
 pub fn three_texts(alloc: Global) -> Ended {
     match check_texts(alloc, MODEL, GRAPH, b"0 0") {
         Ok(verdict) => Ended::done(verdict == Verdict::Yes),
+        Err(fault) => Ended::memory(is_memory(fault)),
+    }
+}
+
+/// The value of 0 is not exceeded.
+pub fn three_texts_from_above(alloc: Global) -> Ended {
+    match check_texts_above(alloc, MODEL, GRAPH, b"0 0") {
+        Ok(verdict) => Ended::done(verdict == AboveVerdict::Yes),
         Err(fault) => Ended::memory(is_memory(fault)),
     }
 }
@@ -110,7 +123,40 @@ pub fn lowering(alloc: Global) -> Ended {
         &mut sink,
     );
     match result {
-        Ok(by) => Ended::done(by == 5_000_000 && sink.written() == LOWERED),
+        Ok(by) => Ended::done(by == 5_000_000 && sink.written() == MOVED),
+        Err(fault) => Ended::memory(is_memory_of_run(fault, sink.written())),
+    }
+}
+
+pub fn checking_from_above(alloc: Global) -> Ended {
+    let mut room = [0; ROOM];
+    let mut sink = SliceSink::new(&mut room);
+    let result = run_check_above(
+        alloc,
+        &mut SliceSource::new(MODEL),
+        &mut SliceSource::new(GRAPH),
+        &mut SliceSource::new(b"0 0"),
+        &mut sink,
+    );
+    match result {
+        Ok(verdict) => Ended::done(verdict == AboveVerdict::Yes && sink.written() == BOUNDED),
+        Err(fault) => Ended::memory(is_memory_of_run(fault, sink.written())),
+    }
+}
+
+/// The value of -5 is exceeded by one half of it.
+pub fn raising(alloc: Global) -> Ended {
+    let mut room = [0; ROOM];
+    let mut sink = SliceSink::new(&mut room);
+    let result = run_raise(
+        alloc,
+        &mut SliceSource::new(MODEL),
+        &mut SliceSource::new(GRAPH),
+        &mut SliceSource::new(b"0 -5"),
+        &mut sink,
+    );
+    match result {
+        Ok(by) => Ended::done(by == 5_000_000 && sink.written() == MOVED),
         Err(fault) => Ended::memory(is_memory_of_run(fault, sink.written())),
     }
 }

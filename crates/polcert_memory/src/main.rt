@@ -29,12 +29,17 @@ fn call(alloc: Global, name: &str) -> Option<Ended> {
         "filling_tables" => Some(reading::tables(alloc)),
         "reading_a_graph" => Some(reading::graph(alloc)),
         "reading_vectors" => Some(reading::vectors(alloc)),
+        "reading_vectors_up" => Some(reading::vectors_up(alloc)),
         "lowering_vectors" => Some(reading::lowering(alloc)),
+        "raising_vectors" => Some(reading::raising(alloc)),
         "answering_three_texts" => Some(answers::three_texts(alloc)),
+        "answering_three_texts_from_above" => Some(answers::three_texts_from_above(alloc)),
         "summing_up" => Some(answers::summing_up(alloc)),
         "printing" => Some(answers::printing(alloc)),
         "checking" => Some(answers::checking(alloc)),
         "lowering" => Some(answers::lowering(alloc)),
+        "checking_from_above" => Some(answers::checking_from_above(alloc)),
+        "raising" => Some(answers::raising(alloc)),
         _ => None,
     }
 }

@@ -1,8 +1,12 @@
 //! Calls of the libraries: texts read, tables filled, vectors lowered.
 use crate::ended::Ended;
-use polcert_check::{LowerFault, Verdict, check, fits, lowered};
+use polcert_check::{
+    AboveVerdict, LowerFault, RaiseFault, Verdict, check, check_above, fits, lowered, raised,
+};
 use polcert_model::{Cells, Kind, Model, ModelFault, dense_of, read_model};
-use polcert_policy::{Graph, GraphFault, VectorFault, Vectors, read_graph, read_vectors};
+use polcert_policy::{
+    Graph, GraphFault, VectorFault, Vectors, read_graph, read_vectors, read_vectors_up,
+};
 use polcert_text::{ReadFault, SliceSource, read_all};
 use std::alloc::{AllocError, Global};
 
@@ -94,6 +98,22 @@ pub fn vectors(alloc: Global) -> Ended {
     }
 }
 
+/// Vectors for the graph, rounded up.
+fn vectors_up_for(alloc: Global, graph: &Graph) -> Ended {
+    match read_vectors_up(alloc, b"0 -20.0000001 4.9999999", graph, 2) {
+        Ok(vectors) => Ended::done(has_values(&vectors, [-20_000_000, 5_000_000])),
+        Err(fault) => Ended::memory(fault == VectorFault::Memory),
+    }
+}
+
+/// A graph, and vectors for it, rounded up.
+pub fn vectors_up(alloc: Global) -> Ended {
+    match read_graph(alloc, GRAPH, 3, 2) {
+        Ok(graph) => vectors_up_for(alloc, &graph),
+        Err(fault) => Ended::memory(fault == GraphFault::Memory),
+    }
+}
+
 /// Whether the constant is 4, and the lowered vectors are backed.
 fn is_lowered(model: &Model, graph: &Graph, constant: i64, vectors: &Vectors) -> bool {
     constant == 4_000_000
@@ -131,6 +151,47 @@ fn lowering_on(alloc: Global, model: &Model) -> Ended {
 pub fn lowering(alloc: Global) -> Ended {
     match read_model(alloc, COST) {
         Ok(model) => lowering_on(alloc, &model),
+        Err(fault) => Ended::memory(fault == ModelFault::Memory),
+    }
+}
+
+/// Whether the constant is 3, and the raised vectors are not exceeded.
+fn is_raised(model: &Model, graph: &Graph, constant: i64, vectors: &Vectors) -> bool {
+    constant == 3_000_000
+        && fits(model, graph, vectors)
+        && check_above(model, graph, vectors) == AboveVerdict::Yes
+}
+
+/// Vectors that are raised, of a model and a graph that they fit.
+fn raising_of(alloc: Global, model: &Model, graph: &Graph, vectors: &Vectors) -> Ended {
+    if !fits(model, graph, vectors) {
+        return Ended::Wrong;
+    }
+    match raised(alloc, model, graph, vectors) {
+        Ok((constant, vectors)) => Ended::done(is_raised(model, graph, constant, &vectors)),
+        Err(fault) => Ended::memory(fault == RaiseFault::Memory),
+    }
+}
+
+/// A value of -5, where the next step comes to -3.5.
+fn raising_for(alloc: Global, model: &Model, graph: &Graph) -> Ended {
+    match read_vectors_up(alloc, b"0 -5", graph, 1) {
+        Ok(vectors) => raising_of(alloc, model, graph, &vectors),
+        Err(fault) => Ended::memory(fault == VectorFault::Memory),
+    }
+}
+
+/// One node, that leads to itself.
+fn raising_on(alloc: Global, model: &Model) -> Ended {
+    match read_graph(alloc, b"0 0 0", 1, 1) {
+        Ok(graph) => raising_for(alloc, model, &graph),
+        Err(fault) => Ended::memory(fault == GraphFault::Memory),
+    }
+}
+
+pub fn raising(alloc: Global) -> Ended {
+    match read_model(alloc, COST) {
+        Ok(model) => raising_on(alloc, &model),
         Err(fault) => Ended::memory(fault == ModelFault::Memory),
     }
 }

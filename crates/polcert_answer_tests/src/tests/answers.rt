@@ -14,11 +14,11 @@ pub const TIGER: &[u8] =
     b"discount: 0.95\nvalues: reward\nstates: tiger-left tiger-right\nactions: listen open-left open-right\nobservations: tiger-left tiger-right\nT: listen\nidentity\nT: open-left\nuniform\nT: open-right\nuniform\nO: listen\n0.85 0.15\n0.15 0.85\nO: open-left\nuniform\nO: open-right\nuniform\nR: listen : * : * : * -1\nR: open-left : tiger-left : * : * -100\nR: open-left : tiger-right : * : * 10\nR: open-right : tiger-left : * : * 10\nR: open-right : tiger-right : * : * -100\n";
 
 /// One state that keeps to itself: a cost of 1 for each step, at a discount of one half.
-const COST: &[u8] =
+pub const COST: &[u8] =
     b"discount: 0.5 values: cost states: 1 actions: 1 observations: 1 T: 0 identity O: 0 uniform R: 0 : 0 : 0 : 0 1";
 
 /// A loss of 1 for each step, at a discount of 1.
-const LOSS: &[u8] =
+pub const LOSS: &[u8] =
     b"discount: 1 values: reward states: 1 actions: 1 observations: 1 T: 0 identity O: 0 uniform R: 0 : 0 : 0 : 0 -1";
 
 /// No reward, at a discount of 1.
@@ -34,15 +34,15 @@ pub const ALWAYS_FIRST: &[u8] =
     b"discount: 0.5 values: reward states: 1 actions: 1 observations: 2 T: 0 identity O: 0 1 0";
 
 /// Two observations, of which either may come.
-const EITHER: &[u8] =
+pub const EITHER: &[u8] =
     b"discount: 0.5 values: reward states: 1 actions: 1 observations: 2 T: 0 identity O: 0 0.5 0.5";
 
 /// Two states that keep to themselves, without rewards, at a discount of 1.
-const TWO_STATES: &[u8] =
+pub const TWO_STATES: &[u8] =
     b"discount: 1 values: reward states: 2 actions: 1 observations: 1 T: 0 identity O: 0 uniform";
 
 /// An MDP of two states, each of which leads to the other; the step from the first is worth 1.
-const MDP: &[u8] =
+pub const MDP: &[u8] =
     b"discount: 0.5 values: reward states: left right actions: 1 T: 0 0 1 1 0 R: 0 : left : right 1";
 
 /// The texts of a model, of a graph and of its vectors.
@@ -245,7 +245,7 @@ fn refuses_to_lower(rt: HostRuntime) {
 }
 
 /// Texts, and the fault of the first that denotes nothing.
-const REFUSED: [(Texts<'static>, Fault); 20] = [
+pub const REFUSED: [(Texts<'static>, Fault); 20] = [
     (
         (b"discount: 2", b"", b""),
         Fault::Model(ModelFault::Item {

@@ -19,10 +19,10 @@ const LOWERED: &[u8] = b"0\n-20 -20\n\n";
 /// The devices of a run, with the number of the read or the write at which each of them fails.
 #[derive(Clone, Copy)]
 pub struct Failing {
-    model: Option<u64>,
-    graph: Option<u64>,
-    vectors: Option<u64>,
-    sink: Option<usize>,
+    pub model: Option<u64>,
+    pub graph: Option<u64>,
+    pub vectors: Option<u64>,
+    pub sink: Option<usize>,
 }
 
 pub const SOUND: Failing = Failing {
@@ -96,7 +96,7 @@ fn printing_fails_at_each_write(rt: HostRuntime) {
 }
 
 /// What fails at the read of this number of one of the three sources, and the fault.
-fn failing_source(source: u8, read: u64) -> (Failing, RunFault) {
+pub fn failing_source(source: u8, read: u64) -> (Failing, RunFault) {
     let at = Some(read);
     match source {
         0 => (Failing { model: at, ..SOUND }, RunFault::ReadModel),

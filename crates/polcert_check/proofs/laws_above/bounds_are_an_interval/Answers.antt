@@ -4,7 +4,7 @@ use Rattle.polcert_check.proofs.Certificates.{controller_is}
 use Rattle.polcert_check.proofs.Scales.{scales}
 use Rattle.polcert_check.proofs.Verdicts.{positive_product}
 use Rattle.polcert_check.proofs.Interval.{never_above}
-use Rattle.polcert_check.proofs.above.bounds_are_an_interval.Goals as goal
+use Rattle.polcert_check.proofs.laws_above.bounds_are_an_interval.Goals as goal
 
 pub returns : goal.returns
 returns c = λ x graph low high proper limits known fits_low fits_high less below above n s nl sl.

@@ -1,7 +1,7 @@
 use Rattle.polcert_check.specs.Horizon.{controller_of}
 use Rattle.polcert_check.proofs.Certificates.{controller_is}
 use Rattle.polcert_check.proofs.FromAbove.{horizons_above, passes_if_promised_above}
-use Rattle.polcert_check.proofs.above.promise_above_for_every_horizon.Goals as goal
+use Rattle.polcert_check.proofs.laws_above.promise_above_for_every_horizon.Goals as goal
 
 pub returns : goal.returns
 returns c = record {

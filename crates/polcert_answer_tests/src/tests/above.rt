@@ -1,0 +1,277 @@
+//! Worked rows from above: what three texts answer, what is printed of it, and what raising gives.
+use super::answers::{
+    ALWAYS_FIRST, COST, EITHER, LOSS, MDP, REFUSED, TIGER, TWO_STATES, Texts, answer,
+};
+use super::devices::{Failing, SOUND, failing_source};
+use super::{OneByte, Pieces};
+use polcert_answer::{
+    Fault, RunFault, check_texts_above, run_check_above, run_raise, status_of,
+    status_of_above_verdict,
+};
+use polcert_check::{AboveVerdict, RaiseFault, Verdict};
+use std::alloc::Global;
+
+/// One state that keeps to itself: 1 for each step, at a discount of 1.
+const GAIN: &[u8] =
+    b"discount: 1 values: reward states: 1 actions: 1 observations: 1 T: 0 identity O: 0 uniform R: 0 : 0 : 0 : 0 1";
+
+/// The greatest gain, at the greatest discount below 1.
+const GREAT_GAIN: &[u8] =
+    b"discount: 0.999999 values: reward states: 1 actions: 1 observations: 1 T: 0 identity O: 0 uniform R: 0 : 0 : 0 : 0 10000000";
+
+/// A value of listening for a tiger that is too low, and what is said of it.
+const BELOW: Texts<'static> = (TIGER, b"0 0 0 0", b"0 -20.000001 -20.000001");
+
+const LONG: &[u8] = b"no: node 0, state 0, long by 0.000001\n";
+
+const RAISED: &[u8] = b"0\n-20 -20\n\n";
+
+/// What a run of a check from above answers, over devices that give and take a byte at a time and may fail, and what it wrote.
+fn checked(
+    alloc: Global,
+    texts: Texts<'_>,
+    failing: Failing,
+) -> (Result<AboveVerdict, RunFault>, OneByte) {
+    let mut model = Pieces::new(texts.0, 1, failing.model);
+    let mut graph = Pieces::new(texts.1, 1, failing.graph);
+    let mut vectors = Pieces::new(texts.2, 1, failing.vectors);
+    let mut sink = OneByte::new(failing.sink);
+    let result = run_check_above(alloc, &mut model, &mut graph, &mut vectors, &mut sink);
+    (result, sink)
+}
+
+/// What a run of raising answers, over such devices, and what it wrote.
+fn raised(alloc: Global, texts: Texts<'_>, failing: Failing) -> (Result<i64, RunFault>, OneByte) {
+    let mut model = Pieces::new(texts.0, 1, failing.model);
+    let mut graph = Pieces::new(texts.1, 1, failing.graph);
+    let mut vectors = Pieces::new(texts.2, 1, failing.vectors);
+    let mut sink = OneByte::new(failing.sink);
+    let result = run_raise(alloc, &mut model, &mut graph, &mut vectors, &mut sink);
+    (result, sink)
+}
+
+/// The answer from above to the texts.
+fn answer_above(alloc: Global, texts: Texts<'_>) -> Result<AboveVerdict, Fault> {
+    check_texts_above(alloc, texts.0, texts.1, texts.2)
+}
+
+fn long(amount: i128) -> AboveVerdict {
+    AboveVerdict::Long {
+        node: 0,
+        state: 0,
+        amount,
+    }
+}
+
+/// Texts, their verdict from above, its exit status, and its line.
+#[test]
+fn answers_from_above(rt: HostRuntime) {
+    let lack = AboveVerdict::NoSuccessor {
+        node: 0,
+        state: 0,
+        observation: 1,
+    };
+    let rows: [(Texts<'_>, AboveVerdict, u8, &[u8]); 13] = [
+        (
+            (TIGER, b"0 0 0 0", b"0 -20 -20"),
+            AboveVerdict::Yes,
+            0,
+            b"yes: every start node, at most -20\n",
+        ),
+        (
+            (
+                TIGER,
+                b"0 0 0 0",
+                b"0 -19.9999999999999964 -19.9999999999999964",
+            ),
+            AboveVerdict::Yes,
+            0,
+            b"yes: every start node, at most -19.999999\n",
+        ),
+        (BELOW, long(200_000_000_000_000_000), 1, LONG),
+        (
+            (GAIN, b"0 0 0", b"0 5"),
+            long(1_000_000_000_000_000_000_000_000),
+            1,
+            b"no: node 0, state 0, long by 1\n",
+        ),
+        (
+            (GREAT_GAIN, b"0 0 0", b"0 0"),
+            long(10_000_000_000_000_000_000_000_000_000_000),
+            1,
+            b"no: node 0, state 0, long by 10000000\n",
+        ),
+        (
+            (COST, b"0 0 0", b"0 -2"),
+            AboveVerdict::Yes,
+            0,
+            b"yes: every start node, at most -2\n",
+        ),
+        (
+            (COST, b"0 0 0", b"0 -5"),
+            long(1_500_000_000_000_000_000_000_000),
+            1,
+            b"no: node 0, state 0, long by 1.5\n",
+        ),
+        (
+            (LOSS, b"0 0 0", b"0 5"),
+            AboveVerdict::Yes,
+            0,
+            b"yes: every start node, at most 5\n",
+        ),
+        (
+            (MDP, b"0 0 0 0", b"0 1.3333333 0.6666667"),
+            AboveVerdict::Yes,
+            0,
+            b"yes: every start node, at most 1.000001\n",
+        ),
+        (
+            (TWO_STATES, b"0 0 0", b"0 -0.000001 -0.000002"),
+            AboveVerdict::Yes,
+            0,
+            b"yes: every start node, at most -0.000001\n",
+        ),
+        (
+            (TWO_STATES, b"0 0 0 1 0 1", b"0 1 1 0 2 2"),
+            AboveVerdict::Yes,
+            0,
+            b"yes: every start node, at most 2\n",
+        ),
+        (
+            (ALWAYS_FIRST, b"0 0 0 -", b"0 0"),
+            AboveVerdict::Yes,
+            0,
+            b"yes: every start node, at most 0\n",
+        ),
+        (
+            (EITHER, b"0 0 0 -", b"0 -5"),
+            lack,
+            1,
+            b"no: node 0, state 0, observation 1 has no successor\n",
+        ),
+    ];
+    for (texts, verdict, status, line) in rows {
+        assert_eq!(rt; answer_above(rt.alloc(), texts), Ok(verdict));
+        assert_eq!(rt; status_of_above_verdict(verdict), status);
+        let (result, sink) = checked(rt.alloc(), texts, SOUND);
+        assert_eq!(rt; result, Ok(verdict));
+        assert_eq!(rt; sink.taken(), line);
+    }
+}
+
+/// The answer from above to a model, a graph and the written text is yes.
+#[test]
+fn raises(rt: HostRuntime) {
+    let rows: [(Texts<'_>, i64, &[u8]); 5] = [
+        (BELOW, 1, RAISED),
+        ((TIGER, b"0 0 0 0", b"0 -20 -20"), 0, RAISED),
+        ((COST, b"0 0 0", b"0 -5"), 3_000_000, b"0\n-2\n\n"),
+        (
+            (MDP, b"0 0 0 0", b"0 1.333333 0.666666"),
+            1,
+            b"0\n1.333334 0.666667\n\n",
+        ),
+        (
+            (MDP, b"0 0 0 0", b"0 1.3333333 0.6666667"),
+            0,
+            b"0\n1.333334 0.666667\n\n",
+        ),
+    ];
+    for (texts, by, text) in rows {
+        let (result, sink) = raised(rt.alloc(), texts, SOUND);
+        assert_eq!(rt; result, Ok(by));
+        assert_eq!(rt; sink.taken(), text);
+        let given_back = (texts.0, texts.1, sink.taken());
+        assert_eq!(rt; answer_above(rt.alloc(), given_back), Ok(AboveVerdict::Yes));
+    }
+}
+
+#[test]
+fn refuses_to_raise(rt: HostRuntime) {
+    let rows: [(Texts<'_>, RaiseFault); 3] = [
+        (
+            (GAIN, b"0 0 0", b"0 5"),
+            RaiseFault::NoConstant {
+                node: 0,
+                state: 0,
+                amount: 1_000_000_000_000_000_000_000_000,
+            },
+        ),
+        ((GREAT_GAIN, b"0 0 0", b"0 0"), RaiseFault::OutOfRange),
+        (
+            (EITHER, b"0 0 0 -", b"0 0"),
+            RaiseFault::NoSuccessor {
+                node: 0,
+                state: 0,
+                observation: 1,
+            },
+        ),
+    ];
+    for (texts, fault) in rows {
+        let (result, sink) = raised(rt.alloc(), texts, SOUND);
+        assert_eq!(rt; result, Err(RunFault::Raise(fault)));
+        assert_eq!(rt; status_of(&RunFault::Raise(fault)), 1);
+        assert_eq!(rt; sink.taken().len(), 0);
+    }
+    assert_eq!(rt; status_of(&RunFault::Raise(RaiseFault::Memory)), 4);
+}
+
+/// What rounds to a yes from below and to a yes from above.
+#[test]
+fn the_same_file_from_both_sides(rt: HostRuntime) {
+    let texts: Texts<'_> = (MDP, b"0 0 0 0", b"0 1.3333333 0.6666667");
+    assert_eq!(rt; answer(rt.alloc(), texts), Ok(Verdict::Yes));
+    assert_eq!(rt; answer_above(rt.alloc(), texts), Ok(AboveVerdict::Yes));
+}
+
+/// The first text that denotes nothing is refused, and nothing is written.
+#[test]
+fn refuses_texts_from_above(rt: HostRuntime) {
+    for (texts, fault) in REFUSED {
+        assert_eq!(rt; answer_above(rt.alloc(), texts), Err(fault));
+        let (result, sink) = checked(rt.alloc(), texts, SOUND);
+        assert_eq!(rt; result, Err(RunFault::Text(fault)));
+        assert_eq!(rt; sink.taken().len(), 0);
+        let (result, sink) = raised(rt.alloc(), texts, SOUND);
+        assert_eq!(rt; result, Err(RunFault::Text(fault)));
+        assert_eq!(rt; sink.taken().len(), 0);
+    }
+}
+
+#[test]
+fn runs_from_above_fail_at_each_read(rt: HostRuntime) {
+    let sources = [(0u8, BELOW.0.len()), (1, BELOW.1.len()), (2, BELOW.2.len())];
+    for (source, len) in sources {
+        for read in 0..=len as u64 {
+            let (failing, fault) = failing_source(source, read);
+            let (result, sink) = checked(rt.alloc(), BELOW, failing);
+            assert_eq!(rt; result, Err(fault), "read {read}");
+            assert_eq!(rt; sink.taken().len(), 0);
+            let (result, sink) = raised(rt.alloc(), BELOW, failing);
+            assert_eq!(rt; result, Err(fault), "read {read}");
+            assert_eq!(rt; sink.taken().len(), 0);
+        }
+    }
+}
+
+#[test]
+fn runs_from_above_fail_at_each_write(rt: HostRuntime) {
+    for write in 0..LONG.len() {
+        let failing = Failing {
+            sink: Some(write),
+            ..SOUND
+        };
+        let (result, sink) = checked(rt.alloc(), BELOW, failing);
+        assert_eq!(rt; result, Err(RunFault::Write), "write {write}");
+        assert_eq!(rt; sink.taken(), &LONG[..write]);
+    }
+    for write in 0..RAISED.len() {
+        let failing = Failing {
+            sink: Some(write),
+            ..SOUND
+        };
+        let (result, sink) = raised(rt.alloc(), BELOW, failing);
+        assert_eq!(rt; result, Err(RunFault::Write), "write {write}");
+        assert_eq!(rt; sink.taken(), &RAISED[..write]);
+    }
+}

@@ -1,0 +1,8 @@
+use Rattle.polcert_check.proofs.SameAbove as same
+use Rattle.polcert_check.proofs.laws_above.same_models_same_answers_above.Goals as goal
+
+pub returns : goal.returns
+returns c = record {
+  start_most = same.same_start_most;
+  start_promise = same.same_start_promise_above;
+}
