@@ -1,13 +1,14 @@
-use Rattle.std.proofs.Common.{◌≡◌, ℕ, ℤ, refl, sym, subst, rules, to_z, of_z, w64, to_z-of_z, FitsSigned}
+use Rattle.std.proofs.Common.{◌≡◌, ◌*◌, ℕ, ℤ, refl, sym, subst, rules, to_z, of_z, w64, to_z-of_z, FitsSigned}
+use mir.Syntax.{w128}
 use Rattle.polcert_cells.specs.Meaning.{Meaning}
 use Rattle.polcert_cells.specs.Tables.{table_of}
 use Rattle.polcert_model.specs.Contents.{meaning}
 use Rattle.polcert_policy.specs.Vectors.{PolicyVectors}
 use Rattle.polcert_check.specs.declared.verdict.Verdict.{Verdict}
-use Rattle.polcert_check.specs.declared.verdict.Verdict.TheVariants.{Yes}
-use Rattle.polcert_check.specs.Horizon.{Controller, controller_of}
-use Rattle.polcert_check.specs.StartWorth.{IsBestStart, IsStartWorth}
-use Rattle.polcert_answer.specs.Lines.{yes_line, IsVerdictLine}
+use Rattle.polcert_check.specs.declared.verdict.Verdict.TheVariants.{Yes, Short}
+use Rattle.polcert_check.specs.Horizon.{Controller, controller_of, step_scale, one}
+use Rattle.polcert_check.specs.StartWorth.{IsBestStart, IsStartWorth, IsCeilQuotient}
+use Rattle.polcert_answer.specs.Lines.{yes_line, short_line, IsVerdictLine}
 use Rattle.polcert_answer.proofs.lines.write_verdict_line.Goals as goal
 
 -- the line of a yes
@@ -27,4 +28,25 @@ returns-in-Yes g c =
       is_line = line_of_yes m (controller_of (table_of m) c.args.graph.now v) v c.args.verdict best.0 best.1 c.in-Yes.is
           c.start_worth-node.ensures.node c.start_worth-node.ensures.worth;
       written = rw back at c.write_yes.ensures;
+    }
+
+-- the line of a no for an amount
+line_of_short : (m : Meaning) (c : Controller) (v : PolicyVectors) (verdict : Verdict) (n s : ℕ) (amount by : ℤ) → verdict ≡ Short n s amount
+    → IsCeilQuotient amount (step_scale c * one) by → IsVerdictLine m c v verdict (short_line n s by)
+line_of_short m c v verdict n s amount by same quotient = subst (λ u. IsVerdictLine m c v u (short_line n s by)) (sym same) (by, quotient, refl)
+
+pub returns-in-Short : goal.returns-in-Short
+returns-in-Short g c =
+    let m = meaning c.args.model.now in
+    let v = c.args.vectors.now in
+    let by = c.millionths_short-by.result in
+    let fits : FitsSigned w64 by = search rules in
+    let back : to_z w64 (of_z w64 by) ≡ by = to_z-of_z fits in
+    let fits_amount : FitsSigned w128 c.in-Short.amount = search rules in
+    let amount_back : to_z w128 (of_z w128 c.in-Short.amount) ≡ c.in-Short.amount = to_z-of_z fits_amount in
+    record {
+      line = _;
+      is_line = line_of_short m (controller_of (table_of m) c.args.graph.now v) v c.args.verdict c.in-Short.node c.in-Short.state c.in-Short.amount by c.in-Short.is
+          (rw amount_back at c.millionths_short-by.ensures);
+      written = rw back at c.write_amount.ensures;
     }
