@@ -1,8 +1,9 @@
 #!/usr/bin/env python3
-"""python3 picture.py TITLE STATE STATE ACTIONS < M.lowered.alpha > M.svg: what each node is worth over the belief.
+"""python3 picture.py TITLE STATE STATE ACTIONS M.lowered.alpha M.raised.alpha > M.svg: what each node is worth over the belief.
 
 For a model of two states. STATE is a state's name, ACTIONS the names of the actions with commas between. The values are
-those that polcert certified; the worth of a node at a belief is the line between its two values.
+those that polcert certified, from below and from above; the worth of a node at a belief lies between two lines, each between
+the two values of one file.
 """
 import sys
 
@@ -45,8 +46,9 @@ def spread(places, gap, last):
     return moved
 
 
-def picture(title, states, actions, vectors):
-    values = [value for _, *both in vectors for value in both]
+def picture(title, states, actions, lowered, raised):
+    values = [value for _, *both in lowered + raised for value in both]
+    apart = max(above - below for (_, *least), (_, *most) in zip(lowered, raised) for below, above in zip(least, most))
     step = round_step(max(values) - min(values))
     low = step * int(min(values) / step - (min(values) < 0))
     high = step * (int(max(values) / step) + 1)
@@ -57,7 +59,9 @@ def picture(title, states, actions, vectors):
         f'<svg xmlns="http://www.w3.org/2000/svg" viewBox="0 0 {WIDTH} {HEIGHT}" width="{WIDTH}" height="{HEIGHT}"'
         ' font-family="sans-serif" font-size="14">',
         f'<rect width="{WIDTH}" height="{HEIGHT}" fill="white"/>',
-        f'<text x="{LEFT}" y="28" font-size="17">{title}</text>',
+        f'<text x="{LEFT}" y="25" font-size="17">{title}</text>',
+        f'<text x="{LEFT}" y="43" font-size="13" fill="#555555">two lines each, from below and from above,'
+        f" at most {label(apart)} apart</text>",
     ]
     for i in range(round((high - low) / step) + 1):
         value = low + i * step
@@ -73,23 +77,29 @@ def picture(title, states, actions, vectors):
         f'<text x="{across(0.5):.1f}" y="{bottom + 48}" text-anchor="middle">probability of {states[1]}'
         f" (0 is surely {states[0]})</text>"
     )
-    named = spread([down(second) for _, _, second in vectors], 19, bottom - 2)
-    for n, (action, first, second) in enumerate(vectors):
+    named = spread([down(second) for _, _, second in lowered], 19, bottom - 2)
+    for n, (least, most) in enumerate(zip(lowered, raised)):
         colour = COLOURS[n % len(COLOURS)]
         dash = f' stroke-dasharray="{DASHES[n % len(DASHES)]}"' if n % len(DASHES) else ""
-        out.append(
-            f'<path d="M{LEFT} {down(first):.1f}L{right} {down(second):.1f}" stroke="{colour}" stroke-width="2.5"'
-            f' fill="none"{dash}/>'
-        )
-        out.append(f'<path d="M{right} {down(second):.1f}L{right + 18} {named[n]:.1f}H{right + 44}" stroke="{colour}"'
+        for _, first, second in (least, most):
+            out.append(
+                f'<path d="M{LEFT} {down(first):.1f}L{right} {down(second):.1f}" stroke="{colour}" stroke-width="2.5"'
+                f' fill="none"{dash}/>'
+            )
+        out.append(f'<path d="M{right} {down(least[2]):.1f}L{right + 18} {named[n]:.1f}H{right + 44}" stroke="{colour}"'
                    f' stroke-width="2.5" fill="none"{dash}/>')
-        out.append(f'<text x="{right + 50}" y="{named[n] + 5:.1f}" fill="{colour}">node {n}: {actions[action]}</text>')
+        out.append(f'<text x="{right + 50}" y="{named[n] + 5:.1f}" fill="{colour}">node {n}: {actions[least[0]]}</text>')
     return "\n".join([*out, "</svg>"])
 
 
-def main(title, first, second, actions):
-    print(picture(title, [first, second], actions.split(","), read_vectors(sys.stdin.read())))
+def read_file(name):
+    with open(name) as file:
+        return read_vectors(file.read())
+
+
+def main(title, first, second, actions, lowered, raised):
+    print(picture(title, [first, second], actions.split(","), read_file(lowered), read_file(raised)))
 
 
 if __name__ == "__main__":
-    controller.run(main, "python3 picture.py TITLE STATE STATE ACTIONS < M.lowered.alpha > M.svg", 4)
+    controller.run(main, "python3 picture.py TITLE STATE STATE ACTIONS M.lowered.alpha M.raised.alpha > M.svg", 6)

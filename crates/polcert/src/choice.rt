@@ -2,7 +2,7 @@
 ghost use Rattle.std.specs.Prelude.{◌≡◌, ℕ, List, false, IfOk, map, option_map};
 ghost use Rattle.clap.specs.Words.{FailsBy, app_of, fault_of, found_of, first_of, rows_of, rule_of, subcommand_of, subcommand_rows_of};
 ghost use Rattle.clap.specs.declared.builder.Command.TheViews.{out-Command};
-ghost use Rattle.polcert.specs.Words.{the_app, file_rule, one_file, three_files, chosen, chosen_of, names_in, names_view, view_of};
+ghost use Rattle.polcert.specs.Words.{the_app, at_most_rule, check_app, file_rule, one_file, three_files, bounds_above, chosen, chosen_of, names_in, names_view, view_of};
 
 use clap::{Arg, ArgAction, ArgMatches, Command, Error};
 use std::alloc::{AllocError, Global};
@@ -24,8 +24,12 @@ pub enum Choice<'a> {
     Print(&'a str),
     /// Check the vectors of a graph for a model.
     Check(Names<'a>),
+    /// Check that the vectors bound from above what the graph earns.
+    CheckAbove(Names<'a>),
     /// Lower the vectors so that they pass the check.
     Lower(Names<'a>),
+    /// Raise the vectors so that they pass the check from above.
+    Raise(Names<'a>),
 }
 
 /// What the words ask for, of which the first is the program's name. None where a file's name isn't there.
@@ -50,13 +54,15 @@ pub fn choose<'a>(alloc: Global, words: &'a [&'a str]) -> Result<Option<Choice<'
 /// What the help of the program ends with.
 const CERTIFICATE: &str = "Without a command a model on standard input is summed up, as by `model`.
 
-From a solver's files to a certificate:
+From a solver's files to a certificate from below, and to one from above:
   polcert lower tiger.POMDP tiger.pg tiger.alpha > tiger.lowered.alpha
   polcert check tiger.POMDP tiger.pg tiger.lowered.alpha
+  polcert raise tiger.POMDP tiger.pg tiger.alpha > tiger.raised.alpha
+  polcert check --at-most tiger.POMDP tiger.pg tiger.raised.alpha
 
-Exit status: 0 done, or the answer is yes; 1 it is no, or nothing can be lowered;
-2 a file or the command line is refused; 3 a file cannot be read, or the output
-not be written; 4 out of memory.";
+Exit status: 0 done, or the answer is yes; 1 it is no, or nothing can be lowered
+or raised; 2 a file or the command line is refused; 3 a file cannot be read, or
+the output not be written; 4 out of memory.";
 
 const MODEL_EXAMPLE: &str = "Example:
   $ polcert model tiger.POMDP
@@ -70,17 +76,30 @@ Example:
 
 const CHECK_EXAMPLE: &str = "A yes holds for every number of steps, from every node and every state.
 
+A bound from below does not say how much more the graph may earn. With --at-most
+the vectors, rounded up, bound it from above, so that both bounds together are an
+interval. Another graph may earn more. Under `values: cost`, where worth is minus
+the cost, a bound from above bounds the costs from below.
+
 Example:
   $ polcert check tiger.POMDP tiger.pg tiger.alpha
   no: node 1, state 0, short by 0.000001
   $ polcert check tiger.POMDP tiger.pg tiger.lowered.alpha
-  yes: start node 0, at least 19.37136";
+  yes: start node 0, at least 19.37136
+  $ polcert check --at-most tiger.POMDP tiger.pg tiger.raised.alpha
+  yes: every start node, at most 19.371377";
 
 const LOWER_EXAMPLE: &str = "The vectors go to standard output, the constant to standard error.
 
 Example:
   $ polcert lower tiger.POMDP tiger.pg tiger.alpha > tiger.lowered.alpha
   lowered by 0.000008";
+
+const RAISE_EXAMPLE: &str = "The vectors go to standard output, the constant to standard error.
+
+Example:
+  $ polcert raise tiger.POMDP tiger.pg tiger.alpha > tiger.raised.alpha
+  raised by 0.000009";
 
 /// The program's command, with its subcommands.
 fn program_command<'a>(alloc: Global) -> Result<Command<'a>, AllocError>
@@ -93,17 +112,18 @@ fn program_command<'a>(alloc: Global) -> Result<Command<'a>, AllocError>
         MODEL_EXAMPLE,
     )?;
     let print = command_with_file(alloc, "print", "Print a model in full form", PRINT_EXAMPLE)?;
-    let check = command_with_files(
-        alloc,
-        "check",
-        "Check exactly what a policy graph and its vectors promise for a model",
-        CHECK_EXAMPLE,
-    )?;
+    let check = check_command(alloc)?;
     let lower = command_with_files(
         alloc,
         "lower",
         "Print the vectors, lowered by the least constant by which they pass the check",
         LOWER_EXAMPLE,
+    )?;
+    let raise = command_with_files(
+        alloc,
+        "raise",
+        "Print the vectors, raised by the least constant by which they pass `check --at-most`",
+        RAISE_EXAMPLE,
     )?;
     Command::new(alloc, "polcert")
         .version("1.0.0")
@@ -112,7 +132,22 @@ fn program_command<'a>(alloc: Global) -> Result<Command<'a>, AllocError>
         .subcommand(model)?
         .subcommand(print)?
         .subcommand(check)?
-        .subcommand(lower)
+        .subcommand(lower)?
+        .subcommand(raise)
+}
+
+/// The subcommand that checks, with the flag of a check from above.
+fn check_command<'a>(alloc: Global) -> Result<Command<'a>, AllocError>
+    ensures app { IfOk result (λ command. app_of command ≡ check_app) }
+    ensures local { IfOk result (λ command. (out-Command command).has_globals ≡ false) }
+{
+    command_with_files(
+        alloc,
+        "check",
+        "Check exactly what a policy graph and its vectors promise for a model",
+        CHECK_EXAMPLE,
+    )?
+    .arg(at_most(alloc))
 }
 
 /// A subcommand that takes the name of a model's file.
@@ -166,6 +201,17 @@ fn file<'a>(alloc: Global, id: &'a str, help: &'a str) -> Arg<'a>
     Arg::new(alloc, id).action(ArgAction::Set).help(help)
 }
 
+/// The flag of a check from above.
+fn at_most<'a>(alloc: Global) -> Arg<'a>
+    ensures rule { rule_of result ≡ at_most_rule }
+    ensures local { result.global ≡ false }
+{
+    Arg::new(alloc, "at-most")
+        .long("at-most")
+        .action(ArgAction::SetTrue)
+        .help("Check that the vectors, rounded up, bound what the graph earns from above")
+}
+
 /// The choice of a subcommand and its matches.
 fn choice_of<'a>(matches: &ArgMatches<'a>) -> Option<Choice<'a>>
     ensures { option_map view_of result ≡ chosen (subcommand_rows_of matches.now) }
@@ -183,9 +229,21 @@ fn named_choice<'a>(name: &str, inner: &ArgMatches<'a>) -> Option<Choice<'a>>
     match name {
         "model" => Some(Choice::Model(Some(value_of(inner, "FILE")?))),
         "print" => Some(Choice::Print(value_of(inner, "FILE")?)),
+        "check" if is_above(inner) => Some(Choice::CheckAbove(names_of(inner)?)),
         "check" => Some(Choice::Check(names_of(inner)?)),
         "lower" => Some(Choice::Lower(names_of(inner)?)),
+        "raise" => Some(Choice::Raise(names_of(inner)?)),
         _ => None,
+    }
+}
+
+/// Whether the flag of a check from above was given.
+fn is_above(inner: &ArgMatches<'_>) -> bool
+    ensures { result ≡ bounds_above (rows_of (found_of inner.now)) }
+{
+    match value_of(inner, "at-most") {
+        Some("true") => true,
+        _ => false,
     }
 }
 

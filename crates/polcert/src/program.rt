@@ -3,11 +3,11 @@ ghost use Rattle.std.specs.Prelude.{◌≡◌};
 
 use crate::choice::{Choice, Names, choose};
 use crate::progress::Progress;
-use crate::refusal::{LoweredLine, RefusalLine};
+use crate::refusal::{LoweredLine, RaisedLine, RefusalLine};
 use clap::error::ErrorKind;
 use polcert_answer::{
-    RunFault, run_check_watched, run_lower_watched, run_model, run_print, status_of,
-    status_of_verdict,
+    RunFault, run_check_above_watched, run_check_watched, run_lower_watched, run_model, run_print,
+    run_raise_watched, status_of, status_of_above_verdict, status_of_verdict,
 };
 use polcert_text::{ReaderSource, WriterSink};
 use std::alloc::AllocError;
@@ -27,7 +27,8 @@ const CANNOT_WRITE: u8 = 3;
 /// The exit status where there is no memory for the command line.
 const MEMORY: u8 = 4;
 
-/// Does what the command line asks for, and answers the exit status. A long check or lowering says how far it is, where that is wanted.
+/// Does what the command line asks for, and answers the exit status. A long check, lowering or raising says how far it is, where that is
+/// wanted.
 pub fn run_program<R: Env + Files + Clock + AllocGlobal + Input + Print + Eprint>(
     rt: &R,
     shows_progress: bool,
@@ -85,7 +86,9 @@ fn run_choice<R: Files + Clock + AllocGlobal + Input + Print + Eprint>(
         Choice::Model(Some(name)) => sum_up_file(rt, name),
         Choice::Print(name) => print_file(rt, name),
         Choice::Check(names) => check_files(rt, shows_progress, names),
+        Choice::CheckAbove(names) => check_files_above(rt, shows_progress, names),
         Choice::Lower(names) => lower_files(rt, shows_progress, names),
+        Choice::Raise(names) => raise_files(rt, shows_progress, names),
     };
     match done {
         Ok(status) => status,
@@ -126,20 +129,38 @@ fn check_files<R: Files + Clock + AllocGlobal + Print + Eprint>(
     shows_progress: bool,
     names: Names<'_>,
 ) -> Result<u8, RunFault> {
-    let mut model = opened(rt, names.model, RunFault::ReadModel)?;
-    let mut graph = opened(rt, names.graph, RunFault::ReadGraph)?;
-    let mut vectors = opened(rt, names.vectors, RunFault::ReadVectors)?;
+    let mut files = opened_files(rt, names)?;
     let mut sink = WriterSink::new(io::writer(rt));
     let mut progress = Progress::new(rt, shows_progress);
     let verdict = run_check_watched(
         rt.alloc(),
-        &mut model,
-        &mut graph,
-        &mut vectors,
+        &mut files.model,
+        &mut files.graph,
+        &mut files.vectors,
         &mut sink,
         &mut progress,
     )?;
     Ok(status_of_verdict(verdict))
+}
+
+/// Checks that the vectors of a graph bound from above what it earns.
+fn check_files_above<R: Files + Clock + AllocGlobal + Print + Eprint>(
+    rt: &R,
+    shows_progress: bool,
+    names: Names<'_>,
+) -> Result<u8, RunFault> {
+    let mut files = opened_files(rt, names)?;
+    let mut sink = WriterSink::new(io::writer(rt));
+    let mut progress = Progress::new(rt, shows_progress);
+    let verdict = run_check_above_watched(
+        rt.alloc(),
+        &mut files.model,
+        &mut files.graph,
+        &mut files.vectors,
+        &mut sink,
+        &mut progress,
+    )?;
+    Ok(status_of_above_verdict(verdict))
 }
 
 /// Lowers the vectors of a graph so that they pass the check, and says by how much.
@@ -148,21 +169,57 @@ fn lower_files<R: Files + Clock + AllocGlobal + Print + Eprint>(
     shows_progress: bool,
     names: Names<'_>,
 ) -> Result<u8, RunFault> {
-    let mut model = opened(rt, names.model, RunFault::ReadModel)?;
-    let mut graph = opened(rt, names.graph, RunFault::ReadGraph)?;
-    let mut vectors = opened(rt, names.vectors, RunFault::ReadVectors)?;
+    let mut files = opened_files(rt, names)?;
     let mut sink = WriterSink::new(io::writer(rt));
     let mut progress = Progress::new(rt, shows_progress);
     let by = run_lower_watched(
         rt.alloc(),
-        &mut model,
-        &mut graph,
-        &mut vectors,
+        &mut files.model,
+        &mut files.graph,
+        &mut files.vectors,
         &mut sink,
         &mut progress,
     )?;
     let _ = rt.eprintln(LoweredLine(by));
     Ok(DONE)
+}
+
+/// Raises the vectors of a graph so that they pass the check from above, and says by how much.
+fn raise_files<R: Files + Clock + AllocGlobal + Print + Eprint>(
+    rt: &R,
+    shows_progress: bool,
+    names: Names<'_>,
+) -> Result<u8, RunFault> {
+    let mut files = opened_files(rt, names)?;
+    let mut sink = WriterSink::new(io::writer(rt));
+    let mut progress = Progress::new(rt, shows_progress);
+    let by = run_raise_watched(
+        rt.alloc(),
+        &mut files.model,
+        &mut files.graph,
+        &mut files.vectors,
+        &mut sink,
+        &mut progress,
+    )?;
+    let _ = rt.eprintln(RaisedLine(by));
+    Ok(DONE)
+}
+
+/// The sources of a model, a graph and its vectors.
+#[derive(Drop)]
+struct OpenedFiles<F> {
+    model: ReaderSource<F>,
+    graph: ReaderSource<F>,
+    vectors: ReaderSource<F>,
+}
+
+/// The sources of these files, opened in their order, or the fault of the first that can't be opened.
+fn opened_files<R: Files>(rt: &R, names: Names<'_>) -> Result<OpenedFiles<R::File>, RunFault> {
+    Ok(OpenedFiles {
+        model: opened(rt, names.model, RunFault::ReadModel)?,
+        graph: opened(rt, names.graph, RunFault::ReadGraph)?,
+        vectors: opened(rt, names.vectors, RunFault::ReadVectors)?,
+    })
 }
 
 /// The source of a file, or the fault where it can't be opened.

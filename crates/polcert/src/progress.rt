@@ -1,4 +1,4 @@
-//! How far a check or a lowering is, on standard error.
+//! How far a check, a lowering or a raising is, on standard error.
 use polcert_check::Watch;
 use std::fmt;
 use std::time::{Clock, Instant};
@@ -6,8 +6,8 @@ use std::time::{Clock, Instant};
 /// For so many seconds nothing is said.
 const QUIET_SECONDS: u64 = 5;
 
-/// Says on standard error how far a check or a lowering is, where that is a terminal: nothing for the first seconds, and then each
-/// second how many nodes are done, in one line that is blank again where the walk over the nodes ends.
+/// Says on standard error how far a check, a lowering or a raising is, where that is a terminal: nothing for the first seconds, and
+/// then each second how many nodes are done, in one line that is blank again where the walk over the nodes ends.
 pub struct Progress<'a, R> {
     rt: &'a R,
     /// When it began; none where nothing is to be said.

@@ -1,6 +1,6 @@
 //! The line on standard error where a run stops.
 use polcert_answer::{Fault, RunFault};
-use polcert_check::LowerFault;
+use polcert_check::{LowerFault, RaiseFault};
 use polcert_model::{ItemFault, ModelFault};
 use polcert_policy::{GraphFault, VectorFault};
 use polcert_text::{NumberFault, SliceSink, TokenFault, write_scaled};
@@ -23,6 +23,7 @@ impl fmt::Display for RefusalLine {
             RunFault::ReadVectors => write!(f, "cannot read vectors"),
             RunFault::Write => write!(f, "cannot write"),
             RunFault::Lower(fault) => write!(f, "{}", LowerLine(fault)),
+            RunFault::Raise(fault) => write!(f, "{}", RaiseLine(fault)),
         }
     }
 }
@@ -135,21 +136,64 @@ impl fmt::Display for LowerLine {
     }
 }
 
+#[derive(Clone, Copy, Debug)]
+struct RaiseLine(RaiseFault);
+
+impl fmt::Display for RaiseLine {
+    fn fmt<W: fmt::Write>(&self, f: &mut fmt::Formatter<W>) -> fmt::Result {
+        match self.0 {
+            RaiseFault::NoConstant { node, state, .. } => {
+                write!(f, "raise: U1 at node {node}, state {state}")
+            }
+            RaiseFault::OutOfRange => write!(f, "raise: U2"),
+            RaiseFault::NoSuccessor {
+                node,
+                state,
+                observation,
+            } => write!(
+                f,
+                "raise: U3 at node {node}, state {state}, observation {observation}"
+            ),
+            RaiseFault::Memory => write!(f, "out of memory"),
+        }
+    }
+}
+
 /// By how much vectors were lowered, as the program prints it, without a line end: `lowered by 0.000001`. The constant is
 /// in millionths.
 #[derive(Clone, Copy, Debug)]
 pub struct LoweredLine(pub i64);
 
+impl fmt::Display for LoweredLine {
+    fn fmt<W: fmt::Write>(&self, f: &mut fmt::Formatter<W>) -> fmt::Result {
+        write!(f, "lowered by {}", Millionths(self.0))
+    }
+}
+
+/// By how much vectors were raised, in the same way: `raised by 0.000001`.
+#[derive(Clone, Copy, Debug)]
+pub struct RaisedLine(pub i64);
+
+impl fmt::Display for RaisedLine {
+    fn fmt<W: fmt::Write>(&self, f: &mut fmt::Formatter<W>) -> fmt::Result {
+        write!(f, "raised by {}", Millionths(self.0))
+    }
+}
+
+/// A number of millionths, as a decimal number.
+#[derive(Clone, Copy, Debug)]
+struct Millionths(i64);
+
 /// The bytes that a number of millionths needs at most: a sign, 13 digits, a point and 6 decimals.
 const NUMBER_ROOM: usize = 21;
 
-impl fmt::Display for LoweredLine {
+impl fmt::Display for Millionths {
     fn fmt<W: fmt::Write>(&self, f: &mut fmt::Formatter<W>) -> fmt::Result {
         let mut room = [0u8; NUMBER_ROOM];
         let mut sink = SliceSink::new(&mut room);
         match write_scaled(self.0, &mut sink) {
             Ok(()) => match str::from_utf8(sink.written()) {
-                Ok(number) => write!(f, "lowered by {number}"),
+                Ok(number) => write!(f, "{number}"),
                 Err(_) => Err(fmt::Error),
             },
             Err(_) => Err(fmt::Error),
@@ -294,6 +338,27 @@ mod tests {
         (LowerFault::Memory, "out of memory"),
     ];
 
+    const RAISE_LINES: [(RaiseFault, &str); 4] = [
+        (
+            RaiseFault::NoConstant {
+                node: 0,
+                state: 0,
+                amount: 7,
+            },
+            "raise: U1 at node 0, state 0",
+        ),
+        (RaiseFault::OutOfRange, "raise: U2"),
+        (
+            RaiseFault::NoSuccessor {
+                node: 0,
+                state: 0,
+                observation: 1,
+            },
+            "raise: U3 at node 0, state 0, observation 1",
+        ),
+        (RaiseFault::Memory, "out of memory"),
+    ];
+
     const OTHER_LINES: [(RunFault, &str); 4] = [
         (RunFault::ReadModel, "cannot read model"),
         (RunFault::ReadGraph, "cannot read graph"),
@@ -345,6 +410,12 @@ mod tests {
                 "{line}"
             );
         }
+        for (fault, line) in RAISE_LINES {
+            assert!(rt;
+                has_line(rt.alloc(), RunFault::Raise(fault), line)?,
+                "{line}"
+            );
+        }
         for (fault, line) in OTHER_LINES {
             assert!(rt; has_line(rt.alloc(), fault, line)?, "{line}");
         }
@@ -361,6 +432,20 @@ mod tests {
         ];
         for (constant, line) in rows {
             let printed = format!(in rt.alloc(); "{}", LoweredLine(constant))?;
+            assert_eq!(rt; printed.as_str(), line);
+        }
+        Ok(())
+    }
+
+    #[test]
+    fn lines_of_raising(rt: HostRuntime) -> Result<(), Fail> {
+        let rows = [
+            (1, "raised by 0.000001"),
+            (0, "raised by 0"),
+            (20_000_000_000_000, "raised by 20000000"),
+        ];
+        for (constant, line) in rows {
+            let printed = format!(in rt.alloc(); "{}", RaisedLine(constant))?;
             assert_eq!(rt; printed.as_str(), line);
         }
         Ok(())

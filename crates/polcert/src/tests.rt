@@ -19,7 +19,7 @@ const NAMES: Names<'static> = Names {
 
 #[test]
 fn chooses(rt: HostRuntime) {
-    let rows: [(&[&str], Option<Choice<'_>>); 15] = [
+    let rows: [(&[&str], Option<Choice<'_>>); 23] = [
         (&[], Some(Choice::Model(None))),
         (&["polcert"], Some(Choice::Model(None))),
         (&["polcert", "model", "F"], Some(Choice::Model(Some("F")))),
@@ -31,16 +31,36 @@ fn chooses(rt: HostRuntime) {
             Some(Choice::Check(NAMES)),
         ),
         (
+            &["polcert", "check", "--at-most", "a", "b", "c"],
+            Some(Choice::CheckAbove(NAMES)),
+        ),
+        (
+            &["polcert", "check", "a", "b", "c", "--at-most"],
+            Some(Choice::CheckAbove(NAMES)),
+        ),
+        (
+            &["polcert", "check", "a", "--at-most", "b", "c"],
+            Some(Choice::CheckAbove(NAMES)),
+        ),
+        (
             &["polcert", "lower", "a", "b", "c"],
             Some(Choice::Lower(NAMES)),
+        ),
+        (
+            &["polcert", "raise", "a", "b", "c"],
+            Some(Choice::Raise(NAMES)),
         ),
         (&["polcert", "model"], None),
         (&["polcert", "print"], None),
         (&["polcert", "check"], None),
         (&["polcert", "check", "a"], None),
         (&["polcert", "check", "a", "b"], None),
+        (&["polcert", "check", "--at-most"], None),
+        (&["polcert", "check", "--at-most", "a", "b"], None),
         (&["polcert", "lower"], None),
         (&["polcert", "lower", "a", "b"], None),
+        (&["polcert", "raise"], None),
+        (&["polcert", "raise", "a", "b"], None),
     ];
     for (words, choice) in rows {
         assert_eq!(rt; chosen(rt.alloc(), words), Ok(choice));
@@ -49,7 +69,7 @@ fn chooses(rt: HostRuntime) {
 
 #[test]
 fn refuses(rt: HostRuntime) {
-    let rows: [(&[&str], ErrorKind); 9] = [
+    let rows: [(&[&str], ErrorKind); 14] = [
         (&["polcert", "nosuch"], ErrorKind::InvalidSubcommand),
         (&["polcert", ""], ErrorKind::InvalidSubcommand),
         (&["polcert", "model", "a", "b"], ErrorKind::UnknownArgument),
@@ -58,10 +78,27 @@ fn refuses(rt: HostRuntime) {
             ErrorKind::UnknownArgument,
         ),
         (&["polcert", "--bad"], ErrorKind::UnknownArgument),
+        (
+            &["polcert", "--at-most", "check", "a", "b", "c"],
+            ErrorKind::UnknownArgument,
+        ),
+        (
+            &["polcert", "lower", "--at-most", "a", "b", "c"],
+            ErrorKind::UnknownArgument,
+        ),
+        (
+            &["polcert", "check", "--at-most=true", "a", "b", "c"],
+            ErrorKind::TooManyValues,
+        ),
+        (
+            &["polcert", "check", "--at-most", "--at-most", "a", "b", "c"],
+            ErrorKind::ArgumentConflict,
+        ),
         (&["polcert", "--help"], ErrorKind::DisplayHelp),
         (&["polcert", "--version"], ErrorKind::DisplayVersion),
         (&["polcert", "help", "check"], ErrorKind::DisplayHelp),
         (&["polcert", "lower", "--help"], ErrorKind::DisplayHelp),
+        (&["polcert", "raise", "--help"], ErrorKind::DisplayHelp),
     ];
     for (words, kind) in rows {
         assert_eq!(rt; chosen(rt.alloc(), words), Err(kind));

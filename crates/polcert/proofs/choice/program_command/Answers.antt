@@ -14,8 +14,10 @@ returns c =
     let print_is = ap (λ (a : App). a.top) c.in_ok-print.ensures.app in
     let check_is = ap (λ (a : App). a.top) c.in_ok-check.ensures.app in
     let lower_is = ap (λ (a : App). a.top) c.in_ok-lower.ensures.app in
+    let raise_is = ap (λ (a : App). a.top) c.in_ok-raise.ensures.app in
     let first = c.in_ok-subcommand.ensures.shape c.in_ok-model.ensures.local ∙ ap₂ with_subcommand bare_is model_is in
     let second = c.in_ok-subcommand-2.ensures.shape c.in_ok-print.ensures.local ∙ ap₂ with_subcommand first print_is in
     let third = c.in_ok-subcommand-3.ensures.shape c.in_ok-check.ensures.local ∙ ap₂ with_subcommand second check_is in
-    IfOk-weaker c.subcommand-4.result _ _
-    (λ command adds. adds.shape c.in_ok-lower.ensures.local ∙ ap₂ with_subcommand third lower_is) c.subcommand-4.ensures
+    let fourth = c.in_ok-subcommand-4.ensures.shape c.in_ok-lower.ensures.local ∙ ap₂ with_subcommand third lower_is in
+    IfOk-weaker c.subcommand-5.result _ _
+    (λ command adds. adds.shape c.in_ok-raise.ensures.local ∙ ap₂ with_subcommand fourth raise_is) c.subcommand-5.ensures
