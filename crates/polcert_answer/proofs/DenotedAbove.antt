@@ -1,5 +1,5 @@
 -- What three texts denote where values are rounded up: what is said of it from above is said of whatever they denote.
-use Rattle.std.proofs.Common.{◌≡◌, ℕ, ◌*◌, ◌<◌, ℤ, ◌≤ℤ◌, List, Ok, ap₂, refl, sym, subst}
+use Rattle.std.proofs.Common.{◌≡◌, ℕ, ◌*◌, ◌<◌, ℤ, ◌≤ℤ◌, List, Ok, ap₂, refl, subst}
 use Rattle.polcert_text.specs.declared.number.Rounding.TheVariants.{Up}
 use Rattle.polcert_cells.specs.Meaning.{Meaning, IsSame, states_of}
 use Rattle.polcert_cells.specs.Preamble.{Preamble}
@@ -17,18 +17,18 @@ use Rattle.polcert_check.specs.Above.{IsAboveVerdict, MeetsHorizonAbove}
 use Rattle.polcert_check.specs.Raise.{IsLeastRaise, IsNotRaised}
 use Rattle.polcert_check.specs.StartMost.{IsStartMost, StartPromiseAbove}
 use Rattle.polcert_check.specs.StartWorth.{IsCeilQuotient}
-use Rattle.polcert_check.proofs.FromAbove.{horizons_above, promised_above}
+use Rattle.polcert_check.proofs.FromAbove.{horizons_above}
 use Rattle.polcert_check.proofs.Interval.{never_above}
 use Rattle.polcert_check.proofs.SameAbove as answers
 use Rattle.polcert_check.proofs.SameModels as models_same
 use Rattle.polcert_check.proofs.Scales.{scales}
-use Rattle.polcert_check.proofs.StartMosts.{start_promise_above}
+use Rattle.polcert_check.proofs.StartMosts.{start_above}
 use Rattle.polcert_check.proofs.Verdicts.{positive_product}
 use Rattle.polcert_answer.specs.Headline.{Certificate, controller}
 use Rattle.polcert_answer.specs.HeadlineAbove.{CertificateAbove, IsCertifiedAbove, AreRewardsCertifiedAbove}
 use Rattle.polcert_answer.specs.Lines.{IsAboveVerdictLine}
 use Rattle.polcert_answer.specs.Answer.{HasGraph, IsAnswer, IsAnswerAbove}
-use Rattle.polcert_answer.proofs.Denoted.{of_each, of_parts, proper_graph, fits_of, same_states, same_graph, graph_is, controller_proper}
+use Rattle.polcert_answer.proofs.Denoted.{of_each, of_parts, proper_graph, fits_of, same_states, same_graph, graph_is, fits_is, controller_proper}
 
 module _ {model graph vectors : List ℕ} (m : Meaning) (g : PolicyGraph) (v : PolicyVectors) (has : HasGraph model graph m g)
     (are : IsRoundedVectorsText Up g (states_of m) vectors v) where
@@ -89,9 +89,7 @@ module _ (model graph vectors : List ℕ) (answer : IsAnswerAbove model graph ve
   -- and from the start no more is expected than any node is worth there
   pub yes_started : (c : CertificateAbove model graph vectors) (k n : ℕ) (most : ℤ) → n < nodes c.policy → IsStartMost c.meaning c.values most
       → StartPromiseAbove c.meaning (controller c) k n most
-  yes_started c k n most nl (best, is_best, quotient) =
-      start_promise_above c.meaning (controller c) refl (promised_above (controller c) (controller_proper c) (answer.1 c)) best most
-      (λ i il. is_best.none_greater i (subst (λ count. i < count) (sym c.are_vectors.2.nodes_are) il)) quotient k n nl
+  yes_started c k n most nl is = start_above c.meaning c.policy c.values (fits_is c) (controller_proper c) (answer.1 c) most is k n nl
 
 -- ---- two yeses are an interval
 some_scale : {model graph vectors : List ℕ} (c : CertificateAbove model graph vectors) → 0 < step_scale (controller c)
