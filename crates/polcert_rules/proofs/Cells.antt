@@ -10,7 +10,7 @@ use Rattle.polcert_cells.specs.declared.entry.Place.{Place}
 use Rattle.polcert_cells.specs.declared.entry.Place.TheVariants.{Every, Only}
 use Rattle.polcert_cells.specs.Cells.{fits_place}
 use Rattle.polcert_rules.specs.declared.rule.Rule.{Rule}
-use Rattle.polcert_rules.specs.Keys.{digit}
+use Rattle.polcert_rules.specs.Keys.{key_base, digit}
 use Rattle.polcert_rules.specs.Newest.{IsRising, IsNewest, newest_of_each}
 use Rattle.polcert_rules.specs.Rows.{IsSingle, IsColumn, IsCell, columns_of, at_column}
 use Rattle.polcert_rules.proofs.Fitting.{same_number, equal_numbers}
@@ -21,46 +21,46 @@ all_of P xs h k d l = h (get_or xs k d) (Contains-get_or xs k d l)
 
 -- ---- the columns of a part
 columns_old : (start : ℕ) (part : List Rule) (x : Rule) → ((r : Rule) → Among r part → start ≤ r.key) → Among x (columns_of start part)
-    → (r : Rule) × Among r part × (r.key ≡ start + x.key * 1024) × (r.number ≡ x.number)
+    → (r : Rule) × Among r part × (r.key ≡ start + x.key * key_base) × (r.number ≡ x.number)
 columns_old start [] x low a = absurd a
-columns_old start (r ∷ rs) x low a = at (eqb ((r.key - start) % 1024) 0) refl (columns_old start rs x (λ q b. low q (inr b))) a
+columns_old start (r ∷ rs) x low a = at (eqb ((r.key - start) % key_base) 0) refl (columns_old start rs x (λ q b. low q (inr b))) a
   where
-    at : (b : Bool) → eqb ((r.key - start) % 1024) 0 ≡ b
-        → (Among x (columns_of start rs) → (r : Rule) × Among r rs × (r.key ≡ start + x.key * 1024) × (r.number ≡ x.number))
-        → Among x (cond b (rule_of ((r.key - start) / 1024) r.number ∷ columns_of start rs) (columns_of start rs))
-        → (q : Rule) × Among q (r ∷ rs) × (q.key ≡ start + x.key * 1024) × (q.number ≡ x.number)
+    at : (b : Bool) → eqb ((r.key - start) % key_base) 0 ≡ b
+        → (Among x (columns_of start rs) → (r : Rule) × Among r rs × (r.key ≡ start + x.key * key_base) × (r.number ≡ x.number))
+        → Among x (cond b (rule_of ((r.key - start) / key_base) r.number ∷ columns_of start rs) (columns_of start rs))
+        → (q : Rule) × Among q (r ∷ rs) × (q.key ≡ start + x.key * key_base) × (q.number ≡ x.number)
     at true e ih a = ⊎_elim
         (λ is.
-        let none_left : (r.key - start) % 1024 ≡ 0 = grind (arith, nat_tests) in
+        let none_left : (r.key - start) % key_base ≡ 0 = grind (arith, nat_tests) in
         let from : start ≤ r.key = low r (inl refl) in
-        let column : (r.key - start) / 1024 ≡ x.key = ap (λ (y : Rule). y.key) is in
+        let column : (r.key - start) / key_base ≡ x.key = ap (λ (y : Rule). y.key) is in
         (r, inl refl, omega arith, ap (λ (y : Rule). y.number) is))
         (λ b. let i = ih b in (i.0, inr i.1, i.2, i.3)) a
     at false e ih a = let i = ih a in (i.0, inr i.1, i.2, i.3)
 
-columns_new : (start : ℕ) (part : List Rule) (r : Rule) (c : ℕ) → Among r part → r.key ≡ start + c * 1024 → Among (rule_of c r.number) (columns_of start part)
+columns_new : (start : ℕ) (part : List Rule) (r : Rule) (c : ℕ) → Among r part → r.key ≡ start + c * key_base → Among (rule_of c r.number) (columns_of start part)
 columns_new start [] r c a is = absurd a
-columns_new start (x ∷ xs) r c a is = at (eqb ((x.key - start) % 1024) 0) refl (λ b. columns_new start xs r c b is) a
+columns_new start (x ∷ xs) r c a is = at (eqb ((x.key - start) % key_base) 0) refl (λ b. columns_new start xs r c b is) a
   where
-    at : (b : Bool) → eqb ((x.key - start) % 1024) 0 ≡ b → (Among r xs → Among (rule_of c r.number) (columns_of start xs)) → (x ≡ r) ⊎ Among r xs
-        → Among (rule_of c r.number) (cond b (rule_of ((x.key - start) / 1024) x.number ∷ columns_of start xs) (columns_of start xs))
+    at : (b : Bool) → eqb ((x.key - start) % key_base) 0 ≡ b → (Among r xs → Among (rule_of c r.number) (columns_of start xs)) → (x ≡ r) ⊎ Among r xs
+        → Among (rule_of c r.number) (cond b (rule_of ((x.key - start) / key_base) x.number ∷ columns_of start xs) (columns_of start xs))
     at true e ih a = ⊎_elim
         (λ same.
-        let key : x.key ≡ start + c * 1024 = ap (λ (y : Rule). y.key) same ∙ is in
-        let column : (x.key - start) / 1024 ≡ c = omega arith in
+        let key : x.key ≡ start + c * key_base = ap (λ (y : Rule). y.key) same ∙ is in
+        let column : (x.key - start) / key_base ≡ c = omega arith in
         inl (ap (λ k. rule_of k x.number) column ∙ ap (λ (y : Rule). rule_of c y.number) same))
         (λ b. inr (ih b)) a
     at false e ih a = ⊎_elim
         (λ same.
-        let key : x.key ≡ start + c * 1024 = ap (λ (y : Rule). y.key) same ∙ is in
-        let none_left : (x.key - start) % 1024 ≡ 0 = omega arith in
+        let key : x.key ≡ start + c * key_base = ap (λ (y : Rule). y.key) same ∙ is in
+        let none_left : (x.key - start) % key_base ≡ 0 = omega arith in
         absurd (grind (arith, nat_tests)))
         ih a
 
 abbrev pub IsBetween : List Rule → List Rule → ℕ → ℕ → Type 0
 IsBetween rules part low high = (r : Rule) → Contains part r ↔ (Contains rules r × (low ≤ r.key) × (r.key < high))
 
-pub columns_are : (rules part : List Rule) (start : ℕ) → IsBetween rules part start (start + 1022 * 1024) → (x : Rule) → Contains (columns_of start part) x ↔ IsColumn rules start x
+pub columns_are : (rules part : List Rule) (start : ℕ) → IsBetween rules part start (start + (key_base - 2) * key_base) → (x : Rule) → Contains (columns_of start part) x ↔ IsColumn rules start x
 columns_are rules part start between x = (forth, back)
   where
     forth : Contains (columns_of start part) x → IsColumn rules start x
@@ -80,7 +80,7 @@ columns_are rules part start between x = (forth, back)
         contains_from (columns_of start part) x (subst (λ n. Among (rule_of x.key n) (columns_of start part)) c.number_is found)
 
 -- with those that stand in front
-pub with_columns : (rules part old new : List Rule) (start : ℕ) → IsBetween rules part start (start + 1022 * 1024) → new ≡ old ++ columns_of start part
+pub with_columns : (rules part old new : List Rule) (start : ℕ) → IsBetween rules part start (start + (key_base - 2) * key_base) → new ≡ old ++ columns_of start part
     → (x : Rule) → Contains new x ↔ (Contains old x ⊎ IsColumn rules start x)
 with_columns rules part old new start between is x = (
   (λ c. ⊎_elim inl (λ b. inr ((columns_are rules part start between x).0 b)) (Contains-append_cases old (columns_of start part) x (subst (λ (xs : List Rule). Contains xs x) is c))),
@@ -89,7 +89,7 @@ with_columns rules part old new start between is x = (
 
 -- ---- the four kinds of single cells
 abbrev pub start_of : ℕ → ℕ → ℕ → ℕ
-start_of low first second = low + first * 1024 ^ 3 + second * 1024 ^ 2 + 2 * 1024
+start_of low first second = low + first * key_base ^ 3 + second * key_base ^ 2 + 2 * key_base
 
 cell_from : (rules : List Rule) (low action state start : ℕ) (p q : Place) (x : Rule) → start ≡ start_of low (digit p) (digit q) → fits_place p action ≡ true → fits_place q state ≡ true
     → IsColumn rules start x → IsCell rules low action state x
@@ -180,7 +180,7 @@ column_missed (x ∷ xs) c r e a k = at (eqb x.key c) refl (λ f b. column_misse
     at false e ih f a = ⊎_elim (λ same. let key : x.key ≡ c = ap (λ (y : Rule). y.key) same ∙ k in grind (arith, nat_tests)) (ih f) a
 
 pub newest_at : (rules gathered sorted : List Rule) (low action state : ℕ) → ((x : Rule) → Contains gathered x ↔ IsCell rules low action state x) → IsPermutation gathered sorted
-    → IsRising (newest_of_each sorted) → (c : ℕ) → c < 1022 → IsNewest rules (IsSingle low action state c) (at_column (newest_of_each sorted) c)
+    → IsRising (newest_of_each sorted) → (c : ℕ) → c + 2 < key_base → IsNewest rules (IsSingle low action state c) (at_column (newest_of_each sorted) c)
 newest_at rules gathered sorted low action state are p up c small = at (at_column (newest_of_each sorted) c) refl
   where
     -- a rule of the column has a cell that stands for it

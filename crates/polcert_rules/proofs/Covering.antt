@@ -11,7 +11,7 @@ use Rattle.polcert_cells.specs.Preamble.{Preamble}
 use Rattle.polcert_cells.specs.Cells.{is_table, fit_places, covers, IsLastCovering, last, none, weight, weight_of, value_or}
 use Rattle.polcert_cells.proofs.CellLaws.{last_is_one}
 use Rattle.polcert_rules.specs.declared.rule.Rule.{Rule}
-use Rattle.polcert_rules.specs.Keys.{key_in, key_of, table_digit, table_key, AreDigits, AreIndices, Fits, most_places}
+use Rattle.polcert_rules.specs.Keys.{key_base, key_in, key_of, table_digit, table_key, AreDigits, AreIndices, Fits, most_places}
 use Rattle.polcert_rules.specs.Newest.{IsNewest, IsIndexOf, AreKeyed, IsLastNumber, entry_at}
 use Rattle.polcert_rules.proofs.Fitting.{and_true, fit_digits}
 use Rattle.polcert_rules.proofs.Keying.{same_digit, same_places}
@@ -55,7 +55,7 @@ pub same_keys : (t u : Table) (ps qs : List Place) → AreDigits most_places ps 
 same_keys t u ps qs a b e =
     let zero_t : 0 + table_key t ≡ table_key t = omega arith in
     let zero_u : 0 + table_key u ≡ table_key u = omega arith in
-    let moved : key_in most_places (0 + table_digit t * 1024 ^ most_places) ps ≡ key_in most_places (0 + table_digit u * 1024 ^ most_places) qs =
+    let moved : key_in most_places (0 + table_digit t * key_base ^ most_places) ps ≡ key_in most_places (0 + table_digit u * key_base ^ most_places) qs =
     ap (λ l. key_in most_places l ps) zero_t ∙ e ∙ ap (λ l. key_in most_places l qs) (sym zero_u) in
     let tables : t ≡ u = table_of_digit t u (same_digit most_places 0 (table_digit t) (table_digit u) ps qs a b moved) in
     (tables, same_places most_places (table_key t) ps qs a b (e ∙ ap (λ v. key_in most_places (table_key v) qs) (sym tables)))
@@ -121,7 +121,7 @@ last_number entries rules table indices (Some m) keyed index a n =
     )
 
 -- from the part of the rules that has the table's
-pub newest_in : (rules part : List Rule) (table : Table) (indices : List ℕ) (low size : ℕ) (result : Option ℕ) → low ≡ table_key table → size ≡ 1024 ^ most_places
+pub newest_in : (rules part : List Rule) (table : Table) (indices : List ℕ) (low size : ℕ) (result : Option ℕ) → low ≡ table_key table → size ≡ key_base ^ most_places
     → AreIndices most_places indices → IsSpan rules part low size → IsNewest part (Fits most_places low indices) result
     → IsNewest rules (Fits most_places (table_key table) indices) result
 newest_in rules part table indices low size result at full a span n =

@@ -6,7 +6,7 @@ use Rattle.std.proofs.lemmas.Bool.Decides.{nat_tests}
 use Rattle.polcert_cells.specs.declared.entry.Place.{Place}
 use Rattle.polcert_cells.specs.declared.entry.Place.TheVariants.{Every, Only}
 use Rattle.polcert_cells.specs.Cells.{fit_places}
-use Rattle.polcert_rules.specs.Keys.{digit, key_in, AreDigits, AreIndices, Fits}
+use Rattle.polcert_rules.specs.Keys.{key_base, digit, key_in, AreDigits, AreIndices, Fits}
 
 pub and_true : (a b : Bool) → (a && b) ≡ true → (a ≡ true) × (b ≡ true)
 and_true true b e = (refl, e)
@@ -18,33 +18,33 @@ same_number a b e = grind (arith, nat_tests)
 pub equal_numbers : (a : ℕ) → (a == a) ≡ true
 equal_numbers a = grind (arith, nat_tests)
 
-pub power_next : (m : ℕ) → 1024 ^ suc m ≡ 1024 * 1024 ^ m
-power_next m = pow-succ' 1024 m
+pub power_next : (m : ℕ) → key_base ^ suc m ≡ key_base * key_base ^ m
+power_next m = pow-succ' key_base m
 
-pub power_some : (m : ℕ) → 1 ≤ 1024 ^ m
+pub power_some : (m : ℕ) → 1 ≤ key_base ^ m
 power_some zero = let e : 1 ≤ 1 = omega arith in e
 power_some (suc m) = let e = power_next m in let before = power_some m in omega arith
 
 -- a digit and one more fit below the next power
-pub digit_below : (d s : ℕ) → d < 1024 → d * s + s ≤ 1024 * s
+pub digit_below : (d s : ℕ) → d < key_base → d * s + s ≤ key_base * s
 digit_below d s l =
-    let more : s * suc d ≤ s * 1024 = mul-le-mul_left s (omega arith) in
+    let more : s * suc d ≤ s * key_base = mul-le-mul_left s (omega arith) in
     let left : s * suc d ≡ s * d + s = mul-suc s d in
     let turned : s * d ≡ d * s = mul_comm s d in
-    let right : s * 1024 ≡ 1024 * s = mul_comm s 1024 in
+    let right : s * key_base ≡ key_base * s = mul_comm s key_base in
     omega arith
 
 pub key_low : (m low : ℕ) (ps : List Place) → low ≤ key_in m low ps
 key_low m low [] = omega arith
 key_low zero low (p ∷ ps) = omega arith
-key_low (suc m) low (p ∷ ps) = let rest = key_low m (low + digit p * 1024 ^ m) ps in omega arith
+key_low (suc m) low (p ∷ ps) = let rest = key_low m (low + digit p * key_base ^ m) ps in omega arith
 
-pub key_high : (m low : ℕ) (ps : List Place) → AreDigits m ps → key_in m low ps < low + 1024 ^ m
+pub key_high : (m low : ℕ) (ps : List Place) → AreDigits m ps → key_in m low ps < low + key_base ^ m
 key_high m low [] a = let some = power_some m in omega arith
 key_high zero low (p ∷ ps) a = absurd a
 key_high (suc m) low (p ∷ ps) a =
-    let rest = key_high m (low + digit p * 1024 ^ m) ps a.1 in
-    let top = digit_below (digit p) (1024 ^ m) a.0 in
+    let rest = key_high m (low + digit p * key_base ^ m) ps a.1 in
+    let top = digit_below (digit p) (key_base ^ m) a.0 in
     let next = power_next m in
     omega arith
 
@@ -63,7 +63,7 @@ fit_digits (suc m) (Only n ∷ ps) (i ∷ indices) a e =
 pub fits_low : (m low : ℕ) (indices : List ℕ) (key : ℕ) → Fits m low indices key → low ≤ key
 fits_low m low indices key f = let l = key_low m low f.places in let e = f.is in omega arith
 
-pub fits_high : (m low : ℕ) (indices : List ℕ) (key : ℕ) → AreIndices m indices → Fits m low indices key → key < low + 1024 ^ m
+pub fits_high : (m low : ℕ) (indices : List ℕ) (key : ℕ) → AreIndices m indices → Fits m low indices key → key < low + key_base ^ m
 fits_high m low indices key a f =
     let l = key_high m low f.places (fit_digits m f.places indices a f.fits) in let e = f.is in omega arith
 
@@ -80,7 +80,7 @@ fits_here m low key indices e = record { places = []; fits = refl; is = e }
 
 -- what the first place may be
 abbrev pub Next : ℕ → ℕ → ℕ → List ℕ → ℕ → Type 0
-Next m low i indices key = (key ≡ low) ⊎ (Fits m (low + 1024 ^ m) indices key ⊎ Fits m (low + (i + 2) * 1024 ^ m) indices key)
+Next m low i indices key = (key ≡ low) ⊎ (Fits m (low + key_base ^ m) indices key ⊎ Fits m (low + (i + 2) * key_base ^ m) indices key)
 
 pub fits_next : (m low i : ℕ) (indices : List ℕ) (key : ℕ) → Fits (suc m) low (i ∷ indices) key → Next m low i indices key
 fits_next m low i indices key f = at f.places f.fits f.is
@@ -88,17 +88,17 @@ fits_next m low i indices key f = at f.places f.fits f.is
     at : (ps : List Place) → fit_places ps (i ∷ indices) ≡ true → key ≡ key_in (suc m) low ps → Next m low i indices key
     at [] e is = inl is
     at (Every ∷ ps) e is =
-        let one : low + 1 * 1024 ^ m ≡ low + 1024 ^ m = omega arith in
+        let one : low + 1 * key_base ^ m ≡ low + key_base ^ m = omega arith in
         inr (inl (record { places = ps; fits = e; is = is ∙ ap (λ l. key_in m l ps) one }))
     at (Only n ∷ ps) e is =
         let both = and_true (n == i) (fit_places ps indices) e in
-        inr (inr (record { places = ps; fits = both.1; is = is ∙ ap (λ k. key_in m (low + (k + 2) * 1024 ^ m) ps) (same_number n i both.0) }))
+        inr (inr (record { places = ps; fits = both.1; is = is ∙ ap (λ k. key_in m (low + (k + 2) * key_base ^ m) ps) (same_number n i both.0) }))
 
-pub fits_every : (m low i : ℕ) (indices : List ℕ) (key : ℕ) → Fits m (low + 1024 ^ m) indices key → Fits (suc m) low (i ∷ indices) key
+pub fits_every : (m low i : ℕ) (indices : List ℕ) (key : ℕ) → Fits m (low + key_base ^ m) indices key → Fits (suc m) low (i ∷ indices) key
 fits_every m low i indices key f =
-    let one : low + 1024 ^ m ≡ low + 1 * 1024 ^ m = omega arith in
+    let one : low + key_base ^ m ≡ low + 1 * key_base ^ m = omega arith in
     record { places = Every ∷ f.places; fits = f.fits; is = f.is ∙ ap (λ l. key_in m l f.places) one }
 
-pub fits_only : (m low i : ℕ) (indices : List ℕ) (key : ℕ) → Fits m (low + (i + 2) * 1024 ^ m) indices key → Fits (suc m) low (i ∷ indices) key
+pub fits_only : (m low i : ℕ) (indices : List ℕ) (key : ℕ) → Fits m (low + (i + 2) * key_base ^ m) indices key → Fits (suc m) low (i ∷ indices) key
 fits_only m low i indices key f =
     record { places = Only i ∷ f.places; fits = ap (λ b. b && fit_places f.places indices) (equal_numbers i) ∙ f.fits; is = f.is }

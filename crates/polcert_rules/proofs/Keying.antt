@@ -5,7 +5,7 @@ use Rattle.std.proofs.lemmas.Bool.{cases_lt}
 use Rattle.std.proofs.lemmas.List.{drop_more}
 use Rattle.polcert_cells.specs.declared.entry.Place.{Place}
 use Rattle.polcert_cells.specs.declared.entry.Place.TheVariants.{Every, Only}
-use Rattle.polcert_rules.specs.Keys.{digit, key_in, AreDigits, most_places}
+use Rattle.polcert_rules.specs.Keys.{key_base, digit, key_in, AreDigits, most_places}
 use Rattle.polcert_rules.proofs.Fitting.{digit_below, power_next, power_some, key_low, key_high}
 
 digit_some : (p : Place) → 1 ≤ digit p
@@ -19,24 +19,24 @@ same_place (Only n) Every e = absurd (omega arith)
 same_place (Only m) (Only n) e = let f : m ≡ n = omega arith in ap Only f
 
 -- a place more is a greater key
-beyond : (m low : ℕ) (p : Place) (ps : List Place) → low ≡ key_in m (low + digit p * 1024 ^ m) ps → ⊥
+beyond : (m low : ℕ) (p : Place) (ps : List Place) → low ≡ key_in m (low + digit p * key_base ^ m) ps → ⊥
 beyond m low p ps e =
     let some = digit_some p in
-    let above : 1 * 1024 ^ m ≤ digit p * 1024 ^ m = mul-le-mul_right (1024 ^ m) some in
+    let above : 1 * key_base ^ m ≤ digit p * key_base ^ m = mul-le-mul_right (key_base ^ m) some in
     let one = power_some m in
-    let high = key_low m (low + digit p * 1024 ^ m) ps in
+    let high = key_low m (low + digit p * key_base ^ m) ps in
     omega arith
 
 -- a lower digit is a lower key
-lower_digit : (m low c d : ℕ) (ps qs : List Place) → AreDigits m ps → c < d → key_in m (low + c * 1024 ^ m) ps < key_in m (low + d * 1024 ^ m) qs
+lower_digit : (m low c d : ℕ) (ps qs : List Place) → AreDigits m ps → c < d → key_in m (low + c * key_base ^ m) ps < key_in m (low + d * key_base ^ m) qs
 lower_digit m low c d ps qs a l =
-    let high = key_high m (low + c * 1024 ^ m) ps a in
-    let from_here = key_low m (low + d * 1024 ^ m) qs in
-    let more : suc c * 1024 ^ m ≤ d * 1024 ^ m = mul-le-mul_right (1024 ^ m) l in
-    let one : suc c * 1024 ^ m ≡ c * 1024 ^ m + 1024 ^ m = suc-mul c (1024 ^ m) in
+    let high = key_high m (low + c * key_base ^ m) ps a in
+    let from_here = key_low m (low + d * key_base ^ m) qs in
+    let more : suc c * key_base ^ m ≤ d * key_base ^ m = mul-le-mul_right (key_base ^ m) l in
+    let one : suc c * key_base ^ m ≡ c * key_base ^ m + key_base ^ m = suc-mul c (key_base ^ m) in
     omega arith
 
-pub same_digit : (m low c d : ℕ) (ps qs : List Place) → AreDigits m ps → AreDigits m qs → key_in m (low + c * 1024 ^ m) ps ≡ key_in m (low + d * 1024 ^ m) qs → c ≡ d
+pub same_digit : (m low c d : ℕ) (ps qs : List Place) → AreDigits m ps → AreDigits m qs → key_in m (low + c * key_base ^ m) ps ≡ key_in m (low + d * key_base ^ m) qs → c ≡ d
 same_digit m low c d ps qs a b e = ⊎_elim
     (λ less. let l = lower_digit m low c d ps qs a less in absurd (omega arith))
     (λ ge. ⊎_elim (λ more. let l = lower_digit m low d c qs ps b more in absurd (omega arith)) (λ le. omega arith) (cases_lt d c))
@@ -47,28 +47,28 @@ pub record IsUnderWay (whole levels key : ℕ) (places : List Place) : Type 0 wh
   pub key_is : key_in levels key places ≡ whole
   pub digits : AreDigits levels places
   pub few : levels ≤ most_places
-  pub room : key + 1024 ^ levels ≤ 3 * 1024 ^ most_places
+  pub room : key + key_base ^ levels ≤ 3 * key_base ^ most_places
 
 -- what is known where a place is still to come
 pub record IsNextPlace (whole levels key : ℕ) (p : Place) (places : List Place) : Type 0 where
   pub some : 1 ≤ levels
-  pub small : digit p < 1024
-  pub room : key + digit p * 1024 ^ (levels - 1) + 1024 ^ (levels - 1) ≤ 3 * 1024 ^ most_places
-  pub next : IsUnderWay whole (levels - 1) (key + digit p * 1024 ^ (levels - 1)) places
+  pub small : digit p < key_base
+  pub room : key + digit p * key_base ^ (levels - 1) + key_base ^ (levels - 1) ≤ 3 * key_base ^ most_places
+  pub next : IsUnderWay whole (levels - 1) (key + digit p * key_base ^ (levels - 1)) places
 
 next_place : (whole levels key : ℕ) (p : Place) (places : List Place) → IsUnderWay whole levels key (p ∷ places) → IsNextPlace whole levels key p places
 next_place whole zero key p places u = absurd u.digits
 next_place whole (suc m) key p places u =
     let less : m ≡ suc m - 1 = omega arith in
-    let top = digit_below (digit p) (1024 ^ m) u.digits.0 in
+    let top = digit_below (digit p) (key_base ^ m) u.digits.0 in
     let next = power_next m in
-    let room : key + digit p * 1024 ^ m + 1024 ^ m ≤ 3 * 1024 ^ most_places = let r = u.room in omega arith in
-    let on : IsUnderWay whole m (key + digit p * 1024 ^ m) places = record { key_is = u.key_is; digits = u.digits.1; few = (let f = u.few in omega arith); room = room } in
+    let room : key + digit p * key_base ^ m + key_base ^ m ≤ 3 * key_base ^ most_places = let r = u.room in omega arith in
+    let on : IsUnderWay whole m (key + digit p * key_base ^ m) places = record { key_is = u.key_is; digits = u.digits.1; few = (let f = u.few in omega arith); room = room } in
     record {
       some = omega arith;
       small = u.digits.0;
-      room = subst (λ k. key + digit p * 1024 ^ k + 1024 ^ k ≤ 3 * 1024 ^ most_places) less room;
-      next = subst (λ k. IsUnderWay whole k (key + digit p * 1024 ^ k) places) less on;
+      room = subst (λ k. key + digit p * key_base ^ k + key_base ^ k ≤ 3 * key_base ^ most_places) less room;
+      next = subst (λ k. IsUnderWay whole k (key + digit p * key_base ^ k) places) less on;
     }
 
 pub place_at : (whole levels key : ℕ) (d : Place) (places : List Place) (k : ℕ) → k < length places → IsUnderWay whole levels key (drop k places)
@@ -77,10 +77,10 @@ place_at whole levels key d places k l u =
     next_place whole levels key (get_or places k d) (drop (k + 1) places) (subst (IsUnderWay whole levels key) (drop_more places k d l) u)
 
 -- at the code's numbers
-pub on_at : (whole levels key d step : ℕ) (p : Place) (places : List Place) → IsNextPlace whole levels key p places → d ≡ digit p → step ≡ 1024 ^ (levels - 1)
+pub on_at : (whole levels key d step : ℕ) (p : Place) (places : List Place) → IsNextPlace whole levels key p places → d ≡ digit p → step ≡ key_base ^ (levels - 1)
     → IsUnderWay whole (levels - 1) (key + d * step) places
 on_at whole levels key d step p places n e f =
-    subst (λ s. IsUnderWay whole (levels - 1) (key + d * s) places) (sym f) (subst (λ x. IsUnderWay whole (levels - 1) (key + x * 1024 ^ (levels - 1)) places) (sym e) n.next)
+    subst (λ s. IsUnderWay whole (levels - 1) (key + d * s) places) (sym f) (subst (λ x. IsUnderWay whole (levels - 1) (key + x * key_base ^ (levels - 1)) places) (sym e) n.next)
 
 -- the same key comes from the same places
 pub same_places : (m low : ℕ) (ps qs : List Place) → AreDigits m ps → AreDigits m qs → key_in m low ps ≡ key_in m low qs → ps ≡ qs
@@ -92,6 +92,6 @@ same_places (suc m) low (p ∷ ps) [] a b e = absurd (beyond m low p ps (sym e))
 same_places (suc m) low (p ∷ ps) (q ∷ qs) a b e =
     let digits : digit p ≡ digit q = same_digit m low (digit p) (digit q) ps qs a.1 b.1 e in
     let first : p ≡ q = same_place p q digits in
-    let under : key_in m (low + digit p * 1024 ^ m) ps ≡ key_in m (low + digit p * 1024 ^ m) qs = e ∙ ap (λ d. key_in m (low + d * 1024 ^ m) qs) (sym digits) in
-    let rest : ps ≡ qs = same_places m (low + digit p * 1024 ^ m) ps qs a.1 b.1 under in
+    let under : key_in m (low + digit p * key_base ^ m) ps ≡ key_in m (low + digit p * key_base ^ m) qs = e ∙ ap (λ d. key_in m (low + d * key_base ^ m) qs) (sym digits) in
+    let rest : ps ≡ qs = same_places m (low + digit p * key_base ^ m) ps qs a.1 b.1 under in
     ap (λ (x : Place). x ∷ ps) first ∙ ap (λ (xs : List Place). q ∷ xs) rest

@@ -1,3 +1,4 @@
+pub mod KeyBase
 pub mod Parts
 pub mod Fitting
 pub mod Newer

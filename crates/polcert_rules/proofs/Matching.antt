@@ -4,7 +4,7 @@ use Rattle.std.specs.Prelude.{◌||◌, ◌==◌}
 use Rattle.std.proofs.lemmas.Bool.Decides.{nat_tests}
 use Rattle.polcert_cells.specs.declared.entry.Place.{Place}
 use Rattle.polcert_rules.specs.declared.rule.Rule.{Rule}
-use Rattle.polcert_rules.specs.Keys.{key_in, Fits}
+use Rattle.polcert_rules.specs.Keys.{key_base, key_in, Fits}
 use Rattle.polcert_rules.specs.Newest.{IsNewest, later}
 use Rattle.polcert_rules.specs.Matching.{fits_key, newest_by, newest_in}
 use Rattle.polcert_rules.proofs.Fitting.{same_number, equal_numbers, fits_end, fits_here, fits_next, fits_every, fits_only}
@@ -40,8 +40,8 @@ fits_is zero low (i ∷ indices) key e = fits_here zero low key (i ∷ indices) 
 fits_is (suc m) low (i ∷ indices) key e = ⊎_elim
     (λ here. fits_here (suc m) low key (i ∷ indices) (same_number key low here))
     (λ next. ⊎_elim
-    (λ every. fits_every m low i indices key (fits_is m (low + 1024 ^ m) indices key every))
-    (λ only. fits_only m low i indices key (fits_is m (low + (i + 2) * 1024 ^ m) indices key only))
+    (λ every. fits_every m low i indices key (fits_is m (low + key_base ^ m) indices key every))
+    (λ only. fits_only m low i indices key (fits_is m (low + (i + 2) * key_base ^ m) indices key only))
     (one_of _ _ next))
     (one_of (key == low) _ e)
 
@@ -51,8 +51,8 @@ is_fits zero low (i ∷ indices) key f = equal_by key low (no_room low key (i �
 is_fits (suc m) low (i ∷ indices) key f = ⊎_elim
     (λ here. first_of_two _ _ (equal_by key low here))
     (λ next. second_of_two (key == low) _ (⊎_elim
-    (λ every. first_of_two _ _ (is_fits m (low + 1024 ^ m) indices key every))
-    (λ only. second_of_two (fits_key m (low + 1024 ^ m) indices key) _ (is_fits m (low + (i + 2) * 1024 ^ m) indices key only))
+    (λ every. first_of_two _ _ (is_fits m (low + key_base ^ m) indices key every))
+    (λ only. second_of_two (fits_key m (low + key_base ^ m) indices key) _ (is_fits m (low + (i + 2) * key_base ^ m) indices key only))
     next))
     (fits_next m low i indices key f)
 

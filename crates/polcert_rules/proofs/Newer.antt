@@ -5,7 +5,7 @@ use Rattle.std.proofs.lemmas.Bool.Decides.{nat_tests}
 use Rattle.std.proofs.lemmas.Option.{slice_get_within, get_or_from_slice_get}
 use Rattle.polcert_rules.specs.declared.rule.Rule.{Rule}
 use Rattle.polcert_rules.specs.Newest.{IsRising, IsNewest, later}
-use Rattle.polcert_rules.specs.Keys.{AreIndices, Fits}
+use Rattle.polcert_rules.specs.Keys.{key_base, AreIndices, Fits}
 use Rattle.polcert_rules.proofs.Fitting.{fits_low, fits_high, fits_next, fits_here, fits_end, fits_every, fits_only, digit_below, power_next, power_some}
 
 pub newest_as : (rules : List Rule) (P Q : ℕ → Type 0) (x : Option ℕ) → ((k : ℕ) → P k → Q k) → ((k : ℕ) → Q k → P k) → IsNewest rules P x → IsNewest rules Q x
@@ -45,7 +45,7 @@ abbrev pub IsSpan : List Rule → List Rule → ℕ → ℕ → Type 0
 IsSpan rules part low size = (r : Rule) → Contains part r ↔ (Contains rules r × (low ≤ r.key) × (r.key < low + size))
 
 -- what a span has is what all rules have
-pub newest_of_span : (rules part : List Rule) (m low : ℕ) (indices : List ℕ) (x : Option ℕ) → AreIndices m indices → IsSpan rules part low (1024 ^ m)
+pub newest_of_span : (rules part : List Rule) (m low : ℕ) (indices : List ℕ) (x : Option ℕ) → AreIndices m indices → IsSpan rules part low (key_base ^ m)
     → IsNewest part (Fits m low indices) x → IsNewest rules (Fits m low indices) x
 newest_of_span rules part m low indices x a span n =
     newest_of_part rules part (Fits m low indices) x (λ r c. ((span r).0 c).0)
@@ -53,25 +53,25 @@ newest_of_span rules part m low indices x a span n =
 
 -- one place more: no place, `*`, or the index
 pub newest_of_three : (rules : List Rule) (m low i : ℕ) (indices : List ℕ) (here every only : Option ℕ) → IsNewest rules (λ k. k ≡ low) here
-    → IsNewest rules (Fits m (low + 1024 ^ m) indices) every → IsNewest rules (Fits m (low + (i + 2) * 1024 ^ m) indices) only
+    → IsNewest rules (Fits m (low + key_base ^ m) indices) every → IsNewest rules (Fits m (low + (i + 2) * key_base ^ m) indices) only
     → IsNewest rules (Fits (suc m) low (i ∷ indices)) (later here (later every only))
 newest_of_three rules m low i indices here every only h e o =
     let two = newest_of_two rules _ _ every only e o in
     let three = newest_of_two rules _ _ here (later every only) h two in
-    newest_as rules (λ k. (k ≡ low) ⊎ (Fits m (low + 1024 ^ m) indices k ⊎ Fits m (low + (i + 2) * 1024 ^ m) indices k)) (Fits (suc m) low (i ∷ indices)) _
+    newest_as rules (λ k. (k ≡ low) ⊎ (Fits m (low + key_base ^ m) indices k ⊎ Fits m (low + (i + 2) * key_base ^ m) indices k)) (Fits (suc m) low (i ∷ indices)) _
     (λ k f. ⊎_elim (fits_here (suc m) low k (i ∷ indices)) (λ g. ⊎_elim (fits_every m low i indices k) (fits_only m low i indices k) g) f)
     (λ k f. fits_next m low i indices k f) three
 
 -- from the parts that have the rules with these places
 pub newest_next : (rules evens onlys : List Rule) (m low i : ℕ) (indices : List ℕ) (here every only : Option ℕ) → AreIndices m indices
     → IsNewest rules (λ k. k ≡ low) here
-    → IsSpan rules evens (low + 1024 ^ m) (1024 ^ m) → IsNewest evens (Fits m (low + 1024 ^ m) indices) every
-    → IsSpan rules onlys (low + (i + 2) * 1024 ^ m) (1024 ^ m) → IsNewest onlys (Fits m (low + (i + 2) * 1024 ^ m) indices) only
+    → IsSpan rules evens (low + key_base ^ m) (key_base ^ m) → IsNewest evens (Fits m (low + key_base ^ m) indices) every
+    → IsSpan rules onlys (low + (i + 2) * key_base ^ m) (key_base ^ m) → IsNewest onlys (Fits m (low + (i + 2) * key_base ^ m) indices) only
     → IsNewest rules (Fits (suc m) low (i ∷ indices)) (later here (later every only))
 newest_next rules evens onlys m low i indices here every only a h spanned e spanned_only o =
     newest_of_three rules m low i indices here every only h
-    (newest_of_span rules evens m (low + 1024 ^ m) indices every a spanned e)
-    (newest_of_span rules onlys m (low + (i + 2) * 1024 ^ m) indices only a spanned_only o)
+    (newest_of_span rules evens m (low + key_base ^ m) indices every a spanned e)
+    (newest_of_span rules onlys m (low + (i + 2) * key_base ^ m) indices only a spanned_only o)
 
 -- the rule of the key itself, from the part that begins with it
 pub newest_here : (rules part : List Rule) (low size : ℕ) (here : Option ℕ) → 1 ≤ size → IsSpan rules part low size → IsNewest part (λ k. k ≡ low) here → IsNewest rules (λ k. k ≡ low) here
@@ -82,7 +82,7 @@ pub newest_end : (rules : List Rule) (m low : ℕ) (here : Option ℕ) → IsNew
 newest_end rules m low here n = newest_as rules (λ k. k ≡ low) (Fits m low []) here (λ k e. fits_here m low k [] e) (λ k f. fits_end m low k f) n
 
 -- a level is left where an index is
-pub some_level : (m i : ℕ) (indices : List ℕ) → AreIndices m (i ∷ indices) → (suc (m - 1) ≡ m) × (i + 2 < 1024) × AreIndices (m - 1) indices
+pub some_level : (m i : ℕ) (indices : List ℕ) → AreIndices m (i ∷ indices) → (suc (m - 1) ≡ m) × (i + 2 < key_base) × AreIndices (m - 1) indices
 some_level zero i indices a = absurd a
 some_level (suc m) i indices a =
     let e : suc m - 1 ≡ m = omega arith in
@@ -121,20 +121,20 @@ first_is_not rules x key up from is other r c e =
 pub record IsDeeper (m low i : ℕ) (indices : List ℕ) (step : ℕ) : Type 0 where
   pub level : suc (m - 1) ≡ m
   pub indices_are : AreIndices (m - 1) indices
-  pub step_is : step ≡ 1024 ^ (m - 1)
-  pub only : low + (i + 2) * step + step ≤ low + 1024 ^ m
-  pub every : low + step + step ≤ low + 1024 ^ m
+  pub step_is : step ≡ key_base ^ (m - 1)
+  pub only : low + (i + 2) * step + step ≤ low + key_base ^ m
+  pub every : low + step + step ≤ low + key_base ^ m
   pub some : 1 ≤ step
 
 -- the keys of the next places have room where those of these have
-pub is_deeper : (m low i : ℕ) (indices : List ℕ) (step : ℕ) → AreIndices m (i ∷ indices) → step ≡ 1024 ^ (m - 1) → IsDeeper m low i indices step
+pub is_deeper : (m low i : ℕ) (indices : List ℕ) (step : ℕ) → AreIndices m (i ∷ indices) → step ≡ key_base ^ (m - 1) → IsDeeper m low i indices step
 is_deeper m low i indices step a is =
     let some = some_level m i indices a in
     let top = digit_below (i + 2) step some.1 in
     let top_every = digit_below 1 step (omega arith) in
-    let next : 1024 ^ suc (m - 1) ≡ 1024 * 1024 ^ (m - 1) = power_next (m - 1) in
-    let whole : 1024 ^ suc (m - 1) ≡ 1024 ^ m = ap (λ k. 1024 ^ k) some.0 in
-    let one : 1 ≤ 1024 ^ (m - 1) = power_some (m - 1) in
+    let next : key_base ^ suc (m - 1) ≡ key_base * key_base ^ (m - 1) = power_next (m - 1) in
+    let whole : key_base ^ suc (m - 1) ≡ key_base ^ m = ap (λ k. key_base ^ k) some.0 in
+    let one : 1 ≤ key_base ^ (m - 1) = power_some (m - 1) in
     record { level = some.0; indices_are = some.2; step_is = is; only = omega arith; every = omega arith; some = omega arith }
 
 -- `newest_next`, at the code's numbers

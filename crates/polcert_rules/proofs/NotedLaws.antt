@@ -4,7 +4,7 @@ use Rattle.std.proofs.lemmas.Bool.{cases_lt}
 use Rattle.std.proofs.lemmas.Bool.Decides.{nat_tests}
 use Rattle.std.proofs.lemmas.List.Elements.{Contains-append_left, Contains-append_right, Contains-append_cases}
 use Rattle.polcert_rules.specs.declared.rule.Rule.{Rule}
-use Rattle.polcert_rules.specs.Keys.{AreIndices, Fits}
+use Rattle.polcert_rules.specs.Keys.{key_base, AreIndices, Fits}
 use Rattle.polcert_rules.specs.Newest.{IsNewest, later}
 use Rattle.polcert_rules.specs.Noting.{IsNoted, IsLastPlace}
 use Rattle.polcert_rules.proofs.Fitting.{fits_next, fits_here, fits_end, fits_every, fits_only}
@@ -106,7 +106,7 @@ last_or_not low z key = at (same_or_not key (low + 1)) (same_or_not key (low + (
     at (inr d) (inr f) = inr (λ p. ⊎_elim d f p)
 
 -- ---- place after place
-pub one_more_index : (m : ℕ) (indices : List ℕ) (z : ℕ) → AreIndices m indices → m ≡ length indices + 1 → z + 2 < 1024 → AreIndices m (indices ++ z ∷ [])
+pub one_more_index : (m : ℕ) (indices : List ℕ) (z : ℕ) → AreIndices m indices → m ≡ length indices + 1 → z + 2 < key_base → AreIndices m (indices ++ z ∷ [])
 one_more_index zero [] z a e l = absurd (omega arith)
 one_more_index zero (i ∷ indices) z a e l = absurd a
 one_more_index (suc m) [] z a e l = (l, tt)
@@ -117,14 +117,14 @@ pub noted_end : (rules : List Rule) (low z : ℕ) (here before between after : O
 noted_end rules low z here before between after h e n = record {
   found = later here n.found;
   newest = newest_as rules (λ k. (k ≡ low) ⊎ IsLastPlace low z k) (Fits 1 low (z ∷ [])) (later here n.found)
-      (λ k f. ⊎_elim (fits_here 1 low k (z ∷ [])) (λ g. ⊎_elim (λ i. fits_every 0 low z [] k (fits_here 0 (low + 1024 ^ 0) k [] i)) (λ i. fits_only 0 low z [] k (fits_here 0 (low + (z + 2) * 1024 ^ 0) k [] (omega arith))) g) f)
-      (λ k f. ⊎_elim (λ i. inl i) (λ g. inr (⊎_elim (λ i. inl (fits_end 0 (low + 1024 ^ 0) k i)) (λ i. inr (let j = fits_end 0 (low + (z + 2) * 1024 ^ 0) k i in omega arith)) g)) (fits_next 0 low z [] k f))
+      (λ k f. ⊎_elim (fits_here 1 low k (z ∷ [])) (λ g. ⊎_elim (λ i. fits_every 0 low z [] k (fits_here 0 (low + key_base ^ 0) k [] i)) (λ i. fits_only 0 low z [] k (fits_here 0 (low + (z + 2) * key_base ^ 0) k [] (omega arith))) g) f)
+      (λ k f. ⊎_elim (λ i. inl i) (λ g. inr (⊎_elim (λ i. inl (fits_end 0 (low + key_base ^ 0) k i)) (λ i. inr (let j = fits_end 0 (low + (z + 2) * key_base ^ 0) k i in omega arith)) g)) (fits_next 0 low z [] k f))
       (newest_of_two rules (λ k. k ≡ low) (IsLastPlace low z) here n.found h n.newest);
   is = n.is ∙ ap (λ x. later x n.found) e ∙ later_of_later before here n.found;
 }
 
 pub noted_deeper : (rules evens onlys : List Rule) (m low i : ℕ) (rest : List ℕ) (z step : ℕ) (here before first second after : Option ℕ)
-    → AreIndices m (i ∷ rest) → m ≡ length (i ∷ rest) + 1 → z + 2 < 1024 → step ≡ 1024 ^ (m - 1)
+    → AreIndices m (i ∷ rest) → m ≡ length (i ∷ rest) + 1 → z + 2 < key_base → step ≡ key_base ^ (m - 1)
     → IsNewest rules (λ k. k ≡ low) here → first ≡ later before here
     → IsSpan rules evens (low + step) step → IsNoted evens (Fits (m - 1) (low + step) (rest ++ z ∷ [])) first second
     → IsSpan rules onlys (low + (i + 2) * step) step → IsNoted onlys (Fits (m - 1) (low + (i + 2) * step) (rest ++ z ∷ [])) second after
@@ -139,8 +139,8 @@ noted_deeper rules evens onlys m low i rest z step here before first second afte
 
 -- the same of all rules
 pub noted_of_three : (rules : List Rule) (m low i : ℕ) (indices : List ℕ) (here before first second after : Option ℕ)
-    → IsNewest rules (λ k. k ≡ low) here → first ≡ later before here → IsNoted rules (Fits m (low + 1024 ^ m) indices) first second
-    → IsNoted rules (Fits m (low + (i + 2) * 1024 ^ m) indices) second after → IsNoted rules (Fits (suc m) low (i ∷ indices)) before after
+    → IsNewest rules (λ k. k ≡ low) here → first ≡ later before here → IsNoted rules (Fits m (low + key_base ^ m) indices) first second
+    → IsNoted rules (Fits m (low + (i + 2) * key_base ^ m) indices) second after → IsNoted rules (Fits (suc m) low (i ∷ indices)) before after
 noted_of_three rules m low i indices here before first second after h e n o = record {
   found = later here (later n.found o.found);
   newest = newest_of_three rules m low i indices here n.found o.found h n.newest o.newest;

@@ -7,7 +7,7 @@ use Rattle.polcert_cells.specs.declared.entry.Table.TheVariants.{Reward}
 use Rattle.polcert_cells.specs.declared.entry.Entry.{Entry}
 use Rattle.polcert_cells.specs.Preamble.{Preamble}
 use Rattle.polcert_rules.specs.declared.reward_parts.RewardBody.{RewardBody}
-use Rattle.polcert_rules.specs.Keys.{AreIndices, Fits, table_key, most_places}
+use Rattle.polcert_rules.specs.Keys.{key_base, AreIndices, Fits, table_key, most_places}
 use Rattle.polcert_rules.specs.Newest.{IsEntry, IsNewest, IsLastNumber}
 use Rattle.polcert_rules.specs.Rewards.{AreRewardsOf, IsBodyOf, RewardRules, body_at}
 use Rattle.polcert_rules.specs.RewardSearch.{IsLastBody}
@@ -18,7 +18,7 @@ pub last_of_rules : (p : Preamble) (entries : List Entry) (rewards : RewardRules
     → AreIndices most_places indices → IsNewest rewards.rules (Fits most_places (table_key Reward) indices) result → IsLastNumber entries Reward indices result
 last_of_rules p entries rewards indices result a is n =
     last_number entries a.index Reward indices result a.keyed a.index_is is
-    (newest_in a.index rewards.rules Reward indices (table_key Reward) (1024 ^ most_places) result refl refl is a.rules n)
+    (newest_in a.index rewards.rules Reward indices (table_key Reward) (key_base ^ most_places) result refl refl is a.rules n)
 
 -- its entry has a body, and that is found
 pub last_body : (p : Preamble) (entries : List Entry) (rewards : RewardRules) (indices : List ℕ) (number : ℕ) → AreRewardsOf p entries rewards → AreIndices most_places indices

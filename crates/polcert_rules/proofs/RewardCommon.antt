@@ -9,7 +9,7 @@ use Rattle.polcert_cells.specs.declared.entry.Entry.{Entry}
 use Rattle.polcert_cells.specs.Preamble.{Preamble}
 use Rattle.polcert_cells.specs.Cells.{fits_place, fit_places, is_table, covers, reward}
 use Rattle.polcert_rules.specs.declared.reward_parts.RewardBody.{RewardBody}
-use Rattle.polcert_rules.specs.Keys.{key_in, table_key, AreDigits, most_places}
+use Rattle.polcert_rules.specs.Keys.{key_base, key_in, table_key, AreDigits, most_places}
 use Rattle.polcert_rules.specs.Newest.{IsLastNumber}
 use Rattle.polcert_rules.specs.Rewards.{AreRewardsOf, RewardRules, cell_in}
 use Rattle.polcert_rules.specs.RewardSearch.{Begins, IsLastBody, IsSingle}
@@ -19,7 +19,7 @@ use Rattle.polcert_rules.proofs.RewardValues.{is_open, body_reward, no_reward}
 
 -- what names an end state begins with the action and the start state, and goes on with a key that is no lower
 end_begins : (low a s e z : ℕ) (p q : Place) (n : ℕ) (rest : List Place) (key : ℕ) → fit_places (p ∷ q ∷ Only n ∷ rest) (a ∷ s ∷ e ∷ z ∷ []) ≡ true
-    → AreDigits most_places (p ∷ q ∷ Only n ∷ rest) → key ≡ key_in most_places low (p ∷ q ∷ Only n ∷ rest) → Begins most_places low (a ∷ s ∷ []) 1026 key
+    → AreDigits most_places (p ∷ q ∷ Only n ∷ rest) → key ≡ key_in most_places low (p ∷ q ∷ Only n ∷ rest) → Begins most_places low (a ∷ s ∷ []) (key_base + 2) key
 end_begins low a s e z p q n [] key fits digits is =
     let one = and_true (fits_place p a) _ fits in
     let two = and_true (fits_place q s) _ one.1 in
@@ -47,7 +47,7 @@ end_begins low a s e z p q n (r ∷ x ∷ xs) key fits digits is = absurd digits
 
 -- and so does what names an observation behind any end state
 seen_begins : (low a s e z : ℕ) (p q : Place) (n : ℕ) (rest : List Place) (key : ℕ) → fit_places (p ∷ q ∷ Every ∷ Only n ∷ rest) (a ∷ s ∷ e ∷ z ∷ []) ≡ true
-    → AreDigits most_places (p ∷ q ∷ Every ∷ Only n ∷ rest) → key ≡ key_in most_places low (p ∷ q ∷ Every ∷ Only n ∷ rest) → Begins most_places low (a ∷ s ∷ []) 1026 key
+    → AreDigits most_places (p ∷ q ∷ Every ∷ Only n ∷ rest) → key ≡ key_in most_places low (p ∷ q ∷ Every ∷ Only n ∷ rest) → Begins most_places low (a ∷ s ∷ []) (key_base + 2) key
 seen_begins low a s e z p q n [] key fits digits is =
     let one = and_true (fits_place p a) _ fits in
     let two = and_true (fits_place q s) _ one.1 in
@@ -77,7 +77,7 @@ fits_moved a s e y f z (p ∷ q ∷ Every ∷ Every ∷ rest) ends seen = refl
 fits_moved a s e y f z (p ∷ q ∷ Every ∷ Only n ∷ rest) ends seen = absurd (seen p q n rest refl)
 fits_moved a s e y f z (p ∷ q ∷ Only n ∷ rest) ends seen = absurd (ends p q n rest refl)
 
-module _ (p : Preamble) (entries : List Entry) (rewards : RewardRules) (a s : ℕ) (are : AreRewardsOf p entries rewards) (unnamed : NoneBegins rewards (a ∷ s ∷ []) 1026) where
+module _ (p : Preamble) (entries : List Entry) (rewards : RewardRules) (a s : ℕ) (are : AreRewardsOf p entries rewards) (unnamed : NoneBegins rewards (a ∷ s ∷ []) (key_base + 2)) where
   -- what covers one cell behind the action and the start state covers each
   moved : (e y f z k : ℕ) (x : Entry) → slice_get entries k ≡ Some x → covers Reward (a ∷ s ∷ e ∷ y ∷ []) x ≡ true → covers Reward (a ∷ s ∷ f ∷ z ∷ []) x ≡ true
   moved e y f z k x is c =

@@ -12,7 +12,7 @@ use Rattle.polcert_cells.specs.Preamble.{Preamble}
 use Rattle.polcert_cells.specs.Cells.{fits_place, fit_places, is_table, covers, reward}
 use Rattle.polcert_rules.specs.Meeting.{fits_at, meets_row}
 use Rattle.polcert_rules.specs.declared.rule.Rule.{Rule}
-use Rattle.polcert_rules.specs.Keys.{digit, key_in, table_key, AreDigits, most_places}
+use Rattle.polcert_rules.specs.Keys.{key_base, digit, key_in, table_key, AreDigits, most_places}
 use Rattle.polcert_rules.specs.Rewards.{AreRewardsOf, RewardRules}
 use Rattle.polcert_rules.specs.Newest.{IsLastNumber}
 use Rattle.polcert_rules.specs.RewardSearch.{Begins}
@@ -41,7 +41,7 @@ covering_begins low a s e z key (p ∷ []) two fits digits is = absurd (omega ar
 covering_begins low a s e z key (p ∷ q ∷ rest) two fits digits is =
     let one = and_true (fits_place p a) _ fits in
     let other = and_true (fits_place q s) _ one.1 in
-    let start = low + digit p * 1024 ^ 3 + digit q * 1024 ^ 2 in
+    let start = low + digit p * key_base ^ 3 + digit q * key_base ^ 2 in
     let from_here = key_low 2 start rest in
     let to_there = key_high 2 start rest digits.1.1 in
     record {
@@ -74,38 +74,38 @@ same_place (Only m) Every e = absurd (omega arith)
 same_place (Only m) (Only n) e = let f : m ≡ n = omega arith in ap Only f
 
 -- keys between one and where its places leave no more room come from places that begin with its own
-begins_with : (m low : ℕ) (ps qs : List Place) → AreDigits m ps → AreDigits m qs → key_in m low ps ≤ key_in m low qs → key_in m low qs < key_in m low ps + 1024 ^ (m - length ps)
+begins_with : (m low : ℕ) (ps qs : List Place) → AreDigits m ps → AreDigits m qs → key_in m low ps ≤ key_in m low qs → key_in m low qs < key_in m low ps + key_base ^ (m - length ps)
     → take (length ps) qs ≡ ps
 begins_with m low [] qs a b from to = refl
 begins_with zero low (p ∷ ps) qs a b from to = absurd a
 begins_with (suc m) low (p ∷ ps) [] a b from to =
     let some = digit_some p in
-    let above : 1 * 1024 ^ m ≤ digit p * 1024 ^ m = mul-le-mul_right (1024 ^ m) some in
+    let above : 1 * key_base ^ m ≤ digit p * key_base ^ m = mul-le-mul_right (key_base ^ m) some in
     let one = power_some m in
-    let high = key_low m (low + digit p * 1024 ^ m) ps in
+    let high = key_low m (low + digit p * key_base ^ m) ps in
     absurd (omega arith)
 begins_with (suc m) low (p ∷ ps) (q ∷ qs) a b from to = ⊎_elim
     (λ less.
     let e : suc m - suc (length ps) ≡ m - length ps = omega arith in
-    let f : 1024 ^ (suc m - suc (length ps)) ≡ 1024 ^ (m - length ps) = ap (λ k. 1024 ^ k) e in
-    let room = key_room m (low + digit p * 1024 ^ m) ps a.1 in
-    let high = key_low m (low + digit q * 1024 ^ m) qs in
-    let more = next_digit (digit p) (digit q) (1024 ^ m) less in
+    let f : key_base ^ (suc m - suc (length ps)) ≡ key_base ^ (m - length ps) = ap (λ k. key_base ^ k) e in
+    let room = key_room m (low + digit p * key_base ^ m) ps a.1 in
+    let high = key_low m (low + digit q * key_base ^ m) qs in
+    let more = next_digit (digit p) (digit q) (key_base ^ m) less in
     absurd (omega arith))
     (λ ge. ⊎_elim
     (λ more.
-    let low_end = key_low m (low + digit p * 1024 ^ m) ps in
-    let high = key_high m (low + digit q * 1024 ^ m) qs b.1 in
-    let less = next_digit (digit q) (digit p) (1024 ^ m) more in
+    let low_end = key_low m (low + digit p * key_base ^ m) ps in
+    let high = key_high m (low + digit q * key_base ^ m) qs b.1 in
+    let less = next_digit (digit q) (digit p) (key_base ^ m) more in
     absurd (omega arith))
     (λ le.
     let same : digit q ≡ digit p = omega arith in
     let first : q ≡ p = same_place q p same in
     let e : suc m - suc (length ps) ≡ m - length ps = omega arith in
-    let rest = begins_with m (low + digit p * 1024 ^ m) ps qs a.1 b.1
-    (subst (λ d. key_in m (low + digit p * 1024 ^ m) ps ≤ key_in m (low + d * 1024 ^ m) qs) same from)
-    (subst (λ k. key_in m (low + digit p * 1024 ^ m) qs < key_in m (low + digit p * 1024 ^ m) ps + 1024 ^ k) e
-    (subst (λ d. key_in m (low + d * 1024 ^ m) qs < key_in m (low + digit p * 1024 ^ m) ps + 1024 ^ (suc m - suc (length ps))) same to)) in
+    let rest = begins_with m (low + digit p * key_base ^ m) ps qs a.1 b.1
+    (subst (λ d. key_in m (low + digit p * key_base ^ m) ps ≤ key_in m (low + d * key_base ^ m) qs) same from)
+    (subst (λ k. key_in m (low + digit p * key_base ^ m) qs < key_in m (low + digit p * key_base ^ m) ps + key_base ^ k) e
+    (subst (λ d. key_in m (low + d * key_base ^ m) qs < key_in m (low + digit p * key_base ^ m) ps + key_base ^ (suc m - suc (length ps))) same to)) in
     ap (λ (x : Place). x ∷ take (length ps) qs) first ∙ ap (λ (xs : List Place). p ∷ xs) rest)
     (cases_lt (digit q) (digit p)))
     (cases_lt (digit p) (digit q))
@@ -146,7 +146,7 @@ paid_by_all entries a s n last =
     let m = meets_all a s x.places both.1 in
     (n, x, last.0.1, ap (λ b. b && fits_at x.places 0 a && fits_at x.places 1 s) both.0 ∙ ap (λ b. b && fits_at x.places 1 s) m.0 ∙ m.1)
 
-pub paid : (p : Preamble) (entries : List Entry) (rewards : RewardRules) (a s : ℕ) (r : Rule) → AreRewardsOf p entries rewards → a + 2 < 1024 → s + 2 < 1024
+pub paid : (p : Preamble) (entries : List Entry) (rewards : RewardRules) (a s : ℕ) (r : Rule) → AreRewardsOf p entries rewards → a + 2 < key_base → s + 2 < key_base
     → Contains rewards.rules r → Begins most_places (table_key Reward) (a ∷ s ∷ []) 0 r.key → IsPaidBy entries a s
 paid p entries rewards a s r are small_a small_s among b =
     let k = (are.rules r).0 among in
@@ -156,9 +156,9 @@ paid p entries rewards a s r are small_a small_s among b =
     let t = table_of x.table x.places digits (subst (λ key. table_key Reward ≤ key) (sym e.2) k.1) in
     let key : key_in most_places (table_key Reward) x.places ≡ r.key = ap (λ u. key_in most_places (table_key u) x.places) (sym t) ∙ e.2 in
     let from = b.from in
-    let to = subst (λ n. r.key < key_in most_places (table_key Reward) b.places + 1024 ^ (most_places - n)) (sym b.all) b.to in
+    let to = subst (λ n. r.key < key_in most_places (table_key Reward) b.places + key_base ^ (most_places - n)) (sym b.all) b.to in
     let with = begins_with most_places (table_key Reward) b.places x.places (fit_digits most_places b.places (a ∷ s ∷ []) (small_a, (small_s, tt)) b.fits) digits (omega arith)
-    (subst (λ n. n < key_in most_places (table_key Reward) b.places + 1024 ^ (most_places - length b.places)) (sym key) to) in
+    (subst (λ n. n < key_in most_places (table_key Reward) b.places + key_base ^ (most_places - length b.places)) (sym key) to) in
     let both = meets a s b.places x.places b.all b.fits with in (
       r.number,
       x,

@@ -8,7 +8,7 @@ use Rattle.polcert_cells.specs.Sound.{IsSoundEntry}
 use Rattle.polcert_rules.specs.declared.rule.Rule.{Rule}
 use Rattle.polcert_rules.specs.declared.reward_parts.RewardShape.{RewardShape}
 use Rattle.polcert_rules.specs.declared.reward_parts.RewardBody.{RewardBody}
-use Rattle.polcert_rules.specs.Keys.{table_key, most_places}
+use Rattle.polcert_rules.specs.Keys.{key_base, table_key, most_places}
 use Rattle.polcert_rules.specs.Newest.{AreKeyed, IsIndexOf}
 use Rattle.polcert_rules.specs.Rewards.{IsShapeOf, AreBodiesOf, AreRewardsOf, reward_rules}
 use Rattle.polcert_rules.proofs.Newer.{IsSpan}
@@ -22,7 +22,7 @@ number_within entries index part low size is span r among =
 
 pub are_rewards : (p : Preamble) (entries : List Entry) (shape : RewardShape) (costs : Bool) (index rules : List Rule) (first : ℕ) (bodies : List RewardBody) (numbers : List ℤ)
     → IsShapeOf p shape → p.costs ≡ costs → AreKeyed entries → All (IsSoundEntry p) entries → IsIndexOf entries index
-    → IsSpan index rules (table_key Reward) (1024 ^ most_places) → AreBodiesOf costs entries rules first numbers bodies
+    → IsSpan index rules (table_key Reward) (key_base ^ most_places) → AreBodiesOf costs entries rules first numbers bodies
     → AreRewardsOf p entries (reward_rules shape rules first bodies numbers)
 are_rewards p entries shape costs index rules first bodies numbers shape_is costs_are keyed sound is span each = record {
   shape = shape_is;

@@ -4,14 +4,14 @@ use Rattle.std.proofs.lemmas.List.Elements.{All-weaker}
 use Rattle.polcert_cells.specs.declared.entry.Table.{Table}
 use Rattle.polcert_cells.specs.declared.entry.Table.TheVariants.{Transition, Observation, Reward}
 use Rattle.polcert_cells.specs.declared.entry.Place.{Place}
-use Rattle.polcert_cells.specs.declared.entry.Place.TheVariants.{Every, Only}
 use Rattle.polcert_cells.specs.declared.entry.Entry.{Entry}
 use Rattle.polcert_cells.specs.Elements.{count_of, most_states, most_actions, most_observations}
 use Rattle.polcert_cells.specs.Preamble.{Preamble, dimensions, observed, rewarded}
 use Rattle.polcert_cells.specs.Sound.{IsPlaceIn, ArePlacesIn, IsSoundEntry}
 use Rattle.polcert_cells.proofs.SoundLaws.{rewarded_few}
-use Rattle.polcert_rules.specs.Keys.{digit, AreDigits, most_places}
+use Rattle.polcert_rules.specs.Keys.{key_base, digit, AreDigits, most_places}
 use Rattle.polcert_rules.specs.Newest.{AreKeyed}
+use Rattle.polcert_rules.proofs.KeyBase.{action_digit, element_digit, place_digit}
 
 -- no more elements of a kind than a model may have
 pub record HasFew (p : Preamble) : Type 0 where
@@ -19,17 +19,14 @@ pub record HasFew (p : Preamble) : Type 0 where
   pub states : count_of p.states ≤ most_states
   pub observations : count_of (observed p) ≤ most_observations
 
-an_action : (p : Preamble) (q : Place) → HasFew p → IsPlaceIn p.actions q → digit q < 1024
-an_action p Every few i = omega arith
-an_action p (Only n) few i = omega arith
+an_action : (p : Preamble) (q : Place) → HasFew p → IsPlaceIn p.actions q → digit q < key_base
+an_action p q few i = place_digit p.actions q (action_digit _ few.actions) i
 
-a_state : (p : Preamble) (q : Place) → HasFew p → IsPlaceIn p.states q → digit q < 1024
-a_state p Every few i = omega arith
-a_state p (Only n) few i = omega arith
+a_state : (p : Preamble) (q : Place) → HasFew p → IsPlaceIn p.states q → digit q < key_base
+a_state p q few i = place_digit p.states q (element_digit _ few.states) i
 
-an_observation : (p : Preamble) (q : Place) → HasFew p → IsPlaceIn (observed p) q → digit q < 1024
-an_observation p Every few i = omega arith
-an_observation p (Only n) few i = omega arith
+an_observation : (p : Preamble) (q : Place) → HasFew p → IsPlaceIn (observed p) q → digit q < key_base
+an_observation p q few i = place_digit (observed p) q (element_digit _ few.observations) i
 
 -- ---- the places behind others
 no_more : (m : ℕ) (p : Preamble) (ps : List Place) → ArePlacesIn [] ps → AreDigits m ps
@@ -40,9 +37,8 @@ states : (m : ℕ) (p : Preamble) (ps : List Place) → HasFew p → ArePlacesIn
 states m p [] few a = tt
 states m p (q ∷ qs) few a = (a_state p q few a.0, no_more m p qs a.1)
 
-a_rewarded : (p : Preamble) (q : Place) → HasFew p → IsPlaceIn (rewarded p) q → digit q < 1024
-a_rewarded p Every few i = omega arith
-a_rewarded p (Only n) few i = let few_of = rewarded_few p few.observations in omega arith
+a_rewarded : (p : Preamble) (q : Place) → HasFew p → IsPlaceIn (rewarded p) q → digit q < key_base
+a_rewarded p q few i = place_digit (rewarded p) q (element_digit _ (rewarded_few p few.observations)) i
 
 observations : (m : ℕ) (p : Preamble) (ps : List Place) → HasFew p → ArePlacesIn (observed p ∷ []) ps → AreDigits (suc m) ps
 observations m p [] few a = tt

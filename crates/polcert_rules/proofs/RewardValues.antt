@@ -22,7 +22,7 @@ use Rattle.polcert_cells.specs.Cells.{row_major, reward_in, reward_of, reward, v
 use Rattle.polcert_cells.proofs.CellLaws.{last_is_one}
 use Rattle.polcert_cells.proofs.SoundLaws.{reward_fits, covered_table}
 use Rattle.polcert_rules.specs.declared.reward_parts.RewardBody.{RewardBody}
-use Rattle.polcert_rules.specs.Keys.{AreIndices}
+use Rattle.polcert_rules.specs.Keys.{key_base, AreIndices}
 use Rattle.polcert_rules.specs.Newest.{IsLastNumber, entry_at}
 use Rattle.polcert_rules.specs.Rewards.{worth, rewards_in, cell_in, IsBodyOf, AreRewardsOf, RewardRules}
 use Rattle.polcert_rules.specs.RewardSearch.{AreWithin, IsLastBody}
@@ -191,7 +191,7 @@ single_reward p entries rewards indices b are within single last =
     ∙ ap (λ is. get_or rewards.numbers (b.start + cell_in rewards.shape.states rewards.shape.observations is) (pos 0)) (no_index_left p indices b.places within single)
 
 -- ---- indices
-pub small_indices : (m : ℕ) (indices : List ℕ) → AreIndices m indices → All (λ i. i < 1024) indices
-small_indices m [] a = All-nil (λ i. i < 1024)
+pub small_indices : (m : ℕ) (indices : List ℕ) → AreIndices m indices → All (λ i. i < key_base) indices
+small_indices m [] a = All-nil (λ i. i < key_base)
 small_indices zero (i ∷ indices) a = absurd a
-small_indices (suc m) (i ∷ indices) a = All-cons (λ i. i < 1024) i indices (let l = a.0 in omega arith) (small_indices m indices a.1)
+small_indices (suc m) (i ∷ indices) a = All-cons (λ i. i < key_base) i indices (let l = a.0 in omega arith) (small_indices m indices a.1)

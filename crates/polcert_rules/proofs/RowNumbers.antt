@@ -1,12 +1,12 @@
 -- What an index says of a row: what covers the whole row, and the single cells.
-use Rattle.std.proofs.Common.{◌≡◌, ◌∙◌, ℕ, ◌<◌, ◌⊎◌, inl, inr, ⊎_elim, true, ◌&&◌, Option, Some, None, List, [], ◌∷◌, Contains, refl, sym, ap, subst, arith}
+use Rattle.std.proofs.Common.{◌≡◌, ◌∙◌, ℕ, ◌+◌, ◌<◌, ◌⊎◌, inl, inr, ⊎_elim, true, ◌&&◌, Option, Some, None, List, [], ◌∷◌, Contains, refl, sym, ap, subst, arith}
 use Rattle.polcert_cells.specs.declared.entry.Table.{Table}
 use Rattle.polcert_cells.specs.declared.entry.Place.{Place}
 use Rattle.polcert_cells.specs.declared.entry.Place.TheVariants.{Every, Only}
 use Rattle.polcert_cells.specs.declared.entry.Entry.{Entry}
 use Rattle.polcert_cells.specs.Cells.{fits_place, fit_places, is_table, covers}
 use Rattle.polcert_rules.specs.declared.rule.Rule.{Rule}
-use Rattle.polcert_rules.specs.Keys.{key_in, table_key, AreDigits, Fits, most_places}
+use Rattle.polcert_rules.specs.Keys.{key_base, key_in, table_key, AreDigits, Fits, most_places}
 use Rattle.polcert_rules.specs.Newest.{IsNewest, IsIndexOf, AreKeyed, IsLastNumber}
 use Rattle.polcert_rules.specs.Rows.{IsSingle, HasNoSuchColumn, HaveColumns, at_column, no_column, number_in}
 use Rattle.polcert_rules.proofs.Fitting.{and_true, same_number, equal_numbers}
@@ -86,7 +86,7 @@ newest_among rules P Q (Some m) f g n =
     (record { rule = n.0.rule; among = n.0.among; passes = f n.0.rule n.0.among n.0.passes; is = n.0.is }, λ r c q. n.1 r c (g r c q))
 
 pub row_number : (entries : List Entry) (rules : List Rule) (table : Table) (a s c : ℕ) (whole : Option ℕ) (cells : List Rule) → AreKeyed entries → HaveColumns entries → IsIndexOf entries rules
-    → a < 1022 → s < 1022 → c < no_column → IsNewest rules (Fits most_places (table_key table) (a ∷ s ∷ no_column ∷ [])) whole
+    → a + 2 < key_base → s + 2 < key_base → c < no_column → IsNewest rules (Fits most_places (table_key table) (a ∷ s ∷ no_column ∷ [])) whole
     → IsNewest rules (IsSingle (table_key table) a s c) (at_column cells c) → IsLastNumber entries table (a ∷ s ∷ c ∷ []) (number_in whole cells c)
 row_number entries rules table a s c whole cells keyed columns index la ls lc w x =
     let low = table_key table in

@@ -1,19 +1,19 @@
 -- The entries of single cells.
-use Rattle.std.proofs.Common.{◌≡◌, ◌∙◌, ℕ, ◌<◌, List, [], ◌∷◌, All, Some, subst, arith}
+use Rattle.std.proofs.Common.{◌≡◌, ◌∙◌, ℕ, ◌+◌, ◌<◌, List, [], ◌∷◌, All, Some, subst, arith}
 use Rattle.std.specs.List.{slice_get}
 use Rattle.polcert_cells.specs.declared.entry.Table.{Table}
 use Rattle.polcert_cells.specs.declared.entry.Place.{Place}
 use Rattle.polcert_cells.specs.declared.entry.Place.TheVariants.{Only}
 use Rattle.polcert_cells.specs.declared.entry.Entry.{Entry}
 use Rattle.polcert_rules.specs.declared.rule.Rule.{Rule}
-use Rattle.polcert_rules.specs.Keys.{table_key, AreDigits, most_places}
+use Rattle.polcert_rules.specs.Keys.{key_base, table_key, AreDigits, most_places}
 use Rattle.polcert_rules.specs.Newest.{IsIndexOf, AreKeyed}
 use Rattle.polcert_rules.specs.Rows.{IsCell, IsSingleEntry}
 use Rattle.polcert_rules.proofs.Fitting.{fit_digits}
 use Rattle.polcert_rules.proofs.Covering.{same_keys, keyed_at}
 use Rattle.polcert_rules.proofs.RowNumbers.{single_fit}
 
-single_entry : (entries : List Entry) (rules : List Rule) (table : Table) (a s : ℕ) → AreKeyed entries → IsIndexOf entries rules → a < 1022 → s < 1022
+single_entry : (entries : List Entry) (rules : List Rule) (table : Table) (a s : ℕ) → AreKeyed entries → IsIndexOf entries rules → a + 2 < key_base → s + 2 < key_base
     → (x : Rule) → IsCell rules (table_key table) a s x → IsSingleEntry entries table x
 single_entry entries rules table a s keyed index la ls x c =
     let entry = index.sound c.rule c.among in
@@ -31,6 +31,6 @@ single_entry entries rules table a s keyed index la ls x c =
       places = same.1;
     }
 
-pub single_entries : (entries : List Entry) (rules : List Rule) (table : Table) (a s : ℕ) (xs : List Rule) → AreKeyed entries → IsIndexOf entries rules → a < 1022 → s < 1022
+pub single_entries : (entries : List Entry) (rules : List Rule) (table : Table) (a s : ℕ) (xs : List Rule) → AreKeyed entries → IsIndexOf entries rules → a + 2 < key_base → s + 2 < key_base
     → All (IsCell rules (table_key table) a s) xs → All (IsSingleEntry entries table) xs
 single_entries entries rules table a s xs keyed index la ls h k d l = single_entry entries rules table a s keyed index la ls _ (h k d l)

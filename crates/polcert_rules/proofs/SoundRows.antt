@@ -17,7 +17,7 @@ use Rattle.polcert_cells.proofs.CellLaws as cells
 use Rattle.polcert_cells.proofs.SoundLaws.{rewarded_few}
 use Rattle.polcert_rules.specs.declared.rule.Rule.{Rule}
 use Rattle.polcert_rules.specs.declared.shape.Shape.{Shape}
-use Rattle.polcert_rules.specs.Keys.{digit, AreDigits, most_places}
+use Rattle.polcert_rules.specs.Keys.{key_base, digit, AreDigits, most_places}
 use Rattle.polcert_rules.specs.Newest.{IsRising, IsIndexOf, AreKeyed, IsLastNumber, entry_at}
 use Rattle.polcert_rules.specs.Rows.{HasNoSuchColumn, HaveColumns, IsSingleEntry, no_column, number_in}
 use Rattle.polcert_rules.specs.Given.{IsWithin, FitsShape, HasColumn, given}
@@ -25,27 +25,24 @@ use Rattle.polcert_rules.specs.Shapes.{IsShapeOf, AreSound}
 use Rattle.polcert_rules.specs.Merging.{weight_in}
 use Rattle.polcert_rules.specs.Sources.{IsNumber, IsWhole, AreNumbersOf}
 use Rattle.polcert_rules.proofs.Fitting.{and_true}
+use Rattle.polcert_rules.proofs.KeyBase.{action_digit, element_digit, place_digit}
 use Rattle.polcert_rules.proofs.Covering.{same_table, last_is}
 use Rattle.polcert_rules.proofs.KeptLaws.{at_number, given_small}
 use Rattle.polcert_rules.proofs.FormLaws.{given_is, sound_fits, single_number}
 
 -- ---- places within their counts have keys, and no column is too large
 module _ (p : Preamble) (sound : (count_of p.states ≤ most_states) × (count_of p.actions ≤ most_actions) × (count_of (observed p) ≤ most_observations)) where
-  place_digit : (q : Preamble) (x : Place) → count_of q.states ≤ most_states → IsPlaceIn q.states x → digit x < 1024
-  place_digit q Every l h = omega arith
-  place_digit q (Only k) l h = omega arith
+  states_digit : (x : Place) → IsPlaceIn p.states x → digit x < key_base
+  states_digit x h = place_digit p.states x (element_digit _ sound.0) h
 
-  states_digit : (x : Place) → IsPlaceIn p.states x → digit x < 1024
-  states_digit x h = place_digit p x sound.0 h
+  actions_digit : (x : Place) → IsPlaceIn p.actions x → digit x < key_base
+  actions_digit x h = place_digit p.actions x (action_digit _ sound.1) h
 
-  actions_digit : (x : Place) → IsPlaceIn p.actions x → digit x < 1024
-  actions_digit x h = place_digit (record p { states = p.actions }) x sound.1 h
+  observed_digit : (x : Place) → IsPlaceIn (observed p) x → digit x < key_base
+  observed_digit x h = place_digit (observed p) x (element_digit _ sound.2) h
 
-  observed_digit : (x : Place) → IsPlaceIn (observed p) x → digit x < 1024
-  observed_digit x h = place_digit (record p { states = observed p }) x sound.2 h
-
-  rewarded_digit : (x : Place) → IsPlaceIn (rewarded p) x → digit x < 1024
-  rewarded_digit x h = place_digit (record p { states = rewarded p }) x (rewarded_few p sound.2) h
+  rewarded_digit : (x : Place) → IsPlaceIn (rewarded p) x → digit x < key_base
+  rewarded_digit x h = place_digit (rewarded p) x (element_digit _ (rewarded_few p sound.2)) h
 
   keyed : (t : Table) (ps : List Place) → ArePlacesIn (dimensions p t) ps → AreDigits most_places ps
   keyed t [] h = tt

@@ -1,47 +1,59 @@
 -- Keys: a number for each pattern, in the order of its places, so that the patterns that begin alike stand together.
 -- Nobody has to believe this file: no contract above this crate rests on it.
-use Rattle.std.specs.Prelude.{◌≡◌, ℕ, zero, suc, ◌+◌, ◌*◌, ◌^◌, ◌<◌, true, List, [], ◌∷◌}
+use Rattle.std.specs.Prelude.{◌≡◌, ℕ, zero, suc, ◌+◌, ◌*◌, ◌^◌, ◌<◌, ◌≤◌, true, List, [], ◌∷◌}
 use Rattle.polcert_cells.specs.declared.entry.Table.{Table}
 use Rattle.polcert_cells.specs.declared.entry.Table.TheVariants.{Transition, Observation, Reward}
 use Rattle.polcert_cells.specs.declared.entry.Place.{Place}
 use Rattle.polcert_cells.specs.declared.entry.Place.TheVariants.{Every, Only}
 use Rattle.polcert_cells.specs.declared.entry.Entry.{Entry}
 use Rattle.polcert_cells.specs.Cells.{fit_places}
+use Rattle.polcert_cells.specs.Elements.{most_actions, most_elements}
+
+-- the base of the keys: each place is a digit to it
+abbrev pub key_base : ℕ
+key_base = 1024
+
+-- the most places that an entry has
+abbrev pub most_places : ℕ
+most_places = 4
+
+-- What is needed of the base: each element of a kind has a digit, and so has one number more, which is no element's; and 64 bits
+-- have room for the keys of the three tables, and for those of one more.
+pub record IsKeyBase (base : ℕ) : Type 0 where
+  pub actions : most_actions + 3 ≤ base
+  pub elements : most_elements + 3 ≤ base
+  pub room : 4 * base ^ most_places ≤ 2 ^ 64
 
 -- a place as a digit: 0 stands for no place
 abbrev pub digit : Place → ℕ
 digit Every = 1
 digit (Only n) = n + 2
 
--- the key of these places behind those of the key `low`, where there is room for so many digits to base 1024
+-- the key of these places behind those of the key `low`, where there is room for so many digits to the base
 abbrev pub key_in : ℕ → ℕ → List Place → ℕ
 key_in levels low [] = low
 key_in zero low (p ∷ ps) = low
-key_in (suc levels) low (p ∷ ps) = key_in levels (low + digit p * 1024 ^ levels) ps
+key_in (suc levels) low (p ∷ ps) = key_in levels (low + digit p * key_base ^ levels) ps
 
--- at most so many places, each a digit to base 1024
+-- at most so many places, each a digit to the base
 abbrev pub AreDigits : ℕ → List Place → Type 0
 AreDigits levels [] = Unit {0}
 AreDigits zero (p ∷ ps) = ⊥
-AreDigits (suc levels) (p ∷ ps) = (digit p < 1024) × AreDigits levels ps
+AreDigits (suc levels) (p ∷ ps) = (digit p < key_base) × AreDigits levels ps
 
 -- at most so many indices, whose places are digits
 abbrev pub AreIndices : ℕ → List ℕ → Type 0
 AreIndices levels [] = Unit {0}
 AreIndices zero (i ∷ indices) = ⊥
-AreIndices (suc levels) (i ∷ indices) = (i + 2 < 1024) × AreIndices levels indices
+AreIndices (suc levels) (i ∷ indices) = (i + 2 < key_base) × AreIndices levels indices
 
 abbrev pub table_digit : Table → ℕ
 table_digit Transition = 0
 table_digit Observation = 1
 table_digit Reward = 2
 
--- the most places that an entry has
-abbrev pub most_places : ℕ
-most_places = 4
-
 abbrev pub table_key : Table → ℕ
-table_key table = table_digit table * 1024 ^ most_places
+table_key table = table_digit table * key_base ^ most_places
 
 -- the key of the pattern of an entry, its table in front
 abbrev pub key_of : Entry → ℕ

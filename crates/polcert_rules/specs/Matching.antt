@@ -2,6 +2,7 @@
 use Rattle.std.specs.Prelude.{ℕ, zero, suc, ◌+◌, ◌*◌, ◌^◌, ◌==◌, ◌||◌, Bool, List, [], ◌∷◌, Option, Some, None, if◌then◌else◌}
 use Rattle.polcert_rules.specs.declared.rule.Rule.{Rule}
 use Rattle.polcert_rules.specs.Newest.{later}
+use Rattle.polcert_rules.specs.Keys.{key_base}
 
 -- The key is that of some places, behind those of the key `low`, that fit the first of these indices: it is `low` itself, where
 -- there are none, or it goes on with `*`, or with the first index, and the places behind fit the indices behind.
@@ -9,7 +10,7 @@ abbrev pub fits_key : ℕ → ℕ → List ℕ → ℕ → Bool
 fits_key levels low [] key = key == low
 fits_key zero low (i ∷ indices) key = key == low
 fits_key (suc levels) low (i ∷ indices) key =
-    key == low || (fits_key levels (low + 1024 ^ levels) indices key || fits_key levels (low + (i + 2) * 1024 ^ levels) indices key)
+    key == low || (fits_key levels (low + key_base ^ levels) indices key || fits_key levels (low + (i + 2) * key_base ^ levels) indices key)
 
 -- the greatest number of the rules whose keys pass the test
 abbrev pub newest_by : (ℕ → Bool) → List Rule → Option ℕ

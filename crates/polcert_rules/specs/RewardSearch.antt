@@ -7,7 +7,7 @@ use Rattle.polcert_cells.specs.declared.entry.Entry.{Entry}
 use Rattle.polcert_cells.specs.Cells.{fit_places}
 use Rattle.polcert_rules.specs.declared.rule.Rule.{Rule}
 use Rattle.polcert_rules.specs.declared.reward_parts.RewardBody.{RewardBody}
-use Rattle.polcert_rules.specs.Keys.{key_in}
+use Rattle.polcert_rules.specs.Keys.{key_base, key_in}
 use Rattle.polcert_rules.specs.Newest.{IsLastNumber}
 use Rattle.polcert_rules.specs.Rewards.{IsBodyOf}
 
@@ -17,7 +17,7 @@ pub record Begins (levels low : ℕ) (indices : List ℕ) (least key : ℕ) : Ty
   pub fits : fit_places places indices ≡ true
   pub all : length places ≡ length indices
   pub from : key_in levels low places + least ≤ key
-  pub to : key < key_in levels low places + 1024 ^ (levels - length indices)
+  pub to : key < key_in levels low places + key_base ^ (levels - length indices)
 
 -- whether a rule's key passes
 abbrev pub IsAnswer : List Rule → (ℕ → Type 0) → Bool → Type 0

@@ -13,7 +13,7 @@ use Rattle.polcert_cells.specs.Sound.{IsSoundEntry}
 use Rattle.polcert_rules.specs.declared.rule.Rule.{Rule}
 use Rattle.polcert_rules.specs.declared.reward_parts.RewardShape.{RewardShape}
 use Rattle.polcert_rules.specs.declared.reward_parts.RewardBody.{RewardBody}
-use Rattle.polcert_rules.specs.Keys.{table_key, most_places}
+use Rattle.polcert_rules.specs.Keys.{key_base, table_key, most_places}
 use Rattle.polcert_rules.specs.Newest.{IsRising, IsIndexOf, AreKeyed}
 
 -- the shape has as many elements of each kind as the indices of a reward run over
@@ -40,7 +40,7 @@ pub record RewardRules : Type 0 where
 -- the rule is one of R
 pub record IsOfRewards (r : Rule) : Type 0 where
   pub low : table_key Reward ≤ r.key
-  pub high : r.key < table_key Reward + 1024 ^ most_places
+  pub high : r.key < table_key Reward + key_base ^ most_places
 
 -- what holds of all rewards
 pub record AreRewardRules (rewards : RewardRules) : Type 0 where
@@ -78,7 +78,7 @@ pub record AreRewardsOf (p : Preamble) (entries : List Entry) (rewards : RewardR
   pub keyed : AreKeyed entries
   pub index : List Rule
   pub index_is : IsIndexOf entries index
-  pub rules : (r : Rule) → Contains rewards.rules r ↔ (Contains index r × (table_key Reward ≤ r.key) × (r.key < table_key Reward + 1024 ^ most_places))
+  pub rules : (r : Rule) → Contains rewards.rules r ↔ (Contains index r × (table_key Reward ≤ r.key) × (r.key < table_key Reward + key_base ^ most_places))
   pub bodies : AreBodiesOf p.costs entries rewards.rules rewards.first rewards.numbers rewards.bodies
 
 -- the number of a cell in a body, by the indices that are left for it, in a table with so many rows and columns

@@ -6,12 +6,12 @@ use Rattle.polcert_cells.specs.declared.entry.Place.TheVariants.{Only}
 use Rattle.polcert_cells.specs.declared.entry.Entry.{Entry}
 use Rattle.polcert_cells.specs.Cells.{fits_place}
 use Rattle.polcert_rules.specs.declared.rule.Rule.{Rule}
-use Rattle.polcert_rules.specs.Keys.{key_in, most_places}
+use Rattle.polcert_rules.specs.Keys.{key_base, key_in, most_places}
 use Rattle.polcert_rules.specs.Newest.{later}
 
--- a column that no row has
+-- a column that no row has: the last that has a digit
 abbrev pub no_column : ℕ
-no_column = 1021
+no_column = key_base - 3
 
 -- no place of a column is that one
 abbrev pub HasNoSuchColumn : List Place → Type 0
@@ -42,14 +42,14 @@ pub record IsSingleEntry (entries : List Entry) (table : Table) (r : Rule) : Typ
 abbrev pub columns_of : ℕ → List Rule → List Rule
 columns_of start [] = []
 columns_of start (r ∷ rs) =
-    if (r.key - start) % 1024 == 0 then (record { key = (r.key - start) / 1024; number = r.number } ∷ columns_of start rs) else columns_of start rs
+    if (r.key - start) % key_base == 0 then (record { key = (r.key - start) / key_base; number = r.number } ∷ columns_of start rs) else columns_of start rs
 
 -- a cell is a rule, whose key is that of the cell's column
 pub record IsColumn (rules : List Rule) (start : ℕ) (cell : Rule) : Type 0 where
   pub rule : Rule
   pub among : Contains rules rule
-  pub key_is : rule.key ≡ start + cell.key * 1024
-  pub column : cell.key < 1022
+  pub key_is : rule.key ≡ start + cell.key * key_base
+  pub column : cell.key + 2 < key_base
   pub number_is : rule.number ≡ cell.number
 
 -- the same of a row
@@ -57,7 +57,7 @@ pub record IsCell (rules : List Rule) (low action state : ℕ) (cell : Rule) : T
   pub rule : Rule
   pub among : Contains rules rule
   pub single : IsSingle low action state cell.key rule.key
-  pub column : cell.key < 1022
+  pub column : cell.key + 2 < key_base
   pub number_is : rule.number ≡ cell.number
 
 -- the number that the cells have in a column

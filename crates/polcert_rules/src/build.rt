@@ -1,16 +1,14 @@
 //! Building an index: a rule for each entry, in the order of their keys, and of each key the newest.
-ghost use Rattle.std.specs.Prelude.{◌≡◌, ◌≤◌, IfOk};
+ghost use Rattle.std.specs.Prelude.{◌≡◌, ◌<◌, IfOk};
 ghost use Rattle.polcert_cells.specs.EntryLists.{entry_of};
-ghost use Rattle.polcert_rules.specs.Keys.{digit, table_digit, key_of, AreDigits, most_places};
+ghost use Rattle.polcert_rules.specs.Keys.{key_base, digit, table_digit, key_of, AreDigits, most_places};
 ghost use Rattle.polcert_rules.specs.Newest.{AreKeyed, rules_from, newest_of_each};
 
 use crate::Rule;
+use crate::keys::MOST_PLACES;
 use crate::newest::span;
 use polcert_cells::{Entries, EntryRef, Place, Table};
 use std::alloc::{AllocError, Global};
-
-/// How many places an entry has at most.
-const MOST_PLACES: usize = 4;
 
 /// A rule for each entry.
 pub(crate) fn numbered(alloc: Global, entries: &Entries) -> Result<Vec<Rule>, AllocError>
@@ -62,7 +60,7 @@ fn key_of(entry: EntryRef<'_>) -> u64
 
 /// A place as a digit: 0 stands for no place.
 fn digit(place: Place) -> u64
-    requires { digit place ≤ 1023 }
+    requires { digit place < key_base }
     ensures { result ≡ digit place }
 {
     match place {

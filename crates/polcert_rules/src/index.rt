@@ -5,11 +5,12 @@ ghost use Rattle.polcert_rules.specs.Rows.{HaveColumns, IsSingleEntry, no_column
 ghost use Rattle.polcert_cells.specs.declared.entry.Entry.{Entry as E};
 ghost use Rattle.polcert_cells.specs.Cells.{IsLastCovering, weight, weight_of, value_or};
 ghost use Rattle.polcert_cells.specs.Preamble.{Preamble};
-ghost use Rattle.polcert_rules.specs.Keys.{AreIndices, Fits, table_key, most_places};
+ghost use Rattle.polcert_rules.specs.Keys.{key_base, AreIndices, Fits, table_key, most_places};
 ghost use Rattle.polcert_rules.specs.Newest.{AreKeyed, IsIndexOf, IsNewest, IsRising, IsLastNumber, entry_at};
 
 use crate::Rule;
 use crate::build::{newest_of_each, numbered, table_digit};
+use crate::keys::KEY_BASE;
 use crate::newest::{newest, span};
 use crate::part::between;
 use crate::row::{Row, cells};
@@ -17,8 +18,8 @@ use polcert_cells::{Entries, Table};
 use std::alloc::{AllocError, Global};
 use std::marker::Model;
 
-/// A column that no row has.
-const NO_COLUMN: usize = 1021;
+/// A column that no row has: the last that has a digit.
+const NO_COLUMN: usize = KEY_BASE as usize - 3;
 
 /// The patterns of a list of entries, in order, each with the number of the last entry that has it.
 #[derive(Drop)]
@@ -70,8 +71,8 @@ impl Index {
         action: usize,
         state: usize,
     ) -> Result<Row, AllocError>
-        requires action { action < 1022 }
-        requires state { state < 1022 }
+        requires action { action + 2 < key_base }
+        requires state { state + 2 < key_base }
         ensures rising { IfOk result (λ row. IsRising row.cells.items) }
         ensures single { IfOk result (λ row. (entries : List E) → AreKeyed entries → IsIndexOf entries self.now →
             All (IsSingleEntry entries table) row.cells.items) }
@@ -92,7 +93,7 @@ impl Index {
     /// The rules of this table.
     pub(crate) fn of_table(&self, table: Table) -> &[Rule]
         ensures rising { IsRising result.now }
-        ensures kept { (r : R) → Contains result.now r ↔ (Contains self.now r × (table_key table ≤ r.key) × (r.key < table_key table + 1024 ^ most_places)) }
+        ensures kept { (r : R) → Contains result.now r ↔ (Contains self.now r × (table_key table ≤ r.key) × (r.key < table_key table + key_base ^ most_places)) }
     {
         let low = table_digit(table) * span(4);
         between(self.rules.as_slice(), low, low + span(4))

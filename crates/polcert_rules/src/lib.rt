@@ -5,6 +5,7 @@ mod body;
 mod build;
 mod index;
 mod kept;
+mod keys;
 mod merging;
 mod newest;
 mod noting;

@@ -2,9 +2,10 @@
 ghost use Rattle.std.specs.Prelude.{◌≡◌, ◌+◌, ◌<◌, ◌≤◌, ◌^◌, ℕ, Contains};
 ghost use Rattle.polcert_rules.specs.declared.rule.Rule.{Rule as R};
 ghost use Rattle.polcert_rules.specs.Newest.{IsRising, IsNewest, later};
-ghost use Rattle.polcert_rules.specs.Keys.{AreIndices, Fits, most_places};
+ghost use Rattle.polcert_rules.specs.Keys.{key_base, AreIndices, Fits, most_places};
 
 use crate::Rule;
+use crate::keys::{ACTION, COLUMN, ROW, TABLE};
 use crate::part::between;
 
 /// Of the rules whose places follow those of the key `low`, at most so many, the number of the newest that fits the
@@ -13,7 +14,7 @@ pub(crate) fn newest(rules: &[Rule], low: u64, levels: usize, indices: &[usize])
     requires rising { IsRising rules.now }
     requires from { (r : R) → Contains rules.now r → low ≤ r.key }
     requires few { levels ≤ most_places }
-    requires room { low + 1024 ^ levels < 2 ^ 64 }
+    requires room { low + key_base ^ levels < 2 ^ 64 }
     requires indices { AreIndices levels indices.now }
     ensures { IsNewest rules.now (Fits levels low indices.now) result }
 {
@@ -54,14 +55,14 @@ pub(crate) fn first_at(rules: &[Rule], key: u64) -> Option<usize>
 /// How many keys there are with so many places.
 pub(crate) fn span(levels: usize) -> u64
     requires { levels ≤ most_places }
-    ensures { result ≡ 1024 ^ levels }
+    ensures { result ≡ key_base ^ levels }
 {
     match levels {
         0 => 1,
-        1 => 1024,
-        2 => 1_048_576,
-        3 => 1_073_741_824,
-        _ => 1_099_511_627_776,
+        1 => COLUMN,
+        2 => ROW,
+        3 => ACTION,
+        _ => TABLE,
     }
 }
 

@@ -2,7 +2,7 @@
 ghost use Rattle.std.specs.Prelude.{◌≡◌, ◌+◌, ◌<◌, ◌≤◌, ◌^◌, ℕ, length, Contains, Some, None, slice_index_or};
 ghost use Rattle.polcert_rules.specs.declared.rule.Rule.{Rule as R};
 ghost use Rattle.polcert_rules.specs.Newest.{IsRising, later};
-ghost use Rattle.polcert_rules.specs.Keys.{AreIndices, most_places};
+ghost use Rattle.polcert_rules.specs.Keys.{key_base, AreIndices, most_places};
 ghost use Rattle.polcert_rules.specs.Noting.{IsNoted, AreNoted, IsLastPlace};
 
 use crate::Rule;
@@ -23,10 +23,10 @@ pub(crate) fn note(
     requires from { (r : R) → Contains rules.now r → low ≤ r.key }
     requires few { levels ≤ most_places }
     requires last { levels ≡ length indices.now + 1 }
-    requires room { low + 1024 ^ levels < 2 ^ 64 }
+    requires room { low + key_base ^ levels < 2 ^ 64 }
     requires indices { AreIndices levels indices.now }
     requires within { count ≤ length noted.old }
-    requires small { count + 2 < 1024 }
+    requires small { count + 2 ≤ key_base }
     ensures { AreNoted rules.now levels low indices.now count noted.old noted.new }
 {
     if rules.is_empty() {

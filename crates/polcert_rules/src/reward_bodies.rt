@@ -3,6 +3,7 @@ ghost use Rattle.std.specs.Prelude.{◌≡◌, ◌<◌, ◌≤◌, ◌+◌, ◌+
 ghost use Rattle.polcert_cells.specs.Elements.{most_states, most_elements};
 ghost use Rattle.polcert_cells.specs.EntryLists.{body_of};
 ghost use Rattle.polcert_rules.specs.declared.rule.Rule.{Rule as R};
+ghost use Rattle.polcert_rules.specs.Keys.{key_base};
 ghost use Rattle.polcert_rules.specs.Rewards.{worth, rewards_in, AreBodiesOf, body_at, cell_in};
 
 use crate::Rule;
@@ -133,7 +134,7 @@ fn worth(costs: bool, h: i64) -> i64
 pub(crate) fn cell_in(rows: usize, columns: usize, left: &[usize]) -> usize
     requires rows { rows ≤ most_states }
     requires columns { columns ≤ most_elements }
-    requires small { All (λ i. i < 1024) left.now }
+    requires small { All (λ i. i < key_base) left.now }
     ensures { result ≡ cell_in rows columns left.now }
 {
     match left {

@@ -2,7 +2,7 @@
 ghost use Rattle.std.specs.Prelude.{◌≡◌, ◌+◌, ◌<◌, ◌≤◌, ◌^◌, Contains};
 ghost use Rattle.polcert_rules.specs.declared.rule.Rule.{Rule as R};
 ghost use Rattle.polcert_rules.specs.Newest.{IsRising};
-ghost use Rattle.polcert_rules.specs.Keys.{AreIndices, most_places};
+ghost use Rattle.polcert_rules.specs.Keys.{key_base, AreIndices, most_places};
 ghost use Rattle.polcert_rules.specs.RewardSearch.{Begins, IsAnswer};
 
 use crate::Rule;
@@ -20,7 +20,7 @@ pub(crate) fn some_begins(
 ) -> bool
     requires rising { IsRising rules.now }
     requires few { levels ≤ most_places }
-    requires room { low + 1024 ^ levels + least < 2 ^ 64 }
+    requires room { low + key_base ^ levels + least < 2 ^ 64 }
     requires indices { AreIndices levels indices.now }
     ensures { IsAnswer rules.now (Begins levels low indices.now least) result }
 {

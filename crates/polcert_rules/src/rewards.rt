@@ -9,11 +9,12 @@ ghost use Rattle.polcert_cells.specs.Preamble.{Preamble, dimensions};
 ghost use Rattle.polcert_cells.specs.Sound.{IsSoundEntry};
 ghost use Rattle.polcert_cells.specs.Cells.{reward};
 ghost use Rattle.polcert_rules.specs.Meeting.{meets_row};
-ghost use Rattle.polcert_rules.specs.Keys.{AreIndices, Fits, most_places, table_key};
+ghost use Rattle.polcert_rules.specs.Keys.{key_base, AreIndices, Fits, most_places, table_key};
 ghost use Rattle.polcert_rules.specs.Newest.{AreKeyed, IsIndexOf, IsNewest, IsLastNumber, IsRising};
 ghost use Rattle.polcert_rules.specs.Rewards.{IsShapeOf, IsSmall, AreRewardsOf};
 ghost use Rattle.polcert_rules.specs.RewardSearch.{AreWithin, IsLastBody, IsSingle};
 
+use crate::keys::{KEY_BASE, MOST_PLACES, TABLE};
 use crate::newest::newest;
 use crate::reward_bodies::{RewardBodies, behind, cell_in};
 use crate::reward_parts::{RewardBody, RewardShape};
@@ -24,16 +25,14 @@ use polcert_cells::{Entries, MOST_OBSERVATIONS, Table};
 use std::alloc::{AllocError, Global};
 use std::marker::Model;
 
-/// The key that those of R follow, and how many places a key has.
-const LOW: u64 = 2 * 1024 * 1024 * 1024 * 1024;
-
-const MOST_PLACES: usize = 4;
+/// The key that those of R follow.
+const LOW: u64 = 2 * TABLE;
 
 /// What a key goes on with, at least, where its last place is an index.
 const AN_INDEX: u64 = 2;
 
 /// What a key goes on with, at least, where one of its last two places is an index.
-const AN_END_OR_OBSERVATION: u64 = 1024 + 2;
+const AN_END_OR_OBSERVATION: u64 = KEY_BASE + AN_INDEX;
 
 /// So many observations are few: what rules are noted in is then cleared sooner.
 const FEW_OBSERVATIONS: usize = 63;
@@ -355,7 +354,7 @@ fn is_same(one: Option<usize>, other: Option<usize>) -> bool
 fn rules_of(alloc: Global, index: Index) -> Result<Vec<Rule>, AllocError>
     ensures rising { IfOk result (λ rules. IsRising rules.items) }
     ensures kept { IfOk result (λ rules. (r : R) →
-        Contains rules.items r ↔ (Contains index r × (table_key RewardTable ≤ r.key) × (r.key < table_key RewardTable + 1024 ^ most_places))) }
+        Contains rules.items r ↔ (Contains index r × (table_key RewardTable ≤ r.key) × (r.key < table_key RewardTable + key_base ^ most_places))) }
 {
     let rules = index.of_table(Table::Reward).to_vec(alloc)?;
     Ok(rules)

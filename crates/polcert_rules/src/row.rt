@@ -1,11 +1,13 @@
 //! The single cells of a row of T or O.
-ghost use Rattle.std.specs.Prelude.{◌≡◌, ◌+◌, ◌*◌, ◌<◌, ◌≤◌, ◌↔◌, ◌⊎◌, ◌++◌, ◌^◌, ℕ, All, Contains, OnOk, IfOk};
+ghost use Rattle.std.specs.Prelude.{◌≡◌, ◌+◌, ◌-◌, ◌*◌, ◌<◌, ◌≤◌, ◌↔◌, ◌⊎◌, ◌++◌, ◌^◌, ℕ, All, Contains, OnOk, IfOk};
 ghost use Rattle.polcert_rules.specs.declared.rule.Rule.{Rule as R};
+ghost use Rattle.polcert_rules.specs.Keys.{key_base};
 ghost use Rattle.polcert_rules.specs.Newest.{IsRising, IsNewest};
 ghost use Rattle.polcert_rules.specs.Rows.{IsSingle, IsColumn, IsCell, columns_of, at_column};
 
 use crate::Rule;
 use crate::build::newest_of_each;
+use crate::keys::{ACTION, COLUMN, KEY_BASE, ROW};
 use crate::part::between;
 use std::alloc::{AllocError, Global};
 
@@ -17,12 +19,8 @@ pub struct Row {
     pub cells: Vec<Rule>,
 }
 
-/// How many keys a column has, a row of single cells, and all rows of an action.
-const COLUMN: u64 = 1024;
-
-const ROW: u64 = 1024 * 1024;
-
-const ACTION: u64 = 1024 * 1024 * 1024;
+/// How many columns have a digit.
+const COLUMNS: u64 = KEY_BASE - 2;
 
 /// The single cells of the row at this action and state, by column: of each column the newest.
 pub(crate) fn cells(
@@ -33,11 +31,11 @@ pub(crate) fn cells(
     state: usize,
 ) -> Result<Vec<Rule>, AllocError>
     requires rising { IsRising rules.now }
-    requires low { low < 2 ^ 42 }
-    requires action { action < 1022 }
-    requires state { state < 1022 }
+    requires room { low + key_base ^ 4 < 2 ^ 64 }
+    requires action { action + 2 < key_base }
+    requires state { state + 2 < key_base }
     ensures rising { IfOk result (λ cells. IsRising cells.items) }
-    ensures newest { IfOk result (λ cells. (c : ℕ) → c < 1022 →
+    ensures newest { IfOk result (λ cells. (c : ℕ) → c + 2 < key_base →
         IsNewest rules.now (IsSingle low action state c) (at_column cells.items c)) }
     ensures each { IfOk result (λ cells. All (IsCell rules.now low action state) cells.items) }
 {
@@ -55,9 +53,9 @@ fn gathered(
     state: usize,
 ) -> Result<Vec<Rule>, AllocError>
     requires rising { IsRising rules.now }
-    requires low { low < 2 ^ 42 }
-    requires action { action < 1022 }
-    requires state { state < 1022 }
+    requires room { low + key_base ^ 4 < 2 ^ 64 }
+    requires action { action + 2 < key_base }
+    requires state { state + 2 < key_base }
     ensures { IfOk result (λ cells. (x : R) → Contains cells.items x ↔ IsCell rules.now low action state x) }
 {
     let mut cells = Vec::new(alloc);
@@ -72,11 +70,11 @@ fn gathered(
 
 /// The key of the first column of a row, by the digits of its places.
 fn first_column(low: u64, first: u64, second: u64) -> u64
-    requires low { low < 2 ^ 42 }
-    requires first { first < 1024 }
-    requires second { second < 1024 }
-    ensures is { result ≡ low + first * 1024 ^ 3 + second * 1024 ^ 2 + 2 * 1024 }
-    ensures small { result < 2 ^ 43 }
+    requires room { low + key_base ^ 4 < 2 ^ 64 }
+    requires first { first < key_base }
+    requires second { second < key_base }
+    ensures is { result ≡ low + first * key_base ^ 3 + second * key_base ^ 2 + 2 * key_base }
+    ensures small { result + (key_base - 2) * key_base ≤ low + key_base ^ 4 }
 {
     low + first * ACTION + second * ROW + 2 * COLUMN
 }
@@ -84,10 +82,14 @@ fn first_column(low: u64, first: u64, second: u64) -> u64
 /// Puts the single cells that begin at this key behind the others.
 fn add_columns(cells: &mut Vec<Rule>, rules: &[Rule], start: u64) -> Result<(), AllocError>
     requires rising { IsRising rules.now }
-    requires room { start < 2 ^ 43 }
+    requires room { start + (key_base - 2) * key_base < 2 ^ 64 }
     ensures { OnOk result ((x : R) → Contains cells.new.items x ↔ (Contains cells.old.items x ⊎ IsColumn rules.now start x)) }
 {
-    add_part(cells, between(rules, start, start + 1022 * COLUMN), start)?;
+    add_part(
+        cells,
+        between(rules, start, start + COLUMNS * COLUMN),
+        start,
+    )?;
     Ok(())
 }
 

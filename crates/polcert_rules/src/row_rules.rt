@@ -2,7 +2,7 @@
 ghost use Rattle.std.specs.Prelude.{◌≡◌, ◌+◌, ◌<◌, ◌≤◌, ◌^◌, ◌↔◌, ◌∷◌, Contains, length, IfOk};
 ghost use Rattle.polcert_rules.specs.declared.rule.Rule.{Rule as R};
 ghost use Rattle.polcert_rules.specs.Newest.{IsRising, IsNewest};
-ghost use Rattle.polcert_rules.specs.Keys.{AreIndices, Fits};
+ghost use Rattle.polcert_rules.specs.Keys.{key_base, AreIndices, Fits};
 ghost use Rattle.polcert_rules.specs.Noting.{AreNoted};
 ghost use Rattle.polcert_rules.specs.RewardSearch.{Begins, IsAnswer};
 ghost use Rattle.polcert_rules.specs.Rewards.{IsSmall};
@@ -47,7 +47,7 @@ impl RowRules {
     ) -> Result<RowRules, AllocError>
         requires shape { IsSmall shape }
         requires rising { IsRising rules.items }
-        requires room { low + 1024 ^ 4 < 2 ^ 64 }
+        requires room { low + key_base ^ 4 < 2 ^ 64 }
         ensures { IfOk result (λ kept. kept.rules.items ≡ rules.items) }
     {
         if rules.len() <= FEW_RULES {
@@ -83,7 +83,7 @@ impl RowRules {
         rest: &[usize],
     ) -> Option<usize>
         requires rising { IsRising self.now.rules.items }
-        requires room { low + 1024 ^ 4 < 2 ^ 64 }
+        requires room { low + key_base ^ 4 < 2 ^ 64 }
         requires indices { AreIndices 4 (action ∷ start ∷ rest.now) }
         ensures { IsNewest self.now.rules.items (Fits 4 low (action ∷ start ∷ rest.now)) result }
     {
@@ -98,7 +98,7 @@ impl RowRules {
     /// The same behind a first place, which has this digit.
     fn newest_behind(&self, first: usize, low: u64, start: usize, rest: &[usize]) -> Option<usize>
         requires rising { IsRising self.now.rules.items }
-        requires room { low + 1024 ^ 3 < 2 ^ 64 }
+        requires room { low + key_base ^ 3 < 2 ^ 64 }
         requires indices { AreIndices 3 (start ∷ rest.now) }
         ensures { IsNewest self.now.rules.items (Fits 3 low (start ∷ rest.now)) result }
     {
@@ -128,11 +128,11 @@ impl RowRules {
         noted: &mut [Option<usize>],
     )
         requires rising { IsRising self.now.rules.items }
-        requires room { low + 1024 ^ 4 < 2 ^ 64 }
+        requires room { low + key_base ^ 4 < 2 ^ 64 }
         requires indices { AreIndices 4 (action ∷ start ∷ rest.now) }
         requires last { length rest.now ≡ 1 }
         requires within { count ≤ length noted.old }
-        requires small { count + 2 < 1024 }
+        requires small { count + 2 ≤ key_base }
         ensures { AreNoted self.now.rules.items 4 low (action ∷ start ∷ rest.now) count noted.old noted.new }
     {
         let step = span(3);
@@ -157,11 +157,11 @@ impl RowRules {
         noted: &mut [Option<usize>],
     )
         requires rising { IsRising self.now.rules.items }
-        requires room { low + 1024 ^ 3 < 2 ^ 64 }
+        requires room { low + key_base ^ 3 < 2 ^ 64 }
         requires indices { AreIndices 3 (start ∷ rest.now) }
         requires last { length rest.now ≡ 1 }
         requires within { count ≤ length noted.old }
-        requires small { count + 2 < 1024 }
+        requires small { count + 2 ≤ key_base }
         ensures { AreNoted self.now.rules.items 3 low (start ∷ rest.now) count noted.old noted.new }
     {
         let step = span(PLACES_LEFT);
@@ -197,7 +197,7 @@ impl RowRules {
         least: u64,
     ) -> bool
         requires rising { IsRising self.now.rules.items }
-        requires room { low + 1024 ^ 4 + least < 2 ^ 64 }
+        requires room { low + key_base ^ 4 + least < 2 ^ 64 }
         requires indices { AreIndices 4 (action ∷ start ∷ rest.now) }
         ensures { IsAnswer self.now.rules.items (Begins 4 low (action ∷ start ∷ rest.now) least) result }
     {
@@ -217,7 +217,7 @@ impl RowRules {
         least: u64,
     ) -> bool
         requires rising { IsRising self.now.rules.items }
-        requires room { low + 1024 ^ 3 + least < 2 ^ 64 }
+        requires room { low + key_base ^ 3 + least < 2 ^ 64 }
         requires indices { AreIndices 3 (start ∷ rest.now) }
         ensures { IsAnswer self.now.rules.items (Begins 3 low (start ∷ rest.now) least) result }
     {
@@ -233,9 +233,9 @@ impl RowRules {
     /// The rules whose keys follow `low`, the key of two places with these digits.
     fn part(&self, first: usize, second: usize, low: u64) -> &[Rule]
         requires rising { IsRising self.now.rules.items }
-        requires room { low + 1024 ^ 2 < 2 ^ 64 }
+        requires room { low + key_base ^ 2 < 2 ^ 64 }
         ensures rising { IsRising result.now }
-        ensures kept { (r : R) → Contains result.now r ↔ (Contains self.now.rules.items r × (low ≤ r.key) × (r.key < low + 1024 ^ 2)) }
+        ensures kept { (r : R) → Contains result.now r ↔ (Contains self.now.rules.items r × (low ≤ r.key) × (r.key < low + key_base ^ 2)) }
     {
         let place = first.wrapping_mul(self.seconds).wrapping_add(second);
         let high = low + span(PLACES_LEFT);

@@ -1,6 +1,6 @@
 //! Rewards of entries that are given as values.
 ghost use Rattle.std.specs.Prelude.{◌≡◌, ◌<◌, IfOk};
-ghost use Rattle.polcert_rules.specs.Keys.{AreDigits, digit, most_places};
+ghost use Rattle.polcert_rules.specs.Keys.{key_base, AreDigits, digit, most_places};
 
 use polcert_cells::{Body, Entries, Entry, Place, Places, Sequence, Table};
 use polcert_rules::{Index, RewardShape, Rewards};
@@ -18,7 +18,7 @@ const ANY: usize = 9;
 const CELLS: usize = 16;
 
 fn place(element: usize) -> Place
-    ensures { digit result < 1024 }
+    ensures { digit result < key_base }
 {
     if element < ANY {
         Place::Only(element as u16)

@@ -1,4 +1,6 @@
-use Rattle.std.proofs.Common.{◌∙◌, ◌<◌, ◌^◌, refl, ap, sym, subst, arith}
+use Rattle.std.proofs.Common.{◌∙◌, ◌*◌, ◌<◌, ◌^◌, refl, ap, sym, subst, arith}
+use Rattle.polcert_cells.specs.Elements.{most_elements}
+use Rattle.polcert_cells.specs.Numbers.{one}
 use Rattle.polcert_cells.specs.Sparse.{weight_at}
 use Rattle.polcert_rules.specs.Sources.{total}
 use Rattle.polcert_rules.proofs.SumLaws.{sum_is, sum_small}
@@ -9,7 +11,7 @@ row_sum-sum-requires c =
     let cells = c.args.cells.items in
     let n = c.args.columns in
     let few = c.requires.few in
-    let small = sum_small (weight_at cells) 1000000000 n (λ i l. let h = c.requires.small i l in omega arith) in
+    let small = sum_small (weight_at cells) (one * most_elements) n (λ i l. let h = c.requires.small i l in omega arith) in
     let same = sum_is n cells c.requires.sparse in
     let all : total cells < 2 ^ 64 = omega (arith, small, same, few) in
     subst (λ xs. total xs < 2 ^ 64) (sym c.as_slice.ensures.value) all

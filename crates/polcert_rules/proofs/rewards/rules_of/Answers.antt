@@ -1,11 +1,11 @@
 use Rattle.std.proofs.Common.{◌≡◌, ◌^◌, List, subst, sym, rules}
 use Rattle.polcert_cells.specs.declared.entry.Table.TheVariants.{Reward}
 use Rattle.polcert_rules.specs.declared.rule.Rule.{Rule}
-use Rattle.polcert_rules.specs.Keys.{table_key, most_places}
+use Rattle.polcert_rules.specs.Keys.{key_base, table_key, most_places}
 use Rattle.polcert_rules.proofs.Newer.{IsSpan}
 use Rattle.polcert_rules.proofs.rewards.rules_of.Goals as goal
 
 pub returns-clause-kept : goal.returns-clause-kept
 returns-clause-kept c =
     let rules_are : c.in_ok-rules.rules.items ≡ c.of_table.result.now = search rules in
-    subst (λ (xs : List Rule). IsSpan c.args.index xs (table_key Reward) (1024 ^ most_places)) (sym rules_are) c.of_table.ensures.kept
+    subst (λ (xs : List Rule). IsSpan c.args.index xs (table_key Reward) (key_base ^ most_places)) (sym rules_are) c.of_table.ensures.kept

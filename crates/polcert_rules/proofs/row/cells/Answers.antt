@@ -1,8 +1,9 @@
-use Rattle.std.proofs.Common.{◌∙◌, ℕ, ◌<◌, List, All, subst, sym, ap, rules}
+use Rattle.std.proofs.Common.{◌∙◌, ℕ, ◌+◌, ◌<◌, List, All, subst, sym, ap, rules}
 use Rattle.std.proofs.lemmas.List.Sorted.{IsNonDecreasingBy-from_sort_by_key}
 use Rattle.polcert_rules.specs.declared.rule.Rule.{Rule}
 use Rattle.polcert_rules.specs.Newest.{IsRising, IsNewest, newest_of_each}
 use Rattle.polcert_rules.specs.Rows.{IsSingle, IsCell, at_column}
+use Rattle.polcert_rules.specs.Keys.{key_base}
 use Rattle.polcert_rules.proofs.Building.{each_rises}
 use Rattle.polcert_rules.proofs.Cells.{newest_at, each_cell}
 use Rattle.polcert_rules.proofs.row.cells.Goals as goal
@@ -18,7 +19,7 @@ returns-clause-newest c =
     let ordered = IsNonDecreasingBy-from_sort_by_key (λ (r : Rule). r.key) _ c.sort_unstable_by_key.ensures.sorted (λ a r q k. search rules) in
     let is = c.in_ok-newest_of_each.ensures ∙ ap newest_of_each c.as_slice.ensures.value in
     let all = newest_at c.args.rules.now _ _ c.args.low c.args.action c.args.state c.in_ok-cells.ensures c.sort_unstable_by_key.ensures.permutation (each_rises _ ordered) in
-    subst (λ (xs : List Rule). (n : ℕ) → n < 1022 → IsNewest c.args.rules.now (IsSingle c.args.low c.args.action c.args.state n) (at_column xs n)) (sym is) all
+    subst (λ (xs : List Rule). (n : ℕ) → n + 2 < key_base → IsNewest c.args.rules.now (IsSingle c.args.low c.args.action c.args.state n) (at_column xs n)) (sym is) all
 
 pub returns-clause-each : goal.returns-clause-each
 returns-clause-each c =

@@ -1,10 +1,10 @@
 use Rattle.std.proofs.Common.{◌∙◌, ◌<◌, ◌++◌, ℕ, zero, suc, List, [], ◌∷◌, length, subst, sym, arith}
 use Rattle.polcert_cells.specs.declared.entry.Place.{Place}
-use Rattle.polcert_rules.specs.Keys.{AreDigits, digit, most_places}
+use Rattle.polcert_rules.specs.Keys.{key_base, AreDigits, digit, most_places}
 use Rattle.polcert_rules_tests.proofs.tests.places.Goals as goal
 use Rattle.polcert_rules_tests.proofs.tests.places.Goals.{then-len-lt4+in_ok-push, else-len-lt4}
 
-one_more : (m : ℕ) (ps : List Place) (p : Place) → AreDigits m ps → length ps < m → digit p < 1024 → AreDigits m (ps ++ p ∷ [])
+one_more : (m : ℕ) (ps : List Place) (p : Place) → AreDigits m ps → length ps < m → digit p < key_base → AreDigits m (ps ++ p ∷ [])
 one_more zero ps p a l d = absurd (omega arith)
 one_more (suc m) [] p a l d = (d, tt)
 one_more (suc m) (q ∷ ps) p a l d = (a.0, one_more m ps p a.1 (omega arith) d)

@@ -1,5 +1,6 @@
 use Rattle.std.proofs.Common.{◌∙◌, ◌*◌, ◌^◌, List, subst, ap}
 use Rattle.polcert_rules.specs.declared.rule.Rule.{Rule}
+use Rattle.polcert_rules.specs.Keys.{key_base}
 use Rattle.polcert_rules.proofs.Newer.{IsSpan}
 use Rattle.polcert_rules.proofs.Covering.{newest_in}
 use Rattle.polcert_rules.proofs.index.Index.newest_rule.Goals as goal
@@ -10,7 +11,7 @@ newest-requires-clause-from c r among = ((c.between.ensures.kept r).0 among).1
 pub returns : goal.returns
 returns c =
     let low = c.table_digit.result * c.span.result in
-    let low_is = ap (λ s. c.table_digit.result * s) c.span.ensures ∙ ap (λ d. d * 1024 ^ 4) c.table_digit.ensures in
+    let low_is = ap (λ s. c.table_digit.result * s) c.span.ensures ∙ ap (λ d. d * key_base ^ 4) c.table_digit.ensures in
     let all_rules = c.as_slice.ensures.value ∙ c.self.view_is in
     let span = subst (λ (rules : List Rule). IsSpan rules c.between.result.now low c.span-2.result) all_rules c.between.ensures.kept in
     newest_in c.args.self.now c.between.result.now c.args.table c.args.indices.now low c.span-2.result c.newest.result low_is c.span-2.ensures c.requires span c.newest.ensures

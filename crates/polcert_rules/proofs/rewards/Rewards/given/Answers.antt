@@ -1,7 +1,7 @@
 use Rattle.std.proofs.Common.{◌∙◌, ◌<◌, ◌+◌, pos, get_or, drop, All, FitsSigned, w64, subst, sym, ap, rules}
 use Rattle.std.proofs.lemmas.Int.{to_z-of_z}
 use Rattle.std.proofs.lemmas.List.Elements.{All-drop}
-use Rattle.polcert_rules.specs.Keys.{most_places}
+use Rattle.polcert_rules.specs.Keys.{key_base, most_places}
 use Rattle.polcert_rules.specs.RewardSearch.{IsLastBody}
 use Rattle.polcert_rules.specs.Rewards.{RewardRules, cell_in}
 use Rattle.polcert_rules.proofs.RewardValues.{all_open, body_reward, no_reward, small_indices}
@@ -9,7 +9,7 @@ use Rattle.polcert_rules.proofs.rewards.Rewards.given.Goals as goal
 
 pub cell_in-cell-requires-clause-small : goal.cell_in-cell-requires-clause-small
 cell_in-cell-requires-clause-small c =
-    subst (All (λ i. i < 1024)) (sym c.behind-left.ensures) (All-drop (λ i. i < 1024) c.in-Some.body.places c.args.indices.now (small_indices most_places c.args.indices.now c.requires))
+    subst (All (λ i. i < key_base)) (sym c.behind-left.ensures) (All-drop (λ i. i < key_base) c.in-Some.body.places c.args.indices.now (small_indices most_places c.args.indices.now c.requires))
 
 pub returns-in-Some : goal.returns-in-Some
 returns-in-Some c p entries are within last =

@@ -1,7 +1,7 @@
 use Rattle.std.proofs.Common.{◌^◌, List, Contains, subst, sym}
 use Rattle.polcert_cells.specs.declared.entry.Table.TheVariants.{Reward}
 use Rattle.polcert_rules.specs.declared.rule.Rule.{Rule}
-use Rattle.polcert_rules.specs.Keys.{table_key, most_places}
+use Rattle.polcert_rules.specs.Keys.{key_base, table_key, most_places}
 use Rattle.polcert_rules.specs.Newest.{IsRising}
 use Rattle.polcert_rules.specs.Rewards.{AreBodiesOf, AreRewardsOf, reward_rules}
 use Rattle.polcert_rules.proofs.RewardRules.{number_within, are_rewards}
@@ -9,7 +9,7 @@ use Rattle.polcert_rules.proofs.rewards.Rewards.of.Goals as goal
 
 pub of-requires : goal.of-requires
 of-requires c = λ r among.
-    number_within c.args.entries.now c.args.index c.in_ok-rules.rules.items (table_key Reward) (1024 ^ most_places) c.requires.index c.in_ok-rules.ensures.kept
+    number_within c.args.entries.now c.args.index c.in_ok-rules.rules.items (table_key Reward) (key_base ^ most_places) c.requires.index c.in_ok-rules.ensures.kept
     r (subst (λ (rules : List Rule). Contains rules r) c.as_slice.ensures.value among)
 
 pub invariant_of-result : goal.invariant_of-result

@@ -1,6 +1,6 @@
 use Rattle.std.proofs.Common.{◌∙◌, ◌+◌, ◌*◌, ◌^◌, ◌∷◌, sym, ap, subst, arith}
 use Rattle.polcert_rules.specs.Newest.{IsNewest, later}
-use Rattle.polcert_rules.specs.Keys.{Fits}
+use Rattle.polcert_rules.specs.Keys.{key_base, Fits}
 use Rattle.polcert_rules.proofs.Newer.{newest_of_three, newest_here}
 use Rattle.polcert_rules.proofs.row_rules.RowRules.newest.Goals as goal
 
@@ -11,7 +11,7 @@ pub returns : goal.returns
 returns c =
     let rules = c.args.self.now.rules.items in
     let indices = c.args.start ∷ c.args.rest.now in
-    let here = newest_here rules c.part.result.now c.args.low (1024 ^ 2) c.first_at-here.result (omega arith) c.part.ensures.kept c.first_at-here.ensures in
+    let here = newest_here rules c.part.result.now c.args.low (key_base ^ 2) c.first_at-here.result (omega arith) c.part.ensures.kept c.first_at-here.ensures in
     let every = subst (λ s. IsNewest rules (Fits 3 (c.args.low + s) indices) c.newest_behind-of_every.result) c.span-step.ensures c.newest_behind-of_every.ensures in
     let only = subst (λ s. IsNewest rules (Fits 3 (c.args.low + (c.args.action + 2) * s) indices) c.newest_behind-of_only.result) c.span-step.ensures c.newest_behind-of_only.ensures in
     subst (IsNewest rules (Fits 4 c.args.low (c.args.action ∷ indices))) (sym (c.later-2.ensures ∙ ap (later c.first_at-here.result) c.later.ensures))

@@ -1,6 +1,6 @@
 use Rattle.std.proofs.Common.{◌∙◌, ◌+◌, ◌*◌, ◌^◌, ◌∷◌, sym, ap, subst, arith}
 use Rattle.polcert_rules.specs.Newest.{IsNewest, later}
-use Rattle.polcert_rules.specs.Keys.{Fits}
+use Rattle.polcert_rules.specs.Keys.{key_base, Fits}
 use Rattle.polcert_rules.proofs.Newer.{IsSpan, is_deeper, newest_deeper, newest_here}
 use Rattle.polcert_rules.proofs.row_rules.RowRules.newest_behind.Goals as goal
 
@@ -18,7 +18,7 @@ returns c =
     let rules = c.args.self.now.rules.items in
     let step = c.span-step.result in
     let d = is_deeper 3 c.args.low c.args.start c.args.rest.now step c.requires.indices c.span-step.ensures in
-    let here = newest_here rules c.part.result.now c.args.low (1024 ^ 2) c.first_at-here.result (omega arith) c.part.ensures.kept c.first_at-here.ensures in
+    let here = newest_here rules c.part.result.now c.args.low (key_base ^ 2) c.first_at-here.result (omega arith) c.part.ensures.kept c.first_at-here.ensures in
     let every = subst (λ s. IsSpan rules c.part-2.result.now (c.args.low + step) s) (sym c.span-step.ensures) c.part-2.ensures.kept in
     let only = subst (λ s. IsSpan rules c.part-3.result.now (c.args.low + (c.args.start + 2) * step) s) (sym c.span-step.ensures) c.part-3.ensures.kept in
     subst (IsNewest rules (Fits 3 c.args.low (c.args.start ∷ c.args.rest.now))) (sym (c.later-2.ensures ∙ ap (later c.first_at-here.result) c.later.ensures))

@@ -1,5 +1,5 @@
 use Rattle.std.proofs.Common.{◌+◌, ◌*◌, ◌^◌, ◌∷◌, ◌++◌, [], None, get_or, subst, arith}
-use Rattle.polcert_rules.specs.Keys.{Fits}
+use Rattle.polcert_rules.specs.Keys.{key_base, Fits}
 use Rattle.polcert_rules.specs.Noting.{IsNoted}
 use Rattle.polcert_rules.proofs.Newer.{newest_here}
 use Rattle.polcert_rules.proofs.NotedLaws.{noted_of_three}
@@ -15,7 +15,7 @@ returns c = λ z l.
     let first = get_or c.note_all.new.noted z None in
     let second = get_or c.note_behind.new.noted z None in
     let third = get_or c.note_behind-2.new.noted z None in
-    let here = newest_here rules c.part.result.now c.args.low (1024 ^ 2) c.first_at.result (omega arith) c.part.ensures.kept c.first_at.ensures in
+    let here = newest_here rules c.part.result.now c.args.low (key_base ^ 2) c.first_at.result (omega arith) c.part.ensures.kept c.first_at.ensures in
     let every = subst (λ s. IsNoted rules (Fits 3 (c.args.low + s) indices) first second) c.span-step.ensures (c.note_behind.ensures z l) in
     let only = subst (λ s. IsNoted rules (Fits 3 (c.args.low + (c.args.action + 2) * s) indices) second third) c.span-step.ensures (c.note_behind-2.ensures z l) in
     noted_of_three rules 3 c.args.low c.args.action indices c.first_at.result (get_or c.args.noted.now z None) first second third here (c.note_all.ensures z l) every only

@@ -1,4 +1,5 @@
 use Rattle.std.proofs.Common.{◌+◌, ◌*◌, ◌^◌, sym, subst, arith}
+use Rattle.polcert_rules.specs.Keys.{key_base}
 use Rattle.polcert_rules.proofs.Newer.{IsSpan, newest_here}
 use Rattle.polcert_rules.proofs.NotedLaws.{noted_deeper}
 use Rattle.polcert_rules.proofs.row_rules.RowRules.note_behind.Goals as goal
@@ -16,7 +17,7 @@ pub returns : goal.returns
 returns c = λ z l.
     let rules = c.args.self.now.rules.items in
     let step = c.span-step.result in
-    let here = newest_here rules c.part.result.now c.args.low (1024 ^ 2) c.first_at.result (omega arith) c.part.ensures.kept c.first_at.ensures in
+    let here = newest_here rules c.part.result.now c.args.low (key_base ^ 2) c.first_at.result (omega arith) c.part.ensures.kept c.first_at.ensures in
     let every = subst (λ s. IsSpan rules c.part-2.result.now (c.args.low + step) s) (sym c.span-step.ensures) c.part-2.ensures.kept in
     let only = subst (λ s. IsSpan rules c.part-3.result.now (c.args.low + (c.args.start + 2) * step) s) (sym c.span-step.ensures) c.part-3.ensures.kept in
     noted_deeper rules c.part-2.result.now c.part-3.result.now 3 c.args.low c.args.start c.args.rest.now z step c.first_at.result _ _ _ _

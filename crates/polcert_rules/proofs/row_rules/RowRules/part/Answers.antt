@@ -1,14 +1,15 @@
 use Rattle.std.proofs.Common.{◌^◌, List, subst}
 use Rattle.polcert_rules.specs.declared.rule.Rule.{Rule}
+use Rattle.polcert_rules.specs.Keys.{key_base}
 use Rattle.polcert_rules.proofs.Newer.{IsSpan}
 use Rattle.polcert_rules.proofs.row_rules.RowRules.part.Goals as goal
 
 pub returns-in-Some-clause-kept : goal.returns-in-Some-clause-kept
 returns-in-Some-clause-kept c =
     let kept = subst (λ n. IsSpan c.as_slice-rules.result.now c.between_at.result.now c.args.low n) c.span.ensures c.between_at.ensures.kept in
-    subst (λ (rules : List Rule). IsSpan rules c.between_at.result.now c.args.low (1024 ^ 2)) c.as_slice-rules.ensures.value kept
+    subst (λ (rules : List Rule). IsSpan rules c.between_at.result.now c.args.low (key_base ^ 2)) c.as_slice-rules.ensures.value kept
 
 pub returns-in-None-clause-kept : goal.returns-in-None-clause-kept
 returns-in-None-clause-kept c =
     let kept = subst (λ n. IsSpan c.as_slice-rules.result.now c.between.result.now c.args.low n) c.span.ensures c.between.ensures.kept in
-    subst (λ (rules : List Rule). IsSpan rules c.between.result.now c.args.low (1024 ^ 2)) c.as_slice-rules.ensures.value kept
+    subst (λ (rules : List Rule). IsSpan rules c.between.result.now c.args.low (key_base ^ 2)) c.as_slice-rules.ensures.value kept
