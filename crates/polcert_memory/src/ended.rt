@@ -1,12 +1,29 @@
 //! How a call ended.
 
+/// What memory was wanted for, by the refusal that says so.
+#[derive(Clone, Copy)]
+pub enum Want {
+    /// For a model: M21.
+    Model,
+    /// For a graph: G9.
+    Graph,
+    /// For vectors: V7.
+    Vectors,
+    /// For lowered vectors: L4.
+    Lower,
+    /// For raised vectors: U4.
+    Raise,
+    /// For what has no refusal of its own.
+    Plain,
+}
+
 /// How a call ended.
 #[derive(Clone, Copy)]
 pub enum Ended {
     /// With the answer that it has with ample memory.
     Done,
     /// With want of memory, and with nothing written.
-    Memory,
+    Memory(Want),
     /// With anything else.
     Wrong,
 }
@@ -18,11 +35,25 @@ impl Ended {
     }
 
     /// The call answered a fault; this is whether it is want of memory, and nothing was written.
-    pub fn memory(is_memory: bool) -> Ended {
+    pub fn memory(want: Want, is_memory: bool) -> Ended {
         if is_memory {
-            Ended::Memory
+            Ended::Memory(want)
         } else {
             Ended::Wrong
+        }
+    }
+
+    /// The line that says so.
+    pub fn line(self) -> &'static str {
+        match self {
+            Ended::Done => "done",
+            Ended::Memory(Want::Model) => "memory model",
+            Ended::Memory(Want::Graph) => "memory graph",
+            Ended::Memory(Want::Vectors) => "memory vectors",
+            Ended::Memory(Want::Lower) => "memory lower",
+            Ended::Memory(Want::Raise) => "memory raise",
+            Ended::Memory(Want::Plain) => "memory",
+            Ended::Wrong => "wrong",
         }
     }
 }

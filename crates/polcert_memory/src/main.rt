@@ -1,11 +1,12 @@
 //! Makes one call of polcert behind some other allocations: so each allocation of the call can be refused in turn, by one
 //! number of `rt try --fail-alloc` and one build. The words are the call's name and how many allocations come before it; the
-//! line that is printed is `done`, `memory` or `wrong`.
+//! line that is printed is `done`, `memory` (and for what: `memory model`), or `wrong`.
 #![tactic(auto)]
 
 mod answers;
 mod ended;
 mod reading;
+mod texts;
 
 use ended::Ended;
 use std::alloc::{AllocError, Global};
@@ -28,17 +29,24 @@ fn call(alloc: Global, name: &str) -> Option<Ended> {
         "reading_a_model" => Some(reading::model(alloc)),
         "filling_tables" => Some(reading::tables(alloc)),
         "reading_a_graph" => Some(reading::graph(alloc)),
+        "reading_a_graph_from" => Some(reading::graph_from(alloc)),
         "reading_vectors" => Some(reading::vectors(alloc)),
+        "reading_vectors_from" => Some(reading::vectors_from(alloc)),
         "reading_vectors_up" => Some(reading::vectors_up(alloc)),
+        "shifting_vectors" => Some(reading::shifting(alloc)),
         "lowering_vectors" => Some(reading::lowering(alloc)),
         "raising_vectors" => Some(reading::raising(alloc)),
         "answering_three_texts" => Some(answers::three_texts(alloc)),
         "answering_three_texts_from_above" => Some(answers::three_texts_from_above(alloc)),
         "summing_up" => Some(answers::summing_up(alloc)),
+        "summing_up_an_mdp" => Some(answers::summing_up_an_mdp(alloc)),
         "printing" => Some(answers::printing(alloc)),
+        "printing_an_mdp" => Some(answers::printing_an_mdp(alloc)),
         "checking" => Some(answers::checking(alloc)),
-        "lowering" => Some(answers::lowering(alloc)),
+        "checking_a_lack" => Some(answers::checking_a_lack(alloc)),
         "checking_from_above" => Some(answers::checking_from_above(alloc)),
+        "checking_a_lack_from_above" => Some(answers::checking_a_lack_from_above(alloc)),
+        "lowering" => Some(answers::lowering(alloc)),
         "raising" => Some(answers::raising(alloc)),
         _ => None,
     }
@@ -55,9 +63,7 @@ fn run<R: Env + AllocGlobal>(rt: &R) -> Option<Ended> {
 
 fn main(rt: HostRuntime) -> ExitCode {
     let line = match run(&rt) {
-        Some(Ended::Done) => "done",
-        Some(Ended::Memory) => "memory",
-        Some(Ended::Wrong) => "wrong",
+        Some(ended) => ended.line(),
         None => "no call",
     };
     match println!(rt; "{line}") {

@@ -1,13 +1,18 @@
-//! Calls of the libraries: texts read, tables filled, vectors lowered.
-use crate::ended::Ended;
+//! Calls of the libraries: texts read, tables filled, vectors shifted, lowered and raised.
+ghost use Rattle.std.specs.Prelude.{IsTrue, negsuc};
+ghost use Rattle.polcert_policy.specs.Vectors.{CanShift};
+
+use crate::ended::{Ended, Want};
+use crate::texts::{COST, LISTENING, NAMED, TIGER};
 use polcert_check::{
     AboveVerdict, LowerFault, RaiseFault, Verdict, check, check_above, fits, lowered, raised,
 };
 use polcert_model::{Cells, Kind, Model, ModelFault, dense_of, read_model};
 use polcert_policy::{
-    Graph, GraphFault, VectorFault, Vectors, read_graph, read_vectors, read_vectors_up,
+    Graph, GraphFault, VectorFault, Vectors, read_graph, read_graph_from, read_vectors,
+    read_vectors_from, read_vectors_up,
 };
-use polcert_text::{ReadFault, SliceSource, read_all};
+use polcert_text::{ReadFault, SliceSource, SourceFault, read_all};
 use std::alloc::{AllocError, Global};
 
 /// A text longer than what is first made room for.
@@ -15,13 +20,9 @@ pub fn source(alloc: Global) -> Ended {
     let text = [b'x'; 20_000];
     match read_all(alloc, &mut SliceSource::new(&text), 100_000) {
         Ok(bytes) => Ended::done(bytes.as_slice() == text.as_slice()),
-        Err(fault) => Ended::memory(fault == ReadFault::Memory),
+        Err(fault) => Ended::memory(Want::Plain, fault == ReadFault::Memory),
     }
 }
-
-/// Names, shares of the start, and entries.
-const NAMED: &[u8] =
-    b"discount: 1 values: reward states: a b actions: 1 observations: 1 start: 0.5 0.5 T: 0 identity O: 0 uniform";
 
 /// Whether a model has what NAMED says.
 fn is_named(model: &Model) -> bool {
@@ -31,33 +32,26 @@ fn is_named(model: &Model) -> bool {
 pub fn model(alloc: Global) -> Ended {
     match read_model(alloc, NAMED) {
         Ok(model) => Ended::done(is_named(&model)),
-        Err(fault) => Ended::memory(fault == ModelFault::Memory),
+        Err(fault) => Ended::memory(Want::Model, fault == ModelFault::Memory),
     }
 }
-
-/// One state, one observation, and a cost of 1 for each step, at a discount of one half.
-const COST: &[u8] =
-    b"discount: 0.5 values: cost states: 1 actions: 1 observations: 1 T: 0 identity O: 0 uniform R: * : * : * : * 1";
 
 /// The cells of the model in filled tables.
 fn filled(alloc: Global, model: &Model) -> Ended {
     match dense_of(alloc, model) {
         Ok(dense) => Ended::done(Cells::r(&dense, 0, 0, 0, 0) == -1_000_000),
-        Err(AllocError) => Ended::Memory,
+        Err(AllocError) => Ended::Memory(Want::Plain),
     }
 }
 
 pub fn tables(alloc: Global) -> Ended {
-    match read_model(alloc, COST) {
+    match read_model(alloc, TIGER) {
         Ok(model) => filled(alloc, &model),
-        Err(fault) => Ended::memory(fault == ModelFault::Memory),
+        Err(fault) => Ended::memory(Want::Model, fault == ModelFault::Memory),
     }
 }
 
-/// A node that leads to itself for both observations.
-const GRAPH: &[u8] = b"0 0 0 0";
-
-/// Whether a graph is that of GRAPH.
+/// Whether a graph is that of LISTENING.
 fn leads_to_itself(graph: &Graph) -> bool {
     if graph.nodes() == 1 && graph.observations() == 2 {
         [graph.next(0, 0), graph.next(0, 1)] == [Some(0), Some(0)]
@@ -67,9 +61,21 @@ fn leads_to_itself(graph: &Graph) -> bool {
 }
 
 pub fn graph(alloc: Global) -> Ended {
-    match read_graph(alloc, GRAPH, 3, 2) {
+    match read_graph(alloc, LISTENING, 3, 2) {
         Ok(graph) => Ended::done(leads_to_itself(&graph)),
-        Err(fault) => Ended::memory(fault == GraphFault::Memory),
+        Err(fault) => Ended::memory(Want::Graph, fault == GraphFault::Memory),
+    }
+}
+
+pub fn graph_from(alloc: Global) -> Ended {
+    match read_graph_from(alloc, &mut SliceSource::new(LISTENING), 3, 2) {
+        Ok(graph) => Ended::done(leads_to_itself(&graph)),
+        Err(fault) => {
+            Ended::memory(
+                Want::Graph,
+                fault == SourceFault::Refused(GraphFault::Memory),
+            )
+        }
     }
 }
 
@@ -86,15 +92,36 @@ fn has_values(vectors: &Vectors, values: [i64; 2]) -> bool {
 fn vectors_for(alloc: Global, graph: &Graph) -> Ended {
     match read_vectors(alloc, b"0 -20 5", graph, 2) {
         Ok(vectors) => Ended::done(has_values(&vectors, [-20_000_000, 5_000_000])),
-        Err(fault) => Ended::memory(fault == VectorFault::Memory),
+        Err(fault) => Ended::memory(Want::Vectors, fault == VectorFault::Memory),
     }
 }
 
 /// A graph, and vectors for it.
 pub fn vectors(alloc: Global) -> Ended {
-    match read_graph(alloc, GRAPH, 3, 2) {
+    match read_graph(alloc, LISTENING, 3, 2) {
         Ok(graph) => vectors_for(alloc, &graph),
-        Err(fault) => Ended::memory(fault == GraphFault::Memory),
+        Err(fault) => Ended::memory(Want::Graph, fault == GraphFault::Memory),
+    }
+}
+
+/// Vectors of a source, for the graph.
+fn vectors_from_for(alloc: Global, graph: &Graph) -> Ended {
+    match read_vectors_from(alloc, &mut SliceSource::new(b"0 -20 5"), graph, 2) {
+        Ok(vectors) => Ended::done(has_values(&vectors, [-20_000_000, 5_000_000])),
+        Err(fault) => {
+            Ended::memory(
+                Want::Vectors,
+                fault == SourceFault::Refused(VectorFault::Memory),
+            )
+        }
+    }
+}
+
+/// A graph, and vectors of a source for it.
+pub fn vectors_from(alloc: Global) -> Ended {
+    match read_graph(alloc, LISTENING, 3, 2) {
+        Ok(graph) => vectors_from_for(alloc, &graph),
+        Err(fault) => Ended::memory(Want::Graph, fault == GraphFault::Memory),
     }
 }
 
@@ -102,15 +129,63 @@ pub fn vectors(alloc: Global) -> Ended {
 fn vectors_up_for(alloc: Global, graph: &Graph) -> Ended {
     match read_vectors_up(alloc, b"0 -20.0000001 4.9999999", graph, 2) {
         Ok(vectors) => Ended::done(has_values(&vectors, [-20_000_000, 5_000_000])),
-        Err(fault) => Ended::memory(fault == VectorFault::Memory),
+        Err(fault) => Ended::memory(Want::Vectors, fault == VectorFault::Memory),
     }
 }
 
 /// A graph, and vectors for it, rounded up.
 pub fn vectors_up(alloc: Global) -> Ended {
-    match read_graph(alloc, GRAPH, 3, 2) {
+    match read_graph(alloc, LISTENING, 3, 2) {
         Ok(graph) => vectors_up_for(alloc, &graph),
-        Err(fault) => Ended::memory(fault == GraphFault::Memory),
+        Err(fault) => Ended::memory(Want::Graph, fault == GraphFault::Memory),
+    }
+}
+
+/// Whether these are one vector of two values that may be lowered by a millionth.
+fn can_lower(vectors: &Vectors) -> bool
+    ensures { IsTrue result → CanShift vectors.now (negsuc 0) }
+{
+    if vectors.nodes() != 1 {
+        return false;
+    }
+    if vectors.states() != 2 {
+        return false;
+    }
+    let first = vectors.at(0, 0);
+    let second = vectors.at(0, 1);
+    if first <= -10_000_000_000_000 {
+        return false;
+    }
+    if second <= -10_000_000_000_000 {
+        return false;
+    }
+    true
+}
+
+/// Vectors that are shifted by a millionth.
+fn shifting_of(alloc: Global, vectors: &Vectors) -> Ended {
+    if !can_lower(vectors) {
+        return Ended::Wrong;
+    }
+    match vectors.shifted(alloc, -1) {
+        Ok(shifted) => Ended::done(has_values(&shifted, [-20_000_001, 4_999_999])),
+        Err(AllocError) => Ended::Memory(Want::Plain),
+    }
+}
+
+/// Vectors for the graph, and the same shifted.
+fn shifting_for(alloc: Global, graph: &Graph) -> Ended {
+    match read_vectors(alloc, b"0 -20 5", graph, 2) {
+        Ok(vectors) => shifting_of(alloc, &vectors),
+        Err(fault) => Ended::memory(Want::Vectors, fault == VectorFault::Memory),
+    }
+}
+
+/// A graph, vectors for it, and the same shifted.
+pub fn shifting(alloc: Global) -> Ended {
+    match read_graph(alloc, LISTENING, 3, 2) {
+        Ok(graph) => shifting_for(alloc, &graph),
+        Err(fault) => Ended::memory(Want::Graph, fault == GraphFault::Memory),
     }
 }
 
@@ -128,7 +203,7 @@ fn lowering_of(alloc: Global, model: &Model, graph: &Graph, vectors: &Vectors) -
     }
     match lowered(alloc, model, graph, vectors) {
         Ok((constant, vectors)) => Ended::done(is_lowered(model, graph, constant, &vectors)),
-        Err(fault) => Ended::memory(fault == LowerFault::Memory),
+        Err(fault) => Ended::memory(Want::Lower, fault == LowerFault::Memory),
     }
 }
 
@@ -136,7 +211,7 @@ fn lowering_of(alloc: Global, model: &Model, graph: &Graph, vectors: &Vectors) -
 fn lowering_for(alloc: Global, model: &Model, graph: &Graph) -> Ended {
     match read_vectors(alloc, b"0 2", graph, 1) {
         Ok(vectors) => lowering_of(alloc, model, graph, &vectors),
-        Err(fault) => Ended::memory(fault == VectorFault::Memory),
+        Err(fault) => Ended::memory(Want::Vectors, fault == VectorFault::Memory),
     }
 }
 
@@ -144,14 +219,14 @@ fn lowering_for(alloc: Global, model: &Model, graph: &Graph) -> Ended {
 fn lowering_on(alloc: Global, model: &Model) -> Ended {
     match read_graph(alloc, b"0 0 0", 1, 1) {
         Ok(graph) => lowering_for(alloc, model, &graph),
-        Err(fault) => Ended::memory(fault == GraphFault::Memory),
+        Err(fault) => Ended::memory(Want::Graph, fault == GraphFault::Memory),
     }
 }
 
 pub fn lowering(alloc: Global) -> Ended {
     match read_model(alloc, COST) {
         Ok(model) => lowering_on(alloc, &model),
-        Err(fault) => Ended::memory(fault == ModelFault::Memory),
+        Err(fault) => Ended::memory(Want::Model, fault == ModelFault::Memory),
     }
 }
 
@@ -169,7 +244,7 @@ fn raising_of(alloc: Global, model: &Model, graph: &Graph, vectors: &Vectors) ->
     }
     match raised(alloc, model, graph, vectors) {
         Ok((constant, vectors)) => Ended::done(is_raised(model, graph, constant, &vectors)),
-        Err(fault) => Ended::memory(fault == RaiseFault::Memory),
+        Err(fault) => Ended::memory(Want::Raise, fault == RaiseFault::Memory),
     }
 }
 
@@ -177,7 +252,7 @@ fn raising_of(alloc: Global, model: &Model, graph: &Graph, vectors: &Vectors) ->
 fn raising_for(alloc: Global, model: &Model, graph: &Graph) -> Ended {
     match read_vectors_up(alloc, b"0 -5", graph, 1) {
         Ok(vectors) => raising_of(alloc, model, graph, &vectors),
-        Err(fault) => Ended::memory(fault == VectorFault::Memory),
+        Err(fault) => Ended::memory(Want::Vectors, fault == VectorFault::Memory),
     }
 }
 
@@ -185,13 +260,13 @@ fn raising_for(alloc: Global, model: &Model, graph: &Graph) -> Ended {
 fn raising_on(alloc: Global, model: &Model) -> Ended {
     match read_graph(alloc, b"0 0 0", 1, 1) {
         Ok(graph) => raising_for(alloc, model, &graph),
-        Err(fault) => Ended::memory(fault == GraphFault::Memory),
+        Err(fault) => Ended::memory(Want::Graph, fault == GraphFault::Memory),
     }
 }
 
 pub fn raising(alloc: Global) -> Ended {
     match read_model(alloc, COST) {
         Ok(model) => raising_on(alloc, &model),
-        Err(fault) => Ended::memory(fault == ModelFault::Memory),
+        Err(fault) => Ended::memory(Want::Model, fault == ModelFault::Memory),
     }
 }
