@@ -1,8 +1,8 @@
 -- What a run from above says of the texts of three sources, from what its calls say of what these denote.
-use Rattle.std.proofs.Common.{◌≡◌, ◌∙◌, ℕ, ◌<◌, ℤ, List, ◌⊎◌, inl, inr, Result, Ok, Err, IfOk, subst, ap, refl}
+use Rattle.std.proofs.Common.{◌≡◌, ◌∙◌, ℕ, ℤ, List, ◌⊎◌, inl, inr, Result, Ok, Err, IfOk, subst, ap, refl}
 use Rattle.polcert_text.specs.declared.number.Rounding.TheVariants.{Up}
 use Rattle.polcert_cells.specs.Meaning.{Meaning, states_of}
-use Rattle.polcert_policy.specs.Graphs.{PolicyGraph, nodes}
+use Rattle.polcert_policy.specs.Graphs.{PolicyGraph}
 use Rattle.polcert_policy.specs.Vectors.{PolicyVectors, shifted_by}
 use Rattle.polcert_policy.specs.VectorText.{IsRoundedVectorsText}
 use Rattle.polcert_policy.specs.FullForm.{vectors_text}

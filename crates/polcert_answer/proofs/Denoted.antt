@@ -1,7 +1,6 @@
 -- What three texts denote: one controller, whatever stands for it.
 use Rattle.std.proofs.Common.{◌≡◌, ℕ, ◌*◌, ◌<◌, ℤ, List, Ok, ap, ap₂, refl, subst}
 use Rattle.polcert_text.specs.declared.number.Rounding.{Rounding}
-use Rattle.polcert_text.specs.declared.number.Rounding.TheVariants.{Down, Up}
 use Rattle.polcert_cells.specs.Elements.{count_of}
 use Rattle.polcert_cells.specs.Preamble.{Preamble, observed}
 use Rattle.polcert_cells.specs.Meaning.{Meaning, IsSame, states_of, actions_of, observations_of}

@@ -71,7 +71,7 @@ pub fn yes_above_is_a_certificate()
     ensures rewards { (model graph vectors : List ℕ) → IsAnswerAbove model graph vectors (Ok AboveVerdict.Yes) →
         AreRewardsCertifiedAbove model graph vectors }
 
-    // From each node no more is expected from the start, with the vectors at the end, than any node is worth there.
+    // From each node no more is expected from the start, with the vectors at the end, than the node is worth that is worth most there.
     ensures start { (model graph vectors : List ℕ) → IsAnswerAbove model graph vectors (Ok AboveVerdict.Yes) →
         (c : CertificateAbove model graph vectors) (k n : ℕ) (most : ℤ) → n < nodes c.policy →
         IsStartMost c.meaning c.values most → StartPromiseAbove c.meaning (controller c) k n most }
