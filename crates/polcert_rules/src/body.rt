@@ -91,13 +91,13 @@ fn diagonal_row(alloc: Global, columns: usize, state: usize) -> Result<Vec<Cell>
     requires some { 0 < columns }
     ensures { IfOk result (λ cells. IsRow columns (λ c. if state == c then one * columns else 0) cells.items) }
 {
-    let mut cells = Vec::new(alloc);
-    if state < columns {
-        let weight = ONE * columns as u64;
-        cells.push(Cell {
-            column: state,
-            weight,
-        })?;
+    if state >= columns {
+        return Ok(Vec::new(alloc));
     }
+    let mut cells = Vec::with_capacity(alloc, 1)?;
+    cells.push(Cell {
+        column: state,
+        weight: ONE * columns as u64,
+    })?;
     Ok(cells)
 }

@@ -1,5 +1,5 @@
 //! A row's single cells over what covers the whole row.
-ghost use Rattle.std.specs.Prelude.{◌≡◌, ◌++◌, IfOk, OnOk};
+ghost use Rattle.std.specs.Prelude.{◌≡◌, ◌≤◌, ◌++◌, length, IfOk, OnOk};
 ghost use Rattle.polcert_rules.specs.Merging.{merged, before, behind};
 
 use polcert_cells::Cell;
@@ -10,7 +10,7 @@ use std::alloc::{AllocError, Global};
 pub(crate) fn merged(alloc: Global, base: &[Cell], newer: &[Cell]) -> Result<Vec<Cell>, AllocError>
     ensures { IfOk result (λ cells. cells.items ≡ merged base.now newer.now) }
 {
-    let mut cells = Vec::with_capacity(alloc, base.len() + newer.len())?;
+    let mut cells = Vec::with_capacity(alloc, base.len() + weighed(newer))?;
     let mut rest = base;
     for cell in newer {
         rest = add_before(&mut cells, rest, cell.column)?;
@@ -42,4 +42,11 @@ fn add_before<'a>(
         cells.push(cell)?;
     }
     Ok(&[])
+}
+
+/// How many of the cells have a weight above 0.
+fn weighed(cells: &[Cell]) -> usize
+    ensures { result ≤ length cells.now }
+{
+    cells.iter().filter(|cell| cell.weight > 0).count()
 }

@@ -36,12 +36,21 @@ pub(crate) fn between_at(rules: &[Rule], low: u64, high: u64, span: RuleSpan) ->
     from_at(front, low, span.start as usize)
 }
 
-/// Where the rules from one key on and before another stand. More rules than there are such numbers count as want of memory.
-pub(crate) fn span_of(rules: &[Rule], low: u64, high: u64) -> Result<RuleSpan, AllocError> {
+/// Where a part of a list of rules may stand. More rules than there are such numbers count as want of memory.
+pub(crate) fn span_of(start: usize, end: usize) -> Result<RuleSpan, AllocError> {
     Ok(RuleSpan {
-        start: in_half(rules.partition_point(|rule| rule.key < low))?,
-        end: in_half(rules.partition_point(|rule| rule.key < high))?,
+        start: in_half(start)?,
+        end: in_half(end)?,
     })
+}
+
+/// The place of the first rule from this place on that is not before the key, or the place behind the last.
+pub(crate) fn place_of(rules: &[Rule], from: usize, key: u64) -> usize {
+    let mut place = from;
+    while place < rules.len() && rules[place].key < key {
+        place += 1;
+    }
+    place
 }
 
 /// The rules from this key on.
@@ -75,6 +84,9 @@ fn before(rules: &[Rule], high: u64) -> &[Rule]
     ensures rising { IsRising result.now }
     ensures kept { (r : R) → Contains result.now r ↔ (Contains rules.now r × (r.key < high)) }
 {
+    if all_below(rules, high) {
+        return rules;
+    }
     let near = near(rules, high);
     let end = near.partition_point(|rule| rule.key < high);
     &near[..end]

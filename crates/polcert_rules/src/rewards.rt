@@ -38,7 +38,7 @@ const AN_END_OR_OBSERVATION: u64 = KEY_BASE + AN_INDEX;
 const FEW_OBSERVATIONS: usize = 63;
 
 /// The rewards of so many observations are filled in together.
-const BLOCK: usize = 1023;
+const BLOCK: usize = 1000;
 
 /// The rewards that a list of entries gives: of each pattern of R the last entry, and its numbers, each as it is worth.
 #[derive(Drop)]
@@ -191,7 +191,7 @@ impl Rewards {
         requires end { end < self.now.shape.states }
         requires room { count ≤ length rewards.old }
         requires within { first + count ≤ self.now.shape.observations }
-        requires few { count ≤ 1023 }
+        requires few { count ≤ 1000 }
         ensures { (p : Preamble) (entries : List E) → AreRewardsOf p entries self.now → (i : ℕ) → i < count →
             slice_index_or rewards.new i (pos 0) ≡ reward p entries (action ∷ start ∷ end ∷ (first + i) ∷ []) }
     {

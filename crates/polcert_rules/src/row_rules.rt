@@ -10,7 +10,7 @@ ghost use Rattle.polcert_rules.specs.Rewards.{IsSmall};
 use crate::Rule;
 use crate::newest::{first_at, later, newest, span};
 use crate::noting::{note, note_all};
-use crate::part::{RuleSpan, between, between_at, span_of};
+use crate::part::{RuleSpan, between, between_at, place_of, span_of};
 use crate::reward_parts::RewardShape;
 use crate::reward_search::some_begins;
 use std::alloc::{AllocError, Global};
@@ -60,10 +60,13 @@ impl RowRules {
         let firsts = shape.actions + INDICES;
         let seconds = shape.states + INDICES;
         let mut spans = Vec::with_capacity(alloc, firsts * seconds)?;
+        let mut place = 0;
         for first in 0..firsts {
             for second in 0..seconds {
                 let key = low + first as u64 * span(3) + second as u64 * span(PLACES_LEFT);
-                spans.push(span_of(rules.as_slice(), key, key + span(PLACES_LEFT))?)?;
+                let start = place_of(rules.as_slice(), place, key);
+                place = place_of(rules.as_slice(), start, key + span(PLACES_LEFT));
+                spans.push(span_of(start, place)?)?;
             }
         }
         Ok(RowRules {

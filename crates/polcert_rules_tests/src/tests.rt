@@ -78,7 +78,7 @@ fn cells(alloc: Global, costs: bool, lines: &[(&[usize], &[i64])]) -> Option<[i6
     Some(all)
 }
 
-/// The same, filled in for each action, start state and end state.
+/// The same, filled in for each action, start state and end state: from the first observation on, and from the second.
 fn filled(alloc: Global, costs: bool, lines: &[(&[usize], &[i64])]) -> Option<[i64; CELLS]> {
     let rewards = match rewards(alloc, costs, lines) {
         Ok(rewards) => rewards,
@@ -87,9 +87,11 @@ fn filled(alloc: Global, costs: bool, lines: &[(&[usize], &[i64])]) -> Option<[i
     let mut all = [0; CELLS];
     for step in 0..CELLS / 2 {
         let mut seen = [99; 3];
-        rewards.fill(step / 4, step / 2 % 2, step % 2, &mut seen);
+        let mut behind = [99; 1];
+        rewards.fill(step / 4, step / 2 % 2, step % 2, 0, &mut seen);
+        rewards.fill(step / 4, step / 2 % 2, step % 2, 1, &mut behind);
         all[step * 2] = seen[0];
-        all[step * 2 + 1] = seen[1];
+        all[step * 2 + 1] = if seen[1] == behind[0] { behind[0] } else { 99 };
     }
     Some(all)
 }

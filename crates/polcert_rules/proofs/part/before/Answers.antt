@@ -12,3 +12,6 @@ returns-clause-kept c = λ r.
     let here = kept_take xs n c.args.high c.partition_point-end.ensures.bound cut r in
     let all = c.near-near.ensures.kept r in
     ((λ among. all.0 (here.0 among)), (λ h. here.1 (all.1 h)))
+
+pub returns-then-all_below-clause-kept : goal.returns-then-all_below-clause-kept
+returns-then-all_below-clause-kept c = λ r. ((λ among. (among, c.all_below.ensures c.if-all_below.true r among)), (λ h. h.0))
