@@ -1,6 +1,6 @@
 //! An entry that goes on with several tokens at once: numbers that stand whole at the front of the bytes ahead.
 ghost use Rattle.std.specs.Prelude.{◌≡◌, ◌≢◌, ◌+◌, ◌<◌, ◌≤◌, ℕ, length, drop, get_or, IfOk, IfSome, IfNone, IsTrue};
-ghost use Rattle.polcert_cells.specs.Elements.{count_of};
+ghost use Rattle.polcert_cells.specs.Elements.{count_of, most_elements};
 ghost use Rattle.polcert_cells.specs.declared.elements.Elements.TheVariants.{Count};
 ghost use Rattle.polcert_format.specs.KnownPreamble.{indices_in, named_in};
 ghost use Rattle.polcert_format.specs.Text.{Known as K};
@@ -128,7 +128,7 @@ impl EntryReader {
         requires { length self.now.places < length (indices_in known.now self.now.table) }
         ensures front { IfSome result (λ index. (position : ℕ) →
             BeginWithPlace (drop (length self.now.places) (named_in known.now self.now.table)) position bytes.now index) }
-        ensures small { IfSome result (λ index. index.value < 1000) }
+        ensures small { IfSome result (λ index. index.value < most_elements) }
     {
         let count = self.next_count(known);
         let Some(colon) = front_colon(bytes) else {
@@ -148,7 +148,7 @@ impl EntryReader {
     fn next_count(&self, known: &Known) -> usize
         requires { length self.now.places < length (indices_in known.now self.now.table) }
         ensures count { result ≡ count_of (get_or (named_in known.now self.now.table) (length self.now.places) (Count 0)) }
-        ensures few { result ≤ 1000 }
+        ensures few { result ≤ most_elements }
     {
         match known.elements(self.table, self.places.len()) {
             Some(elements) => elements.count(),
