@@ -5,6 +5,7 @@ pub mod ModelEntries
 pub mod NumberLines
 pub mod Observing
 pub mod Parts
+pub mod Printable
 pub mod PrintedEntries
 pub mod PrintedItems
 pub mod PrintedNumbers

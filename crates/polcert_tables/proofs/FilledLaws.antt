@@ -41,8 +41,8 @@ same_counts x y e =
 product_le : (a b m n : ℕ) → a ≤ m → b ≤ n → a * b ≤ m * n
 product_le a b m n h k = omega (arith, mul-le-mul_right b h, mul-le-mul_left m k)
 
--- a table of R has at most a million million places
-pub four_fit : (actions starts ends seen : ℕ) → actions ≤ most_actions → starts ≤ most_states → ends ≤ most_states → seen ≤ most_observations → actions * starts * ends * seen ≤ 1_000_000_000_000
+-- so many places a table of R has at most
+pub four_fit : (actions starts ends seen : ℕ) → actions ≤ most_actions → starts ≤ most_states → ends ≤ most_states → seen ≤ most_observations → actions * starts * ends * seen ≤ most_actions * most_states * most_states * most_observations
 four_fit actions starts ends seen a s e z =
     product_le (actions * starts * ends) seen (most_actions * most_states * most_states) most_observations
     (product_le (actions * starts) ends (most_actions * most_states) most_states (product_le actions starts most_actions most_states a s) e) z

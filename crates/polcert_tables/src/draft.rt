@@ -4,7 +4,7 @@ ghost use Rattle.std.specs.Option.{ForSome, option_copied};
 ghost use Rattle.polcert_cells.specs.LentRows.{IsRowOf};
 ghost use Rattle.polcert_cells.specs.Elements.{most_states, most_actions, most_observations, most_elements, count_of, name_of};
 ghost use Rattle.polcert_cells.specs.declared.entry.Table.TheVariants.{Transition};
-ghost use Rattle.polcert_cells.specs.Preamble.{Preamble, is_mdp, columns as columns_in};
+ghost use Rattle.polcert_cells.specs.Preamble.{Preamble, is_mdp, rewarded, columns as columns_in};
 ghost use Rattle.polcert_cells.specs.Meaning.{IsCount, reward_index, states_of, actions_of, observations_of, t_scale, o_scale, start_weight, start_total, elements_of, sum_below};
 ghost use Rattle.polcert_tables.specs.Kept.{meaning, IsKeptOf, AreObservationsOf};
 ghost use Rattle.polcert_format.specs.Order.{count_or};
@@ -119,6 +119,14 @@ impl Draft {
         ensures count { IsCount most_observations result }
     {
         count_or(self.states.count(), &self.observations)
+    }
+
+    /// How many things a reward depends on beside the action and the states: in an MDP one, else as many as there are observations.
+    pub fn rewarded(&self) -> usize
+        ensures elements { result ≡ count_of (rewarded (meaning self.now).preamble) }
+        ensures count { IsCount most_observations result }
+    {
+        count_or(ONE_THING, &self.observations)
     }
 
     /// The name of the element of this number, where the text gives names and not a count.
