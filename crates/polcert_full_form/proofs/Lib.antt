@@ -13,11 +13,13 @@ pub mod PrintedParts
 pub mod PrintedPreamble
 pub mod PrintedRows
 pub mod PrintedStart
+pub mod RewardBlocks
 pub mod RewardEntries
-pub mod RowCells
 pub mod RowEntries
+pub mod Runs
 pub mod SameForms
 pub mod StartShapes
+pub mod WalkedRows
 pub mod WeightForms
 pub mod WritableModels
 pub mod WritableTexts

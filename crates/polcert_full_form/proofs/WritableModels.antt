@@ -24,7 +24,7 @@ use Rattle.polcert_full_form.proofs.PrintedItems.{Prints, prints_then, text_from
 use Rattle.polcert_full_form.proofs.PrintedEntries.{known_of, complete, PrintsEntries, no_entries, entries_each}
 use Rattle.polcert_full_form.proofs.PrintedPreamble.{AreWritable, lines_known, preamble_prints}
 use Rattle.polcert_full_form.proofs.PrintedStart.{start_prints}
-use Rattle.polcert_full_form.proofs.RowEntries.{Fits, transition_rows, observation_rows}
+use Rattle.polcert_full_form.proofs.RowEntries.{Fits, same_or_other, transition_rows, observation_rows}
 use Rattle.polcert_full_form.proofs.PrintedRows.{row_prints, from_prints}
 use Rattle.polcert_full_form.proofs.ModelEntries.{transition_entries, seen_entries, observation_entries, rewards_entries, all_entries, transition_back, observation_back, reward_again}
 use Rattle.polcert_full_form.proofs.FormLength.{form_short}
@@ -121,12 +121,6 @@ module _ (m : Meaning) (w : CanBeWritten m) (printable : IsPrintable m.preamble)
       (complete p m.start (all_entries m) room) same_again w.rows
 
 -- ---- what a model keeps can be written
-same_or_other : (c k : ℕ) → (c ≡ k) ⊎ (c ≢ k)
-same_or_other zero zero = inl refl
-same_or_other zero (suc k) = inr (λ e. absurd (cc))
-same_or_other (suc c) zero = inr (λ e. absurd (cc))
-same_or_other (suc c) (suc k) = ⊎_elim (λ e. inl (ap suc e)) (λ n. inr (λ e. n (omega (arith, e)))) (same_or_other c k)
-
 weight_there : (n w : ℕ) → Fits n w → IsWritableWeight n w
 weight_there n w f other = ⊎_elim (λ e. absurd (other e)) (λ m. ap (λ k. k % n) m.1 ∙ mul-mod_left m.0 n) f
 

@@ -2,6 +2,7 @@
 ghost use Rattle.std.specs.Prelude.{◌≡◌, ◌+◌, ◌<◌, ◌≤◌, option_map, false, pos, ℕ, IfOk, IsTrue, length, slice_index_or};
 ghost use Rattle.std.specs.Option.{ForSome, option_copied};
 ghost use Rattle.polcert_cells.specs.LentRows.{IsRowOf};
+ghost use Rattle.polcert_cells.specs.Rows.{IsWeighted};
 ghost use Rattle.polcert_cells.specs.Elements.{most_states, most_actions, most_observations, most_elements, count_of, name_of};
 ghost use Rattle.polcert_cells.specs.declared.entry.Table.TheVariants.{Transition};
 ghost use Rattle.polcert_cells.specs.Preamble.{Preamble, is_mdp, rewarded, columns as columns_in};
@@ -338,15 +339,16 @@ impl Draft {
         }
     }
 
-    /// The weight of a cell of T or O.
-    pub fn weight(&self, table: Table, action: usize, state: usize, column: usize) -> u64
+    /// The weights of a row of T or O, by column.
+    pub fn row(&self, table: Table, action: usize, state: usize) -> Row<'_>
+        requires weighted { IsWeighted table }
         requires action { action < actions_of (meaning self.now) }
         requires state { state < states_of (meaning self.now) }
-        ensures { result ≡ row_of self.now table action state column }
+        ensures { IsRowOf (row_of self.now table action state) (columns_in self.now.preamble table) result }
     {
         match table {
-            Table::Observation => self.o(action, state, column),
-            Table::Transition | Table::Reward => self.t(action, state, column),
+            Table::Observation => self.o_row(action, state),
+            Table::Transition | Table::Reward => self.t_row(action, state),
         }
     }
 
