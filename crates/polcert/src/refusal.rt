@@ -24,6 +24,7 @@ impl fmt::Display for RefusalLine {
             RunFault::Write => write!(f, "cannot write"),
             RunFault::Lower(fault) => write!(f, "{}", LowerLine(fault)),
             RunFault::Raise(fault) => write!(f, "{}", RaiseLine(fault)),
+            RunFault::TooLargeToPrint => write!(f, "print: C1"),
         }
     }
 }
@@ -359,11 +360,12 @@ mod tests {
         (RaiseFault::Memory, "out of memory"),
     ];
 
-    const OTHER_LINES: [(RunFault, &str); 4] = [
+    const OTHER_LINES: [(RunFault, &str); 5] = [
         (RunFault::ReadModel, "cannot read model"),
         (RunFault::ReadGraph, "cannot read graph"),
         (RunFault::ReadVectors, "cannot read vectors"),
         (RunFault::Write, "cannot write"),
+        (RunFault::TooLargeToPrint, "print: C1"),
     ];
 
     /// Whether this is the line of the fault.

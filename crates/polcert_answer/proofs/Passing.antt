@@ -4,7 +4,7 @@ use Rattle.std.specs.Result.{IsErrAnd}
 use Rattle.polcert_check.specs.declared.fault.LowerFault.{LowerFault}
 use Rattle.polcert_check.specs.declared.fault.RaiseFault.{RaiseFault}
 use Rattle.polcert_answer.specs.declared.fault.RunFault.{RunFault}
-use Rattle.polcert_answer.specs.declared.fault.RunFault.TheVariants.{Text, ReadModel, ReadGraph, ReadVectors, Write, Lower, Raise}
+use Rattle.polcert_answer.specs.declared.fault.RunFault.TheVariants.{Text, ReadModel, ReadGraph, ReadVectors, Write, Lower, Raise, TooLargeToPrint}
 use Rattle.polcert_answer.specs.Run.{IsNamedRightly, ReadsInOrder}
 use Rattle.polcert_answer.specs.Reading.{IsReadFault, IsNoReadFault}
 
@@ -58,10 +58,14 @@ no_read_fault ReadVectors of none = none
 no_read_fault Write of none = of
 no_read_fault (Lower fault) of none = of
 no_read_fault (Raise fault) of none = of
+no_read_fault TooLargeToPrint of none = of
 
 module _ {T : Type 0} (r : Result T RunFault) (none : IfErr r IsNoReadFault) where
   pub not_read : (x : RunFault) → IsReadFault x → r ≡ Err x → ⊥
   not_read x of same = no_read_fault x of (subst (λ (y : Result T RunFault). IfErr y IsNoReadFault) same none)
+
+  pub not_print : r ≡ Err TooLargeToPrint → ⊥
+  not_print same = subst (λ (y : Result T RunFault). IfErr y IsNoReadFault) same none
 
   -- a source that the read did not name isn't named behind it
   pub named_behind : {U : Type 0} (x : RunFault) → IsReadFault x → (u : U) (before after : ℕ) → IsNamedRightly (◌≡◌ {A = Result U RunFault} (Ok u) (Err x)) before after
@@ -80,6 +84,7 @@ behind_all ReadVectors none graph graph' vectors vectors' = absurd none
 behind_all Write none graph graph' vectors vectors' = tt
 behind_all (Lower fault) none graph graph' vectors vectors' = tt
 behind_all (Raise fault) none graph graph' vectors vectors' = tt
+behind_all TooLargeToPrint none graph graph' vectors vectors' = absurd none
 
 pub written_in_order : {T G V : Type 0} (r : Result T RunFault) → IfErr r IsNoReadFault → (graph graph' : G) (vectors vectors' : V)
     → IfErr r (λ fault. ReadsInOrder fault graph graph' vectors vectors')

@@ -55,6 +55,7 @@ of_graph_in_order runs.ReadVectors graph graph' vectors vectors' of same = absur
 of_graph_in_order runs.Write graph graph' vectors vectors' of same = absurd of
 of_graph_in_order (runs.Lower f) graph graph' vectors vectors' of same = absurd of
 of_graph_in_order (runs.Raise f) graph graph' vectors vectors' of same = absurd of
+of_graph_in_order runs.TooLargeToPrint graph graph' vectors vectors' of same = absurd of
 
 -- behind it the source of the vectors is as it was
 pub graph_in_order : {T G V : Type 0} (r : Result T RunFault) (given : RunFault) (graph graph' : G) (vectors vectors' : V) → IsErrAnd r (λ f. f ≡ given)

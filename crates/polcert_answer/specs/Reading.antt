@@ -15,7 +15,7 @@ use Rattle.polcert_check.specs.Shortfall.{Passes}
 use Rattle.polcert_check.specs.Above.{PassesAbove}
 use Rattle.polcert_answer.specs.declared.fault.Fault.TheVariants.{Model, Graph, Vectors}
 use Rattle.polcert_answer.specs.declared.fault.RunFault.{RunFault}
-use Rattle.polcert_answer.specs.declared.fault.RunFault.TheVariants.{Text, ReadModel, ReadGraph, ReadVectors, Write, Lower, Raise}
+use Rattle.polcert_answer.specs.declared.fault.RunFault.TheVariants.{Text, ReadModel, ReadGraph, ReadVectors, Write, Lower, Raise, TooLargeToPrint}
 use Rattle.polcert_answer.specs.Answer.{HasGraph}
 
 -- the texts of the three sources are those of this model, graph and vectors, with each value rounded this way
@@ -81,6 +81,7 @@ IsReadFault ReadVectors = Unit {0}
 IsReadFault Write = ⊥
 IsReadFault (Lower fault) = ⊥
 IsReadFault (Raise fault) = ⊥
+IsReadFault TooLargeToPrint = ⊥
 
 -- a fault of the sink, of lowering or of raising
 abbrev pub IsNoReadFault : RunFault → Type 0

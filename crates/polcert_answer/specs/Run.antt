@@ -8,6 +8,7 @@ use Rattle.polcert_text.specs.Sink.{Takes, TakesFront}
 use Rattle.polcert_cells.specs.Meaning.{Meaning}
 use Rattle.polcert_model.specs.Text.{IsModelText}
 use Rattle.polcert_model.specs.FullForm.{full_form}
+use Rattle.polcert_model.specs.Printable.{IsPrintable}
 use Rattle.polcert_policy.specs.Vectors.{PolicyVectors, shifted_by}
 use Rattle.polcert_policy.specs.FullForm.{vectors_text}
 use Rattle.polcert_check.specs.declared.fault.LowerFault.{LowerFault}
@@ -21,7 +22,7 @@ use Rattle.polcert_check.specs.StartWorth.{IsBestStart, IsStartWorth, StartPromi
 use Rattle.polcert_answer.specs.declared.fault.Fault.{Fault}
 use Rattle.polcert_answer.specs.declared.fault.Fault.TheVariants.{Model, Graph}
 use Rattle.polcert_answer.specs.declared.fault.RunFault.{RunFault}
-use Rattle.polcert_answer.specs.declared.fault.RunFault.TheVariants.{Text, ReadModel, ReadGraph, Write}
+use Rattle.polcert_answer.specs.declared.fault.RunFault.TheVariants.{Text, ReadModel, ReadGraph, Write, TooLargeToPrint}
 use Rattle.polcert_answer.specs.Answer.{IsRoundedAnswer, IsAnswer, IsButForMemory}
 use Rattle.polcert_answer.specs.Headline.{RoundedCertificate, Certificate, controller, IsCertified, AreRewardsCertified}
 use Rattle.polcert_answer.specs.Lines.{summary_line, yes_line, IsVerdictLine}
@@ -46,21 +47,32 @@ module _ {S W : Type 0} (reads : S → ℕ → Option (List ℕ) → S → Type 
     pub accepted : IsModelText text model
     pub took : TakesFront writes sink (summary_line model) sink'
 
-  -- the text of the source is a model's, and the sink took the model's full form and nothing else
+  -- the text of the source is a model's that isn't too large, and the sink took the model's full form and nothing else
   pub record Prints : Type 0 where
     pub text : List ℕ
     pub model : Meaning
     pub was_read : IsText reads source text source'
     pub accepted : IsModelText text model
+    pub printable : IsPrintable model.preamble
     pub took : Takes writes sink (full_form model) sink'
 
-  -- the text of the source is a model's, and the sink took a beginning of the model's full form
+  -- the text of the source is a model's that isn't too large, and the sink took a beginning of the model's full form
   pub record BeginsToPrint : Type 0 where
     pub text : List ℕ
     pub model : Meaning
     pub was_read : IsText reads source text source'
     pub accepted : IsModelText text model
+    pub printable : IsPrintable model.preamble
     pub took : TakesFront writes sink (full_form model) sink'
+
+  -- the text of the source is a model's that is too large to print, and the sink took nothing
+  pub record IsTooLargeToPrint : Type 0 where
+    pub text : List ℕ
+    pub model : Meaning
+    pub was_read : IsText reads source text source'
+    pub accepted : IsModelText text model
+    pub too_large : IsPrintable model.preamble → ⊥
+    pub untouched : sink' ≡ sink
 
 -- ---- devices
 
@@ -75,6 +87,14 @@ IsModelRunFault (Text (Model fault)) = Unit {0}
 IsModelRunFault ReadModel = Unit {0}
 IsModelRunFault Write = Unit {0}
 IsModelRunFault _ = ⊥
+
+-- what a run that prints may answer: the same, and that the model is too large
+abbrev pub IsPrintRunFault : RunFault → Type 0
+IsPrintRunFault (Text (Model fault)) = Unit {0}
+IsPrintRunFault ReadModel = Unit {0}
+IsPrintRunFault TooLargeToPrint = Unit {0}
+IsPrintRunFault Write = Unit {0}
+IsPrintRunFault _ = ⊥
 
 -- ---- three sources
 

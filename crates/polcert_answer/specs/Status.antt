@@ -1,5 +1,5 @@
 -- The exit status for a fault: 4 for want of memory, 3 for a device, 1 where the vectors can't be lowered or raised, 2 for a
--- text that is refused. Of a verdict: 0 for a yes, 1 for a no.
+-- text that is refused and for a model that is too large to print. Of a verdict: 0 for a yes, 1 for a no.
 use Rattle.std.specs.Prelude.{ℕ}
 use Rattle.polcert_format.specs.declared.fault.ModelFault.TheVariants as models
 use Rattle.polcert_policy.specs.declared.fault.GraphFault.TheVariants as graphs
@@ -13,7 +13,7 @@ use Rattle.polcert_check.specs.declared.above.AboveVerdict.TheVariants as above
 use Rattle.polcert_answer.specs.declared.fault.Fault.{Fault}
 use Rattle.polcert_answer.specs.declared.fault.Fault.TheVariants.{Model, Graph, Vectors}
 use Rattle.polcert_answer.specs.declared.fault.RunFault.{RunFault}
-use Rattle.polcert_answer.specs.declared.fault.RunFault.TheVariants.{Text, ReadModel, ReadGraph, ReadVectors, Write, Lower, Raise}
+use Rattle.polcert_answer.specs.declared.fault.RunFault.TheVariants.{Text, ReadModel, ReadGraph, ReadVectors, Write, Lower, Raise, TooLargeToPrint}
 
 abbrev pub text_status : Fault → ℕ
 text_status (Model models.Memory) = 4
@@ -31,6 +31,7 @@ status (Lower lowering.Memory) = 4
 status (Lower _) = 1
 status (Raise raising.Memory) = 4
 status (Raise _) = 1
+status TooLargeToPrint = 2
 
 abbrev pub verdict_status : Verdict → ℕ
 verdict_status Yes = 0

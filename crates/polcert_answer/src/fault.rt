@@ -75,4 +75,7 @@ pub enum RunFault {
     /// The vectors can't be raised to pass from above, or there is no memory for the raised ones.
     #[error("raise: {0}")]
     Raise(RaiseFault),
+    /// The model has a table of more than 16,777,216 cells, and is not printed.
+    #[error("print: C1")]
+    TooLargeToPrint,
 }

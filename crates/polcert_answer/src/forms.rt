@@ -2,6 +2,7 @@
 ghost use Rattle.std.specs.Prelude.{◌≡◌};
 ghost use Rattle.polcert_text.specs.Sink.{WritesText};
 ghost use Rattle.polcert_model.specs.Contents.{meaning};
+ghost use Rattle.polcert_model.specs.Printable.{IsPrintable};
 ghost use Rattle.polcert_model.specs.FullForm.{full_form};
 ghost use Rattle.polcert_policy.specs.FullForm.{vectors_text};
 ghost use Rattle.polcert_policy.specs.Graphs.{nodes};
@@ -13,6 +14,7 @@ use polcert_text::{BufferedSink, Rounding, Sink, SinkFailed};
 
 /// Writes a model in full form, through a buffer.
 pub fn write_full_form<W: Sink>(model: &Model, sink: &mut W) -> Result<(), SinkFailed>
+    requires printable { IsPrintable (meaning model.now).preamble }
     ensures { WritesText W.writes W.failures sink.old (full_form (meaning model.now)) result sink.new }
 {
     let mut buffered = BufferedSink::new(sink);

@@ -13,7 +13,7 @@ ghost use Rattle.polcert_check.specs.Verdict.{IsVerdict};
 ghost use Rattle.polcert_answer.specs.Lines.{IsVerdictLine};
 ghost use Rattle.polcert_answer.specs.Answer.{IsRefused, IsModelFault, IsGraphRefused, AreVectorsRefused};
 ghost use Rattle.polcert_answer.specs.Reading.{IsAnswerLine, AreLowered, IsNoReadFault};
-ghost use Rattle.polcert_answer.specs.Run.{SumsUp, BeginsToSumUp, Prints, BeginsToPrint, IsModelRunFault, IsNamedRightly, ReadsInOrder, text_of, HasVerdict, HavePromise, HasStartPromise, HasLowered, IsWhy, IsNotLowerable};
+ghost use Rattle.polcert_answer.specs.Run.{SumsUp, BeginsToSumUp, Prints, BeginsToPrint, IsTooLargeToPrint, IsModelRunFault, IsPrintRunFault, IsNamedRightly, ReadsInOrder, text_of, HasVerdict, HavePromise, HasStartPromise, HasLowered, IsWhy, IsNotLowerable};
 
 use crate::controller::{Controller, model_of_run, read_controller};
 use crate::fault::{Fault, RunFault};
@@ -68,19 +68,23 @@ pub fn run_model<S: Source, W: Sink>(
 }
 
 /// Reads a model from the source, and writes it in full form, and nothing else. Nothing is written before the whole text is
-/// accepted.
+/// accepted, nor of a model that is too large to print.
 ///
 /// # Errors
 ///
-/// `Text` where the text is refused or memory is wanting to read it, `ReadModel` where a read failed, `Write` where a write
-/// failed.
+/// `Text` where the text is refused or memory is wanting to read it, `ReadModel` where a read failed, `TooLargeToPrint` where the
+/// model is too large to print, `Write` where a write failed.
 pub fn run_print<S: Source, W: Sink>(
     alloc: Global,
     source: &mut S,
     sink: &mut W,
 ) -> Result<(), RunFault>
-    // The sink took exactly the full form of the model that the text of the source denotes.
+    // The sink took exactly the full form of the model that the text of the source denotes, which isn't too large.
     ensures printed { OnOk result (Prints S.reads W.writes source.old source.new sink.old sink.new) }
+
+    // Or the model that the text of the source denotes is too large, and nothing was written.
+    ensures too_large { IsErrOf result RunFault.TooLargeToPrint
+        → IsTooLargeToPrint S.reads W.writes source.old source.new sink.old sink.new }
 
     // No text that fits what was read is a model's, and the fault is a right refusal of each of them.
     ensures refused { (fault : _) → IsErrOf result (RunFault.Text (Fault.Model fault))
@@ -96,9 +100,12 @@ pub fn run_print<S: Source, W: Sink>(
 
     // With any other fault nothing was written. Nothing but these faults is answered.
     ensures untouched { (fault : RunFault) → IsErrOf result fault → fault ≢ RunFault.Write → sink.new ≡ sink.old }
-    ensures of_a_model { IfErr result IsModelRunFault }
+    ensures of_a_model { IfErr result IsPrintRunFault }
 {
     let accepted = model_of_run(alloc, source)?;
+    if !accepted.printable() {
+        return Err(RunFault::TooLargeToPrint);
+    }
     match write_full_form(&accepted, sink) {
         Ok(()) => Ok(()),
         Err(_) => Err(RunFault::Write),
@@ -163,10 +170,11 @@ pub fn run_check<M: Source, G: Source, V: Source, W: Sink>(
     // Each source is read to its end before the next.
     ensures in_order { IfErr result (λ fault. ReadsInOrder fault graph.old graph.new vectors.old vectors.new) }
 
-    // With any other fault nothing was written; and lowering and raising are no part of a check.
+    // With any other fault nothing was written; and lowering, raising and printing are no part of a check.
     ensures untouched { (fault : RunFault) → IsErrOf result fault → fault ≢ RunFault.Write → sink.new ≡ sink.old }
     ensures not_lowering { (fault : _) → IsErrOf result (RunFault.Lower fault) → ⊥ }
     ensures not_raising { (fault : _) → IsErrOf result (RunFault.Raise fault) → ⊥ }
+    ensures not_printing { IsErrOf result RunFault.TooLargeToPrint → ⊥ }
 {
     run_check_watched(alloc, model, graph, vectors, sink, &mut Unwatched)
 }
@@ -211,6 +219,7 @@ pub fn run_check_watched<M: Source, G: Source, V: Source, W: Sink, O: Watch>(
     ensures untouched { (fault : RunFault) → IsErrOf result fault → fault ≢ RunFault.Write → sink.new ≡ sink.old }
     ensures not_lowering { (fault : _) → IsErrOf result (RunFault.Lower fault) → ⊥ }
     ensures not_raising { (fault : _) → IsErrOf result (RunFault.Raise fault) → ⊥ }
+    ensures not_printing { IsErrOf result RunFault.TooLargeToPrint → ⊥ }
 {
     let read = read_controller(alloc, Rounding::Down, model, graph, vectors)?;
     write_answer(&read, sink, watch)
@@ -293,9 +302,10 @@ pub fn run_lower<M: Source, G: Source, V: Source, W: Sink>(
     // Each source is read to its end before the next.
     ensures in_order { IfErr result (λ fault. ReadsInOrder fault graph.old graph.new vectors.old vectors.new) }
 
-    // With any other fault nothing was written; and raising is no part of a lowering.
+    // With any other fault nothing was written; and raising and printing are no part of a lowering.
     ensures untouched { (fault : RunFault) → IsErrOf result fault → fault ≢ RunFault.Write → sink.new ≡ sink.old }
     ensures not_raising { (fault : _) → IsErrOf result (RunFault.Raise fault) → ⊥ }
+    ensures not_printing { IsErrOf result RunFault.TooLargeToPrint → ⊥ }
 {
     run_lower_watched(alloc, model, graph, vectors, sink, &mut Unwatched)
 }
@@ -335,6 +345,7 @@ pub fn run_lower_watched<M: Source, G: Source, V: Source, W: Sink, O: Watch>(
     ensures in_order { IfErr result (λ fault. ReadsInOrder fault graph.old graph.new vectors.old vectors.new) }
     ensures untouched { (fault : RunFault) → IsErrOf result fault → fault ≢ RunFault.Write → sink.new ≡ sink.old }
     ensures not_raising { (fault : _) → IsErrOf result (RunFault.Raise fault) → ⊥ }
+    ensures not_printing { IsErrOf result RunFault.TooLargeToPrint → ⊥ }
 {
     let given = read_controller(alloc, Rounding::Down, model, graph, vectors)?;
     write_lower_vectors(alloc, &given, sink, watch)

@@ -78,10 +78,11 @@ pub fn run_check_above<M: Source, G: Source, V: Source, W: Sink>(
     // Each source is read to its end before the next.
     ensures in_order { IfErr result (λ fault. ReadsInOrder fault graph.old graph.new vectors.old vectors.new) }
 
-    // With any other fault nothing was written; and lowering and raising are no part of a check.
+    // With any other fault nothing was written; and lowering, raising and printing are no part of a check.
     ensures untouched { (fault : RunFault) → IsErrOf result fault → fault ≢ RunFault.Write → sink.new ≡ sink.old }
     ensures not_lowering { (fault : _) → IsErrOf result (RunFault.Lower fault) → ⊥ }
     ensures not_raising { (fault : _) → IsErrOf result (RunFault.Raise fault) → ⊥ }
+    ensures not_printing { IsErrOf result RunFault.TooLargeToPrint → ⊥ }
 {
     run_check_above_watched(alloc, model, graph, vectors, sink, &mut Unwatched)
 }
@@ -126,6 +127,7 @@ pub fn run_check_above_watched<M: Source, G: Source, V: Source, W: Sink, O: Watc
     ensures untouched { (fault : RunFault) → IsErrOf result fault → fault ≢ RunFault.Write → sink.new ≡ sink.old }
     ensures not_lowering { (fault : _) → IsErrOf result (RunFault.Lower fault) → ⊥ }
     ensures not_raising { (fault : _) → IsErrOf result (RunFault.Raise fault) → ⊥ }
+    ensures not_printing { IsErrOf result RunFault.TooLargeToPrint → ⊥ }
 {
     let read = read_controller(alloc, Rounding::Up, model, graph, vectors)?;
     write_answer_above(&read, sink, watch)
@@ -208,9 +210,10 @@ pub fn run_raise<M: Source, G: Source, V: Source, W: Sink>(
     // Each source is read to its end before the next.
     ensures in_order { IfErr result (λ fault. ReadsInOrder fault graph.old graph.new vectors.old vectors.new) }
 
-    // With any other fault nothing was written; and lowering is no part of a raise.
+    // With any other fault nothing was written; and lowering and printing are no part of a raise.
     ensures untouched { (fault : RunFault) → IsErrOf result fault → fault ≢ RunFault.Write → sink.new ≡ sink.old }
     ensures not_lowering { (fault : _) → IsErrOf result (RunFault.Lower fault) → ⊥ }
+    ensures not_printing { IsErrOf result RunFault.TooLargeToPrint → ⊥ }
 {
     run_raise_watched(alloc, model, graph, vectors, sink, &mut Unwatched)
 }
@@ -250,6 +253,7 @@ pub fn run_raise_watched<M: Source, G: Source, V: Source, W: Sink, O: Watch>(
     ensures in_order { IfErr result (λ fault. ReadsInOrder fault graph.old graph.new vectors.old vectors.new) }
     ensures untouched { (fault : RunFault) → IsErrOf result fault → fault ≢ RunFault.Write → sink.new ≡ sink.old }
     ensures not_lowering { (fault : _) → IsErrOf result (RunFault.Lower fault) → ⊥ }
+    ensures not_printing { IsErrOf result RunFault.TooLargeToPrint → ⊥ }
 {
     let given = read_controller(alloc, Rounding::Up, model, graph, vectors)?;
     write_raised_vectors(alloc, &given, sink, watch)

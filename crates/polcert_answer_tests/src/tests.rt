@@ -5,6 +5,7 @@ use polcert_text::{
     NumberFault, Sink, SinkFailed, SliceSink, SliceSource, Source, SourceFailed, TokenFault,
 };
 use std::alloc::Global;
+use std::test::Fail;
 
 mod above;
 mod answers;
@@ -166,6 +167,15 @@ fn a_full_slice_is_a_failed_write(rt: HostRuntime) {
     let result = run_model(rt.alloc(), &mut SliceSource::new(FIRST), &mut sink);
     assert_eq!(rt; result, Ok(()));
     assert_eq!(rt; sink.written(), LINE);
+}
+
+/// The line and the status of a model that is too large to print.
+#[test]
+fn too_large_to_print(rt: HostRuntime) -> Result<(), Fail> {
+    let fault = RunFault::TooLargeToPrint;
+    assert_eq!(rt; format!(in rt.alloc(); "{fault}")?.as_str(), "print: C1");
+    assert_eq!(rt; status_of(&fault), 2);
+    Ok(())
 }
 
 /// The first 123 bytes of FIRST are refused at their end; a source that fails behind them is no refused text.

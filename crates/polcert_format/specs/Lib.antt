@@ -7,6 +7,7 @@ pub mod KnownPreamble
 pub mod Laws
 pub mod Misfits
 pub mod Order
+pub mod Printable
 pub mod Reading
 pub mod Reasons
 pub mod Refusals

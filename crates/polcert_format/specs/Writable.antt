@@ -1,5 +1,5 @@
--- What is known of a model beside its limits, so that its full form is a text of it: names that a text may give, few
--- enough cells, a start that a start item may give, weights that a row may give, and in an MDP what is observed.
+-- What is known of a model beside its limits, so that its full form is a text of it where it is not too large to print: names
+-- that a text may give, a start that a start item may give, weights that a row may give, and in an MDP what is observed.
 use Rattle.std.specs.Prelude.{◌≡◌, ◌≢◌, ℕ, ◌*◌, ◌%◌, ◌<◌, ◌≤◌, ◌==◌, true, false, if◌then◌else◌, List, length, All, AllPairs, Some}
 use Rattle.std.specs.Option.{ForSome}
 use Rattle.polcert_text.specs.Lexemes.{kind_of}
@@ -11,7 +11,6 @@ use Rattle.polcert_cells.specs.declared.elements.Elements.TheVariants.{Names}
 use Rattle.polcert_cells.specs.declared.shares.Shares.{Shares}
 use Rattle.polcert_cells.specs.Start.{is_level}
 use Rattle.polcert_cells.specs.Preamble.{is_mdp}
-use Rattle.polcert_format.specs.Text.{IsWithinCells}
 use Rattle.polcert_cells.specs.Meaning.{Meaning, states_of, actions_of, observations_of}
 use Rattle.polcert_format.specs.FullForm.{is_choice}
 
@@ -41,7 +40,6 @@ pub record IsEndObserved (m : Meaning) : Type 0 where
   pub r : (a s e z : ℕ) → a < actions_of m → s < states_of m → e < states_of m → z < observations_of m → m.r a s e z ≡ m.r a s e 0
 
 pub record IsWritable (m : Meaning) : Type 0 where
-  pub cells : IsWithinCells m.preamble
   pub states : HasProperNames m.preamble.states
   pub actions : HasProperNames m.preamble.actions
   pub observations : ForSome m.preamble.observations HasProperNames

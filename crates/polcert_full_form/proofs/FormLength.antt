@@ -16,7 +16,8 @@ use Rattle.polcert_cells.specs.declared.elements.Elements.{Elements}
 use Rattle.polcert_cells.specs.declared.elements.Elements.TheVariants.{Count, Names}
 use Rattle.polcert_cells.specs.declared.shares.Shares.{Shares}
 use Rattle.polcert_cells.specs.Numbers.{one}
-use Rattle.polcert_format.specs.Text.{most_cells, IsWithinCells}
+use Rattle.polcert_format.specs.Text.{most_cells}
+use Rattle.polcert_format.specs.Printable.{IsPrintable}
 use Rattle.polcert_cells.specs.Elements.{count_of, most_states, most_actions, most_observations, most_elements}
 use Rattle.polcert_cells.specs.Preamble.{is_mdp, rewarded}
 use Rattle.polcert_cells.specs.Meaning.{Meaning, IsWithinLimits, states_of, actions_of, observations_of}
@@ -58,8 +59,8 @@ words_of_values : (n b : ℕ) (f : ℕ → List ℕ) → ((i : ℕ) → i < n �
 words_of_values n b f h = words_from 0 n b f (λ i l. h i (omega (arith, l)))
 
 -- ---- words
-index_length : (i : ℕ) → i < most_elements → length (decimal i) ≤ 3
-index_length i l = length-decimal-le 3 i (omega arith) (omega (arith, l)) (omega (arith, l))
+index_length : (i : ℕ) → i < most_elements → length (decimal i) ≤ 4
+index_length i l = length-decimal-le 4 i (omega arith) (omega (arith, l)) (omega (arith, l))
 
 unsigned_length : (n : ℕ) → n ≤ largest → length (unsigned_text n) ≤ 30
 unsigned_length n l = (plain_size n l).short
@@ -82,17 +83,17 @@ module _ (table : Table) (a s n : ℕ) (w : ℕ → ℕ) (la : a < most_actions)
       let q = div_below (w c) n (one + 1) some below in
       omega (arith, q)
 
-  head_length : length (line (row_words table a s)) ≤ 14
+  head_length : length (line (row_words table a s)) ≤ 16
   head_length = omega (arith, line_length (row_words table a s), table_length table, index_length a la, index_length s ls)
 
-  cell_length : (c : ℕ) → c < n → length (cell_text table a s n w c) ≤ 51
+  cell_length : (c : ℕ) → c < n → length (cell_text table a s n w c) ≤ 54
   cell_length c d = at (w c == one)
     where
-      at : (b : Bool) → length (cond b [] (line (row_words table a s ++ codes ":" ∷ decimal c ∷ millionths_text (w c / n) ∷ []))) ≤ 51
+      at : (b : Bool) → length (cond b [] (line (row_words table a s ++ codes ":" ∷ decimal c ∷ millionths_text (w c / n) ∷ []))) ≤ 54
       at true = omega arith
       at false = omega (arith, line_length (row_words table a s ++ codes ":" ∷ decimal c ∷ millionths_text (w c / n) ∷ []), table_length table, index_length a la, index_length s ls, index_length c (omega (arith, d, few)), unsigned_length (w c / n) (share_small c d))
 
-  row_length : length (row_text table a s n w) ≤ n * 74
+  row_length : length (row_text table a s n w) ≤ n * 80
   row_length = at (is_uniform n w) (is_decimal n w)
     where
       uniform_length : length (line (codes "uniform" ∷ [])) ≤ 9
@@ -103,17 +104,17 @@ module _ (table : Table) (a s n : ℕ) (w : ℕ → ℕ) (la : a < most_actions)
           let all = words_of_values n 30 (λ c. millionths_text (w c / n)) (λ c d. unsigned_length (w c / n) (share_small c d)) in
           omega (arith, all, line_length (values n (λ c. millionths_text (w c / n))))
 
-      cells_length : length (line (codes "uniform" ∷ []) ++ for_each n (cell_text table a s n w)) ≤ 9 + n * 51
+      cells_length : length (line (codes "uniform" ∷ []) ++ for_each n (cell_text table a s n w)) ≤ 9 + n * 54
       cells_length =
-          let all = each_length n 51 (cell_text table a s n w) cell_length in
+          let all = each_length n 54 (cell_text table a s n w) cell_length in
           omega (arith, all, uniform_length, length-append (line (codes "uniform" ∷ [])) (for_each n (cell_text table a s n w)))
 
-      at : (u d : Bool) → length (line (row_words table a s) ++ cond u (line (codes "uniform" ∷ [])) (cond d (line (values n (λ c. millionths_text (w c / n)))) (line (codes "uniform" ∷ []) ++ for_each n (cell_text table a s n w)))) ≤ n * 74
+      at : (u d : Bool) → length (line (row_words table a s) ++ cond u (line (codes "uniform" ∷ [])) (cond d (line (values n (λ c. millionths_text (w c / n)))) (line (codes "uniform" ∷ []) ++ for_each n (cell_text table a s n w)))) ≤ n * 80
       at true d = omega (arith, some, head_length, uniform_length, length-append (line (row_words table a s)) (line (codes "uniform" ∷ [])))
       at false true = omega (arith, some, head_length, numbers_length, length-append (line (row_words table a s)) (line (values n (λ c. millionths_text (w c / n)))))
       at false false = omega (arith, some, head_length, cells_length, length-append (line (row_words table a s)) (line (codes "uniform" ∷ []) ++ for_each n (cell_text table a s n w)))
 
-rewards_length : (costs : Bool) (words : List (List ℕ)) (n : ℕ) (r : ℕ → ℤ) → length (line words) ≤ 20 → 0 < n → ((z : ℕ) → z < n → unsigned_abs (written costs (r z)) ≤ largest) → length (rewards_row costs words n r) ≤ n * 53
+rewards_length : (costs : Bool) (words : List (List ℕ)) (n : ℕ) (r : ℕ → ℤ) → length (line words) ≤ 23 → 0 < n → ((z : ℕ) → z < n → unsigned_abs (written costs (r z)) ≤ largest) → length (rewards_row costs words n r) ≤ n * 56
 rewards_length costs words n r head some small = at (all_below n (λ z. is_zero (r z)))
   where
     numbers_length : length (line (values n (λ z. scaled_text (written costs (r z))))) ≤ n * 32 + 1
@@ -121,15 +122,15 @@ rewards_length costs words n r head some small = at (all_below n (λ z. is_zero 
         let all = words_of_values n 31 (λ z. scaled_text (written costs (r z))) (λ z d. scaled_length (written costs (r z)) (small z d)) in
         omega (arith, all, line_length (values n (λ z. scaled_text (written costs (r z)))))
 
-    at : (b : Bool) → length (cond b [] (line words ++ line (values n (λ z. scaled_text (written costs (r z)))))) ≤ n * 53
+    at : (b : Bool) → length (cond b [] (line words ++ line (values n (λ z. scaled_text (written costs (r z)))))) ≤ n * 56
     at true = omega arith
     at false = omega (arith, some, head, numbers_length, length-append (line words) (line (values n (λ z. scaled_text (written costs (r z))))))
 
 -- the lines that begin a row of rewards
-cell_head : (a s e : ℕ) → a < most_actions → s < most_states → e < most_states → length (line (reward_words a s e)) ≤ 20
+cell_head : (a s e : ℕ) → a < most_actions → s < most_states → e < most_states → length (line (reward_words a s e)) ≤ 23
 cell_head a s e la ls le = omega (arith, line_length (reward_words a s e), index_length a la, index_length s ls, index_length e le)
 
-row_head : (a s : ℕ) → a < most_actions → s < most_states → length (line (row_words Reward a s)) ≤ 20
+row_head : (a s : ℕ) → a < most_actions → s < most_states → length (line (row_words Reward a s)) ≤ 23
 row_head a s la ls = omega (arith, line_length (row_words Reward a s), index_length a la, index_length s ls)
 
 -- ---- the preamble and the start
@@ -140,13 +141,13 @@ names_length (x ∷ xs) a =
     let here = (All-head IsWritableName x xs a).short in
     omega (arith, rest, here)
 
-elements_length : (word : List ℕ) (elements : Elements) → length word ≤ 20 → AreWritable most_elements elements → length (line (word ∷ element_words elements)) ≤ 500_000
+elements_length : (word : List ℕ) (elements : Elements) → length word ≤ 20 → AreWritable most_elements elements → length (line (word ∷ element_words elements)) ≤ 4_100_000
 elements_length word (Count n) l w =
-    let count : length (decimal n) ≤ 4 = length-decimal-le 4 n (omega arith) (omega (arith, w.1)) (omega (arith, w.1)) in
+    let count : length (decimal n) ≤ 5 = length-decimal-le 5 n (omega arith) (omega (arith, w.1)) (omega (arith, w.1)) in
     omega (arith, l, count, line_length (word ∷ decimal n ∷ []))
 elements_length word (Names names) l w = omega (arith, l, names_length names w.0, w.2, line_length (word ∷ names))
 
-preamble_length : (m : Meaning) → m.preamble.discount ≤ one → AreWritable most_states m.preamble.states → AreWritable most_actions m.preamble.actions → ForSome m.preamble.observations (AreWritable most_observations) → length (preamble_text m) ≤ 1_600_000
+preamble_length : (m : Meaning) → m.preamble.discount ≤ one → AreWritable most_states m.preamble.states → AreWritable most_actions m.preamble.actions → ForSome m.preamble.observations (AreWritable most_observations) → length (preamble_text m) ≤ 13_000_000
 preamble_length m small states actions observations =
     let p = m.preamble in
     let d = line (codes "discount:" ∷ millionths_text p.discount ∷ []) in
@@ -168,7 +169,7 @@ preamble_length m small states actions observations =
       length-append d v,
     )
   where
-    observed_length : (o : Option Elements) → ForSome o (AreWritable most_observations) → length (observations_line o) ≤ 500_000
+    observed_length : (o : Option Elements) → ForSome o (AreWritable most_observations) → length (observations_line o) ≤ 4_100_000
     observed_length None w = omega arith
     observed_length (Some elements) w = elements_length (codes "observations:") elements (omega arith) (w elements refl)
 
@@ -176,12 +177,12 @@ preamble_length m small states actions observations =
     values_length true = omega arith
     values_length false = omega arith
 
-states_length : (p : ℕ → Bool) (k n : ℕ) → k + n ≤ most_states → words_length (map decimal (filter p (range_with_len k n))) ≤ n * 4
+states_length : (p : ℕ → Bool) (k n : ℕ) → k + n ≤ most_states → words_length (map decimal (filter p (range_with_len k n))) ≤ n * 5
 states_length p k zero l = omega arith
 states_length p k (suc n) l = at (states_length p (k + 1) n (omega (arith, l))) (p k)
   where
-    at : words_length (map decimal (filter p (range_with_len (k + 1) n))) ≤ n * 4 → (b : Bool)
-        → words_length (map decimal (cond b (k ∷ filter p (range_with_len (k + 1) n)) (filter p (range_with_len (k + 1) n)))) ≤ suc n * 4
+    at : words_length (map decimal (filter p (range_with_len (k + 1) n))) ≤ n * 5 → (b : Bool)
+        → words_length (map decimal (cond b (k ∷ filter p (range_with_len (k + 1) n)) (filter p (range_with_len (k + 1) n)))) ≤ suc n * 5
     at rest true = omega (arith, rest, index_length k (omega (arith, l)))
     at rest false = omega (arith, rest)
 
@@ -192,10 +193,10 @@ weights_length (w ∷ ws) l =
     let rest = weights_length ws (omega (arith, sums, l)) in
     omega (arith, rest, unsigned_length w (omega (arith, sums, l)))
 
-start_length : (start : Shares) → length start.weights ≤ most_states → sum start.weights ≤ one → length (start_text start) ≤ 40_000
+start_length : (start : Shares) → length start.weights ≤ most_states → sum start.weights ≤ one → length (start_text start) ≤ 400_000
 start_length start few small = at (is_whole start) (is_choice start)
   where
-    at : (u c : Bool) → length (cond u (line (codes "start:" ∷ codes "uniform" ∷ [])) (cond c (line (codes "start" ∷ codes "include:" ∷ map decimal (chosen start))) (line (codes "start:" ∷ map millionths_text start.weights)))) ≤ 40_000
+    at : (u c : Bool) → length (cond u (line (codes "start:" ∷ codes "uniform" ∷ [])) (cond c (line (codes "start" ∷ codes "include:" ∷ map decimal (chosen start))) (line (codes "start:" ∷ map millionths_text start.weights)))) ≤ 400_000
     at true c = omega arith
     at false true = omega (arith, few, line_length (codes "start" ∷ codes "include:" ∷ map decimal (chosen start)), states_length (λ s. get_or start.weights s 0 == 1) 0 (length start.weights) (omega (arith, few)))
     at false false = omega (arith, few, line_length (codes "start:" ∷ map millionths_text start.weights), weights_length start.weights small)
@@ -207,36 +208,36 @@ grouped a s n k = ap (λ x. a * x) (sym (mul_assoc s n k)) ∙ sym (mul_assoc a 
 cells_bound : (a s n k : ℕ) → a * s * n ≤ most_cells → a * (s * (n * k)) ≤ most_cells * k
 cells_bound a s n k l = subst (λ x. x ≤ most_cells * k) (sym (grouped a s n k)) (mul-le-mul_right k l)
 
-module _ (m : Meaning) (limits : IsWithinLimits m) (cells : IsWithinCells m.preamble) (states : AreWritable most_states m.preamble.states) (actions : AreWritable most_actions m.preamble.actions) (observations : ForSome m.preamble.observations (AreWritable most_observations))
+module _ (m : Meaning) (limits : IsWithinLimits m) (printable : IsPrintable m.preamble) (states : AreWritable most_states m.preamble.states) (actions : AreWritable most_actions m.preamble.actions) (observations : ForSome m.preamble.observations (AreWritable most_observations))
     (small : (a s e z : ℕ) → a < actions_of m → s < states_of m → e < states_of m → z < observations_of m → unsigned_abs (written m.preamble.costs (m.r a s e z)) ≤ largest) where
-  transitions_length : length (transitions_text m) ≤ most_cells * 74
+  transitions_length : length (transitions_text m) ≤ most_cells * 80
   transitions_length =
       let A = actions_of m in
       let S = states_of m in
-      let all : length (transitions_text m) ≤ A * (S * (S * 74)) =
-      each_length A (S * (S * 74)) (λ a. for_each S (λ s. row_text Transition a s S (m.t a s))) (λ a l. each_length S (S * 74) (λ s. row_text Transition a s S (m.t a s)) (λ s k.
+      let all : length (transitions_text m) ≤ A * (S * (S * 80)) =
+      each_length A (S * (S * 80)) (λ a. for_each S (λ s. row_text Transition a s S (m.t a s))) (λ a l. each_length S (S * 80) (λ s. row_text Transition a s S (m.t a s)) (λ s k.
       row_length Transition a s S (m.t a s) (omega (arith, l, limits.actions.1)) (omega (arith, k, limits.states.1)) (omega (arith, k)) limits.states.1 (λ c d. limits.t a s c l k d))) in
-      omega (arith, all, cells_bound A S S 74 cells.transitions)
+      omega (arith, all, cells_bound A S S 80 printable.transitions)
 
-  seen_length : length (for_each (actions_of m) (λ a. for_each (states_of m) (λ e. row_text Observation a e (observations_of m) (m.o a e)))) ≤ most_cells * 74
+  seen_length : length (for_each (actions_of m) (λ a. for_each (states_of m) (λ e. row_text Observation a e (observations_of m) (m.o a e)))) ≤ most_cells * 80
   seen_length =
       let A = actions_of m in
       let S = states_of m in
       let Z = observations_of m in
-      let all : length (for_each A (λ a. for_each S (λ e. row_text Observation a e Z (m.o a e)))) ≤ A * (S * (Z * 74)) =
-      each_length A (S * (Z * 74)) (λ a. for_each S (λ e. row_text Observation a e Z (m.o a e))) (λ a l. each_length S (Z * 74) (λ e. row_text Observation a e Z (m.o a e)) (λ s k.
+      let all : length (for_each A (λ a. for_each S (λ e. row_text Observation a e Z (m.o a e)))) ≤ A * (S * (Z * 80)) =
+      each_length A (S * (Z * 80)) (λ a. for_each S (λ e. row_text Observation a e Z (m.o a e))) (λ a l. each_length S (Z * 80) (λ e. row_text Observation a e Z (m.o a e)) (λ s k.
       row_length Observation a s Z (m.o a s) (omega (arith, l, limits.actions.1)) (omega (arith, k, limits.states.1)) limits.observations.0 limits.observations.1 (λ c d. limits.o a s c l k d))) in
-      omega (arith, all, cells_bound A S Z 74 cells.observations)
+      omega (arith, all, cells_bound A S Z 80 printable.observations)
 
-  observations_length : length (observations_text m) ≤ most_cells * 74
+  observations_length : length (observations_text m) ≤ most_cells * 80
   observations_length = at (is_mdp m.preamble)
     where
-      at : (b : Bool) → length (cond b [] (for_each (actions_of m) (λ a. for_each (states_of m) (λ e. row_text Observation a e (observations_of m) (m.o a e))))) ≤ most_cells * 74
+      at : (b : Bool) → length (cond b [] (for_each (actions_of m) (λ a. for_each (states_of m) (λ e. row_text Observation a e (observations_of m) (m.o a e))))) ≤ most_cells * 80
       at true = omega arith
       at false = seen_length
 
   -- the rewards of an action in a state: a number for each end state and each thing that a reward depends on
-  from_length : (a s : ℕ) → a < actions_of m → s < states_of m → length (rewards_from m a s) ≤ states_of m * (count_of (rewarded m.preamble) * 53)
+  from_length : (a s : ℕ) → a < actions_of m → s < states_of m → length (rewards_from m a s) ≤ states_of m * (count_of (rewarded m.preamble) * 56)
   from_length a s l k = at (is_mdp m.preamble) refl
     where
       S : ℕ
@@ -249,24 +250,24 @@ module _ (m : Meaning) (limits : IsWithinLimits m) (cells : IsWithinCells m.prea
       costs = m.preamble.costs
 
       at : (b : Bool) → is_mdp m.preamble ≡ b
-          → length (cond b (rewards_row costs (row_words Reward a s) S (λ e. m.r a s e 0)) (for_each S (λ e. rewards_row costs (reward_words a s e) Z (m.r a s e)))) ≤ S * (count_of (rewarded m.preamble) * 53)
-      at true mdp = subst (λ n. length (rewards_row costs (row_words Reward a s) S (λ e. m.r a s e 0)) ≤ S * (n * 53)) (sym (one_rewarded m.preamble mdp))
+          → length (cond b (rewards_row costs (row_words Reward a s) S (λ e. m.r a s e 0)) (for_each S (λ e. rewards_row costs (reward_words a s e) Z (m.r a s e)))) ≤ S * (count_of (rewarded m.preamble) * 56)
+      at true mdp = subst (λ n. length (rewards_row costs (row_words Reward a s) S (λ e. m.r a s e 0)) ≤ S * (n * 56)) (sym (one_rewarded m.preamble mdp))
           (rewards_length costs (row_words Reward a s) S (λ e. m.r a s e 0) (row_head a s (omega (arith, l, limits.actions.1)) (omega (arith, k, limits.states.1))) limits.states.0
           (λ e d. small a s e 0 l k d limits.observations.0))
-      at false seen = subst (λ n. length (for_each S (λ e. rewards_row costs (reward_words a s e) Z (m.r a s e))) ≤ S * (n * 53)) (sym (seen_rewarded m.preamble seen))
-          (each_length S (Z * 53) (λ e. rewards_row costs (reward_words a s e) Z (m.r a s e)) (λ e d.
+      at false seen = subst (λ n. length (for_each S (λ e. rewards_row costs (reward_words a s e) Z (m.r a s e))) ≤ S * (n * 56)) (sym (seen_rewarded m.preamble seen))
+          (each_length S (Z * 56) (λ e. rewards_row costs (reward_words a s e) Z (m.r a s e)) (λ e d.
           rewards_length costs (reward_words a s e) Z (m.r a s e) (cell_head a s e (omega (arith, l, limits.actions.1)) (omega (arith, k, limits.states.1)) (omega (arith, d, limits.states.1))) limits.observations.0
           (λ z x. small a s e z l k d x)))
 
-  rewards_short : length (rewards_text m) ≤ most_cells * 53
+  rewards_short : length (rewards_text m) ≤ most_cells * 56
   rewards_short =
       let A = actions_of m in
       let S = states_of m in
       let R = count_of (rewarded m.preamble) in
-      let all : length (rewards_text m) ≤ A * (S * (S * (R * 53))) =
-      each_length A (S * (S * (R * 53))) (λ a. for_each S (rewards_from m a)) (λ a l. each_length S (S * (R * 53)) (rewards_from m a) (λ s k. from_length a s l k)) in
-      let same : A * (S * (S * (R * 53))) ≡ A * S * S * R * 53 = grouped A S S (R * 53) ∙ sym (mul_assoc (A * S * S) R 53) in
-      let bound : A * S * S * R * 53 ≤ most_cells * 53 = mul-le-mul_right 53 cells.rewards in
+      let all : length (rewards_text m) ≤ A * (S * (S * (R * 56))) =
+      each_length A (S * (S * (R * 56))) (λ a. for_each S (rewards_from m a)) (λ a l. each_length S (S * (R * 56)) (rewards_from m a) (λ s k. from_length a s l k)) in
+      let same : A * (S * (S * (R * 56))) ≡ A * S * S * R * 56 = grouped A S S (R * 56) ∙ sym (mul_assoc (A * S * S) R 56) in
+      let bound : A * S * S * R * 56 ≤ most_cells * 56 = mul-le-mul_right 56 printable.rewards in
       omega (arith, all, same, bound)
 
   pub form_short : length (full_form m) < text_limit

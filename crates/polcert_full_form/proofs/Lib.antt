@@ -5,6 +5,7 @@ pub mod ModelEntries
 pub mod NumberLines
 pub mod Observing
 pub mod Parts
+pub mod Printable
 pub mod PrintedEntries
 pub mod PrintedItems
 pub mod PrintedNumbers
@@ -12,11 +13,13 @@ pub mod PrintedParts
 pub mod PrintedPreamble
 pub mod PrintedRows
 pub mod PrintedStart
+pub mod RewardBlocks
 pub mod RewardEntries
-pub mod RowCells
 pub mod RowEntries
+pub mod Runs
 pub mod SameForms
 pub mod StartShapes
+pub mod WalkedRows
 pub mod WeightForms
 pub mod WritableModels
 pub mod WritableTexts

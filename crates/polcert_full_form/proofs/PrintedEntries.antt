@@ -19,10 +19,11 @@ use Rattle.polcert_cells.specs.Preamble.{Preamble, is_mdp, dimensions, named}
 use Rattle.polcert_cells.specs.Entry.{cells_in, forms, MayBeGiven, ArePlaces, IsBody, IsEntry}
 use Rattle.polcert_cells.specs.Entry as entries
 use Rattle.polcert_format.specs.Text as texts
-use Rattle.polcert_format.specs.Text.{Known, IsWithinCells, IsComplete}
+use Rattle.polcert_format.specs.Text.{Known, IsComplete}
 use Rattle.polcert_format.specs.FullForm.{for_each, table_word}
 use Rattle.polcert_text.proofs.PrintedWords.{key, word_text, IsPiece}
 use Rattle.polcert_full_form.proofs.PrintedNumbers.{numeral_at, whole_at}
+use Rattle.polcert_full_form.proofs.Printable.{HasRoom}
 use Rattle.polcert_full_form.proofs.PrintedItems.{AreItems, Prints, prints_nothing, prints_then, one_item}
 
 abbrev pub letter : Table → List ℕ
@@ -79,13 +80,13 @@ known_of p start es = record {
   entries = es;
 }
 
-pub complete : (p : Preamble) (start : Shares) (es : List Entry) → IsWithinCells p → IsComplete (known_of p start es) p
-complete p start es cells = record {
+pub complete : (p : Preamble) (start : Shares) (es : List Entry) → HasRoom p → IsComplete (known_of p start es) p
+complete p start es room = record {
   lines = record { discount = refl; costs = refl; states = refl; actions = refl; observations = refl };
-  cells = cells;
+  cells = room.cells;
 }
 
-module _ (p : Preamble) (start : Shares) (cells : IsWithinCells p) where
+module _ (p : Preamble) (start : Shares) (room : HasRoom p) where
   -- The text is further entries behind any that came before.
   abbrev pub PrintsEntries : List ℕ → List Entry → Type 0
   PrintsEntries text new = (es : List Entry) → Prints text (known_of p start es) (known_of p start (es ++ new))
@@ -106,7 +107,7 @@ module _ (p : Preamble) (start : Shares) (cells : IsWithinCells p) where
   right_entry : (table : Table) (word : Lexeme) (body : List Lexeme) (e : Entry) (es : List Entry) → word.kind ≡ Name → word.bytes ≡ letter table → list_any begins_item body ≡ false
       → MayBeGiven p table → IsEntry p table body e → AreItems (word ∷ body) (known_of p start es) (known_of p start (es ++ e ∷ []))
   right_entry table word body e es k b none given a =
-      one_item word body (Cells table) (known_of p start es) (known_of p start (es ++ e ∷ [])) (letter_topic table word k b) none (texts.entry (complete p start es cells) given a)
+      one_item word body (Cells table) (known_of p start es) (known_of p start (es ++ e ∷ [])) (letter_topic table word k b) none (texts.entry (complete p start es room) given a)
 
   -- two places before a body
   pub two_places : (table : Table) (a s : ℕ) (column names : List Elements) (body : Body) → MayBeGiven p table → dimensions p table ≡ p.actions ∷ p.states ∷ column → named p table ≡ p.actions ∷ p.states ∷ names → a < count_of p.actions → s < count_of p.states

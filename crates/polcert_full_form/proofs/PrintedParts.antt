@@ -147,7 +147,7 @@ paid_is costs indices words n r head some f =
 pub unpaid_is : (costs : Bool) (words : List (List ℕ)) (n : ℕ) (r : ℕ → ℤ) → all_below n (λ z. is_zero (r z)) ≡ true → [] ≡ rewards_row costs words n r
 unpaid_is costs words n r f = sym (ap (λ b. cond b [] (line words ++ line (values n (λ z. scaled_text (written costs (r z)))))) f)
 
-all_zero : (n : ℕ) (q : ℕ → ℤ) → ((z : ℕ) → z < n → q z ≡ pos 0) → all_below n (λ z. is_zero (q z)) ≡ true
+pub all_zero : (n : ℕ) (q : ℕ → ℤ) → ((z : ℕ) → z < n → q z ≡ pos 0) → all_below n (λ z. is_zero (q z)) ≡ true
 all_zero zero q h = refl
 all_zero (suc n) q h = let before = all_zero n q (λ z l. h z (omega (arith, l))) in let here = h n (omega arith) in λ i. before i && is_zero (here i)
 

@@ -20,12 +20,12 @@ use Rattle.polcert_cells.specs.Elements.{count_of, most_states, most_actions, mo
 use Rattle.polcert_cells.specs.Preamble.{Preamble, is_mdp, observed, rewarded}
 use Rattle.polcert_cells.specs.Entry.{cells_in, forms, IsBody}
 use Rattle.polcert_cells.specs.Entry as entries
-use Rattle.polcert_format.specs.Text.{IsWithinCells}
 use Rattle.polcert_text.specs.Lines.{line}
 use Rattle.polcert_format.specs.FullForm.{for_each, values, all_below, millionths_text, table_word, row_words, is_uniform, is_decimal, cell_text, row_text, written, is_zero, reward_words, rewards_row}
 use Rattle.polcert_text.proofs.PrintedCut.{Printed, text_of, lexemes_at, ArePrinted, text-append, printed-append}
 use Rattle.polcert_text.proofs.PrintedWords.{Word, plain, key, word_text, spelled_line, IsPiece, text_line, line_printed}
 use Rattle.polcert_text.proofs.WrittenNumbers.{plain_size}
+use Rattle.polcert_full_form.proofs.Printable.{HasRoom}
 use Rattle.polcert_full_form.proofs.PrintedNumbers.{whole_piece, numeral_piece, millionths_at}
 use Rattle.polcert_full_form.proofs.NumberLines.{inside, length_values, all_values, share_line, reward_line}
 use Rattle.polcert_full_form.proofs.PrintedEntries.{letter, letter_piece, text_letter, PrintsEntries, no_entries, entries_then, entries_each, two_places, three_places}
@@ -86,9 +86,9 @@ uniform_begins_none place = refl
 uniform_body : (n place : ℕ) → IsBody n (lexemes_at place uniform_line) Uniform
 uniform_body n place = entries.uniform (record { kind = refl; bytes = refl })
 
-module _ (p : Preamble) (start : Shares) (cells : IsWithinCells p) (few_actions : count_of p.actions ≤ most_actions) (few_states : count_of p.states ≤ most_states) where
+module _ (p : Preamble) (start : Shares) (room : HasRoom p) (few_actions : count_of p.actions ≤ most_actions) (few_states : count_of p.states ≤ most_states) where
   abbrev Entries : List ℕ → List Entry → Type 0
-  Entries text new = PrintsEntries p start cells text new
+  Entries text new = PrintsEntries p start room text new
 
   module _ (table : Table) (a s n : ℕ) (w : ℕ → ℕ) (t : HasRows p table n) (l : a < count_of p.actions) (k : s < count_of p.states) (some : 0 < n) (few : n ≤ most_elements) where
     -- a body behind the line of the row
@@ -99,7 +99,7 @@ module _ (p : Preamble) (start : Shares) (cells : IsWithinCells p) (few_actions 
       lexemes = spelled_line (key (letter table)) (row_line a s) ++ us;
       text_is = text-append (spelled_line (key (letter table)) (row_line a s)) us ∙ ap (λ bs. bs ++ text_of us) (text_head table (row_line a s));
       printed = printed-append (spelled_line (key (letter table)) (row_line a s)) us (row_printed table a s (omega (arith, l, few_actions)) (omega (arith, k, few_states))) made;
-      items = λ place. two_places p start cells table a s (t.column ∷ []) _ body t.given t.dimensions_are t.named_are l k (omega (arith, l, few_actions)) (omega (arith, k, few_states)) form _ (is _) (none _) _ _ _ _ _ es;
+      items = λ place. two_places p start room table a s (t.column ∷ []) _ body t.given t.dimensions_are t.named_are l k (omega (arith, l, few_actions)) (omega (arith, k, few_states)) form _ (is _) (none _) _ _ _ _ _ es;
     }
 
     uniform_prints : Entries (line (row_words table a s) ++ line (codes "uniform" ∷ [])) (uniform_row table a s)
@@ -132,7 +132,7 @@ module _ (p : Preamble) (start : Shares) (cells : IsWithinCells p) (few_actions 
             lexemes = spelled_line (key (letter table)) (share_words a s c q);
             text_is = text_head table (share_words a s c q);
             printed = share_printed table a s c q (omega (arith, l, few_actions)) (omega (arith, k, few_states)) (omega (arith, d, few)) small;
-            items = λ place. three_places p start cells table a s c t.column [] _ (Probabilities (q ∷ [])) t.given t.dimensions_are t.named_are l k (omega (arith, d, t.count))
+            items = λ place. three_places p start room table a s c t.column [] _ (Probabilities (q ∷ [])) t.given t.dimensions_are t.named_are l k (omega (arith, d, t.count))
                 (omega (arith, l, few_actions)) (omega (arith, k, few_states)) (omega (arith, d, few)) (t.cell (q ∷ [])) _
                 (entries.probabilities (numbers.unsigned (millionths_at false _ q small) numbers.none) refl (alone q (share_small c d))) refl _ _ _ _ _ _ _ es;
           }
@@ -145,14 +145,14 @@ module _ (p : Preamble) (start : Shares) (cells : IsWithinCells p) (few_actions 
       cell_prints c d = at (w c == one)
         where
           at : (b : Bool) → Entries (cond b [] (line (row_words table a s ++ codes ":" ∷ decimal c ∷ millionths_text (w c / n) ∷ []))) (cond b [] (one_cell table a s c (w c / n) ∷ []))
-          at true = no_entries p start cells
+          at true = no_entries p start room
           at false = share_prints c d
 
       cells_print : Entries (line (row_words table a s) ++ (line (codes "uniform" ∷ []) ++ for_each n (cell_text table a s n w))) (single_cells table a s n w)
       cells_print =
           subst (λ bs. Entries bs (single_cells table a s n w)) (append_assoc (line (row_words table a s)) (line (codes "uniform" ∷ [])) (for_each n (cell_text table a s n w)))
-          (entries_then p start cells (line (row_words table a s) ++ line (codes "uniform" ∷ [])) (for_each n (cell_text table a s n w)) (uniform_row table a s) (for_each n (cell_entries table a s n w)) uniform_prints
-          (entries_each p start cells n (cell_text table a s n w) (cell_entries table a s n w) cell_prints))
+          (entries_then p start room (line (row_words table a s) ++ line (codes "uniform" ∷ [])) (for_each n (cell_text table a s n w)) (uniform_row table a s) (for_each n (cell_entries table a s n w)) uniform_prints
+          (entries_each p start room n (cell_text table a s n w) (cell_entries table a s n w) cell_prints))
 
       -- the row, in each of its shapes
       pub row_prints : Entries (row_text table a s n w) (row_entries table a s n w)
@@ -186,7 +186,7 @@ module _ (p : Preamble) (start : Shares) (cells : IsWithinCells p) (few_actions 
           text_is = text-append (spelled_line (key (letter Reward)) (cell_line a s e)) made.lexemes ∙ (λ i. text_head Reward (cell_line a s e) i ++ made.text_is i);
           printed = printed-append (spelled_line (key (letter Reward)) (cell_line a s e)) made.lexemes
               (cell_printed Reward a s e (omega (arith, l, few_actions)) (omega (arith, k, few_states)) (omega (arith, d, few_states))) made.printed;
-          items = λ place. three_places p start cells Reward a s e p.states (rewarded p ∷ []) _ (Rewards (values n f)) tt refl refl l k d
+          items = λ place. three_places p start room Reward a s e p.states (rewarded p ∷ []) _ (Rewards (values n f)) tt refl refl l k d
               (omega (arith, l, few_actions)) (omega (arith, k, few_states)) (omega (arith, d, few_states)) (three_written (is_mdp p) (values n f)) _
               (entries.rewards (made.numbers _) (omega (arith, length_values n f, count))) (inside _ (values n f) made _) _ _ _ _ _ _ _ es;
         }
@@ -196,7 +196,7 @@ module _ (p : Preamble) (start : Shares) (cells : IsWithinCells p) (few_actions 
       where
         at : (b : Bool) → Entries (cond b [] (line (reward_words a s e) ++ line (values n (λ z. scaled_text (written p.costs (r z))))))
             (cond b [] (reward_row p.costs a s e n r ∷ []))
-        at true = no_entries p start cells
+        at true = no_entries p start room
         at false = numbers_print
 
   -- in an MDP a number for each end state
@@ -214,7 +214,7 @@ module _ (p : Preamble) (start : Shares) (cells : IsWithinCells p) (few_actions 
           text_is = text-append (spelled_line (key (letter Reward)) (row_line a s)) made.lexemes ∙ (λ i. text_head Reward (row_line a s) i ++ made.text_is i);
           printed = printed-append (spelled_line (key (letter Reward)) (row_line a s)) made.lexemes
               (row_printed Reward a s (omega (arith, l, few_actions)) (omega (arith, k, few_states))) made.printed;
-          items = λ place. two_places p start cells Reward a s (p.states ∷ rewarded p ∷ []) _ (Rewards (values n f)) tt refl refl l k
+          items = λ place. two_places p start room Reward a s (p.states ∷ rewarded p ∷ []) _ (Rewards (values n f)) tt refl refl l k
               (omega (arith, l, few_actions)) (omega (arith, k, few_states)) (two_written (is_mdp p) (values n f)) _
               (entries.rewards (made.numbers _) (length_values n f ∙ sym one_each)) (inside _ (values n f) made _) _ _ _ _ _ es;
         }
@@ -223,7 +223,7 @@ module _ (p : Preamble) (start : Shares) (cells : IsWithinCells p) (few_actions 
     end_rewards_print = at (all_below n (λ e. is_zero (r e)))
       where
         at : (b : Bool) → Entries (cond b [] (line (row_words Reward a s) ++ line (values n (λ e. scaled_text (written p.costs (r e)))))) (cond b [] (end_row p.costs a s n r ∷ []))
-        at true = no_entries p start cells
+        at true = no_entries p start room
         at false = ends_print
 
   -- the rewards of an action in a state
@@ -232,4 +232,4 @@ module _ (p : Preamble) (start : Shares) (cells : IsWithinCells p) (few_actions 
       → Entries (cond mdp (rewards_row p.costs (row_words Reward a s) k (λ e. r e 0)) (for_each k (λ e. rewards_row p.costs (reward_words a s e) n (r e)))) (entries_from mdp p.costs a s k n r)
   from_prints true a s k n r is l m states seen some observed small = end_rewards_print a s k (λ e. r e 0) is l m some states (λ e d. small e 0 d observed)
   from_prints false a s k n r is l m states seen some observed small =
-      entries_each p start cells k _ _ (λ e d. rewards_print a s e n (r e) l m (omega (arith, d, states)) observed (seen_rewarded p is ∙ seen) (λ z x. small e z d x))
+      entries_each p start room k _ _ (λ e d. rewards_print a s e n (r e) l m (omega (arith, d, states)) observed (seen_rewarded p is ∙ seen) (λ z x. small e z d x))

@@ -17,13 +17,14 @@ use Rattle.polcert_cells.specs.Preamble.{Preamble}
 use Rattle.polcert_cells.specs.Start.{alike, all_states, is_level, shares_of, included, IsStart, IsStartBody}
 use Rattle.polcert_cells.specs.Start as starts
 use Rattle.polcert_format.specs.Text as texts
-use Rattle.polcert_format.specs.Text.{Known, IsWithinCells}
+use Rattle.polcert_format.specs.Text.{Known}
 use Rattle.polcert_cells.proofs.Basics.{and_true, true≢false, or_false_from}
 use Rattle.polcert_text.specs.Lines.{line}
 use Rattle.polcert_format.specs.Writable.{IsMillionthsStart}
 use Rattle.polcert_format.specs.FullForm.{millionths_text, chosen, is_whole, is_choice, start_text}
 use Rattle.polcert_text.proofs.PrintedCut.{Printed, text_of, lexemes_at, ArePrinted}
 use Rattle.polcert_text.proofs.PrintedWords.{Word, plain, key, word_text, spelled_line, IsPiece, AreSpellings, text_line, line_printed}
+use Rattle.polcert_full_form.proofs.Printable.{HasRoom}
 use Rattle.polcert_full_form.proofs.PrintedNumbers.{whole_at, whole_piece, number_word, text_numbers, AreSmall, spells_numbers, numbers_at, numbers_inside}
 use Rattle.polcert_full_form.proofs.NumberLines.{map_twice}
 use Rattle.polcert_full_form.proofs.PrintedItems.{AreItems, Prints, one_item}
@@ -174,7 +175,7 @@ below_more n m [] l a = tt
 below_more n m (s ∷ ss) l a = (omega (arith, l, a.0), below_more n m ss l a.1)
 
 -- ---- the three forms
-module _ (p : Preamble) (start : Shares) (cells : IsWithinCells p) (few : count_of p.states ≤ most_states) (count : length start.weights ≡ count_of p.states) where
+module _ (p : Preamble) (start : Shares) (room : HasRoom p) (few : count_of p.states ≤ most_states) (count : length start.weights ≡ count_of p.states) where
   prints_start : (us : List Printed) (text : List ℕ) → text_of us ≡ text → ArePrinted us
       → ((place : ℕ) → AreItems (lexemes_at place us) (lines_known p) (known_of p start [])) → Prints text (lines_known p) (known_of p start [])
   prints_start us text e made items = record { lexemes = us; text_is = e; printed = made; items = items }
@@ -184,7 +185,7 @@ module _ (p : Preamble) (start : Shares) (cells : IsWithinCells p) (few : count_
   right_start word body k b none s =
       one_item word body Start (lines_known p) (known_of p start []) (simp k (ap topic_of b ∙ start_topic)) none
       (texts.start (record { no_start = refl; no_entry = refl })
-      (record { lines = record { discount = refl; costs = refl; states = refl; actions = refl; observations = refl }; cells = cells }) s)
+      (record { lines = record { discount = refl; costs = refl; states = refl; actions = refl; observations = refl }; cells = room.cells }) s)
 
   uniform_prints : is_whole start ≡ true → Prints (line (codes "start:" ∷ codes "uniform" ∷ [])) (lines_known p) (known_of p start [])
   uniform_prints e = prints_start (spelled_line (key (codes "start")) (plain Name (codes "uniform") ∷ [])) _

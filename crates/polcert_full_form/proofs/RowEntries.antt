@@ -1,5 +1,5 @@
 -- The entries of a row as it is printed give the row's weights back.
-use Rattle.std.proofs.Common.{◌≡◌, ◌∙◌, ℕ, zero, suc, ◌+◌, ◌*◌, ◌/◌, ◌%◌, ◌<◌, ◌==◌, ◌⊎◌, ⊎_elim, Bool, true, false, ◌&&◌, cond, Some, List, [], ◌∷◌, ◌++◌, drop, get_or, refl, sym, ap, subst, arith}
+use Rattle.std.proofs.Common.{◌≡◌, ◌∙◌, ℕ, zero, suc, ◌+◌, ◌*◌, ◌/◌, ◌%◌, ◌<◌, ◌==◌, ◌≢◌, ◌⊎◌, ⊎_elim, inl, inr, Bool, true, false, ◌&&◌, cond, Some, List, [], ◌∷◌, ◌++◌, drop, get_or, refl, sym, ap, subst, arith}
 use Rattle.std.specs.List.{list_any}
 use Rattle.std.proofs.lemmas.Bool.Decides.{nat_tests}
 use Rattle.std.proofs.lemmas.Nat.{div-mul-add, div-add-mod'}
@@ -59,6 +59,13 @@ test_below (suc n) c test e l =
 
 pub test_same : (m n : ℕ) → (m == n) ≡ true → m ≡ n
 test_same m n e = grind (arith, nat_tests)
+
+-- a number is the same as another, or not
+pub same_or_other : (c k : ℕ) → (c ≡ k) ⊎ (c ≢ k)
+same_or_other zero zero = inl refl
+same_or_other zero (suc k) = inr (λ e. absurd (cc))
+same_or_other (suc c) zero = inr (λ e. absurd (cc))
+same_or_other (suc c) (suc k) = ⊎_elim (λ e. inl (ap suc e)) (λ n. inr (λ e. n (omega (arith, e)))) (same_or_other c k)
 
 pub test_itself : (n : ℕ) → (n == n) ≡ true
 test_itself n = grind (arith, nat_tests)

@@ -1,4 +1,4 @@
--- The full form of a model that can be printed is a text of that model.
+-- The full form of a model that is not too large to print is a text of that model.
 use Rattle.std.proofs.Common.{◌≡◌, ◌∙◌, ℕ, zero, suc, ◌*◌, ◌/◌, ◌%◌, ◌<◌, ◌≤◌, ◌⊎◌, ⊎_elim, inl, inr, ◌==◌, Bool, true, false, cond, Some, unwrap_or, List, [], ◌∷◌, ◌++◌, ◌≢◌, All, AllPairs, ℤ, pos, negsuc, neg_ℤ, refl, sym, ap, subst, unsigned_abs, length, arith}
 use Rattle.std.proofs.Math.Nat.{mul-mod_left, mod-add-div'}
 use Rattle.polcert_text.specs.Cut.{text_limit}
@@ -9,7 +9,8 @@ use Rattle.polcert_cells.specs.Preamble.{Preamble, is_mdp}
 use Rattle.polcert_cells.specs.Cells.{weight}
 use Rattle.std.specs.Option.{ForSome}
 use Rattle.polcert_cells.specs.Meaning.{Meaning, meaning_of, states_of, actions_of, observations_of, IsSame, HasProperRows, IsWithinLimits}
-use Rattle.polcert_format.specs.Text.{nothing_known, IsWithinCells, IsModelText}
+use Rattle.polcert_format.specs.Text.{nothing_known, IsModelText}
+use Rattle.polcert_format.specs.Printable.{IsPrintable}
 use Rattle.polcert_format.specs.FullForm.{for_each, row_text, written, is_choice, transitions_text, observations_text, rewards_text, full_form}
 use Rattle.polcert_cells.specs.Numbers.{one}
 use Rattle.polcert_format.specs.Writable.{IsWritableName, HasProperNames, IsMillionthsStart, IsWritableWeight, IsEndObserved, IsWritable}
@@ -18,20 +19,20 @@ use Rattle.polcert_cells.specs.declared.elements.Elements.{Elements}
 use Rattle.polcert_cells.specs.declared.elements.Elements.TheVariants.{Count, Names}
 use Rattle.polcert_cells.specs.Meaning.{IsCount}
 use Rattle.polcert_cells.proofs.Basics.{is_true_or_false, true≢false}
+use Rattle.polcert_full_form.proofs.Printable.{HasRoom, has_room}
 use Rattle.polcert_full_form.proofs.PrintedItems.{Prints, prints_then, text_from_items}
 use Rattle.polcert_full_form.proofs.PrintedEntries.{known_of, complete, PrintsEntries, no_entries, entries_each}
 use Rattle.polcert_full_form.proofs.PrintedPreamble.{AreWritable, lines_known, preamble_prints}
 use Rattle.polcert_full_form.proofs.PrintedStart.{start_prints}
-use Rattle.polcert_full_form.proofs.RowEntries.{Fits, transition_rows, observation_rows}
+use Rattle.polcert_full_form.proofs.RowEntries.{Fits, same_or_other, transition_rows, observation_rows}
 use Rattle.polcert_full_form.proofs.PrintedRows.{row_prints, from_prints}
 use Rattle.polcert_full_form.proofs.ModelEntries.{transition_entries, seen_entries, observation_entries, rewards_entries, all_entries, transition_back, observation_back, reward_again}
 use Rattle.polcert_full_form.proofs.FormLength.{form_short}
 
--- What has to be known of a model for its full form to be a text.
-pub record CanBePrinted (m : Meaning) : Type 0 where
+-- What has to be known of a model, beside that it is not too large, for its full form to be a text.
+pub record CanBeWritten (m : Meaning) : Type 0 where
   pub limits : IsWithinLimits m
   pub rows : HasProperRows m
-  pub cells : IsWithinCells m.preamble
   pub states : AreWritable most_states m.preamble.states
   pub actions : AreWritable most_actions m.preamble.actions
   pub observations : ForSome m.preamble.observations (AreWritable most_observations)
@@ -49,32 +50,35 @@ abs_written : (costs : Bool) (h : ℤ) → unsigned_abs (written costs h) ≡ un
 abs_written true h = abs_neg h
 abs_written false h = refl
 
-module _ (m : Meaning) (w : CanBePrinted m) where
+module _ (m : Meaning) (w : CanBeWritten m) (printable : IsPrintable m.preamble) where
   abbrev p : Preamble
   p = m.preamble
+
+  room : HasRoom p
+  room = has_room m w.limits printable
 
   small : (a s e z : ℕ) → a < actions_of m → s < states_of m → e < states_of m → z < observations_of m → unsigned_abs (written p.costs (m.r a s e z)) ≤ largest
   small a s e z l k d x = subst (λ n. n ≤ largest) (sym (abs_written p.costs (m.r a s e z))) (w.limits.r a s e z l k d x)
 
-  transitions_print : PrintsEntries p m.start w.cells (transitions_text m) (transition_entries m)
+  transitions_print : PrintsEntries p m.start room (transitions_text m) (transition_entries m)
   transitions_print =
-      entries_each p m.start w.cells (actions_of m) _ _ (λ a l. entries_each p m.start w.cells (states_of m) _ _ (λ s k.
-      row_prints p m.start w.cells w.limits.actions.1 w.limits.states.1 Transition a s (states_of m) (m.t a s) (transition_rows p) l k w.limits.states.0 w.limits.states.1 (λ c d. w.limits.t a s c l k d)))
+      entries_each p m.start room (actions_of m) _ _ (λ a l. entries_each p m.start room (states_of m) _ _ (λ s k.
+      row_prints p m.start room w.limits.actions.1 w.limits.states.1 Transition a s (states_of m) (m.t a s) (transition_rows p) l k w.limits.states.0 w.limits.states.1 (λ c d. w.limits.t a s c l k d)))
 
-  observations_print : PrintsEntries p m.start w.cells (observations_text m) (observation_entries m)
+  observations_print : PrintsEntries p m.start room (observations_text m) (observation_entries m)
   observations_print = at (is_mdp p) refl
     where
-      at : (b : Bool) → is_mdp p ≡ b → PrintsEntries p m.start w.cells
+      at : (b : Bool) → is_mdp p ≡ b → PrintsEntries p m.start room
           (cond b [] (for_each (actions_of m) (λ a. for_each (states_of m) (λ e. row_text Observation a e (observations_of m) (m.o a e))))) (cond b [] (seen_entries m))
-      at true mdp = no_entries p m.start w.cells
+      at true mdp = no_entries p m.start room
       at false seen =
-          entries_each p m.start w.cells (actions_of m) _ _ (λ a l. entries_each p m.start w.cells (states_of m) _ _ (λ e k.
-          row_prints p m.start w.cells w.limits.actions.1 w.limits.states.1 Observation a e (observations_of m) (m.o a e) (observation_rows p seen) l k w.limits.observations.0 w.limits.observations.1 (λ c d. w.limits.o a e c l k d)))
+          entries_each p m.start room (actions_of m) _ _ (λ a l. entries_each p m.start room (states_of m) _ _ (λ e k.
+          row_prints p m.start room w.limits.actions.1 w.limits.states.1 Observation a e (observations_of m) (m.o a e) (observation_rows p seen) l k w.limits.observations.0 w.limits.observations.1 (λ c d. w.limits.o a e c l k d)))
 
-  all_rewards_print : PrintsEntries p m.start w.cells (rewards_text m) (rewards_entries m)
+  all_rewards_print : PrintsEntries p m.start room (rewards_text m) (rewards_entries m)
   all_rewards_print =
-      entries_each p m.start w.cells (actions_of m) _ _ (λ a l. entries_each p m.start w.cells (states_of m) _ _ (λ s k.
-      from_prints p m.start w.cells w.limits.actions.1 w.limits.states.1 (is_mdp p) a s (states_of m) (observations_of m) (m.r a s) refl l k refl refl w.limits.states.0 w.limits.observations.0 (λ e z d x. small a s e z l k d x)))
+      entries_each p m.start room (actions_of m) _ _ (λ a l. entries_each p m.start room (states_of m) _ _ (λ s k.
+      from_prints p m.start room w.limits.actions.1 w.limits.states.1 (is_mdp p) a s (states_of m) (observations_of m) (m.r a s) refl l k refl refl w.limits.states.0 w.limits.observations.0 (λ e z d x. small a s e z l k d x)))
 
   all_print : Prints (full_form m) nothing_known (known_of p m.start (all_entries m))
   all_print =
@@ -85,7 +89,7 @@ module _ (m : Meaning) (w : CanBePrinted m) where
       (prints_then _ _ nothing_known (known_of p m.start []) (known_of p m.start t)
       (prints_then _ _ nothing_known (lines_known p) (known_of p m.start [])
       (preamble_prints m w.limits.discount w.states w.actions w.observations)
-      (start_prints p m.start w.cells w.limits.states.1 w.limits.start_count w.limits.start_sum w.limits.start_some w.start))
+      (start_prints p m.start room w.limits.states.1 w.limits.start_count w.limits.start_sum w.limits.start_some w.start))
       (transitions_print []))
       (observations_print t))
       (all_rewards_print (t ++ o))
@@ -109,20 +113,14 @@ module _ (m : Meaning) (w : CanBePrinted m) where
       paid_again false seen a s e z l k d x = refl
 
   pub printed_short : length (full_form m) < text_limit
-  printed_short = form_short m w.limits w.cells w.states w.actions w.observations small
+  printed_short = form_short m w.limits printable w.states w.actions w.observations small
 
   pub written_reads_back : IsModelText (full_form m) m
   written_reads_back =
       text_from_items (full_form m) m p (known_of p m.start (all_entries m)) (omega (arith, printed_short)) all_print
-      (complete p m.start (all_entries m) w.cells) same_again w.rows
+      (complete p m.start (all_entries m) room) same_again w.rows
 
--- ---- what a model keeps can be printed
-same_or_other : (c k : ℕ) → (c ≡ k) ⊎ (c ≢ k)
-same_or_other zero zero = inl refl
-same_or_other zero (suc k) = inr (λ e. absurd (cc))
-same_or_other (suc c) zero = inr (λ e. absurd (cc))
-same_or_other (suc c) (suc k) = ⊎_elim (λ e. inl (ap suc e)) (λ n. inr (λ e. n (omega (arith, e)))) (same_or_other c k)
-
+-- ---- what a model keeps can be written
 weight_there : (n w : ℕ) → Fits n w → IsWritableWeight n w
 weight_there n w f other = ⊎_elim (λ e. absurd (other e)) (λ m. ap (λ k. k % n) m.1 ∙ mul-mod_left m.0 n) f
 
@@ -133,11 +131,10 @@ listed : (most : ℕ) (e : Elements) → IsCount most (count_of e) → HasProper
 listed most (Count n) count names = count
 listed most (Names xs) count names = let proper = names xs refl in (proper.0, count.0, count.1, proper.1)
 
-pub kept_prints : (d : Kept) → HasProperRows (meaning d) → IsWithinLimits (meaning d) → IsWritable (meaning d) → CanBePrinted (meaning d)
-kept_prints d rows limits w = record {
+pub kept_writes : (d : Kept) → HasProperRows (meaning d) → IsWithinLimits (meaning d) → IsWritable (meaning d) → CanBeWritten (meaning d)
+kept_writes d rows limits w = record {
   limits = limits;
   rows = rows;
-  cells = w.cells;
   states = listed most_states d.preamble.states limits.states w.states;
   actions = listed most_actions d.preamble.actions limits.actions w.actions;
   observations = λ e is. listed most_observations e (subst (λ o. IsCount most_observations (count_of (unwrap_or o d.preamble.states))) is limits.observations) (w.observations e is);
@@ -147,11 +144,11 @@ kept_prints d rows limits w = record {
   mdp = w.mdp;
 }
 
-pub kept_reads_back : (d : Kept) → HasProperRows (meaning d) → IsWithinLimits (meaning d) → IsWritable (meaning d) → IsModelText (full_form (meaning d)) (meaning d)
-kept_reads_back d rows limits w = written_reads_back (meaning d) (kept_prints d rows limits w)
+pub kept_reads_back : (d : Kept) → HasProperRows (meaning d) → IsWithinLimits (meaning d) → IsWritable (meaning d) → IsPrintable d.preamble → IsModelText (full_form (meaning d)) (meaning d)
+kept_reads_back d rows limits w = written_reads_back (meaning d) (kept_writes d rows limits w)
 
-pub kept_short : (d : Kept) → HasProperRows (meaning d) → IsWithinLimits (meaning d) → IsWritable (meaning d) → length (full_form (meaning d)) < text_limit
-kept_short d rows limits w = printed_short (meaning d) (kept_prints d rows limits w)
+pub kept_short : (d : Kept) → HasProperRows (meaning d) → IsWithinLimits (meaning d) → IsWritable (meaning d) → IsPrintable d.preamble → length (full_form (meaning d)) < text_limit
+kept_short d rows limits w = printed_short (meaning d) (kept_writes d rows limits w)
 
 named : (most : ℕ) (e : Elements) → AreWritable most e → HasProperNames e
 named most (Count n) w = λ names e. absurd (cc)
@@ -160,9 +157,8 @@ named most (Names xs) w = λ names e. subst (λ ns. All IsWritableName ns × All
     same : (xs ys : List (List ℕ)) → Names xs ≡ Names ys → xs ≡ ys
     same xs ys e = cc
 
-pub printed_writable : (m : Meaning) → CanBePrinted m → IsWritable m
-printed_writable m c = record {
-  cells = c.cells;
+pub written_writable : (m : Meaning) → CanBeWritten m → IsWritable m
+written_writable m c = record {
   states = named most_states m.preamble.states c.states;
   actions = named most_actions m.preamble.actions c.actions;
   observations = λ e is. named most_observations e (c.observations e is);

@@ -1,4 +1,4 @@
--- What a text denotes can be printed: its names are names, its start has a form, and so has each weight.
+-- What a text denotes can be written, where it is not too large: its names are names, its start has a form, and so has each weight.
 use Rattle.std.proofs.Common.{◌≡◌, ◌∙◌, ℕ, ◌*◌, ◌≤◌, ◌==◌, true, cond, Option, Some, None, unwrap_or, List, [], ◌∷◌, ◌++◌, length, flat_map, map, All, sym, ap, subst, arith}
 use Rattle.std.specs.Option.{ForSome}
 use Rattle.std.proofs.lemmas.List.{length-map}
@@ -20,7 +20,8 @@ use Rattle.polcert_cells.specs.Numbers.{one}
 use Rattle.polcert_cells.specs.Cells.{weight, reward}
 use Rattle.polcert_cells.specs.Start.{all_states}
 use Rattle.polcert_format.specs.Text as texts
-use Rattle.polcert_format.specs.Text.{Known, nothing_known, IsWithinCells, IsRight, AreRight, IsModelText}
+use Rattle.polcert_format.specs.Text.{Known, nothing_known, IsRight, AreRight, IsModelText}
+use Rattle.polcert_format.specs.Printable.{IsPrintable}
 use Rattle.polcert_format.proofs.LimitLaws.{within_limits}
 use Rattle.polcert_format.proofs.TextLaws.{one_model}
 use Rattle.polcert_format.specs.FullForm.{full_form}
@@ -29,7 +30,7 @@ use Rattle.polcert_format.specs.Writable.{IsWritableName, IsEndObserved, IsWrita
 use Rattle.polcert_full_form.proofs.RowEntries.{Fits}
 use Rattle.polcert_full_form.proofs.WeightForms.{weight_fits, observation_fits}
 use Rattle.polcert_full_form.proofs.StartShapes.{HasShape, start_shape, alike_shape}
-use Rattle.polcert_full_form.proofs.WritableModels.{CanBePrinted, printed_writable, written_reads_back}
+use Rattle.polcert_full_form.proofs.WritableModels.{CanBeWritten, written_writable, written_reads_back}
 
 -- ---- the lexemes of a text
 record IsOfText (l : Lexeme) : Type 0 where
@@ -119,9 +120,9 @@ end_observed m p start es same mdp = record {
       ∙ sym (same.r a s e 0 l k b (omega (arith, x)) ∙ ap (λ y. reward p es (a ∷ s ∷ e ∷ cond y 0 0 ∷ [])) mdp);
 }
 
--- what a text denotes can be printed
-pub text_prints : (text : List ℕ) (m : Meaning) → IsModelText text m → CanBePrinted m
-text_prints text m x =
+-- what a text denotes can be written
+pub text_writes : (text : List ℕ) (m : Meaning) → IsModelText text m → CanBeWritten m
+text_writes text m x =
     let d = x.denotes in
     let r = d.right in
     let c = r.complete in
@@ -133,7 +134,6 @@ text_prints text m x =
     record {
       limits = within_limits x.lexemes m d;
       rows = d.rows;
-      cells = subst IsWithinCells (sym p) c.cells;
       states = subst (λ (q : Preamble). AreWritable most_states q.states) (sym p) (subst (OneWritable most_states) c.lines.states w.states);
       actions = subst (λ (q : Preamble). AreWritable most_actions q.actions) (sym p) (subst (OneWritable most_actions) c.lines.actions w.actions);
       observations = subst (λ (q : Preamble). ForSome q.observations (AreWritable most_observations)) (sym p) (each_writable most_observations d.preamble.observations (subst (OneWritable most_observations) c.lines.observations w.observations));
@@ -146,12 +146,12 @@ text_prints text m x =
     }
 
 -- the full form of what a text denotes is a text of it
-pub reads_back : (text : List ℕ) (m : Meaning) → IsModelText text m → IsModelText (full_form m) m
-reads_back text m x = written_reads_back m (text_prints text m x)
+pub reads_back : (text : List ℕ) (m : Meaning) → IsModelText text m → IsPrintable m.preamble → IsModelText (full_form m) m
+reads_back text m x = written_reads_back m (text_writes text m x)
 
 -- models of one full form are equal
-pub one_form : (text other : List ℕ) (m n : Meaning) → IsModelText text m → IsModelText other n → full_form m ≡ full_form n → IsSame m n
-one_form text other m n x y e = one_model (full_form m) m n (reads_back text m x) (subst (λ t. IsModelText t n) (sym e) (reads_back other n y))
+pub one_form : (text other : List ℕ) (m n : Meaning) → IsModelText text m → IsModelText other n → IsPrintable m.preamble → IsPrintable n.preamble → full_form m ≡ full_form n → IsSame m n
+one_form text other m n x y p q e = one_model (full_form m) m n (reads_back text m x p) (subst (λ t. IsModelText t n) (sym e) (reads_back other n y q))
 
 pub text_writable : (text : List ℕ) (m : Meaning) → IsModelText text m → IsWritable m
-text_writable text m x = printed_writable m (text_prints text m x)
+text_writable text m x = written_writable m (text_writes text m x)

@@ -1,17 +1,19 @@
 -- The full form as its printer writes it: part behind part.
 -- Nobody has to believe this file: only private functions cite it.
-use Rattle.std.specs.Prelude.{ℕ, ◌/◌, ◌==◌, Bool, true, false, if◌then◌else◌, List, [], ◌∷◌, ◌++◌, length, slice_index_or, get_or, ℤ, pos, decimal, codes}
+use Rattle.std.specs.Prelude.{◌≡◌, ℕ, ◌+◌, ◌*◌, ◌/◌, ◌<◌, ◌≤◌, ◌==◌, Bool, true, false, Option, Some, None, if◌then◌else◌, List, [], ◌∷◌, ◌++◌, length, slice_index_or, get_or, ℤ, pos, decimal, codes}
 use Rattle.polcert_text.specs.Millionths.{scaled_text}
 use Rattle.polcert_cells.specs.declared.entry.Table.{Table}
+use Rattle.polcert_cells.specs.declared.entry.Table.TheVariants.{Reward}
 use Rattle.polcert_cells.specs.declared.elements.Elements.{Elements}
 use Rattle.polcert_cells.specs.declared.elements.Elements.TheVariants.{Count, Names}
 use Rattle.polcert_cells.specs.declared.shares.Shares.{Shares}
 use Rattle.polcert_cells.specs.Preamble.{columns}
+use Rattle.polcert_cells.specs.Numbers.{one}
 use Rattle.polcert_cells.specs.Meaning.{Meaning, states_of, actions_of, observations_of}
 use Rattle.polcert_tables.specs.Kept.{Kept, meaning}
 use Rattle.polcert_tables.specs.RowSums.{row_of}
 use Rattle.polcert_text.specs.Lines.{line}
-use Rattle.polcert_format.specs.FullForm.{for_each, values, is_uniform, is_decimal, millionths_text, table_word, cell_text, row_text, written, reward_words, rewards_row, rewards_from}
+use Rattle.polcert_format.specs.FullForm.{for_each, values, all_below, is_uniform, is_decimal, millionths_text, table_word, cell_text, row_words, row_text, written, is_zero, reward_words, rewards_row, rewards_from}
 
 -- ---- lines of words
 abbrev pub behind_blank : List ℕ → List ℕ
@@ -65,10 +67,26 @@ blank_before i = if i == 0 then [] else codes " "
 abbrev pub number_text : ℕ → ℤ → List ℕ
 number_text i h = blank_before i ++ scaled_text h
 
+-- so many zeros from this place of a line on
+abbrev pub zeros_text : ℕ → ℕ → List ℕ
+zeros_text first count = for_each count (λ i. number_text (first + i) (pos 0))
+
 -- ---- the rows of T and O
--- the probability in this column
-abbrev pub decimal_text : List ℕ → ℕ → List ℕ
-decimal_text weights c = number_text c (pos (slice_index_or weights c 0 / length weights))
+-- each weight is at most that of a whole row of n columns
+abbrev pub AreSmallWeights : ℕ → (ℕ → ℕ) → Type 0
+AreSmallWeights n w = (c : ℕ) → c < n → w c ≤ one * n
+
+-- the probability in this column of n
+abbrev pub decimal_text : ℕ → (ℕ → ℕ) → ℕ → List ℕ
+decimal_text n w c = number_text c (pos (w c / n))
+
+-- the line of a cell
+abbrev pub cell_line : Table → ℕ → ℕ → ℕ → ℤ → List ℕ
+cell_line table a s c h = pattern_text table (a ∷ s ∷ c ∷ []) ++ codes " " ++ scaled_text h ++ codes "\n"
+
+-- the lines of so many cells that are 0, from this column on
+abbrev pub zero_cells_text : Table → ℕ → ℕ → ℕ → ℕ → List ℕ
+zero_cells_text table a s first count = for_each count (λ i. cell_line table a s (first + i) (pos 0))
 
 -- what stands behind the line of a row's indices
 abbrev pub body_text : Table → ℕ → ℕ → ℕ → (ℕ → ℕ) → List ℕ
@@ -84,13 +102,45 @@ abbrev pub rows_text : Kept → Table → List ℕ
 rows_text d table = for_each (actions_of (meaning d)) (rows_at d table)
 
 -- ---- the rewards
--- the reward in this place of a row, as the text gives it
-abbrev pub reward_text : Bool → List ℤ → ℕ → List ℕ
-reward_text costs rewards z = number_text z (written costs (get_or rewards z (pos 0)))
+-- A row of rewards: those of an end state by observation, or, in an MDP, those of all end states.
+abbrev pub reward_columns : Meaning → Option ℕ → ℕ
+reward_columns m (Some e) = observations_of m
+reward_columns m None = states_of m
+
+abbrev pub reward_in : Meaning → ℕ → ℕ → Option ℕ → ℕ → ℤ
+reward_in m a s (Some e) c = m.r a s e c
+reward_in m a s None c = m.r a s c 0
+
+-- the line of its indices
+abbrev pub reward_head : ℕ → ℕ → Option ℕ → List ℕ
+reward_head a s (Some e) = pattern_text Reward (a ∷ s ∷ e ∷ []) ++ codes "\n"
+reward_head a s None = pattern_text Reward (a ∷ s ∷ []) ++ codes "\n"
+
+abbrev pub reward_row_text : Meaning → ℕ → ℕ → Option ℕ → List ℕ
+reward_row_text m a s (Some e) = rewards_row m.preamble.costs (reward_words a s e) (observations_of m) (m.r a s e)
+reward_row_text m a s None = rewards_row m.preamble.costs (row_words Reward a s) (states_of m) (λ e. m.r a s e 0)
+
+-- the reward in this column, as the text gives it
+abbrev pub reward_text : Bool → (ℕ → ℤ) → ℕ → List ℕ
+reward_text costs r c = number_text c (written costs (r c))
+
+-- the block has the rewards of the row of n columns from this column on: as many as there is room for, or as there are
+abbrev pub IsFilled : (ℕ → ℤ) → ℕ → ℕ → List ℤ → Type 0
+IsFilled r n first block = (i : ℕ) → i < length block → first + i < n → get_or block i (pos 0) ≡ r (first + i)
+
+-- the reward in this place of a block that begins at this column, as the text gives it
+abbrev pub block_text : Bool → ℕ → List ℤ → ℕ → List ℕ
+block_text costs first rewards i = number_text (first + i) (written costs (get_or rewards i (pos 0)))
+
+-- in a row of n columns all rewards before this column are 0, and some reward isn't
+pub record IsPaidFrom (r : ℕ → ℤ) (n first : ℕ) : Type 0 where
+  pub before : (c : ℕ) → c < first → r c ≡ pos 0
+  pub within : first < n
+  pub paid : all_below n (λ c. is_zero (r c)) ≡ false
 
 -- the rows of an action in a state, where observations are made
 abbrev pub reward_rows : Meaning → ℕ → ℕ → List ℕ
-reward_rows m a s = for_each (states_of m) (λ e. rewards_row m.preamble.costs (reward_words a s e) (observations_of m) (m.r a s e))
+reward_rows m a s = for_each (states_of m) (λ e. reward_row_text m a s (Some e))
 
 abbrev pub rewards_at : Meaning → ℕ → List ℕ
 rewards_at m a = for_each (states_of m) (rewards_from m a)

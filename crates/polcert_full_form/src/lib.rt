@@ -6,7 +6,7 @@ mod print;
 mod print_rewards;
 mod print_rows;
 mod print_words;
-mod row_cells;
+mod reward_row;
 
 pub use laws::{full_form_reads_back, one_full_form};
 pub use print::write_model;

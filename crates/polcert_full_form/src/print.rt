@@ -4,6 +4,7 @@ ghost use Rattle.polcert_text.specs.Sink.{WritesText};
 ghost use Rattle.polcert_tables.specs.Contents.{meaning};
 ghost use Rattle.polcert_tables.specs.Kept.{meaning as kept_meaning};
 ghost use Rattle.polcert_cells.specs.Meaning.{states_of};
+ghost use Rattle.polcert_format.specs.Printable.{IsPrintable};
 ghost use Rattle.polcert_format.specs.Text.{IsModelText};
 ghost use Rattle.polcert_format.specs.FullForm.{for_each, all_below, full_form, observations_line, observations_text, preamble_text, start_text};
 ghost use Rattle.polcert_full_form.specs.PrintSteps.{values_line, settings_text, elements_text, elements_line, name_text, share_of, chosen_text, share_text, behind_blank};
@@ -16,12 +17,14 @@ use polcert_tables::{Draft, Model};
 use polcert_text::{Sink, SinkFailed, write_all, write_scaled};
 
 /// Writes the full form of a model: the preamble, the start, each row of T and O, and the rewards that are not all 0,
-/// with numbers in their shortest decimal form. Equal models have the same full form.
+/// with numbers in their shortest decimal form. Equal models have the same full form. `printable` tells whether a model may be
+/// written.
 ///
 /// # Errors
 ///
 /// Where the sink failed, which then took a beginning of the text.
 pub fn write_model<W: Sink>(model: &Model, out: &mut W) -> Result<(), SinkFailed>
+    requires printable { IsPrintable (meaning model.now).preamble }
     ensures written { WritesText W.writes W.failures out.old (full_form (meaning model.now)) result out.new }
 
     // The text is one of this model.

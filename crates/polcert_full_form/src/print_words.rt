@@ -1,8 +1,9 @@
 //! Writes the words that lines are made of.
-ghost use Rattle.std.specs.Prelude.{◌≡◌, ◌++◌, length, decimal, codes};
+ghost use Rattle.std.specs.Prelude.{◌≡◌, ◌++◌, ◌+◌, ◌≤◌, pos, length, decimal, codes};
 ghost use Rattle.polcert_text.specs.Sink.{WritesText};
+ghost use Rattle.polcert_cells.specs.Elements.{most_elements};
 ghost use Rattle.polcert_format.specs.FullForm.{for_each, table_word};
-ghost use Rattle.polcert_full_form.specs.PrintSteps.{mark_before, index_text, pattern_text, blank_before, number_text};
+ghost use Rattle.polcert_full_form.specs.PrintSteps.{mark_before, index_text, pattern_text, blank_before, number_text, zeros_text};
 
 use itoa::Buffer;
 use polcert_cells::Table;
@@ -90,4 +91,26 @@ fn blank_before(place: usize) -> &'static [u8]
     ensures { result.now ≡ blank_before place }
 {
     if place == 0 { b"" } else { b" " }
+}
+
+/// Writes so many zeros, from this place of a line on.
+pub(crate) fn write_zeros<W: Sink>(
+    first: usize,
+    count: usize,
+    out: &mut W,
+) -> Result<(), SinkFailed>
+    requires { first + count ≤ most_elements }
+    ensures { WritesText W.writes W.failures out.old (zeros_text first count) result out.new }
+{
+    for number in 0..count {
+        write_all(out, zero_at(first + number))?;
+    }
+    Ok(())
+}
+
+/// A zero, behind a blank before all but the first.
+fn zero_at(place: usize) -> &'static [u8]
+    ensures { result.now ≡ number_text place (pos 0) }
+{
+    if place == 0 { b"0" } else { b" 0" }
 }

@@ -38,6 +38,9 @@ pub fn model(alloc: Global) -> Ended {
 
 /// The cells of the model in filled tables.
 fn filled(alloc: Global, model: &Model) -> Ended {
+    if !model.printable() {
+        return Ended::Wrong;
+    }
     match dense_of(alloc, model) {
         Ok(dense) => Ended::done(Cells::r(&dense, 0, 0, 0, 0) == -1_000_000),
         Err(AllocError) => Ended::Memory(Want::Plain),

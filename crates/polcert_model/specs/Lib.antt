@@ -14,6 +14,7 @@ pub use Rattle.polcert_format.specs.Refusals
 pub use Rattle.polcert_format.specs.RefusedTexts
 pub use Rattle.polcert_format.specs.FullForm
 pub use Rattle.polcert_format.specs.Writable
+pub use Rattle.polcert_format.specs.Printable
 -- what is kept of it
 pub use Rattle.polcert_tables.specs.Contents
 pub use Rattle.polcert_tables.specs.Kept

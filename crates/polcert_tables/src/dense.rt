@@ -5,6 +5,7 @@ ghost use Rattle.polcert_cells.specs.Tables.{IsProper, IsWithinLimits, table_of}
 ghost use Rattle.polcert_tables.specs.Contents.{meaning};
 ghost use Rattle.polcert_tables.specs.Filled.{AreTransitions, AreObservations, AreRewards, filled_table, lists_of, AddsCells};
 ghost use Rattle.polcert_cells.specs.SameCells.{HasSameCells};
+ghost use Rattle.polcert_format.specs.Printable.{IsPrintable};
 
 use crate::Model;
 use polcert_cells::{Cells, Row};
@@ -97,9 +98,10 @@ impl Cells for DenseModel {
     }
 }
 
-/// The model with filled tables that says what this model says: the same counts, discount, scales and cells. Want of
-/// memory is the only error.
+/// The model with filled tables that says what this model says: the same counts, discount, scales and cells. `printable` tells
+/// whether a model's tables may be filled. Want of memory is the only error.
 pub fn dense_of(alloc: Global, model: &Model) -> Result<DenseModel, AllocError>
+    requires printable { IsPrintable (meaning model.now).preamble }
     ensures { IfOk result (λ dense. HasSameCells (table_of (meaning model.now)) (filled_table dense.lists)) }
 {
     Ok(DenseModel {

@@ -2,9 +2,10 @@
 ghost use Rattle.std.specs.Prelude.{◌≡◌, ◌+◌, ◌<◌, ◌≤◌, option_map, false, pos, ℕ, IfOk, IsTrue, length, slice_index_or};
 ghost use Rattle.std.specs.Option.{ForSome, option_copied};
 ghost use Rattle.polcert_cells.specs.LentRows.{IsRowOf};
+ghost use Rattle.polcert_cells.specs.Rows.{IsWeighted};
 ghost use Rattle.polcert_cells.specs.Elements.{most_states, most_actions, most_observations, most_elements, count_of, name_of};
 ghost use Rattle.polcert_cells.specs.declared.entry.Table.TheVariants.{Transition};
-ghost use Rattle.polcert_cells.specs.Preamble.{Preamble, is_mdp, columns as columns_in};
+ghost use Rattle.polcert_cells.specs.Preamble.{Preamble, is_mdp, rewarded, columns as columns_in};
 ghost use Rattle.polcert_cells.specs.Meaning.{IsCount, reward_index, states_of, actions_of, observations_of, t_scale, o_scale, start_weight, start_total, elements_of, sum_below};
 ghost use Rattle.polcert_tables.specs.Kept.{meaning, IsKeptOf, AreObservationsOf};
 ghost use Rattle.polcert_format.specs.Order.{count_or};
@@ -119,6 +120,14 @@ impl Draft {
         ensures count { IsCount most_observations result }
     {
         count_or(self.states.count(), &self.observations)
+    }
+
+    /// How many things a reward depends on beside the action and the states: in an MDP one, else as many as there are observations.
+    pub fn rewarded(&self) -> usize
+        ensures elements { result ≡ count_of (rewarded (meaning self.now).preamble) }
+        ensures count { IsCount most_observations result }
+    {
+        count_or(ONE_THING, &self.observations)
     }
 
     /// The name of the element of this number, where the text gives names and not a count.
@@ -330,15 +339,16 @@ impl Draft {
         }
     }
 
-    /// The weight of a cell of T or O.
-    pub fn weight(&self, table: Table, action: usize, state: usize, column: usize) -> u64
+    /// The weights of a row of T or O, by column.
+    pub fn row(&self, table: Table, action: usize, state: usize) -> Row<'_>
+        requires weighted { IsWeighted table }
         requires action { action < actions_of (meaning self.now) }
         requires state { state < states_of (meaning self.now) }
-        ensures { result ≡ row_of self.now table action state column }
+        ensures { IsRowOf (row_of self.now table action state) (columns_in self.now.preamble table) result }
     {
         match table {
-            Table::Observation => self.o(action, state, column),
-            Table::Transition | Table::Reward => self.t(action, state, column),
+            Table::Observation => self.o_row(action, state),
+            Table::Transition | Table::Reward => self.t_row(action, state),
         }
     }
 

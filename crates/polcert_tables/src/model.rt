@@ -1,15 +1,19 @@
 //! A model, as it was read.
-ghost use Rattle.std.specs.Prelude.{◌≡◌, ◌<◌, option_map};
+ghost use Rattle.std.specs.Prelude.{◌≡◌, ◌<◌, ◌↔◌, option_map, IsTrue};
 ghost use Rattle.polcert_cells.specs.Elements.{most_states, most_actions, most_observations, count_of, name_of};
 ghost use Rattle.polcert_cells.specs.Meaning.{HasProperRows, IsWithinLimits, IsCount, states_of, actions_of, observations_of, t_scale, o_scale, start_weight, start_total, elements_of};
 ghost use Rattle.polcert_cells.specs.Preamble.{is_mdp};
 ghost use Rattle.polcert_tables.specs.Kept as kept;
 ghost use Rattle.polcert_tables.specs.Contents.{meaning};
+ghost use Rattle.polcert_format.specs.Printable.{IsPrintable};
 ghost use Rattle.polcert_format.specs.Writable.{IsWritable};
 
 use crate::Draft;
 use polcert_cells::Kind;
 use std::marker;
+
+/// How many cells a table may have where it is printed or filled.
+const MOST_CELLS: usize = 16_777_216;
 
 /// A model of a partially observable Markov decision process, or of one whose states are observed (an MDP): what its text
 /// says.
@@ -111,6 +115,17 @@ impl Model {
         ensures { result ≡ (meaning self.now).preamble.discount }
     {
         self.draft.discount()
+    }
+
+    /// Whether the model may be printed, and its tables filled: neither T nor O nor R has more than 16,777,216 cells.
+    pub fn printable(&self) -> bool
+        ensures { IsTrue result ↔ IsPrintable (meaning self.now).preamble }
+    {
+        let pairs = self.actions() * self.states();
+        let transitions = pairs * self.states();
+        transitions <= MOST_CELLS
+            && pairs * self.observations() <= MOST_CELLS
+            && transitions * self.draft.rewarded() <= MOST_CELLS
     }
 
     /// What each row of T sums to: 1,000,000 for each state.

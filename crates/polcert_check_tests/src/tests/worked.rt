@@ -4,7 +4,7 @@ use polcert_check::{
     AboveVerdict, LowerFault, RaiseFault, Verdict, check, check_above, fits, least_constant,
     least_raise, lowered, raised, start_most, start_worth,
 };
-use polcert_model::{Model, dense_of, read_model};
+use polcert_model::{DenseModel, Model, dense_of, read_model};
 use polcert_policy::{Graph, Vectors, read_graph, read_vectors, read_vectors_up};
 use std::alloc::{AllocError, Global};
 use std::test::Fail;
@@ -65,9 +65,18 @@ impl Parts {
         verdict_over(&self.model, &self.graph, &self.vectors)
     }
 
+    /// The model's tables, filled.
+    fn filled(&self, alloc: Global) -> Option<DenseModel> {
+        if self.model.printable() {
+            dense_of(alloc, &self.model).ok()
+        } else {
+            None
+        }
+    }
+
     /// The verdict over the model's tables, filled.
     fn dense_verdict(&self, alloc: Global) -> Option<Verdict> {
-        let dense = dense_of(alloc, &self.model).ok()?;
+        let dense = self.filled(alloc)?;
         verdict_over(&dense, &self.graph, &self.vectors)
     }
 
@@ -77,7 +86,7 @@ impl Parts {
 
     /// The least constant over the model's tables, filled.
     fn dense_constant(&self, alloc: Global) -> Option<Result<i64, LowerFault>> {
-        let dense = dense_of(alloc, &self.model).ok()?;
+        let dense = self.filled(alloc)?;
         constant_over(&dense, &self.graph, &self.vectors)
     }
 

@@ -1,7 +1,7 @@
 //! The cells of a model in filled tables.
 use crate::tests::numbers::{o, r, t};
 use crate::tests::texts::{GENERAL_FIRST, GENERAL_LAST, SINGLE, TIGER};
-use polcert_model::{Cells, Model, Row, dense_of, read_model};
+use polcert_model::{Cells, DenseModel, Model, Row, dense_of, read_model};
 use std::alloc::Global;
 
 /// An entry of each form and each pattern, for single cells, rows and matrices.
@@ -83,6 +83,15 @@ fn the_same_cells_in_filled_tables(rt: HostRuntime) {
     }
 }
 
+/// The model's tables, filled.
+fn filled(alloc: Global, model: &Model) -> Option<DenseModel> {
+    if model.printable() {
+        dense_of(alloc, model).ok()
+    } else {
+        None
+    }
+}
+
 /// The counts, discount and scales of the filled tables of the text's model.
 fn read_counts(alloc: Global, text: &[u8]) -> Option<[u64; 6]> {
     let model = read_model(alloc, text).ok()?;
@@ -90,7 +99,7 @@ fn read_counts(alloc: Global, text: &[u8]) -> Option<[u64; 6]> {
 }
 
 fn counts_in(alloc: Global, model: &Model) -> Option<[u64; 6]> {
-    let dense = dense_of(alloc, model).ok()?;
+    let dense = filled(alloc, model)?;
     Some(counts(&dense))
 }
 
@@ -113,7 +122,7 @@ fn read_alike(alloc: Global, text: &[u8]) -> Option<bool> {
 }
 
 fn alike_in(alloc: Global, model: &Model) -> Option<bool> {
-    let dense = dense_of(alloc, model).ok()?;
+    let dense = filled(alloc, model)?;
     Some(are_alike(model, &dense))
 }
 

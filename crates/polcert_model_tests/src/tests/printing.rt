@@ -262,7 +262,12 @@ fn prints(alloc: Global, text: &[u8], form: &[u8]) -> Option<bool> {
 fn is_printed(model: &Model, form: &[u8]) -> bool {
     let mut bytes = [0u8; 2048];
     let mut sink = SliceSink::new(&mut bytes);
-    write_model(model, &mut sink).is_ok() && sink.written() == form
+    is_written(model, &mut sink) && sink.written() == form
+}
+
+/// Whether the model may be written, and is.
+fn is_written<W: Sink>(model: &Model, sink: &mut W) -> bool {
+    model.printable() && write_model(model, sink).is_ok()
 }
 
 /// Each form, read and printed again, gives the same bytes.
@@ -339,7 +344,7 @@ fn fails_wrongly(alloc: Global, form: &[u8]) -> Option<Option<usize>> {
 fn first_wrong_failure(model: &Model, form: &[u8]) -> Option<usize> {
     for failing in 0..form.len() {
         let mut sink = OneByte::new(failing);
-        let failed = write_model(model, &mut sink).is_err();
+        let failed = !is_written(model, &mut sink);
         if !failed
             || !sink.holds(&form[..failing], 1)
             || !fails_behind_a_buffer(model, form, failing)
@@ -348,7 +353,7 @@ fn first_wrong_failure(model: &Model, form: &[u8]) -> Option<usize> {
         }
     }
     let mut sink = OneByte::new(form.len());
-    let written = write_model(model, &mut sink).is_ok();
+    let written = is_written(model, &mut sink);
     if written && sink.holds(form, 0) {
         None
     } else {
@@ -359,14 +364,13 @@ fn first_wrong_failure(model: &Model, form: &[u8]) -> Option<usize> {
 /// The same through a buffer.
 fn fails_behind_a_buffer(model: &Model, form: &[u8], failing: usize) -> bool {
     let mut sink = OneByte::new(failing);
-    let failed = writes_through(model, &mut sink).is_err();
+    let failed = !writes_through(model, &mut sink);
     failed && failing <= form.len() && sink.holds(&form[..failing.min(form.len())], 1)
 }
 
-fn writes_through(model: &Model, sink: &mut OneByte) -> Result<(), SinkFailed> {
+fn writes_through(model: &Model, sink: &mut OneByte) -> bool {
     let mut buffered = BufferedSink::new(sink);
-    write_model(model, &mut buffered)?;
-    buffered.flush()
+    is_written(model, &mut buffered) && buffered.flush().is_ok()
 }
 
 /// A failed write leaves a beginning of the form, through a buffer too.

@@ -1,10 +1,10 @@
 use Rattle.std.proofs.Common.{refl}
 use Rattle.polcert_model.specs.Contents.{meaning}
 use Rattle.polcert_answer.specs.declared.fault.Fault.TheVariants.{Model, Graph, Vectors}
-use Rattle.polcert_answer.specs.declared.fault.RunFault.TheVariants.{Text, ReadModel, ReadGraph, ReadVectors, Write, Lower, Raise}
+use Rattle.polcert_answer.specs.declared.fault.RunFault.TheVariants.{Text, ReadModel, ReadGraph, ReadVectors, Write, Lower, Raise, TooLargeToPrint}
 use Rattle.polcert_answer.proofs.Denoted.{fits_of}
 use Rattle.polcert_answer.proofs.AnsweringAbove.{has_verdict, answered_of, promise_of, start_promise_of}
-use Rattle.polcert_answer.proofs.Passing.{is_err, not_ok, no_ok, of_fault, of_read, named_again, not_else, not_read, named_behind, written_in_order, is_write, not_lower, not_raise}
+use Rattle.polcert_answer.proofs.Passing.{is_err, not_ok, no_ok, of_fault, of_read, named_again, not_else, not_read, not_print, named_behind, written_in_order, is_write, not_lower, not_raise}
 use Rattle.polcert_answer.proofs.runs_above.run_check_above_watched.Goals as goal
 
 pub write_answer_above-requires : goal.write_answer_above-requires
@@ -114,3 +114,9 @@ returns-in_err-read-clause-not_raising g c = λ fault same. not_else _ _ (is_err
 
 pub returns-clause-not_raising : goal.returns-clause-not_raising
 returns-clause-not_raising g c = λ fault same. not_raise _ c.write_answer_above.ensures.of_write fault same
+
+pub returns-in_err-read-clause-not_printing : goal.returns-in_err-read-clause-not_printing
+returns-in_err-read-clause-not_printing g c = λ same. not_else _ _ (is_err _ _ c.from_residual.ensures.1) c.in_err-read.ensures.of_reading TooLargeToPrint (λ of. of) same
+
+pub returns-clause-not_printing : goal.returns-clause-not_printing
+returns-clause-not_printing g c = λ same. not_print _ c.write_answer_above.ensures.no_read same

@@ -1,10 +1,10 @@
 use Rattle.std.proofs.Common.{refl}
 use Rattle.polcert_model.specs.Contents.{meaning}
 use Rattle.polcert_answer.specs.declared.fault.Fault.TheVariants.{Model, Graph, Vectors}
-use Rattle.polcert_answer.specs.declared.fault.RunFault.TheVariants.{Text, ReadModel, ReadGraph, ReadVectors, Write, Lower, Raise}
+use Rattle.polcert_answer.specs.declared.fault.RunFault.TheVariants.{Text, ReadModel, ReadGraph, ReadVectors, Write, Lower, Raise, TooLargeToPrint}
 use Rattle.polcert_answer.proofs.Denoted.{fits_of}
 use Rattle.polcert_answer.proofs.AnsweringAbove.{has_raised, raised_of, not_raisable}
-use Rattle.polcert_answer.proofs.Passing.{is_err, no_ok, of_fault, of_read, named_again, not_else, not_read, named_behind, written_in_order}
+use Rattle.polcert_answer.proofs.Passing.{is_err, no_ok, of_fault, of_read, named_again, not_else, not_read, not_print, named_behind, written_in_order}
 use Rattle.polcert_answer.proofs.runs_above.run_raise_watched.Goals as goal
 
 pub write_raised_vectors-requires : goal.write_raised_vectors-requires
@@ -102,3 +102,9 @@ returns-in_err-given-clause-not_lowering g c = λ fault same. not_else _ _ (is_e
 
 pub returns-clause-not_lowering : goal.returns-clause-not_lowering
 returns-clause-not_lowering g c = c.write_raised_vectors.ensures.not_lowering
+
+pub returns-in_err-given-clause-not_printing : goal.returns-in_err-given-clause-not_printing
+returns-in_err-given-clause-not_printing g c = λ same. not_else _ _ (is_err _ _ c.from_residual.ensures.1) c.in_err-given.ensures.of_reading TooLargeToPrint (λ of. of) same
+
+pub returns-clause-not_printing : goal.returns-clause-not_printing
+returns-clause-not_printing g c = λ same. not_print _ c.write_raised_vectors.ensures.no_read same

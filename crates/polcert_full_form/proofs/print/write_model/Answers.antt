@@ -54,16 +54,16 @@ returns-clause-written g c =
     ends_with (p1 ++ p2 ++ p3 ++ p4) p5 _ (one_more (p1 ++ p2 ++ p3) p4 (one_more (p1 ++ p2) p3 (one_more (p1) p2 (wrote c.in_ok-write_preamble.ensures.ok c.in_ok-write_preamble.ensures.same_count) (wrote c.in_ok-write_start.ensures.ok c.in_ok-write_start.ensures.same_count)) (wrote c.in_ok-write_rows.ensures.ok c.in_ok-write_rows.ensures.same_count)) (wrote c.in_ok-write_observation_rows.ensures.ok c.in_ok-write_observation_rows.ensures.same_count)) c.write_rewards.ensures
 
 pub returns-in_err-write_preamble-clause-reads_back : goal.returns-in_err-write_preamble-clause-reads_back
-returns-in_err-write_preamble-clause-reads_back g c = kept_reads_back c.args.model.now.draft c.args.model.now.rows c.args.model.now.limits c.args.model.now.writable
+returns-in_err-write_preamble-clause-reads_back g c = kept_reads_back c.args.model.now.draft c.args.model.now.rows c.args.model.now.limits c.args.model.now.writable c.requires.printable
 
 pub returns-in_err-write_start-clause-reads_back : goal.returns-in_err-write_start-clause-reads_back
-returns-in_err-write_start-clause-reads_back g c = kept_reads_back c.args.model.now.draft c.args.model.now.rows c.args.model.now.limits c.args.model.now.writable
+returns-in_err-write_start-clause-reads_back g c = kept_reads_back c.args.model.now.draft c.args.model.now.rows c.args.model.now.limits c.args.model.now.writable c.requires.printable
 
 pub returns-in_err-write_rows-clause-reads_back : goal.returns-in_err-write_rows-clause-reads_back
-returns-in_err-write_rows-clause-reads_back g c = kept_reads_back c.args.model.now.draft c.args.model.now.rows c.args.model.now.limits c.args.model.now.writable
+returns-in_err-write_rows-clause-reads_back g c = kept_reads_back c.args.model.now.draft c.args.model.now.rows c.args.model.now.limits c.args.model.now.writable c.requires.printable
 
 pub returns-in_err-write_observation_rows-clause-reads_back : goal.returns-in_err-write_observation_rows-clause-reads_back
-returns-in_err-write_observation_rows-clause-reads_back g c = kept_reads_back c.args.model.now.draft c.args.model.now.rows c.args.model.now.limits c.args.model.now.writable
+returns-in_err-write_observation_rows-clause-reads_back g c = kept_reads_back c.args.model.now.draft c.args.model.now.rows c.args.model.now.limits c.args.model.now.writable c.requires.printable
 
 pub returns-clause-reads_back : goal.returns-clause-reads_back
-returns-clause-reads_back g c = kept_reads_back c.args.model.now.draft c.args.model.now.rows c.args.model.now.limits c.args.model.now.writable
+returns-clause-reads_back g c = kept_reads_back c.args.model.now.draft c.args.model.now.rows c.args.model.now.limits c.args.model.now.writable c.requires.printable

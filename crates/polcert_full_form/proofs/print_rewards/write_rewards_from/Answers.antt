@@ -14,7 +14,7 @@ returns-then-not-is_paid g c =
     wrote_nothing (texts.none_paid (is_mdp m.preamble) m.preamble.costs c.args.action c.args.start (observations_of m) (states_of m) (m.r c.args.action c.args.start) c.args.model.now.limits.observations.0 none)
 
 pub returns-then-is_mdp : goal.returns-then-is_mdp
-returns-then-is_mdp g c = as_text (texts.end_rewards_are (meaning c.args.model.now) c.args.action c.args.start (sym c.is_mdp.ensures ∙ c.if-is_mdp.true)) c.write_end_rewards.ensures
+returns-then-is_mdp g c = as_text (texts.end_rewards_are (meaning c.args.model.now) c.args.action c.args.start (sym c.is_mdp.ensures ∙ c.if-is_mdp.true)) c.write_reward_row.ensures
 
 pub returns-else-is_mdp : goal.returns-else-is_mdp
 returns-else-is_mdp g c = as_text (texts.reward_rows_are (meaning c.args.model.now) c.args.action c.args.start (sym c.is_mdp.ensures ∙ c.if-is_mdp.false)) c.write_reward_rows.ensures

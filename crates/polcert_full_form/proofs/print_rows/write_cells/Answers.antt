@@ -1,23 +1,110 @@
-use Rattle.std.proofs.Common.{◌∙◌, ℕ, List, refl, rules, get_or, length}
-use Rattle.polcert_text.specs.Sink.{nothing}
-use Rattle.polcert_format.specs.FullForm.{cell_text}
-use Rattle.polcert_full_form.proofs.Parts.{parts_fail, one_more_part}
+use Rattle.std.proofs.Common.{◌≡◌, ◌∙◌, ◌+◌, ◌-◌, ◌/◌, ◌++◌, ℕ, List, pos, refl, ap, subst, rules, arith}
+use Rattle.polcert_text.specs.Sink.{Takes, nothing}
+use Rattle.polcert_text.proofs.Taking.{took_then}
+use Rattle.polcert_text.proofs.Written.{wrote, ends_with, as_text}
+use Rattle.polcert_cells.specs.Preamble.{columns}
+use Rattle.polcert_tables.specs.RowSums.{row_of}
+use Rattle.polcert_format.specs.FullForm.{for_each, cell_text}
+use Rattle.polcert_full_form.specs.PrintSteps.{cell_line, zero_cells_text}
+use Rattle.polcert_full_form.proofs.Runs.{step_is, rest_is, run_fails}
+use Rattle.polcert_full_form.proofs.WalkedRows.{at_start, zero_cell, step_cell}
 use Rattle.polcert_full_form.proofs.print_rows.write_cells.Goals as goal
 
-pub loop-column-init : goal.loop-column-init
-loop-column-init g c = record { took = nothing; same_count = refl }
+pub loop-step-init : goal.loop-step-init
+loop-step-init g c = record { took = nothing; same_count = refl; reached = at_start c.row-row.result; within = omega arith }
 
-pub returns-in_err-write_cell : goal.returns-in_err-write_cell
-returns-in_err-write_cell g c =
-    let part : ℕ → List ℕ = cell_text c.args.table c.args.action c.args.state (length c.args.weights.now) (λ i. get_or c.args.weights.now i 0) in
-    let now = c.in_err-write_cell.ensures in
-    parts_fail part c.loop-column.column (length c.args.weights.now) (search rules) _ (search rules) c.loop-column.invariant.took c.loop-column.invariant.same_count now.err now.count
+pub write_cells_to-requires-clause-ahead : goal.write_cells_to-requires-clause-ahead
+write_cells_to-requires-clause-ahead g c =
+    let n = columns c.args.draft.now.preamble c.args.table in
+    let w = row_of c.args.draft.now c.args.table c.args.action c.args.state in
+    let next = rw c.loop-step.invariant.reached at (c.in-Some.ensures w n c.row-row.ensures).0 in
+    next.0
 
-pub loop-column-preserved : goal.loop-column-preserved
-loop-column-preserved g c =
-    let part : ℕ → List ℕ = cell_text c.args.table c.args.action c.args.state (length c.args.weights.now) (λ i. get_or c.args.weights.now i 0) in
-    let now = c.in_ok-write_cell.ensures in
+pub write_cells_to-requires-clause-within : goal.write_cells_to-requires-clause-within
+write_cells_to-requires-clause-within g c =
+    let n = columns c.args.draft.now.preamble c.args.table in
+    let w = row_of c.args.draft.now c.args.table c.args.action c.args.state in
+    let next = rw c.loop-step.invariant.reached at (c.in-Some.ensures w n c.row-row.ensures).0 in
+    omega (arith, next.1, c.columns-columns.ensures.columns)
+
+pub write_cells_to-requires-clause-small : goal.write_cells_to-requires-clause-small
+write_cells_to-requires-clause-small g c =
+    let n = columns c.args.draft.now.preamble c.args.table in
+    let w = row_of c.args.draft.now c.args.table c.args.action c.args.state in
+    let next = rw c.loop-step.invariant.reached at (c.in-Some.ensures w n c.row-row.ensures).0 in
+    let cols : c.columns-columns.result ≡ n = c.columns-columns.ensures.columns in
+    rw (cols, next.2) (c.requires.small c.in-Some.step.column next.1)
+
+pub write_cells_to-requires-clause-few : goal.write_cells_to-requires-clause-few
+write_cells_to-requires-clause-few g c = c.columns-columns.ensures.count.1
+
+pub overflow_add-column : goal.overflow_add-column
+overflow_add-column g c =
+    let n = columns c.args.draft.now.preamble c.args.table in
+    let w = row_of c.args.draft.now c.args.table c.args.action c.args.state in
+    let next = rw c.loop-step.invariant.reached at (c.in-Some.ensures w n c.row-row.ensures).0 in
+    omega (arith, next.1, c.columns-columns.ensures.columns, c.columns-columns.ensures.count.1)
+
+pub returns-in_err-write_cells_to : goal.returns-in_err-write_cells_to
+returns-in_err-write_cells_to g c =
+    let n = columns c.args.draft.now.preamble c.args.table in
+    let w = row_of c.args.draft.now c.args.table c.args.action c.args.state in
+    let next = rw c.loop-step.invariant.reached at (c.in-Some.ensures w n c.row-row.ensures).0 in
+    let cols : c.columns-columns.result ≡ n = c.columns-columns.ensures.columns in
+    let k = c.loop-step.column in
+    let x = c.in-Some.step.column in
+    let y = c.in-Some.step.weight in
+    let part : ℕ → List ℕ = cell_text c.args.table c.args.action c.args.state n w in
+    let none : ℕ → List ℕ = λ k. cell_line c.args.table c.args.action c.args.state k (pos 0) in
+    let last : List ℕ = cell_text c.args.table c.args.action c.args.state n (λ i. y) x in
+    let piece : List ℕ = for_each (x - k) (λ i. none (k + i)) ++ last in
+    let is : for_each k part ++ piece ≡ for_each (x + 1) part = step_is w n part none (λ x y e. zero_cell n w c.args.table c.args.action c.args.state x y e) k x y last next (step_cell n w c.args.table c.args.action c.args.state x y next.2) in
+    let now = rw cols at c.in_err-write_cells_to.ensures in
+    run_fails part k (x + 1) n piece is (omega (arith, next.1)) _ (search rules) c.loop-step.invariant.took c.loop-step.invariant.same_count now.err now.count
+
+pub loop-step-smaller : goal.loop-step-smaller
+loop-step-smaller g c =
+    let n = columns c.args.draft.now.preamble c.args.table in
+    let w = row_of c.args.draft.now c.args.table c.args.action c.args.state in
+    let next = rw c.loop-step.invariant.reached at (c.in-Some.ensures w n c.row-row.ensures).0 in
+    omega (arith, next.0, next.1)
+
+pub loop-step-preserved : goal.loop-step-preserved
+loop-step-preserved g c =
+    let n = columns c.args.draft.now.preamble c.args.table in
+    let w = row_of c.args.draft.now c.args.table c.args.action c.args.state in
+    let next = rw c.loop-step.invariant.reached at (c.in-Some.ensures w n c.row-row.ensures).0 in
+    let cols : c.columns-columns.result ≡ n = c.columns-columns.ensures.columns in
+    let k = c.loop-step.column in
+    let x = c.in-Some.step.column in
+    let y = c.in-Some.step.weight in
+    let part : ℕ → List ℕ = cell_text c.args.table c.args.action c.args.state n w in
+    let none : ℕ → List ℕ = λ k. cell_line c.args.table c.args.action c.args.state k (pos 0) in
+    let last : List ℕ = cell_text c.args.table c.args.action c.args.state n (λ i. y) x in
+    let piece : List ℕ = for_each (x - k) (λ i. none (k + i)) ++ last in
+    let is : for_each k part ++ piece ≡ for_each (x + 1) part = step_is w n part none (λ x y e. zero_cell n w c.args.table c.args.action c.args.state x y e) k x y last next (step_cell n w c.args.table c.args.action c.args.state x y next.2) in
+    let now = rw cols at c.in_ok-write_cells_to.ensures in
     record {
-      took = one_more_part part c.loop-column.column c.loop-column.invariant.took now.ok;
-      same_count = now.same_count ∙ c.loop-column.invariant.same_count;
+      took = subst (λ text. Takes g.W.Sink.writes c.args.out.now text c.write_cells_to.new.out) is (took_then c.loop-step.invariant.took now.ok);
+      same_count = now.same_count ∙ c.loop-step.invariant.same_count;
+      reached = (c.in-Some.ensures w n c.row-row.ensures).1;
+      within = omega (arith, next.1);
     }
+
+pub overflow_sub-columns : goal.overflow_sub-columns
+overflow_sub-columns g c = omega (arith, c.loop-step.invariant.within, c.columns-columns.ensures.columns)
+
+pub write_zero_cells-requires : goal.write_zero_cells-requires
+write_zero_cells-requires g c = omega (arith, c.loop-step.invariant.within, c.columns-columns.ensures.columns, c.columns-columns.ensures.count.1)
+
+pub returns : goal.returns
+returns g c =
+    let n = columns c.args.draft.now.preamble c.args.table in
+    let w = row_of c.args.draft.now c.args.table c.args.action c.args.state in
+    let k = c.loop-step.column in
+    let end = rw c.loop-step.invariant.reached at c.in_default.ensures w n c.row-row.ensures in
+    let part : ℕ → List ℕ = cell_text c.args.table c.args.action c.args.state n w in
+    let none : ℕ → List ℕ = λ k. cell_line c.args.table c.args.action c.args.state k (pos 0) in
+    let cols : c.columns-columns.result ≡ n = c.columns-columns.ensures.columns in
+    as_text (rest_is w n part none (λ x y e. zero_cell n w c.args.table c.args.action c.args.state x y e) k c.loop-step.invariant.within end)
+    (ends_with (for_each k part) (for_each (n - k) (λ i. none (k + i))) _ (wrote c.loop-step.invariant.took c.loop-step.invariant.same_count) (rw cols at c.write_zero_cells.ensures))

@@ -3,8 +3,15 @@ use Rattle.std.proofs.lemmas.Nat.{div_below}
 use Rattle.polcert_cells.specs.Meaning.{observations_of}
 use Rattle.polcert_cells.specs.Tables.{table_of}
 use Rattle.polcert_tables.specs.Contents.{meaning}
-use Rattle.polcert_tables.proofs.FilledLaws.{row_added, rewards_are}
+use Rattle.polcert_tables.proofs.FilledLaws.{four_fit, row_added, rewards_are}
 use Rattle.polcert_tables.proofs.dense.rewards_of.Goals as goal
+
+pub overflow_mul-rows-3 : goal.overflow_mul-rows-3
+overflow_mul-rows-3 c =
+    let actions = c.actions.ensures.count in
+    let states = c.states-states.ensures.count in
+    let observations = c.observations.ensures.count in
+    omega (arith, four_fit c.actions.result c.states-states.result c.states-states.result c.observations.result actions.1 states.1 states.1 observations.1)
 
 pub push_rewards-requires-clause-action : goal.push_rewards-requires-clause-action
 push_rewards-requires-clause-action c =

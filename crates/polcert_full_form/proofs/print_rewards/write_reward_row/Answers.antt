@@ -1,0 +1,7 @@
+use Rattle.polcert_tables.specs.Contents.{meaning}
+use Rattle.polcert_full_form.proofs.Parts.{wrote_nothing}
+use Rattle.polcert_full_form.proofs.RewardBlocks.{row_unpaid}
+use Rattle.polcert_full_form.proofs.print_rewards.write_reward_row.Goals as goal
+
+pub returns-in-None : goal.returns-in-None
+returns-in-None g c = wrote_nothing (row_unpaid (meaning c.args.model.now) c.args.action c.args.start c.args.end c.in-None.ensures.paid)
