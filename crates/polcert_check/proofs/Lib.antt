@@ -23,6 +23,7 @@ pub mod SameModels
 pub mod OneAnswer
 pub mod EveryHorizon
 pub mod Gaps
+pub mod Ahead
 pub mod Earning
 pub mod Missing
 pub mod Expecting

@@ -8,7 +8,7 @@ use Rattle.polcert_check.specs.Mirrored.{turned}
 use Rattle.polcert_check.specs.Verdict.{IsLeastLacking}
 use Rattle.polcert_check.specs.Factored.{reward_ahead}
 use Rattle.polcert_check.proofs.Verdicts.{amount_positive, amount_at_most}
-use Rattle.polcert_check.proofs.Earning.{reward_ahead_part_le}
+use Rattle.polcert_check.proofs.Earning.{reward_ahead_le}
 use Rattle.polcert_check.proofs.Expecting.{value_ahead_le}
 use Rattle.polcert_check.proofs.Amounts.{amount_is}
 use Rattle.polcert_check.proofs.Splitting.{backing_split}
@@ -27,14 +27,14 @@ pub amount_above-above-requires-clause-earned : goal.amount_above-above-requires
 amount_above-above-requires-clause-earned g c =
     let k : Controller = controller c.args.certificate.now in
     let same : to_z w128 (of_z w128 c.args.earned) ≡ reward_ahead k.cells (k.action c.args.n) c.args.s = to_z-of_z w128 c.args.earned c.ranges.earned ∙ c.requires.earned in
-    rw same (reward_ahead_part_le k.cells c.args.certificate.now.proper.cells (g.met.C.Cells.is_within_limits c.args.certificate.now.cells.now) (k.action c.args.n) c.args.s k.cells.states (c.args.certificate.now.proper.closed.actions_in_range c.args.n c.requires.node) c.requires.start (omega arith))
+    rw same (reward_ahead_le k.cells c.args.certificate.now.proper.cells (g.met.C.Cells.is_within_limits c.args.certificate.now.cells.now) (k.action c.args.n) c.args.s (c.args.certificate.now.proper.closed.actions_in_range c.args.n c.requires.node) c.requires.start)
 
 pub amount_above-above-requires-clause-expected : goal.amount_above-above-requires-clause-expected
 amount_above-above-requires-clause-expected g c =
     let k : Controller = controller c.args.certificate.now in
     let fx : FitsSigned w128 c.steps_of-steps.result.worth = search rules in
     let same = to_z-of_z w128 c.steps_of-steps.result.worth fx ∙ c.steps_of-steps.ensures.worth in
-    rw same (value_ahead_le k c.args.certificate.now.proper c.args.certificate.now.values c.args.n c.args.s c.requires.node c.requires.start)
+    rw same (value_ahead_le k c.args.certificate.now.proper (g.met.C.Cells.is_within_limits c.args.certificate.now.cells.now) c.args.certificate.now.values c.args.n c.args.s c.requires.node c.requires.start)
 
 pub turned-amount-requires : goal.turned-amount-requires
 turned-amount-requires g c =
