@@ -11,7 +11,7 @@ use Rattle.polcert_check.specs.Ranges.{most_sum}
 use Rattle.polcert_check.specs.Factored.{reward_behind, reward_ahead}
 use Rattle.polcert_check.proofs.SumLaws.{sum_below_same, sum_below_scale}
 use Rattle.polcert_check.proofs.RowTotals.{t_rows, o_rows}
-use Rattle.polcert_check.proofs.Bounds.{abs-*ℤ_le, abs_part_le, term_le}
+use Rattle.polcert_check.proofs.Bounds.{abs-*ℤ_le, abs_part_le}
 use Rattle.polcert_check.proofs.Scales.{ahead_room, behind_room}
 use Rattle.polcert_check.proofs.Ahead.{ahead_part_le}
 use Rattle.polcert_check.proofs.Gaps.{gap, no_weight, cursor_step, weighed_is}

@@ -1,18 +1,16 @@
 -- What a node expects behind an end state, and ahead of a start state: the steps of the sums, and that they fit.
-use Rattle.std.proofs.Common.{◌≡◌, ℕ, suc, ◌+◌, ◌*◌, ◌<◌, ◌≤◌, ℤ, pos, ◌+ℤ◌, ◌*ℤ◌, unsigned_abs, FitsSigned, to_z, of_z, Option, Some, None, List, refl, sym, ap, ◌∙◌, arith, lit<}
-use Rattle.std.specs.Prelude.{slice_index_or}
+use Rattle.std.proofs.Common.{◌≡◌, ℕ, suc, ◌+◌, ◌*◌, ◌<◌, ◌≤◌, ℤ, pos, ◌+ℤ◌, unsigned_abs, FitsSigned, to_z, of_z, Option, Some, None, refl, sym, ◌∙◌, arith, lit<}
 use mir.Syntax.{w128}
 use Rattle.polcert_text.specs.Numbers.{largest}
-use Rattle.polcert_cells.specs.Tables.{Table, IsProper, IsWithinLimits}
+use Rattle.polcert_cells.specs.Tables.{IsWithinLimits}
 use Rattle.polcert_check.specs.Horizon.{Controller, sum_below}
 use Rattle.polcert_check.specs.Ranges.{IsController, ValuesAreWithin, most_sum}
-use Rattle.polcert_check.specs.Factored.{value_term, value_behind, value_ahead, AreValues, AreWithin}
-use Rattle.polcert_check.proofs.SumLaws.{sum_below_same}
-use Rattle.polcert_check.proofs.RowTotals.{t_rows, o_rows}
+use Rattle.polcert_check.specs.Factored.{value_term, value_behind, value_ahead}
+use Rattle.polcert_check.proofs.RowTotals.{o_rows}
 use Rattle.polcert_check.proofs.Bounds.{abs-*ℤ_le, abs_part_le}
-use Rattle.polcert_check.proofs.Scales.{ahead_room, behind_room}
+use Rattle.polcert_check.proofs.Scales.{behind_room}
 use Rattle.polcert_check.proofs.Ahead.{ahead_part_le}
-use Rattle.polcert_check.proofs.Gaps.{gap, no_weight, cursor_step, weighed_is}
+use Rattle.polcert_check.proofs.Gaps.{gap, no_weight, cursor_step}
 
 -- no weight, no value
 no_value : (c : Controller) (n e z : ℕ) (at : Option ℕ) → c.cells.o (c.action n) e z ≡ 0 → value_term c n e z at ≡ pos 0
@@ -47,12 +45,3 @@ value_behind_le c p values n e nl el = value_part_le c p values n e c.cells.obse
 pub value_ahead_le : (c : Controller) → IsController c → IsWithinLimits c.cells → ValuesAreWithin c → (n s : ℕ) → n < c.nodes → s < c.cells.states → unsigned_abs (value_ahead c n s) ≤ c.cells.t_scale * (c.cells.o_scale * largest)
 value_ahead_le c p limits values n s nl sl =
     ahead_part_le c.cells p.cells limits (c.action n) s (p.closed.actions_in_range n nl) sl (value_behind c n) (λ e el. value_behind_le c p values n e nl el) c.cells.states (omega arith)
-
--- ---- with a node's values behind the end states
-pub values_within : (c : Controller) → IsController c → ValuesAreWithin c → (n : ℕ) → n < c.nodes → (worths : List ℤ) → AreValues c n worths c.cells.states → AreWithin c.cells worths
-values_within c p values n nl worths are e el =
-    rw (are e el) (value_part_le c p values n e c.cells.observations nl el (omega arith))
-
-pub value_ahead_is : (c : Controller) (n s : ℕ) (worths : List ℤ) → AreValues c n worths c.cells.states → sum_below (λ e. pos (c.cells.t (c.action n) s e) *ℤ slice_index_or worths e (pos 0)) c.cells.states ≡ value_ahead c n s
-value_ahead_is c n s worths are =
-    sum_below_same _ _ c.cells.states (λ e el. ap (λ (x : ℤ). pos (c.cells.t (c.action n) s e) *ℤ x) (are e el))
