@@ -1,5 +1,5 @@
 //! What a check asks of a model.
-ghost use Rattle.std.specs.Prelude.{◌≡◌, ℕ, ◌<◌, ◌≤◌, length, pos, slice_index_or};
+ghost use Rattle.std.specs.Prelude.{◌≡◌, ℕ, ◌<◌, ◌+◌, length, pos, slice_index_or};
 ghost use Rattle.std.specs.Option.{ForSome};
 ghost use Rattle.polcert_cells.specs.Tables.{Table, IsProper, IsWithinLimits};
 ghost use Rattle.polcert_cells.specs.LentRows.{IsRowOf};
@@ -78,17 +78,18 @@ pub trait Cells {
         None
     }
 
-    /// Fills in the reward of each observation, in millionths, where action `a` is taken in state `s` and ends in state `e`: by
-    /// observation, from the front. What stands behind them may change.
-    fn fill_rewards(&self, a: usize, s: usize, e: usize, rewards: &mut [i64])
+    /// Fills in the rewards of observation `first` and of those behind it, in millionths, where action `a` is taken in state `s` and
+    /// ends in state `e`: as many as there is room for, or as there are. What stands behind them may change.
+    fn fill_rewards(&self, a: usize, s: usize, e: usize, first: usize, rewards: &mut [i64])
         requires action { a < (table self.now).actions }
         requires start { s < (table self.now).states }
         requires end { e < (table self.now).states }
-        requires room { (table self.now).observations ≤ length rewards.old }
-        ensures { (z : ℕ) → z < (table self.now).observations → slice_index_or rewards.new z (pos 0) ≡ (table self.now).r a s e z }
+        ensures { (i : ℕ) → i < length rewards.old → first + i < (table self.now).observations →
+            slice_index_or rewards.new i (pos 0) ≡ (table self.now).r a s e (first + i) }
     {
-        for z in 0..self.observations() {
-            rewards[z] = self.r(a, s, e, z);
+        let left = self.observations().saturating_sub(first);
+        for i in 0..left.min(rewards.len()) {
+            rewards[i] = self.r(a, s, e, first + i);
         }
     }
 

@@ -86,7 +86,7 @@ fn reward_behind<C: Cells>(cells: &C, a: usize, s: usize, e: usize, rewards: &mu
     if !is_crowded(cells, a, e) {
         return each_reward(cells, a, s, e, None);
     }
-    cells.fill_rewards(a, s, e, rewards);
+    cells.fill_rewards(a, s, e, 0, rewards);
     each_reward(cells, a, s, e, Some(rewards))
 }
 

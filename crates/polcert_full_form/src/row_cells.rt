@@ -40,7 +40,9 @@ pub(crate) fn reward_row(
     ensures { (z : ℕ) → z < observations_of (meaning model.now) → get_or result z (pos 0) ≡ (meaning model.now).r action start end z }
 {
     let mut rewards = [0; MOST_OBSERVATIONS];
-    model.draft().fill_rewards(action, start, end, &mut rewards);
+    model
+        .draft()
+        .fill_rewards(action, start, end, 0, &mut rewards);
     rewards
 }
 

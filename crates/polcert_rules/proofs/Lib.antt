@@ -30,3 +30,4 @@ pub mod RewardPaid
 pub mod RewardSound
 pub mod RewardAt
 pub mod NotedLaws
+pub mod FilledParts

@@ -1,5 +1,5 @@
 -- The newest rules of cells that have all indices but the last in common, step by step.
-use Rattle.std.proofs.Common.{◌≡◌, ◌∙◌, ℕ, zero, suc, ◌+◌, ◌-◌, ◌*◌, ◌^◌, ◌<◌, ◌≤◌, Bool, true, false, cond, leb, ◌⊎◌, inl, inr, ⊎_elim, Option, Some, None, List, [], ◌∷◌, ◌++◌, Contains, length, refl, sym, ap, subst, arith}
+use Rattle.std.proofs.Common.{◌≡◌, ◌∙◌, ℕ, zero, suc, ◌+◌, ◌-◌, ◌*◌, ◌^◌, ◌<◌, ◌≤◌, ◌↔◌, Bool, true, false, cond, leb, ◌⊎◌, inl, inr, ⊎_elim, Option, Some, None, List, [], ◌∷◌, ◌++◌, Contains, length, refl, sym, ap, subst, arith}
 use Rattle.std.proofs.lemmas.Bool.{cases_lt}
 use Rattle.std.proofs.lemmas.Bool.Decides.{nat_tests}
 use Rattle.std.proofs.lemmas.List.Elements.{Contains-append_left, Contains-append_right, Contains-append_cases}
@@ -8,7 +8,7 @@ use Rattle.polcert_rules.specs.Keys.{key_base, AreIndices, Fits}
 use Rattle.polcert_rules.specs.Newest.{IsNewest, later}
 use Rattle.polcert_rules.specs.Noting.{IsNoted, IsLastPlace}
 use Rattle.polcert_rules.proofs.Fitting.{fits_next, fits_here, fits_end, fits_every, fits_only}
-use Rattle.polcert_rules.proofs.Newer.{newest_as, newest_of_two, newest_of_three, newest_deeper, is_deeper, IsSpan}
+use Rattle.polcert_rules.proofs.Newer.{newest_as, newest_of_part, newest_of_two, newest_of_three, newest_deeper, is_deeper, IsSpan}
 
 -- ---- the later of two numbers
 pub later_none : (x : Option ℕ) → later x None ≡ x
@@ -93,17 +93,9 @@ noted_hit xs r P before old new n h e = record {
   is = e ∙ ap (λ x. later x (Some r.number)) n.is ∙ later_of_later before n.found (Some r.number);
 }
 
--- whether the last place of a rule fits
+-- whether two numbers are the same
 pub same_or_not : (a b : ℕ) → (a ≡ b) ⊎ (a ≡ b → ⊥)
 same_or_not a b = ⊎_elim (λ l. inr (λ e. omega arith)) (λ g. ⊎_elim (λ l. inr (λ e. omega arith)) (λ h. inl (omega arith)) (cases_lt b a)) (cases_lt a b)
-
-pub last_or_not : (low z key : ℕ) → IsLastPlace low z key ⊎ (IsLastPlace low z key → ⊥)
-last_or_not low z key = at (same_or_not key (low + 1)) (same_or_not key (low + (z + 2)))
-  where
-    at : (key ≡ low + 1) ⊎ (key ≡ low + 1 → ⊥) → (key ≡ low + (z + 2)) ⊎ (key ≡ low + (z + 2) → ⊥) → IsLastPlace low z key ⊎ (IsLastPlace low z key → ⊥)
-    at (inl e) _ = inl (inl e)
-    at (inr d) (inl e) = inl (inr e)
-    at (inr d) (inr f) = inr (λ p. ⊎_elim d f p)
 
 -- ---- place after place
 pub one_more_index : (m : ℕ) (indices : List ℕ) (z : ℕ) → AreIndices m indices → m ≡ length indices + 1 → z + 2 < key_base → AreIndices m (indices ++ z ∷ [])
@@ -111,6 +103,21 @@ one_more_index zero [] z a e l = absurd (omega arith)
 one_more_index zero (i ∷ indices) z a e l = absurd a
 one_more_index (suc m) [] z a e l = (l, tt)
 one_more_index (suc m) (i ∷ indices) z a e l = (a.0, one_more_index m indices z a.1 (omega arith) l)
+
+-- the last place: `*`, or the number itself, as the rules from their keys on have it
+pub noted_last : (rules behind named : List Rule) (low first count i start : ℕ) (here before between after : Option ℕ) → i < count → start ≡ low + 2 + first
+    → ((r : Rule) → Contains behind r ↔ (Contains rules r × (low + 1 ≤ r.key))) → IsNewest behind (λ k. k ≡ low + 1) here → between ≡ later before here
+    → IsSpan rules named start count → IsNoted named (λ k. k ≡ start + i) between after → IsNoted rules (IsLastPlace low (first + i)) before after
+noted_last rules behind named low first count i start here before between after l is from h e span n = record {
+  found = later here n.found;
+  newest = newest_as rules (λ k. (k ≡ low + 1) ⊎ (k ≡ start + i)) (IsLastPlace low (first + i)) (later here n.found)
+      (λ k f. ⊎_elim (λ every. inl every) (λ only. inr (omega arith)) f)
+      (λ k f. ⊎_elim (λ every. inl every) (λ only. inr (omega arith)) f)
+      (newest_of_two rules (λ k. k ≡ low + 1) (λ k. k ≡ start + i) here n.found
+      (newest_of_part rules behind (λ k. k ≡ low + 1) here (λ r c. ((from r).0 c).0) (λ r c f. (from r).1 (c, omega arith)) h)
+      (newest_of_part rules named (λ k. k ≡ start + i) n.found (λ r c. ((span r).0 c).0) (λ r c f. (span r).1 (c, omega arith, omega arith)) n.newest));
+  is = n.is ∙ ap (λ x. later x n.found) e ∙ later_of_later before here n.found;
+}
 
 pub noted_end : (rules : List Rule) (low z : ℕ) (here before between after : Option ℕ) → IsNewest rules (λ k. k ≡ low) here → between ≡ later before here
     → IsNoted rules (IsLastPlace low z) between after → IsNoted rules (Fits 1 low (z ∷ [])) before after

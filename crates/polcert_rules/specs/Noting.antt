@@ -11,10 +11,10 @@ pub record IsNoted (rules : List Rule) (P : ℕ → Type 0) (before after : Opti
   pub newest : IsNewest rules P found
   pub is : after ≡ later before found
 
--- the same for each of the first numbers as the last index
-abbrev pub AreNoted : List Rule → ℕ → ℕ → List ℕ → ℕ → List (Option ℕ) → List (Option ℕ) → Type 0
-AreNoted rules levels low indices count old new =
-    (z : ℕ) → z < count → IsNoted rules (Fits levels low (indices ++ z ∷ [])) (slice_index_or old z None) (slice_index_or new z None)
+-- the same for each of so many numbers from `first` on as the last index
+abbrev pub AreNoted : List Rule → ℕ → ℕ → List ℕ → ℕ → ℕ → List (Option ℕ) → List (Option ℕ) → Type 0
+AreNoted rules levels low indices first count old new =
+    (i : ℕ) → i < count → IsNoted rules (Fits levels low (indices ++ (first + i) ∷ [])) (slice_index_or old i None) (slice_index_or new i None)
 
 -- behind the key `low` the key has one place more, that fits z
 abbrev pub IsLastPlace : ℕ → ℕ → ℕ → Type 0

@@ -7,15 +7,16 @@ ghost use Rattle.polcert_rules.specs.Noting.{IsNoted, AreNoted, IsLastPlace};
 
 use crate::Rule;
 use crate::newest::{first_at, later, span};
-use crate::part::between;
+use crate::part::{between, from};
 
-/// Notes, for each of the first numbers as the last index behind these, the newest rule that fits, where it is later than what
-/// is noted. The places of the rules follow those of the key `low`.
+/// Notes, for each of so many numbers from `first` on as the last index behind these, the newest rule that fits, where it is later
+/// than what is noted. The places of the rules follow those of the key `low`.
 pub(crate) fn note(
     rules: &[Rule],
     low: u64,
     levels: usize,
     indices: &[usize],
+    first: usize,
     count: usize,
     noted: &mut [Option<usize>],
 )
@@ -26,58 +27,66 @@ pub(crate) fn note(
     requires room { low + key_base ^ levels < 2 ^ 64 }
     requires indices { AreIndices levels indices.now }
     requires within { count ≤ length noted.old }
-    requires small { count + 2 ≤ key_base }
-    ensures { AreNoted rules.now levels low indices.now count noted.old noted.new }
+    requires small { first + count + 2 ≤ key_base }
+    ensures { AreNoted rules.now levels low indices.now first count noted.old noted.new }
 {
     if rules.is_empty() {
         return;
     }
     note_all(noted, count, first_at(rules, low));
     match indices.split_first() {
-        None => note_last(rules, low, count, noted),
+        None => note_last(rules, low, first, count, noted),
         Some((index, rest)) => {
             let below = levels - 1;
             let step = span(below);
             let every = low + step;
             let only = low + (*index as u64 + 2) * step;
             let of_every = between(rules, every, every + step);
-            note(of_every, every, below, rest, count, noted);
+            note(of_every, every, below, rest, first, count, noted);
             let of_only = between(rules, only, only + step);
-            note(of_only, only, below, rest, count, noted);
+            note(of_only, only, below, rest, first, count, noted);
         }
     }
 }
 
 /// Notes the rules that have one place more.
-fn note_last(rules: &[Rule], low: u64, count: usize, noted: &mut [Option<usize>])
-    requires from { (r : R) → Contains rules.now r → low ≤ r.key }
+fn note_last(rules: &[Rule], low: u64, first: usize, count: usize, noted: &mut [Option<usize>])
+    requires rising { IsRising rules.now }
+    requires room { low + (first + count + 2) < 2 ^ 64 }
     requires within { count ≤ length noted.old }
-    ensures { (z : ℕ) → z < count → IsNoted rules.now (IsLastPlace low z) (slice_index_or noted.old z None) (slice_index_or noted.new z None) }
+    ensures { (i : ℕ) → i < count →
+        IsNoted rules.now (IsLastPlace low (first + i)) (slice_index_or noted.old i None) (slice_index_or noted.new i None) }
+{
+    let every = low + 1;
+    note_all(noted, count, first_at(from(rules, every), every));
+    let start = low + 2 + first as u64;
+    note_each(between(rules, start, start + count as u64), start, noted);
+}
+
+/// Notes each of these rules at the number by which its key is greater than `start`.
+fn note_each(rules: &[Rule], start: u64, noted: &mut [Option<usize>])
+    requires from { (r : R) → Contains rules.now r → start ≤ r.key }
+    requires to { (r : R) → Contains rules.now r → r.key < start + length noted.old }
+    ensures { (i : ℕ) → i < length noted.old →
+        IsNoted rules.now (λ k. k ≡ start + i) (slice_index_or noted.old i None) (slice_index_or noted.new i None) }
 {
     for rule in rules {
-        note_rule(*rule, low, count, noted);
+        note_rule(*rule, start, noted);
     }
 }
 
-/// Notes one rule where its last place fits.
-fn note_rule(rule: Rule, low: u64, count: usize, noted: &mut [Option<usize>])
-    requires from { low ≤ rule.key }
-    requires within { count ≤ length noted.old }
-    ensures fits { (z : ℕ) → z < count → IsLastPlace low z rule.key → slice_index_or noted.new z None ≡ later (slice_index_or noted.old z None) (Some rule.number) }
-    ensures other { (z : ℕ) → z < count → (IsLastPlace low z rule.key → ⊥) → slice_index_or noted.new z None ≡ slice_index_or noted.old z None }
+/// Notes one rule.
+fn note_rule(rule: Rule, start: u64, noted: &mut [Option<usize>])
+    requires from { start ≤ rule.key }
+    requires to { rule.key < start + length noted.old }
+    ensures here { (i : ℕ) → rule.key ≡ start + i → slice_index_or noted.new i None ≡ later (slice_index_or noted.old i None) (Some rule.number) }
+    ensures other { (i : ℕ) → (rule.key ≡ start + i → ⊥) → slice_index_or noted.new i None ≡ slice_index_or noted.old i None }
 {
-    let digit = rule.key - low;
-    if digit == 1 {
-        note_all(noted, count, Some(rule.number));
-    } else if digit >= 2 {
-        let z = (digit - 2) as usize;
-        if z < count {
-            noted[z] = later(noted[z], Some(rule.number));
-        }
-    }
+    let place = (rule.key - start) as usize;
+    noted[place] = later(noted[place], Some(rule.number));
 }
 
-/// Notes a number, if one, for each of the first numbers.
+/// Notes a number, if one, for each of so many.
 pub(crate) fn note_all(noted: &mut [Option<usize>], count: usize, number: Option<usize>)
     requires { count ≤ length noted.old }
     ensures { (z : ℕ) → z < count → slice_index_or noted.new z None ≡ later (slice_index_or noted.old z None) number }

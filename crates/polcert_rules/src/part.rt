@@ -45,7 +45,7 @@ pub(crate) fn span_of(rules: &[Rule], low: u64, high: u64) -> Result<RuleSpan, A
 }
 
 /// The rules from this key on.
-fn from(rules: &[Rule], low: u64) -> &[Rule]
+pub(crate) fn from(rules: &[Rule], low: u64) -> &[Rule]
     requires { IsRising rules.now }
     ensures rising { IsRising result.now }
     ensures kept { (r : R) → Contains result.now r ↔ (Contains rules.now r × (low ≤ r.key)) }

@@ -21,7 +21,7 @@ use crate::reward_parts::{RewardBody, RewardShape};
 use crate::reward_search::some_begins;
 use crate::row_rules::RowRules;
 use crate::{Index, Rule};
-use polcert_cells::{Entries, MOST_OBSERVATIONS, Table};
+use polcert_cells::{Entries, Table};
 use std::alloc::{AllocError, Global};
 use std::marker::Model;
 
@@ -36,6 +36,9 @@ const AN_END_OR_OBSERVATION: u64 = KEY_BASE + AN_INDEX;
 
 /// So many observations are few: what rules are noted in is then cleared sooner.
 const FEW_OBSERVATIONS: usize = 63;
+
+/// The rewards of so many observations are filled in together.
+const BLOCK: usize = 1023;
 
 /// The rewards that a list of entries gives: of each pattern of R the last entry, and its numbers, each as it is worth.
 #[derive(Drop)]
@@ -102,83 +105,135 @@ impl Rewards {
         self.given(body, &[action, start, end, observation])
     }
 
-    /// Fills in the rewards of all observations, in millionths, where this action is taken in the start state and ends in the end
-    /// state: by observation, from the front. What stands behind them may change.
-    pub fn fill(&self, action: usize, start: usize, end: usize, rewards: &mut [i64])
+    /// Fills in the rewards of observation `first` and of those behind it, in millionths, where this action is taken in the start
+    /// state and ends in the end state: as many as there is room for, or as there are. What stands behind them may change.
+    pub fn fill(&self, action: usize, start: usize, end: usize, first: usize, rewards: &mut [i64])
         requires action { action < self.now.shape.actions }
         requires start { start < self.now.shape.states }
         requires end { end < self.now.shape.states }
-        requires room { self.now.shape.observations ≤ length rewards.old }
-        ensures { (p : Preamble) (entries : List E) → AreRewardsOf p entries self.now → (z : ℕ) → z < self.now.shape.observations →
-            slice_index_or rewards.new z (pos 0) ≡ reward p entries (action ∷ start ∷ end ∷ z ∷ []) }
+        ensures { (p : Preamble) (entries : List E) → AreRewardsOf p entries self.now → (i : ℕ) → i < length rewards.old →
+            first + i < self.now.shape.observations → slice_index_or rewards.new i (pos 0) ≡ reward p entries (action ∷ start ∷ end ∷ (first + i) ∷ []) }
     {
-        if self.shape.observations <= FEW_OBSERVATIONS {
-            self.fill_few(action, start, end, rewards);
+        let left = self.shape.observations.saturating_sub(first);
+        let count = left.min(rewards.len());
+        if count == 0 {
+            return;
+        }
+        if count <= FEW_OBSERVATIONS {
+            self.fill_few(action, start, end, first, count, rewards);
         } else {
-            self.fill_many(action, start, end, rewards);
+            self.fill_many(action, start, end, first, count, rewards);
         }
     }
 
-    /// The same where there are few observations.
-    fn fill_few(&self, action: usize, start: usize, end: usize, rewards: &mut [i64])
+    /// The same for so many observations, which are few.
+    fn fill_few(
+        &self,
+        action: usize,
+        start: usize,
+        end: usize,
+        first: usize,
+        count: usize,
+        rewards: &mut [i64],
+    )
         requires action { action < self.now.shape.actions }
         requires start { start < self.now.shape.states }
         requires end { end < self.now.shape.states }
-        requires room { self.now.shape.observations ≤ length rewards.old }
-        requires few { self.now.shape.observations ≤ 63 }
-        ensures { (p : Preamble) (entries : List E) → AreRewardsOf p entries self.now → (z : ℕ) → z < self.now.shape.observations →
-            slice_index_or rewards.new z (pos 0) ≡ reward p entries (action ∷ start ∷ end ∷ z ∷ []) }
+        requires room { count ≤ length rewards.old }
+        requires within { first + count ≤ self.now.shape.observations }
+        requires few { count ≤ 63 }
+        ensures { (p : Preamble) (entries : List E) → AreRewardsOf p entries self.now → (i : ℕ) → i < count →
+            slice_index_or rewards.new i (pos 0) ≡ reward p entries (action ∷ start ∷ end ∷ (first + i) ∷ []) }
     {
         let mut noted = [None; FEW_OBSERVATIONS + 1];
-        self.fill_noted(action, start, end, rewards, &mut noted);
+        self.fill_noted(action, start, end, first, count, rewards, &mut noted);
     }
 
-    /// The same where there may be as many observations as a model may have.
-    fn fill_many(&self, action: usize, start: usize, end: usize, rewards: &mut [i64])
+    /// The same for so many observations, block by block.
+    fn fill_many(
+        &self,
+        action: usize,
+        start: usize,
+        end: usize,
+        first: usize,
+        count: usize,
+        rewards: &mut [i64],
+    )
         requires action { action < self.now.shape.actions }
         requires start { start < self.now.shape.states }
         requires end { end < self.now.shape.states }
-        requires room { self.now.shape.observations ≤ length rewards.old }
-        ensures { (p : Preamble) (entries : List E) → AreRewardsOf p entries self.now → (z : ℕ) → z < self.now.shape.observations →
-            slice_index_or rewards.new z (pos 0) ≡ reward p entries (action ∷ start ∷ end ∷ z ∷ []) }
+        requires room { count ≤ length rewards.old }
+        requires within { first + count ≤ self.now.shape.observations }
+        ensures { (p : Preamble) (entries : List E) → AreRewardsOf p entries self.now → (i : ℕ) → i < count →
+            slice_index_or rewards.new i (pos 0) ≡ reward p entries (action ∷ start ∷ end ∷ (first + i) ∷ []) }
     {
-        prove!(self.shape.observations <= MOST_OBSERVATIONS);
-        let mut noted = [None; MOST_OBSERVATIONS + 1];
-        self.fill_noted(action, start, end, rewards, &mut noted);
+        prove!(count <= self.shape.observations);
+        let mut done = 0;
+        while done < count {
+            let size = (count - done).min(BLOCK);
+            self.fill_block(action, start, end, first + done, size, &mut rewards[done..]);
+            done += size;
+        }
     }
 
-    /// The same, where nothing is noted yet for any observation, nor for one more, that no entry names.
+    /// The same for so many observations, which are at most a block.
+    fn fill_block(
+        &self,
+        action: usize,
+        start: usize,
+        end: usize,
+        first: usize,
+        count: usize,
+        rewards: &mut [i64],
+    )
+        requires action { action < self.now.shape.actions }
+        requires start { start < self.now.shape.states }
+        requires end { end < self.now.shape.states }
+        requires room { count ≤ length rewards.old }
+        requires within { first + count ≤ self.now.shape.observations }
+        requires few { count ≤ 1023 }
+        ensures { (p : Preamble) (entries : List E) → AreRewardsOf p entries self.now → (i : ℕ) → i < count →
+            slice_index_or rewards.new i (pos 0) ≡ reward p entries (action ∷ start ∷ end ∷ (first + i) ∷ []) }
+    {
+        let mut noted = [None; BLOCK + 1];
+        self.fill_noted(action, start, end, first, count, rewards, &mut noted);
+    }
+
+    /// The same, where nothing is noted yet for any of these observations, nor for one more. What is noted there is a guess at what is
+    /// noted for most of them: behind the last observation stands one that no entry names.
     fn fill_noted(
         &self,
         action: usize,
         start: usize,
         end: usize,
+        first: usize,
+        count: usize,
         rewards: &mut [i64],
         noted: &mut [Option<usize>],
     )
         requires action { action < self.now.shape.actions }
         requires start { start < self.now.shape.states }
         requires end { end < self.now.shape.states }
-        requires room { self.now.shape.observations ≤ length rewards.old }
-        requires room_to_note { self.now.shape.observations < length noted.old }
-        requires nothing { (z : ℕ) → z < length noted.old → slice_index_or noted.old z None ≡ None }
-        ensures { (p : Preamble) (entries : List E) → AreRewardsOf p entries self.now → (z : ℕ) → z < self.now.shape.observations →
-            slice_index_or rewards.new z (pos 0) ≡ reward p entries (action ∷ start ∷ end ∷ z ∷ []) }
+        requires room { count ≤ length rewards.old }
+        requires within { first + count ≤ self.now.shape.observations }
+        requires room_to_note { count < length noted.old }
+        requires nothing { (i : ℕ) → i < length noted.old → slice_index_or noted.old i None ≡ None }
+        ensures { (p : Preamble) (entries : List E) → AreRewardsOf p entries self.now → (i : ℕ) → i < count →
+            slice_index_or rewards.new i (pos 0) ≡ reward p entries (action ∷ start ∷ end ∷ (first + i) ∷ []) }
     {
-        let count = self.shape.observations;
         self.rules
-            .note(LOW, action, start, &[end], count + 1, noted);
+            .note(LOW, action, start, &[end], first, count + 1, noted);
         let shared = noted[count];
         let shared_body = self.body_of(shared);
         let single = self.single(shared_body);
-        for z in 0..count {
-            let indices = [action, start, end, z];
-            let reward = if is_same(noted[z], shared) {
+        for i in 0..count {
+            let indices = [action, start, end, first + i];
+            let reward = if is_same(noted[i], shared) {
                 self.single_or_given(single, shared_body, &indices)
             } else {
-                self.given(self.body_of(noted[z]), &indices)
+                self.given(self.body_of(noted[i]), &indices)
             };
-            rewards[z] = reward;
+            rewards[i] = reward;
         }
     }
 

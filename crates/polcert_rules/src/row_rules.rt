@@ -96,7 +96,7 @@ impl RowRules {
     }
 
     /// The same behind a first place, which has this digit.
-    fn newest_behind(&self, first: usize, low: u64, start: usize, rest: &[usize]) -> Option<usize>
+    fn newest_behind(&self, digit: usize, low: u64, start: usize, rest: &[usize]) -> Option<usize>
         requires rising { IsRising self.now.rules.items }
         requires room { low + key_base ^ 3 < 2 ^ 64 }
         requires indices { AreIndices 3 (start ∷ rest.now) }
@@ -105,10 +105,10 @@ impl RowRules {
         let step = span(PLACES_LEFT);
         let every = low + step;
         let only = low + (start as u64 + 2) * step;
-        let here = first_at(self.part(first, NO_PLACE, low), low);
-        let of_every = newest(self.part(first, EVERY, every), every, PLACES_LEFT, rest);
+        let here = first_at(self.part(digit, NO_PLACE, low), low);
+        let of_every = newest(self.part(digit, EVERY, every), every, PLACES_LEFT, rest);
         let of_only = newest(
-            self.part(first, start + INDICES, only),
+            self.part(digit, start + INDICES, only),
             only,
             PLACES_LEFT,
             rest,
@@ -116,14 +116,15 @@ impl RowRules {
         later(here, later(of_every, of_only))
     }
 
-    /// Notes, for each of the first numbers as the last index behind an action, a start state and an end state, the newest
-    /// rule that fits, where it is later than what is noted. The places of the rules follow those of the key `low`.
+    /// Notes, for each of so many numbers from `first` on as the last index behind an action, a start state and an end state, the
+    /// newest rule that fits, where it is later than what is noted. The places of the rules follow those of the key `low`.
     pub(crate) fn note(
         &self,
         low: u64,
         action: usize,
         start: usize,
         rest: &[usize],
+        first: usize,
         count: usize,
         noted: &mut [Option<usize>],
     )
@@ -132,8 +133,8 @@ impl RowRules {
         requires indices { AreIndices 4 (action ∷ start ∷ rest.now) }
         requires last { length rest.now ≡ 1 }
         requires within { count ≤ length noted.old }
-        requires small { count + 2 ≤ key_base }
-        ensures { AreNoted self.now.rules.items 4 low (action ∷ start ∷ rest.now) count noted.old noted.new }
+        requires small { first + count + 2 ≤ key_base }
+        ensures { AreNoted self.now.rules.items 4 low (action ∷ start ∷ rest.now) first count noted.old noted.new }
     {
         let step = span(3);
         let only = low + (action as u64 + 2) * step;
@@ -142,17 +143,18 @@ impl RowRules {
             count,
             first_at(self.part(NO_PLACE, NO_PLACE, low), low),
         );
-        self.note_behind(EVERY, low + step, start, rest, count, noted);
-        self.note_behind(action + INDICES, only, start, rest, count, noted);
+        self.note_behind(EVERY, low + step, start, rest, first, count, noted);
+        self.note_behind(action + INDICES, only, start, rest, first, count, noted);
     }
 
     /// The same behind a first place, which has this digit.
     fn note_behind(
         &self,
-        first: usize,
+        digit: usize,
         low: u64,
         start: usize,
         rest: &[usize],
+        first: usize,
         count: usize,
         noted: &mut [Option<usize>],
     )
@@ -161,26 +163,28 @@ impl RowRules {
         requires indices { AreIndices 3 (start ∷ rest.now) }
         requires last { length rest.now ≡ 1 }
         requires within { count ≤ length noted.old }
-        requires small { count + 2 ≤ key_base }
-        ensures { AreNoted self.now.rules.items 3 low (start ∷ rest.now) count noted.old noted.new }
+        requires small { first + count + 2 ≤ key_base }
+        ensures { AreNoted self.now.rules.items 3 low (start ∷ rest.now) first count noted.old noted.new }
     {
         let step = span(PLACES_LEFT);
         let every = low + step;
         let only = low + (start as u64 + 2) * step;
-        note_all(noted, count, first_at(self.part(first, NO_PLACE, low), low));
+        note_all(noted, count, first_at(self.part(digit, NO_PLACE, low), low));
         note(
-            self.part(first, EVERY, every),
+            self.part(digit, EVERY, every),
             every,
             PLACES_LEFT,
             rest,
+            first,
             count,
             noted,
         );
         note(
-            self.part(first, start + INDICES, only),
+            self.part(digit, start + INDICES, only),
             only,
             PLACES_LEFT,
             rest,
+            first,
             count,
             noted,
         );
@@ -210,7 +214,7 @@ impl RowRules {
     /// The same behind a first place, which has this digit.
     fn some_begins_behind(
         &self,
-        first: usize,
+        digit: usize,
         low: u64,
         start: usize,
         rest: &[usize],
@@ -224,8 +228,8 @@ impl RowRules {
         let step = span(PLACES_LEFT);
         let every = low + step;
         let only = low + (start as u64 + 2) * step;
-        let of_every = self.part(first, EVERY, every);
-        let of_only = self.part(first, start + INDICES, only);
+        let of_every = self.part(digit, EVERY, every);
+        let of_only = self.part(digit, start + INDICES, only);
         some_begins(of_every, every, PLACES_LEFT, rest, least)
             || some_begins(of_only, only, PLACES_LEFT, rest, least)
     }

@@ -1,5 +1,5 @@
 //! A model whose rows aren't tested yet.
-ghost use Rattle.std.specs.Prelude.{◌≡◌, ◌<◌, ◌≤◌, option_map, false, pos, ℕ, IfOk, IsTrue, length, slice_index_or};
+ghost use Rattle.std.specs.Prelude.{◌≡◌, ◌+◌, ◌<◌, ◌≤◌, option_map, false, pos, ℕ, IfOk, IsTrue, length, slice_index_or};
 ghost use Rattle.std.specs.Option.{ForSome, option_copied};
 ghost use Rattle.polcert_cells.specs.LentRows.{IsRowOf};
 ghost use Rattle.polcert_cells.specs.Elements.{most_states, most_actions, most_observations, most_elements, count_of, name_of};
@@ -267,31 +267,32 @@ impl Draft {
         self.rewards.common(a, s)
     }
 
-    /// Fills in the reward of each observation, in millionths, where action `a` is taken in state `s` and ends in state `e`: by
-    /// observation, from the front. What stands behind them may change.
-    pub fn fill_rewards(&self, a: usize, s: usize, e: usize, rewards: &mut [i64])
+    /// Fills in the rewards of observation `first` and of those behind it, in millionths, where action `a` is taken in state `s` and
+    /// ends in state `e`: as many as there is room for, or as there are. What stands behind them may change.
+    pub fn fill_rewards(&self, a: usize, s: usize, e: usize, first: usize, rewards: &mut [i64])
         requires action { a < actions_of (meaning self.now) }
         requires start { s < states_of (meaning self.now) }
         requires end { e < states_of (meaning self.now) }
-        requires room { observations_of (meaning self.now) ≤ length rewards.old }
-        ensures { (z : ℕ) → z < observations_of (meaning self.now) → slice_index_or rewards.new z (pos 0) ≡ (meaning self.now).r a s e z }
+        ensures { (i : ℕ) → i < length rewards.old → first + i < observations_of (meaning self.now) →
+            slice_index_or rewards.new i (pos 0) ≡ (meaning self.now).r a s e (first + i) }
     {
         match &self.observations {
-            None => self.fill_each(a, s, e, rewards),
-            Some(_) => self.rewards.fill(a, s, e, rewards),
+            None => self.fill_each(a, s, e, first, rewards),
+            Some(_) => self.rewards.fill(a, s, e, first, rewards),
         }
     }
 
     /// The same, one observation after the other.
-    fn fill_each(&self, a: usize, s: usize, e: usize, rewards: &mut [i64])
+    fn fill_each(&self, a: usize, s: usize, e: usize, first: usize, rewards: &mut [i64])
         requires action { a < actions_of (meaning self.now) }
         requires start { s < states_of (meaning self.now) }
         requires end { e < states_of (meaning self.now) }
-        requires room { observations_of (meaning self.now) ≤ length rewards.old }
-        ensures { (z : ℕ) → z < observations_of (meaning self.now) → slice_index_or rewards.new z (pos 0) ≡ (meaning self.now).r a s e z }
+        ensures { (i : ℕ) → i < length rewards.old → first + i < observations_of (meaning self.now) →
+            slice_index_or rewards.new i (pos 0) ≡ (meaning self.now).r a s e (first + i) }
     {
-        for z in 0..self.observations() {
-            rewards[z] = self.r(a, s, e, z);
+        let left = self.observations().saturating_sub(first);
+        for i in 0..left.min(rewards.len()) {
+            rewards[i] = self.r(a, s, e, first + i);
         }
     }
 

@@ -65,8 +65,8 @@ impl Cells for Model {
         Some(self.draft().o_row(a, e))
     }
 
-    fn fill_rewards(&self, a: usize, s: usize, e: usize, rewards: &mut [i64]) {
-        self.draft().fill_rewards(a, s, e, rewards);
+    fn fill_rewards(&self, a: usize, s: usize, e: usize, first: usize, rewards: &mut [i64]) {
+        self.draft().fill_rewards(a, s, e, first, rewards);
     }
 
     fn r_alike(&self, a: usize, s: usize, e: usize) -> Option<i64> {

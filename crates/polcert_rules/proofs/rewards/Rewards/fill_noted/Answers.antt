@@ -1,4 +1,4 @@
-use Rattle.std.proofs.Common.{◌≡◌, ◌∙◌, ◌≢◌, ◌<◌, ℕ, List, [], ◌∷◌, None, Option, map, length, get_or, set, pos, FitsSigned, to_z, w64, ap, subst, arith, rules, below_more, get_or-set_other, get_or-set_same}
+use Rattle.std.proofs.Common.{◌≡◌, ◌∙◌, ◌≢◌, ◌+◌, ◌<◌, ℕ, List, [], ◌∷◌, None, Option, map, length, get_or, set, pos, FitsSigned, to_z, w64, ap, subst, arith, rules, below_more, get_or-set_other, get_or-set_same}
 use Rattle.std.proofs.lemmas.Int.{to_z-of_z}
 use Rattle.polcert_cells.specs.Elements.{count_of}
 use Rattle.polcert_cells.specs.Preamble.{dimensions}
@@ -14,20 +14,20 @@ use Rattle.polcert_rules.proofs.NotedLaws.{noted_first}
 use Rattle.polcert_rules.proofs.rewards.Rewards.fill_noted.Goals as goal
 use Rattle.polcert_rules.proofs.rewards.Rewards.fill_noted.Goals.{then-is_same, else-is_same}
 
-pub loop-z-preserved : goal.loop-z-preserved
-loop-z-preserved c = λ p entries are.
-    let z = c.loop-z.z in
+pub loop-i-preserved : goal.loop-i-preserved
+loop-i-preserved c = λ p entries are.
+    let i = c.loop-i.i in
+    let z = c.args.first + i in
     let cell = λ (y : ℕ). c.args.action ∷ c.args.start ∷ c.args.end ∷ y ∷ [] in
     let IsLast : Option RewardBody → Type 0 = IsLastBody p.costs entries c.args.self.now.numbers (cell z) in
     let IsHere : Option ℕ → Type 0 = IsNewest c.args.self.now.rules (Fits most_places (table_key Reward) (cell z)) in
-    let same : c.self.inside.shape.observations ≡ c.args.self.now.shape.observations = ap (λ (rewards : RewardRules). rewards.shape.observations) c.self.view_is in
-    let here : z < c.args.self.now.shape.observations = omega (arith, same, c.loop-z-test.true) in
-    let few : z < length c.args.noted.now = omega (arith, here, c.requires.room_to_note) in
-    let lt : z < length c.loop-z.rewards = omega (arith, here, c.requires.room, c.loop-z.auto.rewards) in
+    let here : z < c.args.self.now.shape.observations = omega (arith, c.loop-i-test.true, c.requires.within) in
+    let few : i < length c.args.noted.now = omega (arith, c.loop-i-test.true, c.requires.room_to_note) in
+    let lt : i < length c.loop-i.rewards = omega (arith, c.loop-i-test.true, c.requires.room, c.loop-i.auto.rewards) in
     let within : AreWithin (map count_of (dimensions p Reward)) (cell z) = search rules in
     let small : AreIndices most_places (cell z) = search rules in
-    let first = noted_first _ (Fits most_places (table_key Reward) (cell z)) _ (get_or c.note.new.noted z None) (c.requires.nothing z few) (c.note.ensures z (omega (arith, c.loop-z-test.true))) in
-    let newest : IsHere (get_or c.note.new.noted z None) = subst (λ (xs : List Rule). IsNewest xs (Fits most_places (table_key Reward) (cell z)) (get_or c.note.new.noted z None)) (ap (λ (rewards : RewardRules). rewards.rules) c.self.view_is) first in
+    let first = noted_first _ (Fits most_places (table_key Reward) (cell z)) _ (get_or c.note.new.noted i None) (c.requires.nothing i few) (c.note.ensures i (omega (arith, c.loop-i-test.true))) in
+    let newest : IsHere (get_or c.note.new.noted i None) = subst (λ (xs : List Rule). IsNewest xs (Fits most_places (table_key Reward) (cell z)) (get_or c.note.new.noted i None)) (ap (λ (rewards : RewardRules). rewards.rules) c.self.view_is) first in
     let is : to_z w64 c.if-is_same.reward-bits ≡ reward p entries (cell z) = elim c.if-is_same.branch [
       | then-is_same w ↦
           let fits : FitsSigned w64 w.single_or_given-reward.result = search rules in
@@ -37,6 +37,6 @@ loop-z-preserved c = λ p entries are.
           let fits : FitsSigned w64 w.given-reward.result = search rules in
           w.reward-is ∙ to_z-of_z w64 w.given-reward.result fits ∙ w.given-reward.ensures p entries are within (w.body_of.ensures (cell z) p entries small are newest)
     ] in
-    below_more (λ y. get_or (set c.loop-z.rewards z (to_z w64 c.if-is_same.reward-bits)) y (pos 0) ≡ reward p entries (cell y)) z
-    (λ y l. let ne : y ≢ z = omega arith in rw get_or-set_other (c.loop-z.invariant p entries are y l))
+    below_more (λ y. get_or (set c.loop-i.rewards i (to_z w64 c.if-is_same.reward-bits)) y (pos 0) ≡ reward p entries (cell (c.args.first + y))) i
+    (λ y l. let ne : y ≢ i = omega arith in rw get_or-set_other (c.loop-i.invariant p entries are y l))
     (rw get_or-set_same is)

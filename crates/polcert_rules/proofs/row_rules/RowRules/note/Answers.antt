@@ -9,13 +9,14 @@ pub first_at-requires-clause-from : goal.first_at-requires-clause-from
 first_at-requires-clause-from c r among = ((c.part.ensures.kept r).0 among).1
 
 pub returns : goal.returns
-returns c = λ z l.
+returns c = λ i l.
+    let z = c.args.first + i in
     let rules = c.args.self.now.rules.items in
     let indices = c.args.start ∷ (c.args.rest.now ++ z ∷ []) in
-    let first = get_or c.note_all.new.noted z None in
-    let second = get_or c.note_behind.new.noted z None in
-    let third = get_or c.note_behind-2.new.noted z None in
+    let first = get_or c.note_all.new.noted i None in
+    let second = get_or c.note_behind.new.noted i None in
+    let third = get_or c.note_behind-2.new.noted i None in
     let here = newest_here rules c.part.result.now c.args.low (key_base ^ 2) c.first_at.result (omega arith) c.part.ensures.kept c.first_at.ensures in
-    let every = subst (λ s. IsNoted rules (Fits 3 (c.args.low + s) indices) first second) c.span-step.ensures (c.note_behind.ensures z l) in
-    let only = subst (λ s. IsNoted rules (Fits 3 (c.args.low + (c.args.action + 2) * s) indices) second third) c.span-step.ensures (c.note_behind-2.ensures z l) in
-    noted_of_three rules 3 c.args.low c.args.action indices c.first_at.result (get_or c.args.noted.now z None) first second third here (c.note_all.ensures z l) every only
+    let every = subst (λ s. IsNoted rules (Fits 3 (c.args.low + s) indices) first second) c.span-step.ensures (c.note_behind.ensures i l) in
+    let only = subst (λ s. IsNoted rules (Fits 3 (c.args.low + (c.args.action + 2) * s) indices) second third) c.span-step.ensures (c.note_behind-2.ensures i l) in
+    noted_of_three rules 3 c.args.low c.args.action indices c.first_at.result (get_or c.args.noted.now i None) first second third here (c.note_all.ensures i l) every only

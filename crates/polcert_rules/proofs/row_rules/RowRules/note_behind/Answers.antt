@@ -14,7 +14,8 @@ pub note-requires-2-clause-from : goal.note-requires-2-clause-from
 note-requires-2-clause-from c r among = ((c.part-3.ensures.kept r).0 among).1
 
 pub returns : goal.returns
-returns c = λ z l.
+returns c = λ i l.
+    let z = c.args.first + i in
     let rules = c.args.self.now.rules.items in
     let step = c.span-step.result in
     let here = newest_here rules c.part.result.now c.args.low (key_base ^ 2) c.first_at.result (omega arith) c.part.ensures.kept c.first_at.ensures in
@@ -22,4 +23,4 @@ returns c = λ z l.
     let only = subst (λ s. IsSpan rules c.part-3.result.now (c.args.low + (c.args.start + 2) * step) s) (sym c.span-step.ensures) c.part-3.ensures.kept in
     noted_deeper rules c.part-2.result.now c.part-3.result.now 3 c.args.low c.args.start c.args.rest.now z step c.first_at.result _ _ _ _
     c.requires.indices (omega (arith, c.requires.last)) (omega (arith, l, c.requires.small)) c.span-step.ensures
-    here (c.note_all.ensures z l) every (c.note.ensures z l) only (c.note-2.ensures z l)
+    here (c.note_all.ensures i l) every (c.note.ensures i l) only (c.note-2.ensures i l)

@@ -1,4 +1,4 @@
-use Rattle.std.proofs.Common.{◌≡◌, ◌∙◌, ◌<◌, ℕ, List, [], ◌∷◌, Option, is_none, get_or, pos, sym, ap, subst}
+use Rattle.std.proofs.Common.{◌≡◌, ◌∙◌, ◌+◌, ◌<◌, ℕ, List, [], ◌∷◌, Option, is_none, length, get_or, pos, sym, ap, subst}
 use Rattle.polcert_cells.specs.Cells.{reward}
 use Rattle.polcert_cells.specs.declared.elements.Elements.{Elements}
 use Rattle.polcert_cells.specs.Preamble.{Preamble}
@@ -10,13 +10,14 @@ use Rattle.polcert_tables.proofs.KeptLaws.{draft_index, draft_reward, observed_i
 use Rattle.polcert_tables.proofs.draft.Draft.fill_rewards.Goals as goal
 
 pub returns-in-Some : goal.returns-in-Some
-returns-in-Some c = λ z m.
+returns-in-Some c = λ i room m.
     let k = c.args.self.now in
+    let z = c.args.first + i in
     let draft = subst IsDraft c.self.view_is c.self.invariant in
     let pomdp = sym (ap (λ (k : Kept). is_none k.preamble.observations) c.self.view_is) ∙ ap (λ (o : Option Elements). is_none o) c.in-Some.is in
     let same = observed_index k.preamble z pomdp in
     let within = subst (λ n. n < k.rewards.shape.observations) same (draft_index k draft z m) in
-    let given = subst (λ (k : Kept). (p : Preamble) (entries : List Entry) → AreRewardsOf p entries k.rewards → (y : ℕ) → y < k.rewards.shape.observations
-    → get_or c.fill.new.rewards y (pos 0) ≡ reward p entries (c.args.a ∷ c.args.s ∷ c.args.e ∷ y ∷ [])) c.self.view_is c.fill.ensures in
-    draft_reward k draft c.args.a c.args.s c.args.e z (get_or c.fill.new.rewards z (pos 0)) c.requires.action c.requires.start c.requires.end m
-    (λ p entries are. subst (λ y. get_or c.fill.new.rewards z (pos 0) ≡ reward p entries (c.args.a ∷ c.args.s ∷ c.args.e ∷ y ∷ [])) (sym same) (given p entries are z within))
+    let given = subst (λ (k : Kept). (p : Preamble) (entries : List Entry) → AreRewardsOf p entries k.rewards → (j : ℕ) → j < length c.args.rewards.now → c.args.first + j < k.rewards.shape.observations
+    → get_or c.fill.new.rewards j (pos 0) ≡ reward p entries (c.args.a ∷ c.args.s ∷ c.args.e ∷ (c.args.first + j) ∷ [])) c.self.view_is c.fill.ensures in
+    draft_reward k draft c.args.a c.args.s c.args.e z (get_or c.fill.new.rewards i (pos 0)) c.requires.action c.requires.start c.requires.end m
+    (λ p entries are. subst (λ y. get_or c.fill.new.rewards i (pos 0) ≡ reward p entries (c.args.a ∷ c.args.s ∷ c.args.e ∷ y ∷ [])) (sym same) (given p entries are i room within))
