@@ -1,6 +1,6 @@
 -- Helper definitions of private functions: what pairs of a node and a state have in common, added up once. Nobody has to
 -- believe them.
-use Rattle.std.specs.Prelude.{◌≡◌, ℕ, ◌+◌, ◌<◌, ◌≤◌, ◌⊎◌, ℤ, pos, ◌*ℤ◌, ◌<ℤ◌, Option, Some, None, List, length, slice_index_or}
+use Rattle.std.specs.Prelude.{◌≡◌, ℕ, ◌+◌, ◌<◌, ◌≤◌, ◌⊎◌, ℤ, pos, ◌*ℤ◌, ◌<ℤ◌, Option, Some, None, List, slice_index_or}
 use Rattle.polcert_cells.specs.Tables.{Table}
 use Rattle.polcert_check.specs.Horizon.{Controller, sum_below}
 use Rattle.polcert_check.specs.Shortfall.{at_node, short, PairPasses}
@@ -17,14 +17,13 @@ reward_behind m a s e = sum_below (λ z. pos (m.o a e z) *ℤ m.r a s e z) m.obs
 abbrev pub reward_ahead : Table → ℕ → ℕ → ℤ
 reward_ahead m a s = sum_below (λ e. pos (m.t a s e) *ℤ reward_behind m a s e) m.states
 
--- the list has the reward of each observation behind end state e
-pub record AreRewardsBehind (m : Table) (a s e : ℕ) (rewards : List ℤ) : Type 0 where
-  pub room : m.observations ≤ length rewards
-  pub each : (z : ℕ) → z < m.observations → slice_index_or rewards z (pos 0) ≡ m.r a s e z
+-- the first so many of the list are the rewards of the observations from `first` on, as far as there are such
+pub record AreFilled (m : Table) (a s e first count : ℕ) (rewards : List ℤ) : Type 0 where
+  pub each : (i : ℕ) → i < count → first + i < m.observations → slice_index_or rewards i (pos 0) ≡ m.r a s e (first + i)
 
 -- the first of the list are the rewards of action a at the states from `first` on
-pub record AreKept (m : Table) (a first : ℕ) (sums : List ℤ) (filled : ℕ) : Type 0 where
-  pub each : (i : ℕ) → i < filled → slice_index_or sums i (pos 0) ≡ reward_ahead m a (first + i)
+pub record AreKept (m : Table) (a first : ℕ) (sums : List ℤ) (count : ℕ) : Type 0 where
+  pub each : (i : ℕ) → i < count → slice_index_or sums i (pos 0) ≡ reward_ahead m a (first + i)
 
 -- ---- values, for each node and end state
 

@@ -1,9 +1,9 @@
-//! States in a row, of which no more than a fixed number are gone through at once, however many a model has.
+//! States or observations in a row, of which no more than a fixed number are gone through at once, however many a model has.
 ghost use Rattle.std.specs.Prelude.{◌≡◌, ◌+◌, ◌<◌, ◌≤◌};
 ghost use Rattle.polcert_check.specs.declared.blocks.TheConstants.{BLOCK};
 
-/// No more states than this are gone through at once. It has nothing to do with how many states a model may have: nothing that is
-/// proved rests on how large it is.
+/// No more states, or observations, than this are gone through at once. It has nothing to do with how many a model may have: nothing
+/// that is proved rests on how large it is.
 pub(crate) const BLOCK: usize = 1_024;
 
 /// States in a row, at least one and no more than `BLOCK`.

@@ -9,6 +9,7 @@ mod earnings;
 mod ends;
 mod examples;
 mod fault;
+mod filled;
 mod findings;
 mod followed;
 mod known;

@@ -10,11 +10,12 @@ ghost use Rattle.polcert_check.specs.Followed.{followed};
 use crate::certificate::Certificate;
 use crate::earned::{reward_ahead, weighed};
 use crate::ends::end_of;
+use crate::filled::Filled;
 use crate::followed::Followed;
 use crate::pairs::amount_above;
 use crate::side::Side;
 use crate::walk::next_end;
-use polcert_cells::{Cells, MOST_OBSERVATIONS};
+use polcert_cells::Cells;
 use polcert_policy::{Graph, Vectors};
 
 /// What the action of node `n` earns in state `s`, without the observations for which the node has no successor.
@@ -23,12 +24,11 @@ fn followed_reward<C: Cells>(certificate: &Certificate<'_, C>, n: usize, s: usiz
     requires start { s < (controller certificate.now).cells.states }
     ensures { result ≡ reward_ahead (followed (controller certificate.now) n) ((controller certificate.now).action n) s }
 {
-    let mut rewards = [0; MOST_OBSERVATIONS];
     reward_ahead(
         &Followed { certificate, n },
         certificate.graph.action(n),
         s,
-        &mut rewards,
+        &mut Filled::new(),
     )
 }
 

@@ -31,10 +31,10 @@ fn survey_states<C: Cells>(
     requires node { n < (controller certificate.now).nodes }
     requires within { block.until ≤ (controller certificate.now).cells.states }
     requires first { buffers.old.earnings.first ≡ block.first }
-    requires kept { AreKept (controller certificate.now).cells ((controller certificate.now).action n) block.first buffers.old.earnings.sums buffers.old.earnings.filled }
+    requires kept { AreKept (controller certificate.now).cells ((controller certificate.now).action n) block.first buffers.old.earnings.sums buffers.old.earnings.count }
     requires found { IsFoundBefore (judged certificate.now) ((controller certificate.now).action n) block.first block.until n block.first findings.old }
     ensures first { buffers.new.earnings.first ≡ block.first }
-    ensures kept { AreKept (controller certificate.now).cells ((controller certificate.now).action n) block.first buffers.new.earnings.sums buffers.new.earnings.filled }
+    ensures kept { AreKept (controller certificate.now).cells ((controller certificate.now).action n) block.first buffers.new.earnings.sums buffers.new.earnings.count }
     ensures found { IsFoundBefore (judged certificate.now) ((controller certificate.now).action n) block.first block.until (n + 1) block.first findings.new }
     ensures aim { findings.new.aim ≡ findings.old.aim }
 {
@@ -63,10 +63,10 @@ fn survey_node<C: Cells, W: Watch>(
     requires node { n < (controller certificate.now).nodes }
     requires within { block.until ≤ (controller certificate.now).cells.states }
     requires first { buffers.old.earnings.first ≡ block.first }
-    requires kept { AreKept (controller certificate.now).cells ((controller certificate.now).action n) block.first buffers.old.earnings.sums buffers.old.earnings.filled }
+    requires kept { AreKept (controller certificate.now).cells ((controller certificate.now).action n) block.first buffers.old.earnings.sums buffers.old.earnings.count }
     requires found { IsFoundBefore (judged certificate.now) ((controller certificate.now).action n) block.first block.until n block.first findings.old }
     ensures first { buffers.new.earnings.first ≡ block.first }
-    ensures kept { AreKept (controller certificate.now).cells ((controller certificate.now).action n) block.first buffers.new.earnings.sums buffers.new.earnings.filled }
+    ensures kept { AreKept (controller certificate.now).cells ((controller certificate.now).action n) block.first buffers.new.earnings.sums buffers.new.earnings.count }
     ensures found { IsFoundBefore (judged certificate.now) ((controller certificate.now).action n) block.first block.until (n + 1) block.first findings.new }
     ensures aim { findings.new.aim ≡ findings.old.aim }
 {

@@ -10,7 +10,7 @@ use Rattle.polcert_check.proofs.survey.survey_block.Goals as goal
 pub loop-n-init : goal.loop-n-init
 loop-n-init g c = record {
   first = c.begin.ensures.first;
-  kept = record { each = λ i l. absurd (omega (arith, l, c.begin.ensures.filled)) };
+  kept = record { each = λ i l. absurd (omega (arith, l, c.begin.ensures.count)) };
   found = block_begun (judged c.args.certificate.now) c.args.a c.args.block.first c.args.block.until c.args.findings.now c.requires.found;
   aim = refl;
 }
@@ -25,7 +25,7 @@ loop-n-preserved g c =
           let after = w.survey_node in
           rw (w.buffers-is, w.findings-is) (record {
             first = after.ensures.first;
-            kept = subst (λ (a : ℕ). AreKept k.cells a c.args.block.first after.new.buffers.earnings.sums after.new.buffers.earnings.filled) same after.ensures.kept;
+            kept = subst (λ (a : ℕ). AreKept k.cells a c.args.block.first after.new.buffers.earnings.sums after.new.buffers.earnings.count) same after.ensures.kept;
             found = subst (λ (a : ℕ). IsFoundBefore j a c.args.block.first c.args.block.until (c.loop-n.n + 1) c.args.block.first after.new.findings) same after.ensures.found;
             aim = after.ensures.aim ∙ c.loop-n.invariant.aim;
           })

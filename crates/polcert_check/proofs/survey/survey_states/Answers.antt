@@ -20,7 +20,7 @@ loop-s-preserved g c =
     record {
       first = first;
       before = omega (arith, c.earned-earned.ensures.here, first);
-      kept = subst (λ (low : ℕ). AreKept k.cells (k.action c.args.n) low c.earned-earned.new.self.sums c.earned-earned.new.self.filled) first (rw c.action-a.ensures.value at c.earned-earned.ensures.kept);
+      kept = subst (λ (low : ℕ). AreKept k.cells (k.action c.args.n) low c.earned-earned.new.self.sums c.earned-earned.new.self.count) first (rw c.action-a.ensures.value at c.earned-earned.ensures.kept);
       walks = c.loop-s.invariant.walks;
       found = c.note.ensures.found j c.args.block.first c.args.block.until c.loop-s.s (c.requires.node, omega (arith, c.loop-s-test.true, c.requires.within)) c.loop-s.auto.s c.at_pair-found.ensures c.loop-s.invariant.found;
       aim = c.note.ensures.aim ∙ c.loop-s.invariant.aim;
