@@ -1,10 +1,10 @@
 -- The walk from one start state over the end states: where it goes on, one end state more, and where it stops.
-use Rattle.std.proofs.Common.{◌≡◌, ◌≢◌, ℕ, ◌+◌, ◌-◌, ◌<◌, ◌≤◌, ◌⊎◌, inl, inr, pos, ◌*ℤ◌, List, length, set, sym, ◌∙◌, subst, arith}
+use Rattle.std.proofs.Common.{◌≡◌, ◌≢◌, ℕ, ◌+◌, ◌-◌, ◌<◌, ◌≤◌, ◌⊎◌, inl, inr, ℤ, None, pos, ◌*ℤ◌, List, length, set, sym, ◌∙◌, subst, arith}
 use Rattle.std.proofs.lemmas.Bool.{cases_lt}
 use Rattle.std.proofs.lemmas.List.{get_or-set_same, get_or-set_other}
 use Rattle.polcert_check.specs.Horizon.{Controller}
-use Rattle.polcert_check.specs.Factored.{value_behind}
-use Rattle.polcert_check.specs.Walks.{value_before, AreSteps, IsWalk, AreWalks, begun, walk_at}
+use Rattle.polcert_check.specs.Factored.{value_behind, IsLeastOf}
+use Rattle.polcert_check.specs.Walks.{value_before, AreFollowed, AreSteps, IsMissedBefore, IsWalk, AreWalks, begun, walk_at}
 use Rattle.polcert_check.specs.declared.blocks.Block.{Block}
 use Rattle.polcert_check.specs.declared.ends.Steps.{Steps}
 use Rattle.polcert_check.specs.declared.walks.Walk.{Walk}
@@ -72,3 +72,14 @@ module _ (c : Controller) (n first s : ℕ) (walks : List Walk) (walk : Walk) (a
   not_gone low until behind i il iu =
       let other : i ≢ (s - first) = λ e. omega (arith, e, il, above) in
       rw (get_or-set_other walks (s - first) i walk begun other) (behind i (omega (arith, il)) iu)
+
+-- the walk over all end states at once, where no successor is missing
+pub over_at_once : (c : Controller) (n s : ℕ) (worths : List ℤ) → AreFollowed c n c.cells.states worths → (walk : Walk) → walk.from ≡ c.cells.states → walk.steps.worth ≡ value_before c n s c.cells.states → walk.steps.missing ≡ None → IsWalk c n s c.cells.states walk
+over_at_once c n s worths followed walk all worth missing = record {
+  behind = omega (arith, all);
+  within = omega (arith, all);
+  steps = rw all (record {
+    worth = worth;
+    missing = subst (IsLeastOf (IsMissedBefore c n s c.cells.states)) (sym missing) (λ z k. followed.none k.0 k.1 z k.3);
+  });
+}

@@ -28,6 +28,11 @@ IsKnown c n e (Missing z) worth = (worth ≡ value_behind c n e) × IsLeastOf (M
 pub record AreKnown (c : Controller) (n : ℕ) (block : Block) (known : List Known) (worths : List ℤ) : Type 0 where
   pub each : (i : ℕ) → block.first + i < block.until → IsKnown c n (block.first + i) (slice_index_or known i Nothing) (slice_index_or worths i (pos 0))
 
+-- the list has what node n expects behind each of the first end states, and it has a successor for each observation there
+pub record AreFollowed (c : Controller) (n count : ℕ) (worths : List ℤ) : Type 0 where
+  pub worth : (e : ℕ) → e < count → slice_index_or worths e (pos 0) ≡ value_behind c n e
+  pub none : (e : ℕ) → e < count → IsLeastOf (Misses c n e c.cells.observations) None
+
 -- ---- the walk from one start state
 
 -- what is expected over the end states before `count`

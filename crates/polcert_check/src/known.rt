@@ -1,9 +1,9 @@
 //! What a node expects behind the end states of a block: of each it is found where it is first asked for.
-ghost use Rattle.std.specs.Prelude.{◌≡◌, ◌<◌, ◌≤◌, ℕ, None, length};
+ghost use Rattle.std.specs.Prelude.{◌≡◌, ◌<◌, ◌≤◌, ℕ, IsTrue, length};
 ghost use Rattle.polcert_check.specs.Certificate.{controller};
 ghost use Rattle.polcert_check.specs.Horizon.{Controller};
 ghost use Rattle.polcert_check.specs.Factored.{value_behind, IsLeastOf, Misses};
-ghost use Rattle.polcert_check.specs.Walks.{AreKnown, IsKnownAs};
+ghost use Rattle.polcert_check.specs.Walks.{AreFollowed, AreKnown, IsKnownAs};
 ghost use Rattle.polcert_check.specs.declared.blocks.TheConstants.{BLOCK};
 
 use crate::blocks::{BLOCK, Block};
@@ -60,6 +60,23 @@ impl Ends {
         for i in 0..block.until - block.first {
             self.known[i] = Known::Nothing;
         }
+    }
+
+    /// Finds what node `n` expects behind every end state, where these are one block, unless an observation that can be made behind one
+    /// of them has no successor. Whether none is such.
+    pub(crate) fn fill<C: Cells>(&mut self, certificate: &Certificate<'_, C>, n: usize) -> bool
+        requires node { n < (controller certificate.now).nodes }
+        requires few { (controller certificate.now).cells.states ≤ BLOCK }
+        ensures { IsTrue result → AreFollowed (controller certificate.now) n (controller certificate.now).cells.states self.new.worths }
+    {
+        for e in 0..certificate.cells.states() {
+            let end = end_of(certificate, n, e);
+            if end.missing.is_some() {
+                return false;
+            }
+            self.worths[e] = end.worth;
+        }
+        true
     }
 
     /// What node `n` expects behind end state `e`, without the weight of reaching it.

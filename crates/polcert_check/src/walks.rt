@@ -1,7 +1,7 @@
 //! Walks over the end states that a node may reach: from all states of a block, over one block of end states after another.
 ghost use Rattle.std.specs.Prelude.{◌≡◌, ℕ, ◌+◌, ◌<◌, ◌≤◌, length};
 ghost use Rattle.polcert_check.specs.Certificate.{controller};
-ghost use Rattle.polcert_check.specs.Walks.{AreKnown, AreWalks, IsWalk, begun, walk_at};
+ghost use Rattle.polcert_check.specs.Walks.{AreFollowed, AreKnown, AreWalks, IsWalk, begun, value_before, walk_at};
 ghost use Rattle.polcert_check.specs.declared.blocks.TheConstants.{BLOCK};
 
 use crate::blocks::{BLOCK, Block};
@@ -82,6 +82,31 @@ fn go_on<C: Cells>(
     }
 }
 
+/// What node `n` expects at state `s`, over what was found behind every end state.
+fn worth_ahead<C: Cells>(
+    certificate: &Certificate<'_, C>,
+    n: usize,
+    s: usize,
+    worths: &[i128],
+) -> i128
+    requires node { n < (controller certificate.now).nodes }
+    requires start { s < (controller certificate.now).cells.states }
+    requires room { (controller certificate.now).cells.states ≤ length worths.now }
+    requires followed { AreFollowed (controller certificate.now) n (controller certificate.now).cells.states worths.now }
+    ensures { result ≡ value_before (controller certificate.now) n s (controller certificate.now).cells.states }
+{
+    let cells = certificate.cells;
+    let a = certificate.graph.action(n);
+    let mut worth: i128 = 0;
+    let row = cells.t_row(a, s);
+    let mut at = 0;
+    while let Some(end) = next_end(cells, a, s, row, at) {
+        worth += weighed(end.weight, worths[end.column]);
+        at = end.next;
+    }
+    worth
+}
+
 impl Walks {
     /// Room for walks.
     pub(crate) fn new() -> Self {
@@ -129,7 +154,29 @@ impl Walks {
         nearest
     }
 
-    /// Walks from all states of a block over all end states that node `n` may reach.
+    /// Walks from each state of a block over all end states, over what was found behind each of them.
+    fn walk_at_once<C: Cells>(&mut self, certificate: &Certificate<'_, C>, n: usize, block: Block)
+        requires node { n < (controller certificate.now).nodes }
+        requires within { block.until ≤ (controller certificate.now).cells.states }
+        requires few { (controller certificate.now).cells.states ≤ BLOCK }
+        requires followed { AreFollowed (controller certificate.now) n (controller certificate.now).cells.states self.old.ends.worths }
+        ensures { AreWalks (controller certificate.now) n block (controller certificate.now).cells.states self.new.walks }
+    {
+        let states = certificate.cells.states();
+        for s in block.first..block.until {
+            let worth = worth_ahead(certificate, n, s, &self.ends.worths);
+            self.walks[s - block.first] = Walk {
+                from: states,
+                steps: Steps {
+                    worth,
+                    missing: None,
+                },
+            };
+        }
+    }
+
+    /// Walks from all states of a block over all end states that node `n` may reach. Mostly the states are one block, and no successor is
+    /// missing: then the sums are added up without asking for either.
     pub(crate) fn walk<C: Cells>(
         &mut self,
         certificate: &Certificate<'_, C>,
@@ -140,8 +187,12 @@ impl Walks {
         requires within { block.until ≤ (controller certificate.now).cells.states }
         ensures { AreWalks (controller certificate.now) n block (controller certificate.now).cells.states self.new.walks }
     {
-        self.begin(block.until - block.first);
         let states = certificate.cells.states();
+        if states <= BLOCK && self.ends.fill(certificate, n) {
+            self.walk_at_once(certificate, n, block);
+            return;
+        }
+        self.begin(block.until - block.first);
         let mut first = 0;
         while first < states {
             first = self.through(certificate, n, block, first);
