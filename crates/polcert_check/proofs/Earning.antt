@@ -11,8 +11,9 @@ use Rattle.polcert_check.specs.Ranges.{most_sum}
 use Rattle.polcert_check.specs.Factored.{reward_behind, reward_ahead}
 use Rattle.polcert_check.proofs.SumLaws.{sum_below_same, sum_below_scale}
 use Rattle.polcert_check.proofs.RowTotals.{t_rows, o_rows}
-use Rattle.polcert_check.proofs.Bounds.{abs-*ℤ_le, abs_part_le, term_le}
+use Rattle.polcert_check.proofs.Bounds.{abs-*ℤ_le, abs_part_le}
 use Rattle.polcert_check.proofs.Scales.{ahead_room, behind_room}
+use Rattle.polcert_check.proofs.Ahead.{ahead_part_le}
 use Rattle.polcert_check.proofs.Gaps.{gap, no_weight, cursor_step, weighed_is}
 
 module _ (m : Table) (p : IsProper m) (limits : IsWithinLimits m) where
@@ -21,10 +22,12 @@ module _ (m : Table) (p : IsProper m) (limits : IsWithinLimits m) where
       abs_part_le (λ z. pos (m.o a e z) *ℤ m.r a s e z) (λ z. m.o a e z) largest i m.observations m.o_scale (o_rows m p a e al el) il
       (λ z zl. abs-*ℤ_le (pos (m.o a e z)) (m.r a s e z) (m.o a e z) largest (omega arith) (limits.r a s e z al sl el zl))
 
-  pub reward_ahead_part_le : (a s i : ℕ) → a < m.actions → s < m.states → i ≤ m.states → unsigned_abs (sum_below (λ e. pos (m.t a s e) *ℤ reward_behind m a s e) i) ≤ m.t_scale * (m.o_scale * largest)
-  reward_ahead_part_le a s i al sl il =
-      abs_part_le (λ e. pos (m.t a s e) *ℤ reward_behind m a s e) (λ e. m.t a s e) (m.o_scale * largest) i m.states m.t_scale (t_rows m p a s al sl) il
-      (λ e el. abs-*ℤ_le (pos (m.t a s e)) (reward_behind m a s e) (m.t a s e) (m.o_scale * largest) (omega arith) (reward_part_le a s e m.observations al sl el (omega arith)))
+  pub reward_behind_le : (a s e : ℕ) → a < m.actions → s < m.states → e < m.states → unsigned_abs (reward_behind m a s e) ≤ m.o_scale * largest
+  reward_behind_le a s e al sl el = reward_part_le a s e m.observations al sl el (omega arith)
+
+  pub reward_ahead_le : (a s : ℕ) → a < m.actions → s < m.states → unsigned_abs (reward_ahead m a s) ≤ m.t_scale * (m.o_scale * largest)
+  reward_ahead_le a s al sl =
+      ahead_part_le m p limits a s al sl (reward_behind m a s) (λ e el. reward_behind_le a s e al sl el) m.states (omega arith)
 
   -- one observation more
   pub reward_step : (a s e from z w : ℕ) (sum x h : ℤ) → a < m.actions → s < m.states → e < m.states → from ≤ z → z < m.observations → w ≡ m.o a e z → ((k : ℕ) → from ≤ k → k < z → m.o a e k ≡ 0) → sum ≡ sum_below (λ z. pos (m.o a e z) *ℤ m.r a s e z) from → FitsSigned w128 x → FitsSigned w64 h → FitsSigned w128 (to_z w64 (of_z w64 h)) → x ≡ pos w *ℤ to_z w128 (of_z w128 (to_z w64 (of_z w64 h))) → h ≡ m.r a s e z → FitsSigned w128 (sum +ℤ to_z w128 (of_z w128 x)) × (to_z w128 (of_z w128 (sum +ℤ to_z w128 (of_z w128 x))) ≡ sum_below (λ z. pos (m.o a e z) *ℤ m.r a s e z) (z + 1))
@@ -63,20 +66,3 @@ module _ (m : Table) (p : IsProper m) (limits : IsWithinLimits m) where
       let behind : unsigned_abs (pos m.o_scale *ℤ h) ≤ m.o_scale * largest = abs-*ℤ_le (pos m.o_scale) h m.o_scale largest (omega arith) small in
       let ahead : m.t_scale * unsigned_abs (pos m.o_scale *ℤ h) ≤ m.t_scale * (m.o_scale * largest) = mul-le-mul (omega arith) behind in
       omega (arith, ahead, ahead_room m limits)
-
-  -- one end state more
-  pub weight_room : (a s e w : ℕ) (y : ℤ) → a < m.actions → s < m.states → e < m.states → w ≡ m.t a s e → unsigned_abs y ≤ m.o_scale * largest → w * unsigned_abs y ≤ most_sum
-  weight_room a s e w y al sl el we small =
-      let le : m.t a s e ≤ m.t_scale = term_le (λ j. m.t a s j) e m.states m.t_scale (t_rows m p a s al sl) el in
-      let q : w * unsigned_abs y ≤ m.t_scale * (m.o_scale * largest) = mul-le-mul (omega (arith, le, we)) small in
-      omega (arith, q, ahead_room m limits)
-
-  pub reward_ahead_step : (a s from e w : ℕ) (sum x y : ℤ) → a < m.actions → s < m.states → from ≤ e → e < m.states → w ≡ m.t a s e → ((k : ℕ) → from ≤ k → k < e → m.t a s k ≡ 0) → sum ≡ sum_below (λ e. pos (m.t a s e) *ℤ reward_behind m a s e) from → FitsSigned w128 x → FitsSigned w128 y → x ≡ pos w *ℤ to_z w128 (of_z w128 y) → y ≡ reward_behind m a s e → FitsSigned w128 (sum +ℤ to_z w128 (of_z w128 x)) × (to_z w128 (of_z w128 (sum +ℤ to_z w128 (of_z w128 x))) ≡ sum_below (λ e. pos (m.t a s e) *ℤ reward_behind m a s e) (e + 1))
-  reward_ahead_step a s from e w sum x y al sl fl el we none before fx fy xe ye =
-      cursor_step (λ e. pos (m.t a s e) *ℤ reward_behind m a s e) (most_sum) from e sum x fl (λ k kl kh. no_weight (m.t a s k) (reward_behind m a s k) (none k kl kh)) before fx
-      (weighed_is w (m.t a s e) x y (reward_behind m a s e) fy xe we ye)
-      (let le : unsigned_abs (sum_below (λ e. pos (m.t a s e) *ℤ reward_behind m a s e) (suc e)) ≤ m.t_scale * (m.o_scale * largest) = reward_ahead_part_le a s (suc e) al sl (omega arith) in omega (arith, le, ahead_room m limits)) (lit< tt)
-
-  pub reward_ahead_done : (a s from : ℕ) (sum : ℤ) → from ≤ m.states → ((k : ℕ) → from ≤ k → k < m.states → m.t a s k ≡ 0) → sum ≡ sum_below (λ e. pos (m.t a s e) *ℤ reward_behind m a s e) from → sum ≡ reward_ahead m a s
-  reward_ahead_done a s from sum fl none before =
-      before ∙ sym (gap (λ e. pos (m.t a s e) *ℤ reward_behind m a s e) from m.states fl (λ k kl kh. no_weight (m.t a s k) (reward_behind m a s k) (none k kl kh)))

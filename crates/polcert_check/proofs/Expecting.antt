@@ -1,17 +1,16 @@
 -- What a node expects behind an end state, and ahead of a start state: the steps of the sums, and that they fit.
-use Rattle.std.proofs.Common.{◌≡◌, ℕ, suc, ◌+◌, ◌*◌, ◌<◌, ◌≤◌, ℤ, pos, ◌+ℤ◌, ◌*ℤ◌, unsigned_abs, FitsSigned, to_z, of_z, Option, Some, None, List, refl, sym, ap, ◌∙◌, arith, lit<}
-use Rattle.std.specs.Prelude.{slice_index_or}
+use Rattle.std.proofs.Common.{◌≡◌, ℕ, suc, ◌+◌, ◌*◌, ◌<◌, ◌≤◌, ℤ, pos, ◌+ℤ◌, unsigned_abs, FitsSigned, to_z, of_z, Option, Some, None, refl, sym, ◌∙◌, arith, lit<}
 use mir.Syntax.{w128}
 use Rattle.polcert_text.specs.Numbers.{largest}
-use Rattle.polcert_cells.specs.Tables.{Table, IsProper, IsWithinLimits}
+use Rattle.polcert_cells.specs.Tables.{IsWithinLimits}
 use Rattle.polcert_check.specs.Horizon.{Controller, sum_below}
 use Rattle.polcert_check.specs.Ranges.{IsController, ValuesAreWithin, most_sum}
-use Rattle.polcert_check.specs.Factored.{value_term, value_behind, value_ahead, AreValues, AreWithin}
-use Rattle.polcert_check.proofs.SumLaws.{sum_below_same}
-use Rattle.polcert_check.proofs.RowTotals.{t_rows, o_rows}
+use Rattle.polcert_check.specs.Factored.{value_term, value_behind, value_ahead}
+use Rattle.polcert_check.proofs.RowTotals.{o_rows}
 use Rattle.polcert_check.proofs.Bounds.{abs-*ℤ_le, abs_part_le}
-use Rattle.polcert_check.proofs.Scales.{ahead_room, behind_room}
-use Rattle.polcert_check.proofs.Gaps.{gap, no_weight, cursor_step, weighed_is}
+use Rattle.polcert_check.proofs.Scales.{behind_room}
+use Rattle.polcert_check.proofs.Ahead.{ahead_part_le}
+use Rattle.polcert_check.proofs.Gaps.{gap, no_weight, cursor_step}
 
 -- no weight, no value
 no_value : (c : Controller) (n e z : ℕ) (at : Option ℕ) → c.cells.o (c.action n) e z ≡ 0 → value_term c n e z at ≡ pos 0
@@ -39,34 +38,10 @@ pub value_done : (c : Controller) (n e from : ℕ) (sum : ℤ) → from ≤ c.ce
 value_done c n e from sum fl none before =
     before ∙ sym (gap (λ z. value_term c n e z (c.next n z)) from c.cells.observations fl (λ k kl kh. no_value c n e k (c.next n k) (none k kl kh)))
 
-pub value_ahead_le : (c : Controller) → IsController c → ValuesAreWithin c → (n s : ℕ) → n < c.nodes → s < c.cells.states → unsigned_abs (value_ahead c n s) ≤ c.cells.t_scale * (c.cells.o_scale * largest)
-value_ahead_le c p values n s nl sl =
-    abs_part_le (λ e. pos (c.cells.t (c.action n) s e) *ℤ value_behind c n e) (λ e. c.cells.t (c.action n) s e) (c.cells.o_scale * largest) c.cells.states c.cells.states c.cells.t_scale
-    (t_rows c.cells p.cells (c.action n) s (p.closed.actions_in_range n nl) sl) (omega arith)
-    (λ e el. abs-*ℤ_le (pos (c.cells.t (c.action n) s e)) (value_behind c n e) (c.cells.t (c.action n) s e) (c.cells.o_scale * largest) (omega arith) (value_part_le c p values n e c.cells.observations nl el (omega arith)))
+-- what is behind an end state is small
+pub value_behind_le : (c : Controller) → IsController c → ValuesAreWithin c → (n e : ℕ) → n < c.nodes → e < c.cells.states → unsigned_abs (value_behind c n e) ≤ c.cells.o_scale * largest
+value_behind_le c p values n e nl el = value_part_le c p values n e c.cells.observations nl el (omega arith)
 
--- ---- ahead of a start state, over any numbers behind the end states
-module _ (m : Table) (p : IsProper m) (limits : IsWithinLimits m) (a s : ℕ) (al : a < m.actions) (sl : s < m.states) (worths : List ℤ) (small : AreWithin m worths) where
-  pub ahead_part_le : (i : ℕ) → i ≤ m.states → unsigned_abs (sum_below (λ e. pos (m.t a s e) *ℤ slice_index_or worths e (pos 0)) i) ≤ m.t_scale * (m.o_scale * largest)
-  ahead_part_le i il =
-      abs_part_le (λ e. pos (m.t a s e) *ℤ slice_index_or worths e (pos 0)) (λ e. m.t a s e) (m.o_scale * largest) i m.states m.t_scale (t_rows m p a s al sl) il
-      (λ e el. abs-*ℤ_le (pos (m.t a s e)) (slice_index_or worths e (pos 0)) (m.t a s e) (m.o_scale * largest) (omega arith) (small e el))
-
-  pub ahead_step : (from e w : ℕ) (sum x : ℤ) → from ≤ e → e < m.states → w ≡ m.t a s e → ((k : ℕ) → from ≤ k → k < e → m.t a s k ≡ 0) → sum ≡ sum_below (λ e. pos (m.t a s e) *ℤ slice_index_or worths e (pos 0)) from → FitsSigned w128 x → FitsSigned w128 (slice_index_or worths e (pos 0)) → x ≡ pos w *ℤ to_z w128 (of_z w128 (slice_index_or worths e (pos 0))) → FitsSigned w128 (sum +ℤ to_z w128 (of_z w128 x)) × (to_z w128 (of_z w128 (sum +ℤ to_z w128 (of_z w128 x))) ≡ sum_below (λ e. pos (m.t a s e) *ℤ slice_index_or worths e (pos 0)) (e + 1))
-  ahead_step from e w sum x fl el we none before fx fy xe =
-      cursor_step (λ e. pos (m.t a s e) *ℤ slice_index_or worths e (pos 0)) (most_sum) from e sum x fl (λ k kl kh. no_weight (m.t a s k) (slice_index_or worths k (pos 0)) (none k kl kh)) before fx
-      (weighed_is w (m.t a s e) x (slice_index_or worths e (pos 0)) (slice_index_or worths e (pos 0)) fy xe we refl)
-      (let le : unsigned_abs (sum_below (λ e. pos (m.t a s e) *ℤ slice_index_or worths e (pos 0)) (suc e)) ≤ m.t_scale * (m.o_scale * largest) = ahead_part_le (suc e) (omega arith) in omega (arith, le, ahead_room m limits)) (lit< tt)
-
-  pub ahead_sum_done : (from : ℕ) (sum : ℤ) → from ≤ m.states → ((k : ℕ) → from ≤ k → k < m.states → m.t a s k ≡ 0) → sum ≡ sum_below (λ e. pos (m.t a s e) *ℤ slice_index_or worths e (pos 0)) from → sum ≡ sum_below (λ e. pos (m.t a s e) *ℤ slice_index_or worths e (pos 0)) m.states
-  ahead_sum_done from sum fl none before =
-      before ∙ sym (gap (λ e. pos (m.t a s e) *ℤ slice_index_or worths e (pos 0)) from m.states fl (λ k kl kh. no_weight (m.t a s k) (slice_index_or worths k (pos 0)) (none k kl kh)))
-
--- ---- with a node's values behind the end states
-pub values_within : (c : Controller) → IsController c → ValuesAreWithin c → (n : ℕ) → n < c.nodes → (worths : List ℤ) → AreValues c n worths c.cells.states → AreWithin c.cells worths
-values_within c p values n nl worths are e el =
-    rw (are e el) (value_part_le c p values n e c.cells.observations nl el (omega arith))
-
-pub value_ahead_is : (c : Controller) (n s : ℕ) (worths : List ℤ) → AreValues c n worths c.cells.states → sum_below (λ e. pos (c.cells.t (c.action n) s e) *ℤ slice_index_or worths e (pos 0)) c.cells.states ≡ value_ahead c n s
-value_ahead_is c n s worths are =
-    sum_below_same _ _ c.cells.states (λ e el. ap (λ (x : ℤ). pos (c.cells.t (c.action n) s e) *ℤ x) (are e el))
+pub value_ahead_le : (c : Controller) → IsController c → IsWithinLimits c.cells → ValuesAreWithin c → (n s : ℕ) → n < c.nodes → s < c.cells.states → unsigned_abs (value_ahead c n s) ≤ c.cells.t_scale * (c.cells.o_scale * largest)
+value_ahead_le c p limits values n s nl sl =
+    ahead_part_le c.cells p.cells limits (c.action n) s (p.closed.actions_in_range n nl) sl (value_behind c n) (λ e el. value_behind_le c p values n e nl el) c.cells.states (omega arith)

@@ -23,6 +23,9 @@ pub mod SameModels
 pub mod OneAnswer
 pub mod EveryHorizon
 pub mod Gaps
+pub mod Places
+pub mod Walking
+pub mod Ahead
 pub mod Earning
 pub mod Missing
 pub mod Expecting

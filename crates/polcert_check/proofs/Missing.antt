@@ -1,12 +1,11 @@
 -- The least observation that has no successor, gathered from steps.
-use Rattle.std.proofs.Common.{◌≡◌, ℕ, zero, suc, ◌+◌, ◌*◌, ◌<◌, ◌≤◌, ◌⊎◌, inl, inr, ⊎_elim, Option, Some, None, List, refl, sym, subst, arith}
-use Rattle.std.specs.Prelude.{slice_index_or}
+use Rattle.std.proofs.Common.{◌≡◌, ℕ, zero, suc, ◌+◌, ◌*◌, ◌<◌, ◌≤◌, ◌⊎◌, inl, inr, ⊎_elim, Option, Some, None, refl, sym, subst, arith}
 use Rattle.std.proofs.lemmas.Bool.{cases_lt}
-use Rattle.polcert_cells.specs.Tables.{Table}
 use Rattle.polcert_check.specs.Horizon.{Controller}
 use Rattle.polcert_check.specs.Shortfall.{Lacks}
 use Rattle.polcert_check.specs.Verdict.{IsLeastLacking}
-use Rattle.polcert_check.specs.Factored.{IsLeastOf, Misses, IsMissedAt, IsAhead, IsLesser, AreMissing}
+use Rattle.polcert_check.specs.Factored.{IsLeastOf, Misses, IsMissedAt, IsLesser}
+use Rattle.polcert_check.specs.Walks.{IsMissedBefore}
 use Rattle.polcert_check.proofs.Verdicts.{positive_product}
 
 -- ---- the lesser of two least numbers
@@ -53,34 +52,38 @@ end_more c n e from z w x y r fl none we some least here is =
     (λ y k. let l : y ≡ z = k.0 in (omega (arith, l), k.1, k.2))
 
 -- ---- ahead of one start state
-option_least : (y : Option ℕ) → IsLeastOf (λ z. y ≡ Some z) y
-option_least None = λ z e. cc
-option_least (Some b) = (refl, λ z l e. let same : b ≡ z = cc in omega (arith, l, same))
-
-split_ahead : (m : Table) (a s : ℕ) (missing : List (Option ℕ)) (from e : ℕ) → ((k : ℕ) → from ≤ k → k < e → m.t a s k ≡ 0) → (z : ℕ) → IsAhead m a s missing (e + 1) z → IsAhead m a s missing from z ⊎ (slice_index_or missing e None ≡ Some z)
-split_ahead m a s missing from e none z (i, l, some, is) = go (cases_lt i from) (cases_lt i e)
+split_before : (c : Controller) (n s from e : ℕ) → ((k : ℕ) → from ≤ k → k < e → c.cells.t (c.action n) s k ≡ 0) → (z : ℕ) → IsMissedBefore c n s (e + 1) z → IsMissedBefore c n s from z ⊎ Misses c n e c.cells.observations z
+split_before c n s from e none z (i, l, some, is) = go (cases_lt i from) (cases_lt i e)
   where
-    go : (i < from) ⊎ (from ≤ i) → (i < e) ⊎ (e ≤ i) → IsAhead m a s missing from z ⊎ (slice_index_or missing e None ≡ Some z)
+    go : (i < from) ⊎ (from ≤ i) → (i < e) ⊎ (e ≤ i) → IsMissedBefore c n s from z ⊎ Misses c n e c.cells.observations z
     go (inl k) _ = inl (i, k, some, is)
     go (inr k) (inl h) = absurd (not_zero _ (none i k h) some)
-    go (inr k) (inr h) = let same : i ≡ e = omega (arith, h, l) in inr (subst (λ (j : ℕ). slice_index_or missing j None ≡ Some z) same is)
+    go (inr k) (inr h) = let same : i ≡ e = omega (arith, h, l) in inr (subst (λ (j : ℕ). Misses c n j c.cells.observations z) same is)
 
-pub ahead_more : (m : Table) (a s : ℕ) (missing : List (Option ℕ)) (from e w : ℕ) (x r : Option ℕ) → from ≤ e → ((k : ℕ) → from ≤ k → k < e → m.t a s k ≡ 0) → w ≡ m.t a s e → 0 < w → IsLeastOf (IsAhead m a s missing from) x → IsLesser x (slice_index_or missing e None) r → IsLeastOf (IsAhead m a s missing (e + 1)) r
-ahead_more m a s missing from e w x r fl none we some least is =
-    let some' : 0 < m.t a s e = omega (arith, we, some) in
-    least_or (IsAhead m a s missing from) (λ z. slice_index_or missing e None ≡ Some z) (IsAhead m a s missing (e + 1)) x (slice_index_or missing e None) r least (option_least (slice_index_or missing e None)) is (split_ahead m a s missing from e none)
+pub before_more : (c : Controller) (n s from e w : ℕ) (x y r : Option ℕ) → from ≤ e → ((k : ℕ) → from ≤ k → k < e → c.cells.t (c.action n) s k ≡ 0) → w ≡ c.cells.t (c.action n) s e → 0 < w → IsLeastOf (IsMissedBefore c n s from) x → IsLeastOf (Misses c n e c.cells.observations) y → IsLesser x y r → IsLeastOf (IsMissedBefore c n s (e + 1)) r
+before_more c n s from e w x y r fl none we some least here is =
+    let some' : 0 < c.cells.t (c.action n) s e = omega (arith, we, some) in
+    least_or (IsMissedBefore c n s from) (Misses c n e c.cells.observations) (IsMissedBefore c n s (e + 1)) x y r least here is (split_before c n s from e none)
     (λ z k. let l : k.0 < from = k.1 in (k.0, omega (arith, l, fl), k.2, k.3))
     (λ z k. (e, omega arith, some', k))
 
-pub ahead_done : (m : Table) (a s : ℕ) (missing : List (Option ℕ)) (from : ℕ) (x : Option ℕ) → from ≤ m.states → ((k : ℕ) → from ≤ k → k < m.states → m.t a s k ≡ 0) → IsLeastOf (IsAhead m a s missing from) x → IsLeastOf (IsAhead m a s missing m.states) x
-ahead_done m a s missing from x fl none least =
-    least_same (IsAhead m a s missing from) (IsAhead m a s missing m.states) x least
-    (λ z k. go z k (cases_lt k.0 from))
-    (λ z k. let l : k.0 < from = k.1 in (k.0, omega (arith, l, fl), k.2, k.3))
-  where
-    go : (z : ℕ) (k : IsAhead m a s missing m.states z) → (k.0 < from) ⊎ (from ≤ k.0) → IsAhead m a s missing from z
-    go z k (inl l) = (k.0, l, k.2, k.3)
-    go z k (inr l) = absurd (not_zero _ (none k.0 l k.1) k.2)
+-- no weight between two places
+module _ (c : Controller) (n s from to : ℕ) (fl : from ≤ to) (none : (k : ℕ) → from ≤ k → k < to → c.cells.t (c.action n) s k ≡ 0) where
+  further : (z : ℕ) → IsMissedBefore c n s from z → IsMissedBefore c n s to z
+  further z k = let l : k.0 < from = k.1 in (k.0, omega (arith, l, fl), k.2, k.3)
+
+  nearer : (z : ℕ) → IsMissedBefore c n s to z → IsMissedBefore c n s from z
+  nearer z k = go (cases_lt k.0 from)
+    where
+      go : (k.0 < from) ⊎ (from ≤ k.0) → IsMissedBefore c n s from z
+      go (inl l) = (k.0, l, k.2, k.3)
+      go (inr l) = absurd (not_zero _ (none k.0 l k.1) k.2)
+
+  pub before_on : (x : Option ℕ) → IsLeastOf (IsMissedBefore c n s from) x → IsLeastOf (IsMissedBefore c n s to) x
+  before_on x least = least_same (IsMissedBefore c n s from) (IsMissedBefore c n s to) x least nearer further
+
+  pub before_back : (x : Option ℕ) → IsLeastOf (IsMissedBefore c n s to) x → IsLeastOf (IsMissedBefore c n s from) x
+  before_back x least = least_same (IsMissedBefore c n s to) (IsMissedBefore c n s from) x least further nearer
 
 -- ---- a pair
 factor_left : (a b : ℕ) → 0 < a * b → 0 < a
@@ -91,31 +94,17 @@ factor_right : (a b : ℕ) → 0 < a * b → 0 < b
 factor_right a zero l = omega arith
 factor_right a (suc b) l = omega arith
 
-at_most : (P : ℕ → Type 0) (x : Option ℕ) (z : ℕ) → IsLeastOf P x → P z → (y : ℕ) × (y ≤ z) × (x ≡ Some y)
-at_most P None z least p = absurd (least z p)
-at_most P (Some y) z least p = (y, go (cases_lt z y), refl)
-  where
-    go : (z < y) ⊎ (y ≤ z) → y ≤ z
-    go (inl l) = absurd (least.1 z l p)
-    go (inr l) = l
+lack_before : (c : Controller) (n s z : ℕ) → z < c.cells.observations → Lacks c n s z → IsMissedBefore c n s c.cells.states z
+lack_before c n s z zl (none, (e, el, some)) =
+    (e, el, factor_left (c.cells.t (c.action n) s e) (c.cells.o (c.action n) e z) some, (zl, none, factor_right (c.cells.t (c.action n) s e) (c.cells.o (c.action n) e z) some))
 
-is_of : (P : ℕ → Type 0) (x : Option ℕ) (z : ℕ) → IsLeastOf P x → x ≡ Some z → P z
-is_of P None z least e = absurd (cc)
-is_of P (Some y) z least e = let same : y ≡ z = cc in subst P same least.0
-
-lack_ahead : (c : Controller) (n s : ℕ) (missing : List (Option ℕ)) → AreMissing c n missing c.cells.states → (z : ℕ) → z < c.cells.observations → Lacks c n s z → (y : ℕ) × (y ≤ z) × IsAhead c.cells (c.action n) s missing c.cells.states y
-lack_ahead c n s missing are z zl (none, (e, el, some)) =
-    let found = at_most (Misses c n e c.cells.observations) (slice_index_or missing e None) z (are e el) (zl, none, factor_right (c.cells.t (c.action n) s e) (c.cells.o (c.action n) e z) some) in
-    (found.0, found.1, (e, el, factor_left (c.cells.t (c.action n) s e) (c.cells.o (c.action n) e z) some, found.2))
-
-ahead_lack : (c : Controller) (n s : ℕ) (missing : List (Option ℕ)) → AreMissing c n missing c.cells.states → (z : ℕ) → IsAhead c.cells (c.action n) s missing c.cells.states z → (z < c.cells.observations) × Lacks c n s z
-ahead_lack c n s missing are z (e, el, some, is) =
-    let misses : Misses c n e c.cells.observations z = is_of (Misses c n e c.cells.observations) (slice_index_or missing e None) z (are e el) is in
+before_lack : (c : Controller) (n s z : ℕ) → IsMissedBefore c n s c.cells.states z → (z < c.cells.observations) × Lacks c n s z
+before_lack c n s z (e, el, some, misses) =
     (misses.0, (misses.1, (e, el, positive_product (c.cells.t (c.action n) s e) (c.cells.o (c.action n) e z) some misses.2)))
 
--- the least observation that misses ahead is the least that the pair lacks
-pub pair_lacking : (c : Controller) (n s : ℕ) (missing : List (Option ℕ)) → AreMissing c n missing c.cells.states → (x : Option ℕ) → IsLeastOf (IsAhead c.cells (c.action n) s missing c.cells.states) x → IsLeastLacking c n s x
-pair_lacking c n s missing are None least = λ z zl lack. let found = lack_ahead c n s missing are z zl lack in least found.0 found.2
-pair_lacking c n s missing are (Some z) least =
-    let here = ahead_lack c n s missing are z least.0 in
-    (here.0, here.1, λ y l lack. let zl : z < c.cells.observations = here.0 in let found = lack_ahead c n s missing are y (omega (arith, l, zl)) lack in let le : found.0 ≤ y = found.1 in least.1 found.0 (omega (arith, l, le)) found.2)
+-- the least observation that is missed over all end states is the least that the pair lacks
+pub pair_lacking : (c : Controller) (n s : ℕ) (x : Option ℕ) → IsLeastOf (IsMissedBefore c n s c.cells.states) x → IsLeastLacking c n s x
+pair_lacking c n s None least = λ z zl lack. least z (lack_before c n s z zl lack)
+pair_lacking c n s (Some z) least =
+    let here = before_lack c n s z least.0 in
+    (here.0, here.1, λ y l lack. let zl : z < c.cells.observations = here.0 in least.1 y l (lack_before c n s y (omega (arith, l, zl)) lack))

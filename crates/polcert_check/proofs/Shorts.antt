@@ -11,7 +11,7 @@ use Rattle.polcert_check.specs.Factored.{reward_ahead, value_ahead}
 use Rattle.polcert_check.specs.Followed.{followed, followed_is_proper, followed_is_within}
 use Rattle.polcert_check.proofs.Bounds.{abs-*ℤ_le}
 use Rattle.polcert_check.proofs.Scales.{scales_le, discount_le}
-use Rattle.polcert_check.proofs.Earning.{reward_ahead_part_le}
+use Rattle.polcert_check.proofs.Earning.{reward_ahead_le}
 use Rattle.polcert_check.proofs.Expecting.{value_ahead_le}
 use Rattle.polcert_check.proofs.Splitting.{followed_split}
 
@@ -44,8 +44,8 @@ backing_le : (c : Controller) → IsController c → IsWithinLimits c.cells → 
 backing_le c p limits values n s nl sl =
     let al : c.action n < c.cells.actions = p.closed.actions_in_range n nl in
     let earned : unsigned_abs (reward_ahead (followed c n) (c.action n) s) ≤ c.cells.t_scale * (c.cells.o_scale * largest) =
-    reward_ahead_part_le (followed c n) (followed_is_proper c n p.cells) (followed_is_within c n limits) (c.action n) s c.cells.states al sl (omega arith) in
-    let expected : unsigned_abs (value_ahead c n s) ≤ c.cells.t_scale * (c.cells.o_scale * largest) = value_ahead_le c p values n s nl sl in
+    reward_ahead_le (followed c n) (followed_is_proper c n p.cells) (followed_is_within c n limits) (c.action n) s al sl in
+    let expected : unsigned_abs (value_ahead c n s) ≤ c.cells.t_scale * (c.cells.o_scale * largest) = value_ahead_le c p limits values n s nl sl in
     rw (followed_split c n s) (sum_le (pos one *ℤ reward_ahead (followed c n) (c.action n) s) (pos c.cells.discount *ℤ value_ahead c n s) (step_scale c * one * largest)
     (part_le c.cells.t_scale c.cells.o_scale one (reward_ahead (followed c n) (c.action n) s) (omega arith) earned)
     (part_le c.cells.t_scale c.cells.o_scale c.cells.discount (value_ahead c n s) (discount_le c.cells limits) expected))

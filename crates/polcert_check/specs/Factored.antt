@@ -1,7 +1,6 @@
 -- Helper definitions of private functions: what pairs of a node and a state have in common, added up once. Nobody has to
 -- believe them.
-use Rattle.std.specs.Prelude.{◌≡◌, ℕ, ◌*◌, ◌<◌, ◌≤◌, ◌⊎◌, ℤ, pos, ◌*ℤ◌, ◌<ℤ◌, unsigned_abs, Option, Some, None, List, length, slice_index_or}
-use Rattle.polcert_text.specs.Numbers.{largest}
+use Rattle.std.specs.Prelude.{◌≡◌, ℕ, ◌+◌, ◌<◌, ◌≤◌, ◌⊎◌, ℤ, pos, ◌*ℤ◌, ◌<ℤ◌, Option, Some, None, List, slice_index_or}
 use Rattle.polcert_cells.specs.Tables.{Table}
 use Rattle.polcert_check.specs.Horizon.{Controller, sum_below}
 use Rattle.polcert_check.specs.Shortfall.{at_node, short, PairPasses}
@@ -18,19 +17,13 @@ reward_behind m a s e = sum_below (λ z. pos (m.o a e z) *ℤ m.r a s e z) m.obs
 abbrev pub reward_ahead : Table → ℕ → ℕ → ℤ
 reward_ahead m a s = sum_below (λ e. pos (m.t a s e) *ℤ reward_behind m a s e) m.states
 
--- the list has the reward of each observation behind end state e
-pub record AreRewardsBehind (m : Table) (a s e : ℕ) (rewards : List ℤ) : Type 0 where
-  pub room : m.observations ≤ length rewards
-  pub each : (z : ℕ) → z < m.observations → slice_index_or rewards z (pos 0) ≡ m.r a s e z
+-- the first so many of the list are the rewards of the observations from `first` on, as far as there are such
+pub record AreFilled (m : Table) (a s e first count : ℕ) (rewards : List ℤ) : Type 0 where
+  pub each : (i : ℕ) → i < count → first + i < m.observations → slice_index_or rewards i (pos 0) ≡ m.r a s e (first + i)
 
--- the first of the list are the rewards of action a at the first states
-abbrev pub AreRewards : Table → ℕ → List ℤ → ℕ → Type 0
-AreRewards m a sums count = (s : ℕ) → s < count → slice_index_or sums s (pos 0) ≡ reward_ahead m a s
-
--- the same of an action of which no more are filled in than there are states
-pub record AreKept (m : Table) (a : ℕ) (sums : List ℤ) (filled : ℕ) : Type 0 where
-  pub within : filled ≤ m.states
-  pub each : AreRewards m a sums filled
+-- the first of the list are the rewards of action a at the states from `first` on
+pub record AreKept (m : Table) (a first : ℕ) (sums : List ℤ) (count : ℕ) : Type 0 where
+  pub each : (i : ℕ) → i < count → slice_index_or sums i (pos 0) ≡ reward_ahead m a (first + i)
 
 -- ---- values, for each node and end state
 
@@ -59,33 +52,11 @@ Misses c n e count z = (z < count) × (c.next n z ≡ None) × (0 < c.cells.o (c
 abbrev pub IsMissedAt : Controller → ℕ → ℕ → Option ℕ → Type 0
 IsMissedAt c n z missing = ((missing ≡ None) × (c.next n z ≡ None → ⊥)) ⊎ ((missing ≡ Some z) × (c.next n z ≡ None))
 
--- one of the end states below `count` that weigh more than 0 has this number in the list
-abbrev pub IsAhead : Table → ℕ → ℕ → List (Option ℕ) → ℕ → ℕ → Type 0
-IsAhead m a s missing count z = (e : ℕ) × (e < count) × (0 < m.t a s e) × (slice_index_or missing e None ≡ Some z)
-
 -- the lesser of two numbers, of which either may be none
 abbrev pub IsLesser : Option ℕ → Option ℕ → Option ℕ → Type 0
 IsLesser None y r = r ≡ y
 IsLesser (Some x) None r = r ≡ Some x
 IsLesser (Some x) (Some y) r = ((x ≤ y) × (r ≡ Some x)) ⊎ ((y < x) × (r ≡ Some y))
-
--- the first of the lists are the values behind the first end states, and the least observation that misses there
-abbrev pub AreValues : Controller → ℕ → List ℤ → ℕ → Type 0
-AreValues c n worths count = (e : ℕ) → e < count → slice_index_or worths e (pos 0) ≡ value_behind c n e
-
-abbrev pub AreMissing : Controller → ℕ → List (Option ℕ) → ℕ → Type 0
-AreMissing c n missing count = (e : ℕ) → e < count → IsLeastOf (Misses c n e c.cells.observations) (slice_index_or missing e None)
-
--- both lists at every end state
-pub record AreEnds (c : Controller) (n : ℕ) (worths : List ℤ) (missing : List (Option ℕ)) : Type 0 where
-  pub room : c.cells.states ≤ length worths
-  pub room_too : c.cells.states ≤ length missing
-  pub values : AreValues c n worths c.cells.states
-  pub lacks : AreMissing c n missing c.cells.states
-
--- each number at a state is at most what a row of observations can be worth
-abbrev pub AreWithin : Table → List ℤ → Type 0
-AreWithin m worths = (e : ℕ) → e < m.states → unsigned_abs (slice_index_or worths e (pos 0)) ≤ m.o_scale * largest
 
 -- ---- the verdict on one pair
 

@@ -8,6 +8,7 @@ pub mod Followed
 pub mod Examples
 pub mod StartWorth
 pub mod Factored
+pub mod Walks
 pub mod Above
 pub mod Raise
 pub mod StartMost

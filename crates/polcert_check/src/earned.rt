@@ -1,10 +1,10 @@
 //! What an action earns at a state, added up once for all nodes that take it.
-ghost use Rattle.std.specs.Prelude.{◌≡◌, ◌*◌, ◌<◌, ◌≤◌, pos, ◌*ℤ◌, unsigned_abs, length};
-ghost use Rattle.std.specs.Option.{ForSome};
+ghost use Rattle.std.specs.Prelude.{◌≡◌, ◌*◌, ◌<◌, ◌≤◌, pos, ◌*ℤ◌, unsigned_abs};
 ghost use Rattle.polcert_check.specs.Ranges.{most_sum};
-ghost use Rattle.polcert_check.specs.Factored.{reward_behind, reward_ahead, AreRewardsBehind};
+ghost use Rattle.polcert_check.specs.Factored.{reward_behind, reward_ahead, AreFilled};
 
 use crate::ends::Sight;
+use crate::filled::Filled;
 use crate::walk::{next_end, next_seen};
 use polcert_cells::{Cells, Row};
 
@@ -19,47 +19,7 @@ pub(crate) fn weighed(weight: u64, number: i128) -> i128
     (weight as i128) * number
 }
 
-/// The reward of one observation, filled in or asked for.
-#[inline(always)]
-fn reward_of<C: Cells>(cells: &C, a: usize, s: usize, sight: Sight, filled: Option<&[i64]>) -> i64
-    requires action { a < (C.table cells.now).actions }
-    requires start { s < (C.table cells.now).states }
-    requires end { sight.end < (C.table cells.now).states }
-    requires observation { sight.observation < (C.table cells.now).observations }
-    requires filled { ForSome filled (λ rewards. AreRewardsBehind (C.table cells.now) a s sight.end rewards.now) }
-    ensures { result ≡ (C.table cells.now).r a s sight.end sight.observation }
-{
-    match filled {
-        Some(rewards) => rewards[sight.observation],
-        None => cells.r(a, s, sight.end, sight.observation),
-    }
-}
-
-/// What each observation earns behind end state `e`, one by one.
-fn each_reward<C: Cells>(cells: &C, a: usize, s: usize, e: usize, filled: Option<&[i64]>) -> i128
-    requires action { a < (C.table cells.now).actions }
-    requires start { s < (C.table cells.now).states }
-    requires end { e < (C.table cells.now).states }
-    requires filled { ForSome filled (λ rewards. AreRewardsBehind (C.table cells.now) a s e rewards.now) }
-    ensures { result ≡ reward_behind (C.table cells.now) a s e }
-{
-    let mut sum: i128 = 0;
-    let row = cells.o_row(a, e);
-    let mut at = 0;
-    while let Some(seen) = next_seen(cells, a, e, row, at) {
-        let sight = Sight {
-            end: e,
-            observation: seen.column,
-            weight: seen.weight,
-        };
-        let reward = reward_of(cells, a, s, sight, filled);
-        sum += weighed(seen.weight, reward as i128);
-        at = seen.next;
-    }
-    sum
-}
-
-/// Whether so many observations can be made behind end state `e` that it pays to fill in the rewards of all.
+/// Whether so many observations can be made behind end state `e` that it pays to fill in their rewards together.
 fn is_crowded<C: Cells>(cells: &C, a: usize, e: usize) -> bool
     requires action { a < (C.table cells.now).actions }
     requires end { e < (C.table cells.now).states }
@@ -71,48 +31,90 @@ fn is_crowded<C: Cells>(cells: &C, a: usize, e: usize) -> bool
     }
 }
 
-/// What action `a` earns in state `s` where the step ends in state `e`, without the weight of reaching `e`. The rewards may be
-/// filled in on the way.
-fn reward_behind<C: Cells>(cells: &C, a: usize, s: usize, e: usize, rewards: &mut [i64]) -> i128
+/// The reward of one observation, filled in together with others or asked for alone.
+#[inline(always)]
+fn reward_of<C: Cells>(
+    cells: &C,
+    a: usize,
+    s: usize,
+    sight: Sight,
+    crowded: bool,
+    filled: &mut Filled,
+) -> i64
+    requires action { a < (C.table cells.now).actions }
+    requires start { s < (C.table cells.now).states }
+    requires end { sight.end < (C.table cells.now).states }
+    requires observation { sight.observation < (C.table cells.now).observations }
+    requires filled { AreFilled (C.table cells.now) a s sight.end filled.old.first filled.old.count filled.old.rewards }
+    ensures reward { result ≡ (C.table cells.now).r a s sight.end sight.observation }
+    ensures filled { AreFilled (C.table cells.now) a s sight.end filled.new.first filled.new.count filled.new.rewards }
+{
+    if crowded {
+        filled.reward(cells, a, s, sight)
+    } else {
+        cells.r(a, s, sight.end, sight.observation)
+    }
+}
+
+/// What each observation earns behind end state `e`, one by one.
+fn each_reward<C: Cells>(cells: &C, a: usize, s: usize, e: usize, filled: &mut Filled) -> i128
     requires action { a < (C.table cells.now).actions }
     requires start { s < (C.table cells.now).states }
     requires end { e < (C.table cells.now).states }
-    requires room { (C.table cells.now).observations ≤ length rewards.old }
+    ensures { result ≡ reward_behind (C.table cells.now) a s e }
+{
+    let crowded = is_crowded(cells, a, e);
+    filled.clear();
+    let mut sum: i128 = 0;
+    let row = cells.o_row(a, e);
+    let mut at = 0;
+    while let Some(seen) = next_seen(cells, a, e, row, at) {
+        let sight = Sight {
+            end: e,
+            observation: seen.column,
+            weight: seen.weight,
+        };
+        let reward = reward_of(cells, a, s, sight, crowded, filled);
+        sum += weighed(seen.weight, reward as i128);
+        at = seen.next;
+    }
+    sum
+}
+
+/// What action `a` earns in state `s` where the step ends in state `e`, without the weight of reaching `e`. Rewards may be filled in
+/// on the way.
+fn reward_behind<C: Cells>(cells: &C, a: usize, s: usize, e: usize, filled: &mut Filled) -> i128
+    requires action { a < (C.table cells.now).actions }
+    requires start { s < (C.table cells.now).states }
+    requires end { e < (C.table cells.now).states }
     ensures { result ≡ reward_behind (C.table cells.now) a s e }
 {
     if let Some(reward) = cells.r_alike(a, s, e) {
         return weighed(cells.o_scale(), reward as i128);
     }
-    if !is_crowded(cells, a, e) {
-        return each_reward(cells, a, s, e, None);
-    }
-    cells.fill_rewards(a, s, e, 0, rewards);
-    each_reward(cells, a, s, e, Some(rewards))
+    each_reward(cells, a, s, e, filled)
 }
 
 /// What action `a` earns in state `s`, on the scale of the weights of one step, added up end state by end state.
-fn each_end<C: Cells>(cells: &C, a: usize, s: usize, rewards: &mut [i64]) -> i128
+fn each_end<C: Cells>(cells: &C, a: usize, s: usize, filled: &mut Filled) -> i128
     requires action { a < (C.table cells.now).actions }
     requires start { s < (C.table cells.now).states }
-    requires room { (C.table cells.now).observations ≤ length rewards.old }
     ensures { result ≡ reward_ahead (C.table cells.now) a s }
 {
     let mut sum: i128 = 0;
     let row = cells.t_row(a, s);
     let mut at = 0;
     while let Some(end) = next_end(cells, a, s, row, at) {
-        sum += weighed(end.weight, reward_behind(cells, a, s, end.column, rewards));
+        sum += weighed(end.weight, reward_behind(cells, a, s, end.column, filled));
         at = end.next;
     }
     sum
 }
 
-/// What action `a` earns in state `s`, on the scale of the weights of one step. The rewards are room for those of all
-/// observations.
-pub(crate) fn reward_ahead<C: Cells>(cells: &C, a: usize, s: usize, rewards: &mut [i64]) -> i128
+/// What action `a` earns in state `s`, on the scale of the weights of one step. Rewards may be filled in on the way.
+pub(crate) fn reward_ahead<C: Cells>(cells: &C, a: usize, s: usize, filled: &mut Filled) -> i128
     requires action { a < (C.table cells.now).actions }
     requires start { s < (C.table cells.now).states }
-    requires room { (C.table cells.now).observations ≤ length rewards.old }
     ensures { result ≡ reward_ahead (C.table cells.now) a s }
 {
     match cells.r_common(a, s) {
@@ -120,6 +122,6 @@ pub(crate) fn reward_ahead<C: Cells>(cells: &C, a: usize, s: usize, rewards: &mu
             let behind = weighed(cells.o_scale(), reward as i128);
             weighed(cells.t_scale(), behind)
         }
-        None => each_end(cells, a, s, rewards),
+        None => each_end(cells, a, s, filled),
     }
 }

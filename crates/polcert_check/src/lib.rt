@@ -2,14 +2,17 @@
 #![tactic(auto)]
 
 mod above;
-mod buffers;
+mod blocks;
 mod certificate;
 mod earned;
+mod earnings;
 mod ends;
 mod examples;
 mod fault;
+mod filled;
 mod findings;
 mod followed;
+mod known;
 mod laws;
 mod laws_above;
 mod lower;
@@ -24,6 +27,7 @@ mod start_above;
 mod survey;
 mod verdict;
 mod walk;
+mod walks;
 mod watch;
 
 pub use above::{AboveVerdict, check_above, check_above_watched};

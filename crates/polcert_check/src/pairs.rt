@@ -3,13 +3,13 @@ ghost use Rattle.std.specs.Prelude.{◌≡◌, ◌*◌, ◌<◌, ◌≤◌, pos,
 ghost use Rattle.polcert_text.specs.Numbers.{largest};
 ghost use Rattle.polcert_check.specs.Certificate.{controller, judged};
 ghost use Rattle.polcert_check.specs.Horizon.{one};
-ghost use Rattle.polcert_check.specs.Verdict.{IsLeastLacking};
 ghost use Rattle.polcert_check.specs.Ranges.{most_scales};
-ghost use Rattle.polcert_check.specs.Factored.{reward_ahead, value_ahead, AreEnds, IsPairVerdict};
+ghost use Rattle.polcert_check.specs.Factored.{reward_ahead, IsPairVerdict};
+ghost use Rattle.polcert_check.specs.Walks.{AreSteps};
 
 use crate::certificate::Certificate;
 use crate::earned::weighed;
-use crate::ends::{Ends, Steps, steps_ahead};
+use crate::ends::Steps;
 use crate::verdict::Verdict;
 use polcert_model::Cells;
 
@@ -35,37 +35,20 @@ pub(crate) fn amount_above<C: Cells>(cells: &C, value: i64, earned: i128, expect
     scaled_value(cells.t_scale(), cells.o_scale(), value) - backing
 }
 
-/// What node `n` expects at state `s`, over what was filled in behind each end state, and the least observation that it lacks there.
-pub(crate) fn steps_of<C: Cells>(
-    certificate: &Certificate<'_, C>,
-    n: usize,
-    s: usize,
-    ends: Ends<'_>,
-) -> Steps
-    requires node { n < (controller certificate.now).nodes }
-    requires start { s < (controller certificate.now).cells.states }
-    requires ends { AreEnds (controller certificate.now) n ends.worths.now ends.missing.now }
-    ensures worth { result.worth ≡ value_ahead (controller certificate.now) n s }
-    ensures missing { IsLeastLacking (controller certificate.now) n s result.missing }
-{
-    steps_ahead(certificate.cells, certificate.graph.action(n), s, ends)
-}
-
 /// Whether node `n` passes at state `s`; else why it doesn't.
 pub(crate) fn at_pair<C: Cells>(
     certificate: &Certificate<'_, C>,
     n: usize,
     s: usize,
     earned: i128,
-    ends: Ends<'_>,
+    steps: Steps,
 ) -> Verdict
     requires node { n < (controller certificate.now).nodes }
     requires start { s < (controller certificate.now).cells.states }
     requires earned { earned ≡ reward_ahead (controller certificate.now).cells ((controller certificate.now).action n) s }
-    requires ends { AreEnds (controller certificate.now) n ends.worths.now ends.missing.now }
+    requires steps { AreSteps (controller certificate.now) n s (controller certificate.now).cells.states steps }
     ensures { IsPairVerdict (judged certificate.now) n s result }
 {
-    let steps = steps_of(certificate, n, s, ends);
     if let Some(observation) = steps.missing {
         return Verdict::NoSuccessor {
             node: n,

@@ -4,16 +4,18 @@ ghost use Rattle.polcert_policy.specs.Graphs.{nodes};
 ghost use Rattle.polcert_check.specs.Certificate.{controller};
 ghost use Rattle.polcert_check.specs.Horizon.{Fits, controller_of};
 ghost use Rattle.polcert_check.specs.Shortfall.{most_short, short};
-ghost use Rattle.polcert_check.specs.Factored.{reward_ahead};
+ghost use Rattle.polcert_check.specs.Factored.{reward_ahead, value_ahead};
 ghost use Rattle.polcert_check.specs.Followed.{followed};
 
-use crate::buffers::Buffers;
 use crate::certificate::Certificate;
-use crate::earned::reward_ahead;
+use crate::earned::{reward_ahead, weighed};
+use crate::ends::end_of;
+use crate::filled::Filled;
 use crate::followed::Followed;
-use crate::pairs::{amount_above, steps_of};
+use crate::pairs::amount_above;
 use crate::side::Side;
-use polcert_cells::{Cells, MOST_OBSERVATIONS};
+use crate::walk::next_end;
+use polcert_cells::Cells;
 use polcert_policy::{Graph, Vectors};
 
 /// What the action of node `n` earns in state `s`, without the observations for which the node has no successor.
@@ -22,13 +24,30 @@ fn followed_reward<C: Cells>(certificate: &Certificate<'_, C>, n: usize, s: usiz
     requires start { s < (controller certificate.now).cells.states }
     ensures { result ≡ reward_ahead (followed (controller certificate.now) n) ((controller certificate.now).action n) s }
 {
-    let mut rewards = [0; MOST_OBSERVATIONS];
     reward_ahead(
         &Followed { certificate, n },
         certificate.graph.action(n),
         s,
-        &mut rewards,
+        &mut Filled::new(),
     )
+}
+
+/// What node `n` expects at state `s`, added up end state by end state.
+fn expected_at<C: Cells>(certificate: &Certificate<'_, C>, n: usize, s: usize) -> i128
+    requires node { n < (controller certificate.now).nodes }
+    requires start { s < (controller certificate.now).cells.states }
+    ensures { result ≡ value_ahead (controller certificate.now) n s }
+{
+    let cells = certificate.cells;
+    let a = certificate.graph.action(n);
+    let mut worth: i128 = 0;
+    let row = cells.t_row(a, s);
+    let mut at = 0;
+    while let Some(end) = next_end(cells, a, s, row, at) {
+        worth += weighed(end.weight, end_of(certificate, n, end.column).worth);
+        at = end.next;
+    }
+    worth
 }
 
 /// How far the value of node `n` at state `s` is above what the next step backs.
@@ -38,12 +57,10 @@ fn amount_at<C: Cells>(certificate: &Certificate<'_, C>, n: usize, s: usize) -> 
     ensures is { result ≡ short (controller certificate.now) n s }
     ensures small { unsigned_abs result ≤ most_short (controller certificate.now) }
 {
-    let mut buffers = Buffers::new();
-    buffers.fill_ends(certificate, n);
-    let steps = steps_of(certificate, n, s, buffers.ends());
+    let expected = expected_at(certificate, n, s);
     let earned = followed_reward(certificate, n, s);
     let value = certificate.vectors.at(n, s);
-    amount_above(certificate.cells, value, earned, steps.worth)
+    amount_above(certificate.cells, value, earned, expected)
 }
 
 /// How far the value of node `n` at state `s` is above what the next step backs: above 0 where it is short.

@@ -12,7 +12,7 @@ overflow_add-sum g c =
     let fh : FitsSigned w64 c.reward_of-reward.result = search rules in
     let fh2 : FitsSigned w128 (to_z w64 (of_z w64 c.reward_of-reward.result)) = search rules in
     let next = c.in-Some.ensures.0 in
-    (reward_step m (g.met.C.Cells.is_proper c.args.cells.now) (g.met.C.Cells.is_within_limits c.args.cells.now) c.args.a c.args.s c.args.e (reached c.o_row-row.result c.loop-seen.at) c.in-Some.seen.column c.in-Some.seen.weight (to_z w128 c.loop-seen.sum-bits) c.weighed-sum.result c.reward_of-reward.result c.requires.action c.requires.start c.requires.end next.0 next.1 next.2 next.4 c.loop-seen.invariant.sum fx fh fh2 c.weighed-sum.ensures c.reward_of-reward.ensures).0
+    (reward_step m (g.met.C.Cells.is_proper c.args.cells.now) (g.met.C.Cells.is_within_limits c.args.cells.now) c.args.a c.args.s c.args.e (reached c.o_row-row.result c.loop-seen.at) c.in-Some.seen.column c.in-Some.seen.weight (to_z w128 c.loop-seen.sum-bits) c.weighed-sum.result c.reward_of-reward.result c.requires.action c.requires.start c.requires.end next.0 next.1 next.2 next.4 c.loop-seen.invariant.sum fx fh fh2 c.weighed-sum.ensures c.reward_of-reward.ensures.reward).0
 
 pub loop-seen-preserved : goal.loop-seen-preserved
 loop-seen-preserved g c =
@@ -22,7 +22,8 @@ loop-seen-preserved g c =
     let fh2 : FitsSigned w128 (to_z w64 (of_z w64 c.reward_of-reward.result)) = search rules in
     let next = c.in-Some.ensures.0 in
     rw c.in-Some.ensures.1 (record {
-      sum = (reward_step m (g.met.C.Cells.is_proper c.args.cells.now) (g.met.C.Cells.is_within_limits c.args.cells.now) c.args.a c.args.s c.args.e (reached c.o_row-row.result c.loop-seen.at) c.in-Some.seen.column c.in-Some.seen.weight (to_z w128 c.loop-seen.sum-bits) c.weighed-sum.result c.reward_of-reward.result c.requires.action c.requires.start c.requires.end next.0 next.1 next.2 next.4 c.loop-seen.invariant.sum fx fh fh2 c.weighed-sum.ensures c.reward_of-reward.ensures).1;
+      sum = (reward_step m (g.met.C.Cells.is_proper c.args.cells.now) (g.met.C.Cells.is_within_limits c.args.cells.now) c.args.a c.args.s c.args.e (reached c.o_row-row.result c.loop-seen.at) c.in-Some.seen.column c.in-Some.seen.weight (to_z w128 c.loop-seen.sum-bits) c.weighed-sum.result c.reward_of-reward.result c.requires.action c.requires.start c.requires.end next.0 next.1 next.2 next.4 c.loop-seen.invariant.sum fx fh fh2 c.weighed-sum.ensures c.reward_of-reward.ensures.reward).1;
+      filled = c.reward_of-reward.ensures.filled;
       within = omega (arith, c.in-Some.ensures.0.1);
     })
 

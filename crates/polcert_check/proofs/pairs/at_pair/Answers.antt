@@ -8,8 +8,9 @@ use Rattle.polcert_check.specs.Mirrored.{turned}
 use Rattle.polcert_check.specs.Verdict.{IsLeastLacking}
 use Rattle.polcert_check.specs.Factored.{reward_ahead}
 use Rattle.polcert_check.proofs.Verdicts.{amount_positive, amount_at_most}
-use Rattle.polcert_check.proofs.Earning.{reward_ahead_part_le}
+use Rattle.polcert_check.proofs.Earning.{reward_ahead_le}
 use Rattle.polcert_check.proofs.Expecting.{value_ahead_le}
+use Rattle.polcert_check.proofs.Missing.{pair_lacking}
 use Rattle.polcert_check.proofs.Amounts.{amount_is}
 use Rattle.polcert_check.proofs.Splitting.{backing_split}
 use Rattle.polcert_check.proofs.Shorts.{short_le}
@@ -21,29 +22,29 @@ small_enough : (x most : ℕ) → x ≤ most → most ≤ largest_amount → x <
 small_enough x most a b = omega (arith, a, b, amount_fits_128)
 
 pub returns-in-Some : goal.returns-in-Some
-returns-in-Some g c = (refl, refl, subst (λ (x : Option ℕ). IsLeastLacking (controller c.args.certificate.now) c.args.n c.args.s x) c.in-Some.is c.steps_of-steps.ensures.missing)
+returns-in-Some g c = (refl, refl, subst (λ (x : Option ℕ). IsLeastLacking (controller c.args.certificate.now) c.args.n c.args.s x) c.in-Some.is (pair_lacking (controller c.args.certificate.now) c.args.n c.args.s c.args.steps.missing c.requires.steps.missing))
 
 pub amount_above-above-requires-clause-earned : goal.amount_above-above-requires-clause-earned
 amount_above-above-requires-clause-earned g c =
     let k : Controller = controller c.args.certificate.now in
     let same : to_z w128 (of_z w128 c.args.earned) ≡ reward_ahead k.cells (k.action c.args.n) c.args.s = to_z-of_z w128 c.args.earned c.ranges.earned ∙ c.requires.earned in
-    rw same (reward_ahead_part_le k.cells c.args.certificate.now.proper.cells (g.met.C.Cells.is_within_limits c.args.certificate.now.cells.now) (k.action c.args.n) c.args.s k.cells.states (c.args.certificate.now.proper.closed.actions_in_range c.args.n c.requires.node) c.requires.start (omega arith))
+    rw same (reward_ahead_le k.cells c.args.certificate.now.proper.cells (g.met.C.Cells.is_within_limits c.args.certificate.now.cells.now) (k.action c.args.n) c.args.s (c.args.certificate.now.proper.closed.actions_in_range c.args.n c.requires.node) c.requires.start)
 
 pub amount_above-above-requires-clause-expected : goal.amount_above-above-requires-clause-expected
 amount_above-above-requires-clause-expected g c =
     let k : Controller = controller c.args.certificate.now in
-    let fx : FitsSigned w128 c.steps_of-steps.result.worth = search rules in
-    let same = to_z-of_z w128 c.steps_of-steps.result.worth fx ∙ c.steps_of-steps.ensures.worth in
-    rw same (value_ahead_le k c.args.certificate.now.proper c.args.certificate.now.values c.args.n c.args.s c.requires.node c.requires.start)
+    let fx : FitsSigned w128 c.args.steps.worth = search rules in
+    let same = to_z-of_z w128 c.args.steps.worth fx ∙ c.requires.steps.worth in
+    rw same (value_ahead_le k c.args.certificate.now.proper (g.met.C.Cells.is_within_limits c.args.certificate.now.cells.now) c.args.certificate.now.values c.args.n c.args.s c.requires.node c.requires.start)
 
 pub turned-amount-requires : goal.turned-amount-requires
 turned-amount-requires g c =
     let k : Controller = controller c.args.certificate.now in
     let fa : FitsSigned w128 c.amount_above-above.result = search rules in
-    let fx : FitsSigned w128 c.steps_of-steps.result.worth = search rules in
+    let fx : FitsSigned w128 c.args.steps.worth = search rules in
     let fv : FitsSigned w64 c.at-value.result = search rules in
-    let lacks : IsLeastLacking k c.args.n c.args.s None = subst (λ (x : Option ℕ). IsLeastLacking k c.args.n c.args.s x) c.in_default.is c.steps_of-steps.ensures.missing in
-    let above : to_z w128 (of_z w128 c.amount_above-above.result) ≡ short k c.args.n c.args.s = to_z-of_z w128 c.amount_above-above.result fa ∙ amount_is k c.args.n c.args.s _ _ (backing_split k c.args.n c.args.s lacks) c.amount_above-above.result _ _ _ c.amount_above-above.ensures (to_z-of_z w64 c.at-value.result fv ∙ c.at-value.ensures.value) (to_z-of_z w128 c.args.earned c.ranges.earned ∙ c.requires.earned) (to_z-of_z w128 c.steps_of-steps.result.worth fx ∙ c.steps_of-steps.ensures.worth) in
+    let lacks : IsLeastLacking k c.args.n c.args.s None = subst (λ (x : Option ℕ). IsLeastLacking k c.args.n c.args.s x) c.in_default.is (pair_lacking k c.args.n c.args.s c.args.steps.missing c.requires.steps.missing) in
+    let above : to_z w128 (of_z w128 c.amount_above-above.result) ≡ short k c.args.n c.args.s = to_z-of_z w128 c.amount_above-above.result fa ∙ amount_is k c.args.n c.args.s _ _ (backing_split k c.args.n c.args.s lacks) c.amount_above-above.result _ _ _ c.amount_above-above.ensures (to_z-of_z w64 c.at-value.result fv ∙ c.at-value.ensures.value) (to_z-of_z w128 c.args.earned c.ranges.earned ∙ c.requires.earned) (to_z-of_z w128 c.args.steps.worth fx ∙ c.requires.steps.worth) in
     let limits = g.met.C.Cells.is_within_limits c.args.certificate.now.cells.now in
     rw above (small_enough _ _ (short_le k c.args.certificate.now.proper limits c.args.certificate.now.values c.args.n c.args.s c.requires.node c.requires.start) (most_amount k limits))
 
@@ -51,10 +52,10 @@ pub returns-then-amount-gt0 : goal.returns-then-amount-gt0
 returns-then-amount-gt0 g c =
     let k : Controller = controller c.args.certificate.now in
     let fa : FitsSigned w128 c.amount_above-above.result = search rules in
-    let fx : FitsSigned w128 c.steps_of-steps.result.worth = search rules in
+    let fx : FitsSigned w128 c.args.steps.worth = search rules in
     let fv : FitsSigned w64 c.at-value.result = search rules in
-    let lacks : IsLeastLacking k c.args.n c.args.s None = subst (λ (x : Option ℕ). IsLeastLacking k c.args.n c.args.s x) c.in_default.is c.steps_of-steps.ensures.missing in
-    let above : to_z w128 (of_z w128 c.amount_above-above.result) ≡ short k c.args.n c.args.s = to_z-of_z w128 c.amount_above-above.result fa ∙ amount_is k c.args.n c.args.s _ _ (backing_split k c.args.n c.args.s lacks) c.amount_above-above.result _ _ _ c.amount_above-above.ensures (to_z-of_z w64 c.at-value.result fv ∙ c.at-value.ensures.value) (to_z-of_z w128 c.args.earned c.ranges.earned ∙ c.requires.earned) (to_z-of_z w128 c.steps_of-steps.result.worth fx ∙ c.steps_of-steps.ensures.worth) in
+    let lacks : IsLeastLacking k c.args.n c.args.s None = subst (λ (x : Option ℕ). IsLeastLacking k c.args.n c.args.s x) c.in_default.is (pair_lacking k c.args.n c.args.s c.args.steps.missing c.requires.steps.missing) in
+    let above : to_z w128 (of_z w128 c.amount_above-above.result) ≡ short k c.args.n c.args.s = to_z-of_z w128 c.amount_above-above.result fa ∙ amount_is k c.args.n c.args.s _ _ (backing_split k c.args.n c.args.s lacks) c.amount_above-above.result _ _ _ c.amount_above-above.ensures (to_z-of_z w64 c.at-value.result fv ∙ c.at-value.ensures.value) (to_z-of_z w128 c.args.earned c.ranges.earned ∙ c.requires.earned) (to_z-of_z w128 c.args.steps.worth fx ∙ c.requires.steps.worth) in
     let j : Controller = judged c.args.certificate.now in
     let f : FitsSigned w128 c.turned-amount.result = search rules in
     let is : c.turned-amount.result ≡ short j c.args.n c.args.s = c.turned-amount.ensures ∙ ap (turned c.args.certificate.now.side) above ∙ sym (sided_short c.args.certificate.now.side k c.args.n c.args.s) in
@@ -65,10 +66,10 @@ pub returns : goal.returns
 returns g c =
     let k : Controller = controller c.args.certificate.now in
     let fa : FitsSigned w128 c.amount_above-above.result = search rules in
-    let fx : FitsSigned w128 c.steps_of-steps.result.worth = search rules in
+    let fx : FitsSigned w128 c.args.steps.worth = search rules in
     let fv : FitsSigned w64 c.at-value.result = search rules in
-    let lacks : IsLeastLacking k c.args.n c.args.s None = subst (λ (x : Option ℕ). IsLeastLacking k c.args.n c.args.s x) c.in_default.is c.steps_of-steps.ensures.missing in
-    let above : to_z w128 (of_z w128 c.amount_above-above.result) ≡ short k c.args.n c.args.s = to_z-of_z w128 c.amount_above-above.result fa ∙ amount_is k c.args.n c.args.s _ _ (backing_split k c.args.n c.args.s lacks) c.amount_above-above.result _ _ _ c.amount_above-above.ensures (to_z-of_z w64 c.at-value.result fv ∙ c.at-value.ensures.value) (to_z-of_z w128 c.args.earned c.ranges.earned ∙ c.requires.earned) (to_z-of_z w128 c.steps_of-steps.result.worth fx ∙ c.steps_of-steps.ensures.worth) in
+    let lacks : IsLeastLacking k c.args.n c.args.s None = subst (λ (x : Option ℕ). IsLeastLacking k c.args.n c.args.s x) c.in_default.is (pair_lacking k c.args.n c.args.s c.args.steps.missing c.requires.steps.missing) in
+    let above : to_z w128 (of_z w128 c.amount_above-above.result) ≡ short k c.args.n c.args.s = to_z-of_z w128 c.amount_above-above.result fa ∙ amount_is k c.args.n c.args.s _ _ (backing_split k c.args.n c.args.s lacks) c.amount_above-above.result _ _ _ c.amount_above-above.ensures (to_z-of_z w64 c.at-value.result fv ∙ c.at-value.ensures.value) (to_z-of_z w128 c.args.earned c.ranges.earned ∙ c.requires.earned) (to_z-of_z w128 c.args.steps.worth fx ∙ c.requires.steps.worth) in
     let j : Controller = judged c.args.certificate.now in
     let f : FitsSigned w128 c.turned-amount.result = search rules in
     let is : c.turned-amount.result ≡ short j c.args.n c.args.s = c.turned-amount.ensures ∙ ap (turned c.args.certificate.now.side) above ∙ sym (sided_short c.args.certificate.now.side k c.args.n c.args.s) in

@@ -1,10 +1,10 @@
 use Rattle.std.proofs.Common.{◌≡◌}
 use Rattle.polcert_check.specs.Certificate.{judged}
-use Rattle.polcert_check.specs.Findings.{IsFoundBefore}
+use Rattle.polcert_check.specs.Findings.{IsFoundUpTo}
 use Rattle.polcert_check.proofs.survey.survey.Given as goal
 
 abbrev pub invariant-loop-a : goal.invariant-loop-a
 invariant-loop-a g l = record {
-  found : IsFoundBefore (judged l.own) l.a 0 0 l.findings;
+  found : IsFoundUpTo (judged l.own) l.a 0 l.findings;
   aim : l.findings.aim ≡ l.fn.aim;
 }

@@ -1,33 +1,8 @@
-use Rattle.std.proofs.Common.{arith, ◌≡◌, ◌+◌, ◌∙◌, ℕ, sym, subst}
-use Rattle.polcert_check.specs.Certificate.{controller, judged}
-use Rattle.polcert_check.specs.Horizon.{Controller}
-use Rattle.polcert_check.specs.Factored.{AreKept}
-use Rattle.polcert_check.specs.Findings.{IsFoundBefore}
-use Rattle.polcert_check.proofs.Walked.{node_passed, action_done}
-use Rattle.polcert_check.proofs.survey.survey_action.Goals.{then-action-a, else-action-a}
+use Rattle.std.proofs.Common.{arith}
+use Rattle.polcert_check.specs.Certificate.{judged}
+use Rattle.polcert_check.proofs.Walked.{action_done}
 use Rattle.polcert_check.proofs.survey.survey_action.Goals as goal
-
-pub loop-n-preserved : goal.loop-n-preserved
-loop-n-preserved g c =
-    let k : Controller = controller c.args.certificate.now in
-    let j : Controller = judged c.args.certificate.now in
-    elim c.if-action-a.branch [
-      | then-action-a w ↦
-          let same : k.action c.loop-n.n ≡ c.args.a = sym c.action.ensures.value ∙ w.if-action-a.true in
-          let after = w.survey_node in
-          rw (w.buffers-is, w.findings-is) (record {
-            kept = subst (λ (a : ℕ). AreKept k.cells a after.new.buffers.sums after.new.buffers.filled) same after.ensures.kept;
-            found = subst (λ (a : ℕ). IsFoundBefore j a (c.loop-n.n + 1) 0 after.new.findings) same after.ensures.found;
-            aim = after.ensures.aim ∙ c.loop-n.invariant.aim;
-          })
-      | else-action-a w ↦
-          rw (w.buffers-is, w.findings-is) (record {
-            kept = c.loop-n.invariant.kept;
-            found = node_passed j c.args.a c.loop-n.n c.loop-n.findings c.loop-n.invariant.found (λ same. w.if-action-a.false (c.action.ensures.value ∙ same));
-            aim = c.loop-n.invariant.aim;
-          })
-    ]
 
 pub returns-clause-found : goal.returns-clause-found
 returns-clause-found g c =
-    action_done (judged c.args.certificate.now) c.args.a c.loop-n.n c.loop-n.findings c.loop-n.invariant.found (omega (arith, c.nodes-n-end.ensures.count))
+    action_done (judged c.args.certificate.now) c.args.a c.loop-first.first c.loop-first.findings c.loop-first.invariant.found (omega (arith, c.states-states.ensures, c.loop-first-test.false))

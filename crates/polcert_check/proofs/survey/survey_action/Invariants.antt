@@ -1,12 +1,13 @@
-use Rattle.std.proofs.Common.{◌≡◌}
-use Rattle.polcert_check.specs.Certificate.{controller, judged}
-use Rattle.polcert_check.specs.Factored.{AreKept}
-use Rattle.polcert_check.specs.Findings.{IsFoundBefore}
+use Rattle.std.proofs.Common.{◌≡◌, ◌-◌}
+use Rattle.polcert_check.specs.Certificate.{judged}
+use Rattle.polcert_check.specs.Findings.{IsFoundUpTo}
 use Rattle.polcert_check.proofs.survey.survey_action.Given as goal
 
-abbrev pub invariant-loop-n : goal.invariant-loop-n
-invariant-loop-n g l = record {
-  kept : AreKept (controller l.certificate).cells l.a l.buffers.sums l.buffers.filled;
-  found : IsFoundBefore (judged l.certificate) l.a l.n 0 l.findings;
+abbrev pub invariant-loop-first : goal.invariant-loop-first
+invariant-loop-first g l = record {
+  found : IsFoundUpTo (judged l.certificate) l.a l.first l.findings;
   aim : l.findings.aim ≡ l.fn.findings.aim;
 }
+
+abbrev pub decreases-loop-first : goal.decreases-loop-first
+decreases-loop-first g l = l.states - l.first

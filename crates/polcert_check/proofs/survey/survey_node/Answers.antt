@@ -1,8 +1,8 @@
-use Rattle.std.proofs.Common.{refl}
+use Rattle.std.proofs.Common.{arith, refl}
 use Rattle.polcert_check.specs.Certificate.{judged}
 use Rattle.polcert_check.proofs.Walked.{node_settled}
 use Rattle.polcert_check.proofs.survey.survey_node.Goals as goal
 
 pub returns-then-is_settled-clause-found : goal.returns-then-is_settled-clause-found
 returns-then-is_settled-clause-found g c =
-    node_settled (judged c.args.certificate.now) c.args.n 0 c.args.findings.now c.requires.found (c.if-is_settled.ensures.0 refl)
+    node_settled (judged c.args.certificate.now) c.args.block.first c.args.block.until c.args.n c.args.block.first c.args.findings.now c.requires.found (omega arith) (omega (arith, c.args.block.some)) (c.if-is_settled.ensures.0 refl)

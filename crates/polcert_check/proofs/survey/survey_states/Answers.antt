@@ -1,28 +1,37 @@
-use Rattle.std.proofs.Common.{arith, ◌+◌, ◌∙◌, ℤ, List, Option, ℕ, sym, subst}
+use Rattle.std.proofs.Common.{arith, ◌+◌, ◌∙◌, ◌-◌, ℕ, subst}
 use Rattle.polcert_check.specs.Certificate.{controller, judged}
 use Rattle.polcert_check.specs.Horizon.{Controller}
-use Rattle.polcert_check.specs.Factored.{AreEnds}
+use Rattle.polcert_check.specs.Factored.{AreKept}
+use Rattle.polcert_check.specs.Walks.{walk_at}
 use Rattle.polcert_check.proofs.Walked.{node_done, node_settled}
+use Rattle.polcert_check.proofs.Walking.{walk_over, at_state}
 use Rattle.polcert_check.proofs.survey.survey_states.Goals as goal
+
+pub at_pair-found-requires-clause-steps : goal.at_pair-found-requires-clause-steps
+at_pair-found-requires-clause-steps g c =
+    let k : Controller = controller c.args.certificate.now in
+    walk_over k c.args.n c.loop-s.s (walk_at c.loop-s.buffers.walks.walks (c.loop-s.s - c.args.block.first)) (at_state k c.args.n c.args.block.first c.loop-s.s k.cells.states c.loop-s.buffers.walks.walks c.loop-s.auto.s (λ i e. c.loop-s.invariant.walks i (omega (arith, e, c.loop-s-test.true))))
 
 pub loop-s-preserved : goal.loop-s-preserved
 loop-s-preserved g c =
     let k : Controller = controller c.args.certificate.now in
     let j : Controller = judged c.args.certificate.now in
+    let first = c.earned-earned.ensures.first ∙ c.loop-s.invariant.first in
     record {
-      before = omega (arith, c.keep_reward.ensures.here);
-      kept = rw c.action-a.ensures.value at c.keep_reward.ensures.kept;
-      ends = subst (λ (ws : List ℤ). AreEnds k c.args.n ws c.keep_reward.new.self.missing) (sym c.keep_reward.ensures.worths) (subst (λ (ms : List (Option ℕ)). AreEnds k c.args.n c.loop-s.buffers.worths ms) (sym c.keep_reward.ensures.missing) c.loop-s.invariant.ends);
-      found = c.note.ensures.found j c.loop-s.s (c.requires.node, omega (arith, c.states-s-end.ensures)) c.at_pair-found.ensures c.loop-s.invariant.found;
+      first = first;
+      before = omega (arith, c.earned-earned.ensures.here, first);
+      kept = subst (λ (low : ℕ). AreKept k.cells (k.action c.args.n) low c.earned-earned.new.self.sums c.earned-earned.new.self.count) first (rw c.action-a.ensures.value at c.earned-earned.ensures.kept);
+      walks = c.loop-s.invariant.walks;
+      found = c.note.ensures.found j c.args.block.first c.args.block.until c.loop-s.s (c.requires.node, omega (arith, c.loop-s-test.true, c.requires.within)) c.loop-s.auto.s c.at_pair-found.ensures c.loop-s.invariant.found;
       aim = c.note.ensures.aim ∙ c.loop-s.invariant.aim;
     }
 
 pub returns-then-note-clause-found : goal.returns-then-note-clause-found
 returns-then-note-clause-found g c =
-    let k : Controller = judged c.args.certificate.now in
-    node_settled k c.args.n (c.loop-s.s + 1) c.note.new.self (c.note.ensures.found k c.loop-s.s (c.requires.node, omega (arith, c.states-s-end.ensures)) c.at_pair-found.ensures c.loop-s.invariant.found) (c.note.ensures.settled c.if-note.true)
+    let j : Controller = judged c.args.certificate.now in
+    node_settled j c.args.block.first c.args.block.until c.args.n (c.loop-s.s + 1) c.note.new.self (c.note.ensures.found j c.args.block.first c.args.block.until c.loop-s.s (c.requires.node, omega (arith, c.loop-s-test.true, c.requires.within)) c.loop-s.auto.s c.at_pair-found.ensures c.loop-s.invariant.found) (omega (arith, c.loop-s.auto.s)) (omega (arith, c.loop-s-test.true)) (c.note.ensures.settled c.if-note.true)
 
 pub returns-clause-found : goal.returns-clause-found
 returns-clause-found g c =
-    let k : Controller = judged c.args.certificate.now in
-    node_done k (k.action c.args.n) c.args.n c.loop-s.s c.loop-s.findings c.loop-s.invariant.found (omega (arith, c.states-s-end.ensures))
+    let j : Controller = judged c.args.certificate.now in
+    node_done j (j.action c.args.n) c.args.block.first c.args.block.until c.args.n c.loop-s.s c.loop-s.findings c.loop-s.invariant.found (omega (arith, c.loop-s-test.false, c.loop-s.auto.s-end, c.args.block.some))

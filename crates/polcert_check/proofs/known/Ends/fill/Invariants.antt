@@ -1,0 +1,6 @@
+use Rattle.polcert_check.specs.Certificate.{controller}
+use Rattle.polcert_check.specs.Walks.{AreFollowed}
+use Rattle.polcert_check.proofs.known.Ends.fill.Given as goal
+
+abbrev pub invariant-loop-e : goal.invariant-loop-e
+invariant-loop-e g l = AreFollowed (controller l.certificate) l.n l.e l.self.worths

@@ -1,0 +1,15 @@
+use Rattle.std.proofs.Common.{◌≡◌, ℕ, ◌+◌, ◌<◌, ◌≤◌}
+use Rattle.polcert_check.specs.Certificate.{controller}
+use Rattle.polcert_check.specs.Walks.{AreKnown, IsWalk, walk_at}
+use Rattle.polcert_check.proofs.walks.Walks.through.Given as goal
+
+-- the walks before s have gone over the block of end states, and none of them stands before the nearest; the others stand as they did
+abbrev pub invariant-loop-s : goal.invariant-loop-s
+invariant-loop-s g l = record {
+  further : l.self.ends.block.until ≤ l.nearest;
+  within : l.self.ends.block.until ≤ (controller l.certificate).cells.states;
+  first : l.self.ends.block.first ≡ l.first;
+  known : AreKnown (controller l.certificate) l.n l.self.ends.block l.self.ends.known l.self.ends.worths;
+  before : (i : ℕ) → l.block.first + i < l.s → IsWalk (controller l.certificate) l.n (l.block.first + i) l.nearest (walk_at l.self.walks i);
+  behind : (i : ℕ) → l.s ≤ l.block.first + i → l.block.first + i < l.block.until → IsWalk (controller l.certificate) l.n (l.block.first + i) l.first (walk_at l.self.walks i);
+}

@@ -1,0 +1,10 @@
+use Rattle.std.proofs.Common.{arith}
+use Rattle.polcert_check.specs.Certificate.{controller}
+use Rattle.polcert_check.specs.Horizon.{Controller}
+use Rattle.polcert_check.proofs.Walking.{walks_low}
+use Rattle.polcert_check.proofs.walks.Walks.walk.Goals as goal
+
+pub returns : goal.returns
+returns g c =
+    let k : Controller = controller c.args.certificate.now in
+    walks_low k c.args.n c.loop-first.first k.cells.states c.args.block c.loop-first.self.walks (omega (arith, c.states-states.ensures, c.loop-first-test.false)) c.loop-first.invariant

@@ -1,0 +1,51 @@
+use Rattle.std.specs.Prelude.{slice_index_or}
+use Rattle.std.proofs.Common.{pos, rules, arith, ◌≡◌, ◌∙◌, ◌<◌, ◌≤◌, ◌*◌, ℕ, unsigned_abs, FitsSigned, to_z, of_z}
+use mir.Syntax.{w128}
+use Rattle.std.proofs.lemmas.Int.{to_z-of_z}
+use Rattle.polcert_text.specs.Numbers.{largest}
+use Rattle.polcert_cells.specs.Tables.{IsWithinLimits}
+use Rattle.polcert_check.specs.Certificate.{controller}
+use Rattle.polcert_check.specs.Horizon.{Controller}
+use Rattle.polcert_check.specs.Factored.{value_behind}
+use Rattle.polcert_check.proofs.Ahead.{weight_room, ahead_step, ahead_on}
+use Rattle.polcert_check.proofs.Expecting.{value_behind_le}
+use Rattle.polcert_cells.specs.LentRows.{reached}
+use Rattle.polcert_check.proofs.walks.worth_ahead.Goals as goal
+
+pub weighed-worth-requires : goal.weighed-worth-requires
+weighed-worth-requires g c =
+    let k : Controller = controller c.args.certificate.now in
+    let limits : IsWithinLimits k.cells = g.met.C.Cells.is_within_limits c.args.certificate.now.cells.now in
+    let next = rw c.action-a.ensures.value at c.in-Some.ensures.0 in
+    let fy : FitsSigned w128 (slice_index_or c.args.worths.now c.in-Some.end.column (pos 0)) = search rules in
+    let back : to_z w128 (of_z w128 (slice_index_or c.args.worths.now c.in-Some.end.column (pos 0))) ≡ value_behind k c.args.n c.in-Some.end.column = to_z-of_z w128 (slice_index_or c.args.worths.now c.in-Some.end.column (pos 0)) fy ∙ c.requires.followed.worth c.in-Some.end.column next.1 in
+    rw back (weight_room k.cells c.args.certificate.now.proper.cells limits (k.action c.args.n) c.args.s (c.args.certificate.now.proper.closed.actions_in_range c.args.n c.requires.node) c.requires.start c.in-Some.end.column c.in-Some.end.weight (value_behind k c.args.n c.in-Some.end.column) next.1 next.2 (value_behind_le k c.args.certificate.now.proper c.args.certificate.now.values c.args.n c.in-Some.end.column c.requires.node next.1))
+
+pub overflow_add-worth : goal.overflow_add-worth
+overflow_add-worth g c =
+    let k : Controller = controller c.args.certificate.now in
+    let limits : IsWithinLimits k.cells = g.met.C.Cells.is_within_limits c.args.certificate.now.cells.now in
+    let fx : FitsSigned w128 c.weighed-worth.result = search rules in
+    let fy : FitsSigned w128 (slice_index_or c.args.worths.now c.in-Some.end.column (pos 0)) = search rules in
+    let small : (e : ℕ) → e < k.cells.states → unsigned_abs (value_behind k c.args.n e) ≤ k.cells.o_scale * largest = λ e el. value_behind_le k c.args.certificate.now.proper c.args.certificate.now.values c.args.n e c.requires.node el in
+    let next = rw c.action-a.ensures.value at c.in-Some.ensures.0 in
+    (ahead_step k.cells c.args.certificate.now.proper.cells limits (k.action c.args.n) c.args.s (c.args.certificate.now.proper.closed.actions_in_range c.args.n c.requires.node) c.requires.start (value_behind k c.args.n) small (reached c.t_row-row.result c.loop-end.at) c.in-Some.end.column c.in-Some.end.weight (to_z w128 c.loop-end.worth-bits) c.weighed-worth.result (slice_index_or c.args.worths.now c.in-Some.end.column (pos 0)) next.0 next.1 next.2 next.4 c.loop-end.invariant.sum fx fy c.weighed-worth.ensures (c.requires.followed.worth c.in-Some.end.column next.1)).0
+
+pub loop-end-preserved : goal.loop-end-preserved
+loop-end-preserved g c =
+    let k : Controller = controller c.args.certificate.now in
+    let limits : IsWithinLimits k.cells = g.met.C.Cells.is_within_limits c.args.certificate.now.cells.now in
+    let fx : FitsSigned w128 c.weighed-worth.result = search rules in
+    let fy : FitsSigned w128 (slice_index_or c.args.worths.now c.in-Some.end.column (pos 0)) = search rules in
+    let small : (e : ℕ) → e < k.cells.states → unsigned_abs (value_behind k c.args.n e) ≤ k.cells.o_scale * largest = λ e el. value_behind_le k c.args.certificate.now.proper c.args.certificate.now.values c.args.n e c.requires.node el in
+    let next = rw c.action-a.ensures.value at c.in-Some.ensures.0 in
+    rw c.in-Some.ensures.1 (record {
+      sum = (ahead_step k.cells c.args.certificate.now.proper.cells limits (k.action c.args.n) c.args.s (c.args.certificate.now.proper.closed.actions_in_range c.args.n c.requires.node) c.requires.start (value_behind k c.args.n) small (reached c.t_row-row.result c.loop-end.at) c.in-Some.end.column c.in-Some.end.weight (to_z w128 c.loop-end.worth-bits) c.weighed-worth.result (slice_index_or c.args.worths.now c.in-Some.end.column (pos 0)) next.0 next.1 next.2 next.4 c.loop-end.invariant.sum fx fy c.weighed-worth.ensures (c.requires.followed.worth c.in-Some.end.column next.1)).1;
+      within = omega (arith, c.in-Some.ensures.0.1);
+    })
+
+pub returns : goal.returns
+returns g c =
+    let k : Controller = controller c.args.certificate.now in
+    let none = rw c.action-a.ensures.value at c.in_default.ensures in
+    ahead_on k.cells (k.action c.args.n) c.args.s (value_behind k c.args.n) (reached c.t_row-row.result c.loop-end.at) k.cells.states (to_z w128 c.loop-end.worth-bits) c.loop-end.invariant.within none c.loop-end.invariant.sum

@@ -1,0 +1,201 @@
+//! Walks over the end states that a node may reach: from all states of a block, over one block of end states after another.
+ghost use Rattle.std.specs.Prelude.{◌≡◌, ℕ, ◌+◌, ◌<◌, ◌≤◌, length};
+ghost use Rattle.polcert_check.specs.Certificate.{controller};
+ghost use Rattle.polcert_check.specs.Walks.{AreFollowed, AreKnown, AreWalks, IsWalk, begun, value_before, walk_at};
+ghost use Rattle.polcert_check.specs.declared.blocks.TheConstants.{BLOCK};
+
+use crate::blocks::{BLOCK, Block};
+use crate::certificate::Certificate;
+use crate::earned::weighed;
+use crate::ends::{Steps, lesser};
+use crate::known::Ends;
+use crate::walk::{next_end, place_from};
+use polcert_model::Cells;
+
+/// How far the walk from a start state is: over all end states before `from`.
+#[derive(Clone, Copy)]
+pub(crate) struct Walk {
+    pub from: usize,
+    /// What is expected behind them, and the least observation that is lacking there.
+    pub steps: Steps,
+}
+
+/// A walk that is not begun.
+const BEGUN: Walk = Walk {
+    from: 0,
+    steps: Steps {
+        worth: 0,
+        missing: None,
+    },
+};
+
+/// The walks from the states of a block, and what the node expects behind the block of end states that they go over.
+#[derive(Drop)]
+pub(crate) struct Walks {
+    pub walks: [Walk; BLOCK],
+    pub ends: Ends,
+    ghost room: { length walks ≡ BLOCK },
+}
+
+/// Goes on with the walk from state `s` over a block of end states, which it does not stand before.
+fn go_on<C: Cells>(
+    certificate: &Certificate<'_, C>,
+    n: usize,
+    s: usize,
+    ends: &mut Ends,
+    walk: Walk,
+) -> Walk
+    requires node { n < (controller certificate.now).nodes }
+    requires start { s < (controller certificate.now).cells.states }
+    requires within { ends.old.block.until ≤ (controller certificate.now).cells.states }
+    requires known { AreKnown (controller certificate.now) n ends.old.block ends.old.known ends.old.worths }
+    requires walk { IsWalk (controller certificate.now) n s ends.old.block.first walk }
+    ensures block { ends.new.block ≡ ends.old.block }
+    ensures known { AreKnown (controller certificate.now) n ends.new.block ends.new.known ends.new.worths }
+    ensures walk { IsWalk (controller certificate.now) n s ends.new.block.until result }
+{
+    let until = ends.block.until;
+    if until <= walk.from {
+        return walk;
+    }
+    let cells = certificate.cells;
+    let a = certificate.graph.action(n);
+    let row = cells.t_row(a, s);
+    let mut at = place_from(row, walk.from);
+    let mut worth = walk.steps.worth;
+    let mut missing = walk.steps.missing;
+    while let Some(end) = next_end(cells, a, s, row, at) {
+        if end.column >= until {
+            return Walk {
+                from: end.column,
+                steps: Steps { worth, missing },
+            };
+        }
+        let step = ends.behind(certificate, n, end.column);
+        worth += weighed(end.weight, step.worth);
+        missing = lesser(missing, step.missing);
+        at = end.next;
+    }
+    Walk {
+        from: cells.states(),
+        steps: Steps { worth, missing },
+    }
+}
+
+/// What node `n` expects at state `s`, over what was found behind every end state.
+fn worth_ahead<C: Cells>(
+    certificate: &Certificate<'_, C>,
+    n: usize,
+    s: usize,
+    worths: &[i128],
+) -> i128
+    requires node { n < (controller certificate.now).nodes }
+    requires start { s < (controller certificate.now).cells.states }
+    requires room { (controller certificate.now).cells.states ≤ length worths.now }
+    requires followed { AreFollowed (controller certificate.now) n (controller certificate.now).cells.states worths.now }
+    ensures { result ≡ value_before (controller certificate.now) n s (controller certificate.now).cells.states }
+{
+    let cells = certificate.cells;
+    let a = certificate.graph.action(n);
+    let mut worth: i128 = 0;
+    let row = cells.t_row(a, s);
+    let mut at = 0;
+    while let Some(end) = next_end(cells, a, s, row, at) {
+        worth += weighed(end.weight, worths[end.column]);
+        at = end.next;
+    }
+    worth
+}
+
+impl Walks {
+    /// Room for walks.
+    pub(crate) fn new() -> Self {
+        Walks {
+            walks: [BEGUN; BLOCK],
+            ends: Ends::new(),
+        }
+    }
+
+    /// Walks that are not begun, from so many states.
+    fn begin(&mut self, count: usize)
+        requires { count ≤ BLOCK }
+        ensures { (i : ℕ) → i < count → walk_at self.new.walks i ≡ begun }
+    {
+        for i in 0..count {
+            self.walks[i] = BEGUN;
+        }
+    }
+
+    /// Goes on with all walks over the block of end states that begins with this one, before which none of them stands. Answers the
+    /// next one before which none of them stands.
+    fn through<C: Cells>(
+        &mut self,
+        certificate: &Certificate<'_, C>,
+        n: usize,
+        block: Block,
+        first: usize,
+    ) -> usize
+        requires node { n < (controller certificate.now).nodes }
+        requires within { block.until ≤ (controller certificate.now).cells.states }
+        requires end { first < (controller certificate.now).cells.states }
+        requires walks { AreWalks (controller certificate.now) n block first self.old.walks }
+        ensures further { first < result }
+        ensures walks { AreWalks (controller certificate.now) n block result self.new.walks }
+    {
+        let states = certificate.cells.states();
+        self.ends.begin(Block::from(first, states));
+        let mut nearest = states;
+        for s in block.first..block.until {
+            let i = s - block.first;
+            let walk = go_on(certificate, n, s, &mut self.ends, self.walks[i]);
+            nearest = nearest.min(walk.from);
+            self.walks[i] = walk;
+        }
+        nearest
+    }
+
+    /// Walks from each state of a block over all end states, over what was found behind each of them.
+    fn walk_at_once<C: Cells>(&mut self, certificate: &Certificate<'_, C>, n: usize, block: Block)
+        requires node { n < (controller certificate.now).nodes }
+        requires within { block.until ≤ (controller certificate.now).cells.states }
+        requires few { (controller certificate.now).cells.states ≤ BLOCK }
+        requires followed { AreFollowed (controller certificate.now) n (controller certificate.now).cells.states self.old.ends.worths }
+        ensures { AreWalks (controller certificate.now) n block (controller certificate.now).cells.states self.new.walks }
+    {
+        let states = certificate.cells.states();
+        for s in block.first..block.until {
+            let worth = worth_ahead(certificate, n, s, &self.ends.worths);
+            self.walks[s - block.first] = Walk {
+                from: states,
+                steps: Steps {
+                    worth,
+                    missing: None,
+                },
+            };
+        }
+    }
+
+    /// Walks from all states of a block over all end states that node `n` may reach. Mostly the states are one block, and no successor is
+    /// missing: then the sums are added up without asking for either.
+    pub(crate) fn walk<C: Cells>(
+        &mut self,
+        certificate: &Certificate<'_, C>,
+        n: usize,
+        block: Block,
+    )
+        requires node { n < (controller certificate.now).nodes }
+        requires within { block.until ≤ (controller certificate.now).cells.states }
+        ensures { AreWalks (controller certificate.now) n block (controller certificate.now).cells.states self.new.walks }
+    {
+        let states = certificate.cells.states();
+        if states <= BLOCK && self.ends.fill(certificate, n) {
+            self.walk_at_once(certificate, n, block);
+            return;
+        }
+        self.begin(block.until - block.first);
+        let mut first = 0;
+        while first < states {
+            first = self.through(certificate, n, block, first);
+        }
+    }
+}
