@@ -1,7 +1,7 @@
 #!/usr/bin/env python3
 """Makes the inputs of the benchmarks: models, policy graphs and vectors of known sizes, the same at each call.
 
-    inputs.py FOLDER            writes all of them into FOLDER
+    inputs.py FOLDER            writes all of them into FOLDER, but for those of MOST
     inputs.py FOLDER NAME ..    writes those
 
 Nothing here is a test: `tests/bench/run` and `tests/bench/turns` time the program on them, and docs/SPEED.md has the times.
@@ -245,6 +245,68 @@ def everything_alike(folder):
         out.write('T: * uniform\nO: * uniform\nR: * : * : * : * 1\n')
 
 
+def many_states_check(folder, states):
+    """40 nodes over a sparse model of so many states, 4 actions and 30 observations: 4 successors and 3 observations each, and a
+    reward for each action and start state; every pair passes."""
+    generator = random.Random(16)
+    name = f'states{states}'
+    with open(f'{folder}/{name}.POMDP', 'w') as out:
+        preamble(out, states, 4, 30)
+        single_cells(out, 'T', generator, pairs(4, states), states, 4)
+        single_cells(out, 'O', generator, pairs(4, states), 30, 3)
+        for action in range(4):
+            rewards(out, generator, action, states, '* : *')
+    graph_and_vectors(folder, name, 40, states, 4, 30, 17)
+
+
+def most_cells(folder):
+    """As many cells of T above 0 as a large table may have, a line each (some 400 MB): 10,000 states of 1,677 successors each, all
+    but the last of the same weight."""
+    with open(f'{folder}/most_cells.POMDP', 'w') as out:
+        preamble(out, 10_000, 1, 1)
+        for state in range(10_000):
+            ends = [(state + step) % 10_000 for step in range(1677)]
+            out.writelines(f'T: 0 : {state} : {end} 0.000596\n' for end in ends[:-1])
+            out.write(f'T: 0 : {state} : {ends[-1]} {decimal(1_000_000 - 1676 * 596)}\n')
+        out.write('O: * uniform\n')
+
+
+def most_rewards(folder):
+    """As many entries of R as there may be where R is large: 1,048,576 single rewards at random of 10,000 states."""
+    generator = random.Random(18)
+    with open(f'{folder}/most_rewards.POMDP', 'w') as out:
+        preamble(out, 10_000, 2, 500)
+        out.write('T: * identity\nO: * uniform\n')
+        for _ in range(1_048_576):
+            places = ' : '.join(str(generator.randrange(count)) for count in (2, 10_000, 10_000, 500))
+            out.write(f'R: {places} {generator.randrange(1, 10)}\n')
+
+
+def most_rows(folder):
+    """Ten million rows of T and as many of O: 1,000 actions of 10,000 states."""
+    with open(f'{folder}/most_rows.POMDP', 'w') as out:
+        preamble(out, 10_000, 1000, 1)
+        out.write('T: * identity\nO: * uniform\nR: * : * : * : * 1\n')
+
+
+def most_pairs(folder):
+    """As many pairs of a state and an observation as there may be, all of them above 0, in three actions of 10,000 states."""
+    with open(f'{folder}/most_pairs.POMDP', 'w') as out:
+        preamble(out, 10_000, 3, 500)
+        out.write('T: * identity\n')
+        out.writelines(f'O: * : * : {seen} 0.002\n' for seen in range(500))
+        out.write('R: * : * : * : * 1\n')
+    graph_and_vectors(folder, 'most_pairs', 20, 10_000, 3, 500, 19)
+
+
+# what a text within the limits costs at most; made only where they are named
+MOST = {
+    'most_cells': most_cells,
+    'most_rewards': most_rewards,
+    'most_rows': most_rows,
+    'most_pairs': most_pairs,
+}
+
 INPUTS = {
     'sparse': sparse_cells,
     'sparse_half': lambda folder: sparse_cells(folder, 500),
@@ -266,13 +328,17 @@ INPUTS = {
     'vectors': long_vectors,
     'columns': alike_cells,
     'alike': everything_alike,
+    'states1000': lambda folder: many_states_check(folder, 1000),
+    'states2500': lambda folder: many_states_check(folder, 2500),
+    'states5000': lambda folder: many_states_check(folder, 5000),
+    'states10000': lambda folder: many_states_check(folder, 10_000),
 }
 
 
 def main(folder, names):
     os.makedirs(folder, exist_ok=True)
     for name in names or INPUTS:
-        INPUTS[name](folder)
+        (INPUTS | MOST)[name](folder)
 
 
 if __name__ == '__main__':

@@ -100,6 +100,7 @@ some_scale c =
       states = limits.states;
       actions = limits.actions;
       observations = limits.observations;
+      pairs = limits.pairs;
       discount = limits.discount;
       t_scale = refl;
       o_scale = refl;

@@ -1,7 +1,7 @@
 -- States, actions and observations: so many, or names in order.
 -- Source: the POMDP file format page at pomdp.org, "states:", "actions:" and "observations:": "either a number or a
--- list of names"; an element of a list may also be given by its number, from 0 on. Our own: at most 1,000 elements
--- of a kind, all names of a list different, and leading zeros of a number.
+-- list of names"; an element of a list may also be given by its number, from 0 on. Our own: how many elements of a kind there
+-- may be, all names of a list different, and leading zeros of a number.
 use Rattle.std.specs.Prelude.{◌≡◌, ◌≢◌, ℕ, ◌<◌, ◌≤◌, List, [], ◌∷◌, length, map, Option, Some, None, All, AllPairs, bytes_eq, position, slice_get}
 use Rattle.polcert_text.specs.Cut.{Lexeme}
 pub use Rattle.polcert_cells.specs.declared.elements.Elements.{Elements}
@@ -30,7 +30,7 @@ pub data StandsFor (elements : Elements) (l : Lexeme) (index : ℕ) : Type 0 whe
 
 -- how many elements of each kind there may be
 abbrev pub most_states : ℕ
-most_states = 1000
+most_states = 10_000
 
 abbrev pub most_actions : ℕ
 most_actions = 1000
@@ -42,6 +42,10 @@ most_observations = most_states
 -- how many elements of a kind there may be, whichever the kind
 abbrev pub most_elements : ℕ
 most_elements = most_states
+
+-- how many pairs of a state and an observation there may be
+abbrev pub most_pairs : ℕ
+most_pairs = 5_000_000
 
 -- The lexemes behind `states:`, `actions:` or `observations:` are a count, or different names: at most so many.
 pub data AreElements (most : ℕ) : List Lexeme → Elements → Type 0 where

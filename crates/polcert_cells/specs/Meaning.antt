@@ -7,7 +7,7 @@ use Rattle.polcert_text.specs.Numbers.{largest}
 use Rattle.polcert_cells.specs.declared.entry.Table.TheVariants.{Transition, Observation}
 use Rattle.polcert_cells.specs.declared.elements.Kind.{Kind}
 use Rattle.polcert_cells.specs.declared.elements.Kind.TheVariants as kinds
-use Rattle.polcert_cells.specs.Elements.{Elements, count_of, most_states, most_actions, most_observations}
+use Rattle.polcert_cells.specs.Elements.{Elements, count_of, most_states, most_actions, most_observations, most_pairs}
 use Rattle.polcert_cells.specs.Numbers.{one}
 use Rattle.polcert_cells.specs.Preamble.{Preamble, is_mdp, observed}
 use Rattle.polcert_cells.specs.declared.entry.Entry.{Entry}
@@ -97,6 +97,7 @@ pub record IsWithinLimits (m : Meaning) : Type 0 where
   pub states : IsCount most_states (states_of m)
   pub actions : IsCount most_actions (actions_of m)
   pub observations : IsCount most_observations (observations_of m)
+  pub pairs : states_of m * observations_of m ≤ most_pairs
   pub discount : m.preamble.discount ≤ one
   pub t : (a s e : ℕ) → a < actions_of m → s < states_of m → e < states_of m → m.t a s e ≤ t_scale m
   pub o : (a e z : ℕ) → a < actions_of m → e < states_of m → z < observations_of m → m.o a e z ≤ o_scale m

@@ -3,7 +3,7 @@
 -- are in millionths.
 use Rattle.std.specs.Prelude.{◌≡◌, ℕ, ◌*◌, ◌<◌, ◌≤◌, ℤ, unsigned_abs}
 use Rattle.polcert_text.specs.Numbers.{largest}
-use Rattle.polcert_cells.specs.Elements.{most_states, most_actions, most_observations}
+use Rattle.polcert_cells.specs.Elements.{most_states, most_actions, most_observations, most_pairs}
 use Rattle.polcert_cells.specs.Numbers.{one}
 use Rattle.polcert_cells.specs.Meaning.{Meaning, states_of, actions_of, observations_of, t_scale, o_scale, sum_below, IsCount}
 
@@ -47,6 +47,7 @@ pub record IsWithinLimits (m : Table) : Type 0 where
   pub states : IsCount most_states m.states
   pub actions : IsCount most_actions m.actions
   pub observations : IsCount most_observations m.observations
+  pub pairs : m.states * m.observations ≤ most_pairs
   pub discount : m.discount ≤ one
   pub t_scale : m.t_scale ≡ one * m.states
   pub o_scale : m.o_scale ≡ one * m.observations

@@ -5,7 +5,7 @@ ghost use Rattle.polcert_cells.specs.Elements.{count_of, number_of, name_of};
 use crate::names::Names;
 
 /// The most states that a model has.
-pub const MOST_STATES: usize = 1000;
+pub const MOST_STATES: usize = 10_000;
 
 /// The most actions that a model has.
 pub const MOST_ACTIONS: usize = 1000;

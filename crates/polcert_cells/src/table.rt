@@ -14,7 +14,7 @@ pub trait Cells {
     // What the readers answer.
     ghost table: { Self → Table };
 
-    /// How many states there are: 1 to 1,000.
+    /// How many states there are: 1 to 10,000.
     fn states(&self) -> usize
         ensures { result ≡ (table self.now).states };
 
@@ -22,7 +22,7 @@ pub trait Cells {
     fn actions(&self) -> usize
         ensures { result ≡ (table self.now).actions };
 
-    /// How many observations there are: 1 to 1,000.
+    /// How many observations there are: 1 to 10,000.
     fn observations(&self) -> usize
         ensures { result ≡ (table self.now).observations };
 

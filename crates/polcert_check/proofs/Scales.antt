@@ -1,7 +1,8 @@
 -- How large the products of the scales are: one number, and the room that it leaves for every sum.
-use Rattle.std.proofs.Common.{ℕ, ◌*◌, ◌<◌, ◌≤◌, arith}
-use Rattle.std.proofs.Math.Nat.{mul-le-mul, mul-le-mul_right}
+use Rattle.std.proofs.Common.{◌≡◌, ◌∙◌, ℕ, ◌*◌, ◌<◌, ◌≤◌, sym, ap, arith}
+use Rattle.std.proofs.Math.Nat.{mul_assoc, mul_comm, mul-le-mul_left, mul-le-mul_right}
 use Rattle.polcert_text.specs.Numbers.{largest}
+use Rattle.polcert_cells.specs.Elements.{most_pairs}
 use Rattle.polcert_cells.specs.Tables.{Table, IsWithinLimits}
 use Rattle.polcert_check.specs.Horizon.{one}
 use Rattle.polcert_check.specs.Ranges.{most_scales, most_sum}
@@ -10,12 +11,14 @@ pub scales : (m : Table) → IsWithinLimits m → (0 < m.t_scale) × (0 < m.o_sc
 unfolding one
 scales m limits = (omega (arith, limits.t_scale, limits.states.0), omega (arith, limits.o_scale, limits.observations.0))
 
+products_of : (a b s z : ℕ) → (a * s) * (b * z) ≡ a * b * (s * z)
+products_of a b s z = mul_assoc a s (b * z) ∙ ap (λ x. a * x) (sym (mul_assoc s b z) ∙ ap (λ x. x * z) (mul_comm s b) ∙ mul_assoc b s z) ∙ sym (mul_assoc a b (s * z))
+
 pub scales_le : (m : Table) → IsWithinLimits m → m.t_scale * m.o_scale ≤ most_scales
 unfolding one
 scales_le m limits =
-    let t : m.t_scale ≤ 1000000000 = omega (arith, limits.t_scale, limits.states.1) in
-    let o : m.o_scale ≤ 1000000000 = omega (arith, limits.o_scale, limits.observations.1) in
-    mul-le-mul t o
+    let pairs : 1000000 * 1000000 * (m.states * m.observations) ≤ 1000000 * 1000000 * most_pairs = mul-le-mul_left (1000000 * 1000000) limits.pairs in
+    rw (limits.t_scale, limits.o_scale, products_of 1000000 1000000 m.states m.observations) pairs
 
 -- a row of either table is no larger than a row of both
 row_of_both : (m : Table) → IsWithinLimits m → (x b : ℕ) → m.t_scale * (m.o_scale * x) ≤ b → m.o_scale * x ≤ b

@@ -36,6 +36,7 @@ sided_limits side c limits = record {
   states = limits.states;
   actions = limits.actions;
   observations = limits.observations;
+  pairs = limits.pairs;
   discount = limits.discount;
   t_scale = limits.t_scale;
   o_scale = limits.o_scale;

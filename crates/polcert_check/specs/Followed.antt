@@ -23,6 +23,7 @@ followed_is_within c n limits = record {
   states = limits.states;
   actions = limits.actions;
   observations = limits.observations;
+  pairs = limits.pairs;
   discount = limits.discount;
   t_scale = limits.t_scale;
   o_scale = limits.o_scale;

@@ -21,7 +21,7 @@ ValuesAreWithin c = (n s : ℕ) → n < c.nodes → s < c.cells.states → unsig
 
 -- the largest product of the scales of T and O
 abbrev pub most_scales : ℕ
-most_scales = 1_000_000_000_000_000_000
+most_scales = 5_000_000_000_000_000_000
 
 -- the largest of what a value comes to on the scale of one step, in millionths of millionths
 abbrev pub most_sum : ℕ

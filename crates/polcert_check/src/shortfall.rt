@@ -66,7 +66,7 @@ fn amount_at<C: Cells>(certificate: &Certificate<'_, C>, n: usize, s: usize) -> 
 /// How far the value of node `n` at state `s` is above what the next step backs: above 0 where it is short.
 ///
 /// The amount is exact, on the scale of the weights of one step times 1,000,000, in millionths. In size it is at most
-/// three times the largest value on that scale, and so at most 3 * 10^37, which fits (`amounts_fit`).
+/// three times the largest value on that scale, and so at most 1.5 * 10^38, which fits (`amounts_fit`).
 pub fn amount_short<C: Cells>(
     cells: &C,
     graph: &Graph,

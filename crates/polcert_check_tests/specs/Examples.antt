@@ -41,6 +41,7 @@ even_is_within b = record {
   states = (lit< tt, lit< tt);
   actions = (lit< tt, lit< tt);
   observations = (lit< tt, lit< tt);
+  pairs = lit< tt;
   discount = discount_le b;
   t_scale = refl;
   o_scale = refl;

@@ -21,6 +21,9 @@ use Rattle.polcert_cells.specs.Entry as entries
 use Rattle.polcert_cells.specs.Entry.{ArePlaces, IsEntry}
 use Rattle.polcert_cells.specs.Meaning.{HasProperRows, sum_below}
 use Rattle.polcert_format.specs.Text as texts
+use Rattle.polcert_cells.specs.declared.entry.Table.{Table}
+use Rattle.polcert_format.specs.Limits.{IsLarge, HasFewCells}
+use Rattle.polcert_format.proofs.CellLimits.{few_cells, not_large}
 use Rattle.polcert_format.specs.Text.{Known, nothing_known, IsInPreamble, IsComplete, AreRight, IsRightText, Denotes}
 use Rattle.polcert_examples.specs.Examples.{name, numeral, colon, transition, observation, rewards}
 use Rattle.polcert_examples.specs.Tiger.{minus, minus_whole}
@@ -161,8 +164,16 @@ pay = record {
 complete : (es : List Entry) → IsComplete (first_known es) first_preamble
 complete es = record {
   lines = record { discount = refl; costs = refl; states = refl; actions = refl; observations = refl };
-  cells = record { transitions = lit≤ tt; observations = lit≤ tt; rewards = lit≤ tt };
+  pairs = lit≤ tt;
 }
+
+few : (es : List Entry) → HasFewCells first_preamble es
+few es = few_cells first_preamble es small
+  where
+    small : (table : Table) → IsLarge first_preamble table → ⊥
+    small Transition l = not_large _ (lit≤ tt) l
+    small Observation l = not_large _ (lit≤ tt) l
+    small Reward l = not_large _ (lit≤ tt) l
 
 fresh : (k : Known) → k.start ≡ None → k.entries ≡ [] → IsInPreamble k
 fresh k s e = record { no_start = s; no_entry = e }
@@ -175,9 +186,9 @@ right =
     (texts.more States refl (texts.states (fresh _ refl refl) refl refl (counted whole_2 (lit≤ tt) (lit≤ tt)))
     (texts.more Actions refl (texts.actions (fresh _ refl refl) refl refl (counted whole_1 (lit≤ tt) (lit≤ tt)))
     (texts.more Observations refl (texts.observations (fresh _ refl refl) refl refl (counted whole_2 (lit≤ tt) (lit≤ tt)))
-    (texts.more (Cells Transition) refl (texts.entry (complete []) tt move)
-    (texts.more (Cells Observation) refl (texts.entry (complete (take 1 first_entries)) refl hear)
-    (texts.more (Cells Reward) refl (texts.entry (complete (take 2 first_entries)) tt pay)
+    (texts.more (Cells Transition) refl (texts.entry (complete []) tt move (few (take 1 first_entries)))
+    (texts.more (Cells Observation) refl (texts.entry (complete (take 1 first_entries)) refl hear (few (take 2 first_entries)))
+    (texts.more (Cells Reward) refl (texts.entry (complete (take 2 first_entries)) tt pay (few first_entries))
     texts.none)))))))
 
 pub first_taken : IsRightText first first_preamble (first_known first_entries)

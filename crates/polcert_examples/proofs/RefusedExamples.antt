@@ -6,13 +6,14 @@ use Rattle.polcert_text.specs.Cut.{Lexeme}
 use Rattle.polcert_text.specs.Numbers.{number_of, exponent_size, power_of, size_of, millionth}
 use Rattle.polcert_text.specs.declared.tokens.TokenFault.TheVariants.{Glued}
 use Rattle.polcert_format.specs.declared.fault.ItemFault.TheVariants.{Token, BeforeFirstItem, DuplicateLine, MissingLine, DiscountRange}
-use Rattle.polcert_cells.specs.declared.words.Topic.TheVariants.{Discount, Start}
+use Rattle.polcert_cells.specs.declared.words.Topic.TheVariants.{Discount, Start, Cells}
+use Rattle.polcert_cells.specs.declared.entry.Table.{Table}
 use Rattle.polcert_cells.specs.Words.{topic, topic_of}
 use Rattle.polcert_cells.specs.Numbers.{IsMillionths, none, unsigned, one}
 use Rattle.polcert_format.specs.Items.{Item, IsItem, IsDivided}
 use Rattle.polcert_format.specs.Text as texts
 use Rattle.polcert_format.specs.Text.{Known, nothing_known, IsInPreamble, IsComplete, IsRight, AreRight}
-use Rattle.polcert_format.specs.Forms.{right, start, IsFormless, IsPossible}
+use Rattle.polcert_format.specs.Forms.{right, entry, start, IsFormless, IsPossible}
 use Rattle.polcert_format.specs.Reading.{IsWrong}
 use Rattle.polcert_format.specs.FirstWrong.{wrong_front, wrong_item, wrong_last, wrong_end, IsDecided, before_items, at_word, at_end}
 use Rattle.polcert_format.specs.Reasons.{unsigned as unsigned_number}
@@ -170,6 +171,9 @@ colon_possible = record {
 not_start : Discount ≡ Start → ⊥
 not_start e = cc
 
+not_cells : {table : Table} → Discount ≡ Cells table → ⊥
+not_cells e = cc
+
 two_wrong : (further : List Lexeme) (after : Known) → IsRight nothing_known Discount (colon_at 8 ∷ numeral_at 10 (codes "2") ∷ further) after → ⊥
 two_wrong further after (texts.discount {g = g} p e c n l) =
     let r = numbers_go_on further (unsigned (two 10) none) n refl in
@@ -177,6 +181,7 @@ two_wrong further after (texts.discount {g = g} p e c n l) =
 
 two_stuck : IsFormless nothing_known Discount (colon_at 8 ∷ numeral_at 10 (codes "2") ∷ [])
 two_stuck further (right {after} r) = two_wrong further after r
+two_stuck further (entry c complete given a) = not_cells c
 two_stuck further (start s i c f) = not_start s
 
 pub above_one_stops : StopsInBody above_one DiscountRange 1 10

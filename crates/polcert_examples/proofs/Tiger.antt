@@ -27,6 +27,8 @@ use Rattle.polcert_cells.proofs.Basics.{true≢false}
 use Rattle.polcert_format.proofs.RightItems.{append_right}
 use Rattle.polcert_cells.specs.Meaning.{HasProperRows, sum_below}
 use Rattle.polcert_format.specs.Text as texts
+use Rattle.polcert_format.specs.Limits.{IsLarge, HasFewCells}
+use Rattle.polcert_format.proofs.CellLimits.{few_cells, not_large}
 use Rattle.polcert_format.specs.Text.{Known, nothing_known, IsInPreamble, IsComplete, IsRight, AreRight, Denotes}
 use Rattle.polcert_examples.specs.Examples.{name, numeral, colon, observation, rewards, whole}
 use Rattle.polcert_examples.specs.Tiger.{star, minus, tiger, tiger_states, tiger_actions, tiger_preamble, tiger_entries, tiger_known, tiger_model, minus_whole}
@@ -237,15 +239,23 @@ minus_hundred = numbers.minus refl (n_100 true (minus_whole 100) e_minus_100) nu
 complete : (es : List Entry) → IsComplete (tiger_known es) tiger_preamble
 complete es = record {
   lines = record { discount = refl; costs = refl; states = refl; actions = refl; observations = refl };
-  cells = record { transitions = lit≤ tt; observations = lit≤ tt; rewards = lit≤ tt };
+  pairs = lit≤ tt;
 }
+
+few : (es : List Entry) → HasFewCells tiger_preamble es
+few es = few_cells tiger_preamble es small
+  where
+    small : (table : Table) → IsLarge tiger_preamble table → ⊥
+    small Transition l = not_large _ (lit≤ tt) l
+    small Observation l = not_large _ (lit≤ tt) l
+    small Reward l = not_large _ (lit≤ tt) l
 
 fresh : (k : Known) → k.start ≡ None → k.entries ≡ [] → IsInPreamble k
 fresh k s e = record { no_start = s; no_entry = e }
 
 one_entry : (es : List Entry) (items : List Item) (table : Table) (body : List Lexeme) (word : List ℕ) (e : Entry) (last : Known) → topic (name word) ≡ Some (Cells table)
     → IsEntry tiger_preamble table body e → AreRight (tiger_known (es ++ e ∷ [])) items last → AreRight (tiger_known es) (an_item word body ∷ items) last
-one_entry es items table body word e last t a rest = texts.more (Cells table) t (texts.entry (complete es) (given table) a) rest
+one_entry es items table body word e last t a rest = texts.more (Cells table) t (texts.entry (complete es) (given table) a (few (es ++ e ∷ []))) rest
   where
     given : (table : Table) → entries.MayBeGiven tiger_preamble table
     given Transition = tt

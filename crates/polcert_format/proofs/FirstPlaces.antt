@@ -8,12 +8,11 @@ use Rattle.polcert_cells.specs.declared.entry.Table.TheVariants.{Transition, Obs
 use Rattle.polcert_cells.specs.declared.entry.Place.{Place}
 use Rattle.polcert_cells.specs.declared.entry.Body.{Body}
 use Rattle.polcert_cells.specs.declared.entry.Body.TheVariants.{Probabilities, Rewards, Uniform, Identity}
-use Rattle.polcert_cells.specs.declared.words.Topic.TheVariants.{Cells}
 use Rattle.polcert_cells.specs.declared.elements.Elements.{Elements}
 use Rattle.polcert_cells.specs.Entry as entries
 use Rattle.polcert_cells.specs.Entry.{ArePlaces, IsEntry, forms}
-use Rattle.polcert_format.specs.Text as texts
-use Rattle.polcert_format.specs.Text.{Known, IsRight}
+use Rattle.polcert_cells.specs.declared.entry.Entry.{Entry}
+use Rattle.polcert_cells.specs.Preamble.{Preamble}
 
 -- each form has places
 no_form_without_places : (mdp : Bool) (table : Table) (body : Body) → list_any (λ n. n == 0) (forms mdp table body) ≡ true → ⊥
@@ -44,6 +43,5 @@ first_colon : (mdp : Bool) (table : Table) (body : Body) {ds : List Elements} {x
 first_colon mdp table body us entries.none form = absurd (no_form_without_places mdp table body form)
 first_colon mdp table body us (entries.more {colon = colon} {l = l} {ls = ls} c a rest) form = record { colon = colon; place = l; rest = ls ++ us; whole = refl; colon_is = c }
 
-pub entry_begins : (k after : Known) (table : Table) (body : List Lexeme) → IsRight k (Cells table) body after → BeginsWithPlace body
-entry_begins k after table body (texts.entry {e = e} complete given a) =
-    subst BeginsWithPlace (sym a.whole) (first_colon _ table e.body a.rest a.places a.form)
+pub entry_begins : (p : Preamble) (table : Table) (body : List Lexeme) (e : Entry) → IsEntry p table body e → BeginsWithPlace body
+entry_begins p table body e a = subst BeginsWithPlace (sym a.whole) (first_colon _ table e.body a.rest a.places a.form)

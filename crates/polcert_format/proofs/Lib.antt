@@ -1,3 +1,4 @@
+pub mod CellLimits
 pub mod DecidedLaws
 pub mod Dividing
 pub mod FirstNumbers

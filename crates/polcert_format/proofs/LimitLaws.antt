@@ -10,7 +10,7 @@ use Rattle.polcert_cells.specs.declared.words.Topic.{Topic}
 use Rattle.polcert_cells.specs.Numbers.{IsMillionths, AreNumbers}
 use Rattle.polcert_cells.specs.Numbers as numbers
 use Rattle.polcert_cells.specs.declared.elements.Elements.{Elements}
-use Rattle.polcert_cells.specs.Elements.{count_of, most_states, most_actions, most_observations, AreElements, counted, named}
+use Rattle.polcert_cells.specs.Elements.{count_of, most_states, most_actions, most_observations, most_pairs, AreElements, counted, named}
 use Rattle.polcert_format.specs.Items.{Item}
 use Rattle.polcert_cells.specs.Preamble.{Preamble, observed}
 use Rattle.polcert_cells.specs.declared.entry.Body.{Body}
@@ -153,7 +153,7 @@ right_within k t ls next w (texts.observations p e c a) = record { start = w.sta
 right_within k t ls next w (texts.start {p = q} {shares = weights} p c a) =
     let count : IsCount most_states (count_of q.states) = subst (CountWithin most_states) c.lines.states w.states in
     record { start = subst (λ o. StartWithin o (Some weights)) (sym c.lines.states) (start_fair q.states _ weights count.0 count.1 a); discount = w.discount; states = w.states; actions = w.actions; observations = w.observations; entries = w.entries }
-right_within k t ls next w (texts.entry {e = e} c g a) = record { start = w.start; discount = w.discount; states = w.states; actions = w.actions; observations = w.observations; entries = one_more_within k.entries e w.entries (body_within a.body) }
+right_within k t ls next w (texts.entry {e = e} c g a f) = record { start = w.start; discount = w.discount; states = w.states; actions = w.actions; observations = w.observations; entries = one_more_within k.entries e w.entries (body_within a.body) }
 
 pub all_within : (k : Known) (items : List Item) (end : Known) → KnownWithin k → AreRight k items end → KnownWithin end
 all_within k items end w texts.none = w
@@ -195,6 +195,7 @@ within_limits ls m d =
       states = subst (λ (q : Preamble). IsCount most_states (count_of q.states)) (sym p) (subst (CountWithin most_states) c.lines.states w.states);
       actions = subst (λ (q : Preamble). IsCount most_actions (count_of q.actions)) (sym p) (subst (CountWithin most_actions) c.lines.actions w.actions);
       observations = subst (λ (q : Preamble). IsCount most_observations (count_of (observed q))) (sym p) (line_within most_observations d.preamble.observations d.preamble.states (subst (CountWithin most_observations) c.lines.observations w.observations) (subst (CountWithin most_states) c.lines.states w.states));
+      pairs = subst (λ (q : Preamble). count_of q.states * count_of (observed q) ≤ most_pairs) (sym p) c.pairs;
       discount = subst (λ (q : Preamble). q.discount ≤ 1_000_000) (sym p) (subst DiscountWithin c.lines.discount w.discount);
       t = λ a s e x y z. subst (λ n. m.t a s e ≤ n) (d.rows.transitions a s x y) (one_of_sum (m.t a s) (states_of m) e z);
       o = λ a e o x y z. subst (λ n. m.o a e o ≤ n) (d.rows.observations a e x y) (one_of_sum (m.o a e) (observations_of m) o z);

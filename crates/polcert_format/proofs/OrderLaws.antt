@@ -11,18 +11,17 @@ use Rattle.polcert_cells.specs.Entry.{MayBeGiven}
 use Rattle.polcert_cells.specs.declared.words.Topic.{Topic}
 use Rattle.polcert_cells.specs.declared.words.Topic.TheVariants.{Discount, Values, States, Actions, Observations, Start, Cells}
 use Rattle.polcert_cells.specs.declared.elements.Elements.{Elements}
-use Rattle.polcert_cells.specs.declared.elements.Elements.TheVariants.{Count}
-use Rattle.polcert_cells.specs.Elements.{count_of}
-use Rattle.polcert_cells.specs.Preamble.{Preamble, observed, rewarded}
+use Rattle.polcert_cells.specs.Elements.{count_of, most_pairs}
+use Rattle.polcert_cells.specs.Preamble.{Preamble, observed}
 use Rattle.polcert_format.specs.Text as texts
-use Rattle.polcert_format.specs.Text.{Known, IsInPreamble, HasLines, IsWithinCells, IsComplete, IsRight, most_cells}
-use Rattle.polcert_format.specs.Order.{has_entries, has_all_lines, count_or, count_in, cells_are_too_many, preamble_fault, is_unobserved, fault_behind, word_fault}
+use Rattle.polcert_format.specs.Text.{Known, IsInPreamble, HasLines, IsComplete, IsRight}
+use Rattle.polcert_format.specs.Order.{has_entries, has_all_lines, count_or, count_in, pairs_are_too_many, preamble_fault, is_unobserved, fault_behind, word_fault}
 use Rattle.polcert_format.specs.Reading.{IsWrong}
 use Rattle.polcert_cells.proofs.Basics.{or_false}
 
 -- ---- a complete preamble has no fault
 
-not_too_many : (n : ℕ) → n ≤ most_cells → nat_lt most_cells n ≡ false
+not_too_many : (n : ℕ) → n ≤ most_pairs → nat_lt most_pairs n ≡ false
 not_too_many n l = grind (arith, nat_tests)
 
 all_lines : (k : Known) (p : Preamble) → HasLines k p → has_all_lines k ≡ true
@@ -30,11 +29,11 @@ all_lines k p h = cc
 
 -- by the counts that are known
 abbrev pub are_too_many : Known → Bool
-are_too_many k = cells_are_too_many (count_in k.states) (count_in k.actions) (count_or (count_in k.states) k.observations) (count_or 1 k.observations)
+are_too_many k = pairs_are_too_many (count_in k.states) (count_or (count_in k.states) k.observations)
 
 -- by those of a preamble
 abbrev have_too_many : Preamble → Bool
-have_too_many p = cells_are_too_many (count_of p.states) (count_of p.actions) (count_of (observed p)) (count_of (rewarded p))
+have_too_many p = pairs_are_too_many (count_of p.states) (count_of (observed p))
 
 pub count_of_line : (o : Option Elements) (e : Elements) → count_or (count_of e) o ≡ count_of (unwrap_or o e)
 count_of_line None e = refl
@@ -42,21 +41,15 @@ count_of_line (Some found) e = refl
 
 same_counts : (k : Known) (p : Preamble) → HasLines k p → are_too_many k ≡ have_too_many p
 same_counts k p h =
-    (λ i. cells_are_too_many (count_in (h.states i)) (count_in (h.actions i)) (count_or (count_in (h.states i)) (h.observations i)) (count_or 1 (h.observations i)))
-    ∙ (λ i. cells_are_too_many (count_of p.states) (count_of p.actions) (count_of_line p.observations p.states i) (count_of_line p.observations (Count 1) i))
+    (λ i. pairs_are_too_many (count_in (h.states i)) (count_or (count_in (h.states i)) (h.observations i)))
+    ∙ ap (pairs_are_too_many (count_of p.states)) (count_of_line p.observations p.states)
 
-none_of_three : (a b c : Bool) → a ≡ false → b ≡ false → c ≡ false → (a || b || c) ≡ false
-none_of_three a b c p q r = cc
-
-few_cells : (p : Preamble) → IsWithinCells p → have_too_many p ≡ false
-few_cells p w = none_of_three _ _ _ (not_too_many _ w.transitions) (not_too_many _ w.observations) (not_too_many _ w.rewards)
-
--- the reason, of whether all lines came and whether there are too many cells
+-- the reason, of whether all lines came and whether there are too many pairs
 abbrev fault_of : Bool → Bool → Option ItemFault
 fault_of lines many = cond lines (cond many (Some TooManyCells) None) (Some MissingLine)
 
 pub complete_fault : (k : Known) (p : Preamble) → IsComplete k p → preamble_fault k ≡ None
-complete_fault k p c = λ i. fault_of (all_lines k p c.lines i) ((same_counts k p c.lines ∙ few_cells p c.cells) i)
+complete_fault k p c = λ i. fault_of (all_lines k p c.lines i) ((same_counts k p c.lines ∙ not_too_many _ c.pairs) i)
 
 none≢some : {A : Type 0} {o : Option A} {x : A} → o ≡ None → o ≡ Some x → ⊥
 none≢some e f = cc
@@ -93,21 +86,15 @@ given (Some d) (Some c) (Some s) (Some a) o e = record {
   observations = refl;
 }
 
-few : (n : ℕ) → nat_lt most_cells n ≡ false → n ≤ most_cells
+few : (n : ℕ) → nat_lt most_pairs n ≡ false → n ≤ most_pairs
 few n e = grind (arith, nat_tests)
-
-within : (p : Preamble) → have_too_many p ≡ false → IsWithinCells p
-within p e =
-    let outer = or_false _ _ e in
-    let inner = or_false _ _ outer.0 in
-    record { transitions = few _ inner.0; observations = few _ inner.1; rewards = few _ outer.1 }
 
 pub is_complete : (k : Known) → preamble_fault k ≡ None → (p : Preamble) × IsComplete k p
 is_complete k e =
     let both = no_fault (has_all_lines k) (are_too_many k) e in
     let g = given k.discount k.costs k.states k.actions k.observations both.0 in
     let lines : HasLines k g.preamble = record { discount = g.discount; costs = g.costs; states = g.states; actions = g.actions; observations = g.observations } in
-    (g.preamble, record { lines = lines; cells = within g.preamble (sym (same_counts k g.preamble lines) ∙ both.1) })
+    (g.preamble, record { lines = lines; pairs = few _ (sym (same_counts k g.preamble lines) ∙ both.1) })
 
 -- ---- a right item has no fault at its word
 
@@ -129,7 +116,7 @@ observed_by k p Transition h g = refl
 observed_by k p Observation h g = ap (λ o. is_none o) h.observations ∙ g
 observed_by k p Reward h g = refl
 
-cells_stand : (k : Known) (p : Preamble) (table : Table) → IsComplete k p → MayBeGiven p table → word_fault k (Cells table) ≡ None
+pub cells_stand : (k : Known) (p : Preamble) (table : Table) → IsComplete k p → MayBeGiven p table → word_fault k (Cells table) ≡ None
 cells_stand k p table c g =
     ap (λ f. fault_behind f k (Cells table)) (complete_fault k p c) ∙ ap (λ b. cond b (Some BadShape) None) (observed_by k p table c.lines g)
 
@@ -145,7 +132,7 @@ no_word_fault k next t body (texts.states p e c a) = line_stands k (is_some k.st
 no_word_fault k next t body (texts.actions p e c a) = line_stands k (is_some k.actions) p (absent k.actions e)
 no_word_fault k next t body (texts.observations p e c a) = line_stands k (is_some k.observations) p (absent k.observations e)
 no_word_fault k next t body (texts.start {p = p} i c a) = start_stands k p i c
-no_word_fault k next t body (texts.entry {p = p} {table = table} c g a) = cells_stand k p table c g
+no_word_fault k next t body (texts.entry {p = p} {table = table} c g a f) = cells_stand k p table c g
 
 pub wrong_at_word : (k : Known) (t : Topic) (fault : ItemFault) (body : List Lexeme) → word_fault k t ≡ Some fault → IsWrong k t body
 wrong_at_word k t fault body e after taken = none≢some (no_word_fault k after t body taken) e

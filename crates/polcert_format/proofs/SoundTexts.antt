@@ -120,7 +120,7 @@ next_sound k t ls next h (texts.states i e c a) = λ p b. no_entries k p i.no_en
 next_sound k t ls next h (texts.actions i e c a) = λ p b. no_entries k p i.no_entry
 next_sound k t ls next h (texts.observations i e c a) = λ p b. no_entries k p i.no_entry
 next_sound k t ls next h (texts.start i c a) = λ p b. no_entries k p i.no_entry
-next_sound k t ls next h (texts.entry {p = q} {table = table} {e = entry} c g a) = λ p b.
+next_sound k t ls next h (texts.entry {p = q} {table = table} {e = entry} c g a f) = λ p b.
     let lines : HasLines k p = record { discount = b.discount; costs = b.costs; states = b.states; actions = b.actions; observations = b.observations } in
     let here : IsSoundEntry p entry = subst (λ (r : Preamble). IsSoundEntry r entry) (one_preamble k q p c.lines lines) (right_entry_sound q table ls entry a) in
     All-append (IsSoundEntry p) k.entries (entry ∷ []) (h p lines) (just_one (IsSoundEntry p) entry here)

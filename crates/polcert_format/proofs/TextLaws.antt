@@ -60,7 +60,7 @@ one_right k t ls x y (observations p e c a) (observations q f d b) = ap (λ (g :
 one_right k t ls x y (start {p = p} {shares = f} i a s) (start {p = q} j b r) =
     let same = one_preamble k p q a b in
     ap (λ (g : Shares). record k { start = Some g }) (one_start q.states ls _ _ (subst (λ (w : Preamble). IsStart w.states ls f) same s) r)
-one_right k t ls x y (entry {p = p} {table = table} {e = f} a g s) (entry {p = q} b h r) =
+one_right k t ls x y (entry {p = p} {table = table} {e = f} a g s few) (entry {p = q} b h r fewer) =
     let same = one_preamble k p q a b in
     ap (λ (g : Entry). record k { entries = k.entries ++ g ∷ [] }) (one_entry q table ls _ _ (subst (λ (w : Preamble). IsEntry w table ls f) same s) r)
 

@@ -7,11 +7,15 @@ use Rattle.polcert_text.specs.Cut.{Lexeme}
 use Rattle.polcert_text.specs.declared.lexeme.TokenKind.TheVariants.{Colon}
 use Rattle.polcert_cells.specs.declared.elements.Elements.{Elements}
 use Rattle.polcert_cells.specs.declared.words.Topic.{Topic}
-use Rattle.polcert_cells.specs.declared.words.Topic.TheVariants.{Start}
+use Rattle.polcert_cells.specs.declared.words.Topic.TheVariants.{Start, Cells}
+use Rattle.polcert_cells.specs.declared.entry.Table.{Table}
+use Rattle.polcert_cells.specs.declared.entry.Entry.{Entry}
+use Rattle.polcert_cells.specs.Entry.{MayBeGiven, IsEntry}
 use Rattle.polcert_cells.specs.Elements.{count_of, StandsFor, number_of}
 use Rattle.polcert_cells.specs.Numbers.{IsWhole, IsNumber, AreNumbers, one}
 use Rattle.polcert_cells.specs.Preamble.{Preamble}
 use Rattle.polcert_cells.specs.Words.{IsWord, IsName}
+use Rattle.polcert_format.specs.Limits.{HasFewCells}
 use Rattle.polcert_format.specs.Text.{Known, IsInPreamble, IsComplete, IsRight}
 
 -- What stands behind `start:`, whatever its numbers sum to. One number alone may be any: only another number behind it makes
@@ -30,11 +34,23 @@ pub data IsStartForm (states : Elements) : List Lexeme → Type 0 where
   listed : {word colon : Lexeme} {ls : List Lexeme} (chosen : List ℕ) → IsWord (codes "include") word ⊎ IsWord (codes "exclude") word → colon.kind ≡ Colon
       → AllZip (StandsFor states) ls chosen → IsStartForm states (word ∷ colon ∷ ls)
 
--- An item of this topic and body has the form of one that may stand behind what is known: it is right, or is a start item of
--- which only what is decided at its end may be wrong.
+-- An item of this topic and body has the form of one that may stand behind what is known: it is right, or only what is decided
+-- at its end may be wrong: of an entry, that it gives too many cells.
 pub data HasForm (k : Known) (t : Topic) (body : List Lexeme) : Type 0 where
   right : {after : Known} → IsRight k t body after → HasForm k t body
+  entry : {p : Preamble} {table : Table} {e : Entry} → t ≡ Cells table → IsComplete k p → MayBeGiven p table → IsEntry p table body e → HasForm k t body
   start : {p : Preamble} → t ≡ Start → IsInPreamble k → IsComplete k p → IsStartForm p.states body → HasForm k t body
+
+-- An entry that may stand behind what is known, and is right but for the limits of cells: with it, entries give too many.
+pub record IsTooMuch (k : Known) (t : Topic) (body : List Lexeme) : Type 0 where
+  pub p : Preamble
+  pub table : Table
+  pub e : Entry
+  pub topic_is : t ≡ Cells table
+  pub complete : IsComplete k p
+  pub may_be_given : MayBeGiven p table
+  pub entry : IsEntry p table body e
+  pub too_many : HasFewCells p (k.entries ++ e ∷ []) → ⊥
 
 -- an item of this topic hasn't even the form of one, however its body goes on
 abbrev pub IsFormless : Known → Topic → List Lexeme → Type 0

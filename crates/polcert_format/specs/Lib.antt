@@ -5,6 +5,7 @@ pub mod FullForm
 pub mod Items
 pub mod KnownPreamble
 pub mod Laws
+pub mod Limits
 pub mod Misfits
 pub mod Order
 pub mod Printable

@@ -9,8 +9,8 @@ use Rattle.polcert_cells.specs.declared.entry.Table.TheVariants.{Observation}
 use Rattle.polcert_cells.specs.declared.words.Topic.{Topic}
 use Rattle.polcert_cells.specs.declared.words.Topic.TheVariants.{Discount, Values, States, Actions, Observations, Start, Cells}
 use Rattle.polcert_cells.specs.declared.elements.Elements.{Elements}
-use Rattle.polcert_cells.specs.Elements.{count_of}
-use Rattle.polcert_format.specs.Text.{Known, most_cells}
+use Rattle.polcert_cells.specs.Elements.{count_of, most_pairs}
+use Rattle.polcert_format.specs.Text.{Known}
 
 abbrev pub has_entries : List Entry → Bool
 has_entries [] = false
@@ -51,17 +51,14 @@ count_or count (Some elements) = count_of elements
 abbrev pub count_in : Option Elements → ℕ
 count_in elements = count_or 0 elements
 
--- by how many elements are observed, and how many a reward depends on beside the action and the states
-abbrev pub cells_are_too_many : ℕ → ℕ → ℕ → ℕ → Bool
-cells_are_too_many states actions observed rewarded =
-    nat_lt most_cells (actions * states * states) || nat_lt most_cells (actions * states * observed)
-    || nat_lt most_cells (actions * states * states * rewarded)
+-- by how many elements are observed
+abbrev pub pairs_are_too_many : ℕ → ℕ → Bool
+pairs_are_too_many states observed = nat_lt most_pairs (states * observed)
 
--- why the preamble isn't complete: a line is missing, or else a table has too many cells
+-- why the preamble isn't complete: a line is missing, or else there are too many pairs of a state and an observation
 abbrev pub preamble_fault : Known → Option ItemFault
 preamble_fault k =
-    if has_all_lines k then
-    (if cells_are_too_many (count_in k.states) (count_in k.actions) (count_or (count_in k.states) k.observations) (count_or 1 k.observations) then Some TooManyCells else None)
+    if has_all_lines k then (if pairs_are_too_many (count_in k.states) (count_or (count_in k.states) k.observations) then Some TooManyCells else None)
     else Some MissingLine
 
 -- an item of O in an MDP

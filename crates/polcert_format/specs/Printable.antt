@@ -1,9 +1,9 @@
 -- Models that are not too large to print.
 -- Our own: the file format page at pomdp.org sets no limit.
-use Rattle.std.specs.Prelude.{ℕ, ◌*◌, ◌≤◌}
+use Rattle.std.specs.Prelude.{◌*◌, ◌≤◌}
 use Rattle.polcert_cells.specs.Elements.{count_of}
 use Rattle.polcert_cells.specs.Preamble.{Preamble, observed, rewarded}
-use Rattle.polcert_format.specs.Text.{most_cells}
+use Rattle.polcert_format.specs.Limits.{most_cells}
 
 -- no table has more cells than are printed
 pub record IsPrintable (p : Preamble) : Type 0 where

@@ -1,5 +1,5 @@
 -- What each reason of a refusal may stand at, in the item that is refused.
-use Rattle.std.specs.Prelude.{◌≡◌, ℕ, ◌+◌, ◌≤◌, Bool, true, false, List, [], ◌∷◌, ◌++◌, length, Some, ℤ, pos, codes, bytes_eq}
+use Rattle.std.specs.Prelude.{◌≡◌, ℕ, ◌+◌, ◌≤◌, Bool, true, false, List, [], ◌∷◌, ◌++◌, length, Some, None, ◌⊎◌, ℤ, pos, codes, bytes_eq}
 use Rattle.std.specs.List.{list_any}
 use Rattle.polcert_text.specs.Cut.{Lexeme}
 use Rattle.polcert_text.specs.Lexemes.{are_digits}
@@ -18,7 +18,9 @@ use Rattle.polcert_cells.specs.declared.words.Topic.TheVariants.{Discount, State
 use Rattle.polcert_cells.specs.Words.{topic, IsWord, IsName}
 use Rattle.polcert_cells.specs.Numbers.{IsMillionths, one}
 use Rattle.polcert_format.specs.Items.{Item, IsDivided}
-use Rattle.polcert_format.specs.FirstWrong.{TextTokens, IsDecided}
+use Rattle.polcert_format.specs.Text.{Known, nothing_known, AreRight}
+use Rattle.polcert_format.specs.Forms.{IsTooMuch}
+use Rattle.polcert_format.specs.FirstWrong.{TextTokens, IsDecided, word_place}
 
 -- a lexeme of the body stands at the place, and this is so of it
 pub record StandsIn (body : List Lexeme) (place : ℕ) (Is : Lexeme → Type 0) : Type 0 where
@@ -94,6 +96,21 @@ pub record InItem (ts : TextTokens) (number : ℕ) (Is : Topic → List Lexeme �
   pub topic_is : topic item.word ≡ Some t
   pub holds : Is t item.body
 
+-- The item of this number is an entry, right but for the limits of cells, and ends at this place.
+pub record PassesLimit (ts : TextTokens) (number place : ℕ) : Type 0 where
+  pub before : List Item
+  pub item : Item
+  pub after : List Item
+  pub divided : IsDivided ts.lexemes [] (before ++ item ∷ after)
+  pub number_is : number ≡ length before + 1
+  pub k : Known
+  pub t : Topic
+  pub known : AreRight nothing_known before k
+  pub topic_is : topic item.word ≡ Some t
+  pub too_much : IsTooMuch k t item.body
+  pub place_is : place ≡ word_place after ts.end 0
+  pub clean : after ≡ [] → ts.ending ≡ None
+
 -- a fault of a lexeme, and not that the text is too long
 abbrev pub IsLexemeFault : TokenFault → Type 0
 IsLexemeFault (token_faults.TextTooLong at) = ⊥
@@ -107,7 +124,7 @@ IsReason ts number place BeforeFirstItem = IsDecided ts number BeforeFirstItem p
 IsReason ts number place DuplicateLine = IsDecided ts number DuplicateLine place
 IsReason ts number place LateLine = IsDecided ts number LateLine place
 IsReason ts number place MissingLine = IsDecided ts number MissingLine place
-IsReason ts number place TooManyCells = IsDecided ts number TooManyCells place
+IsReason ts number place TooManyCells = IsDecided ts number TooManyCells place ⊎ PassesLimit ts number place
 IsReason ts number place (Number reason) = InItem ts number (λ t body. NumberStandsIn body place (IsRefusedNumber reason))
 IsReason ts number place ProbabilityRange = InItem ts number (λ t body. IsOfProbabilities t × NumberStandsIn body place IsNoFraction)
 IsReason ts number place DiscountRange = InItem ts number (λ t body. (t ≡ Discount) × NumberStandsIn body place IsNoFraction)

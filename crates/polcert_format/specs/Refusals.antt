@@ -3,7 +3,7 @@ use Rattle.std.specs.Prelude.{◌≡◌, ℕ, ◌+◌, true, List, [], ◌∷◌
 use Rattle.polcert_text.specs.Cut.{Lexeme}
 use Rattle.polcert_text.specs.declared.lexeme.TokenKind.TheVariants.{Numeral}
 use Rattle.polcert_format.specs.declared.fault.ItemFault.{ItemFault}
-use Rattle.polcert_format.specs.declared.fault.ItemFault.TheVariants.{Token, TextTooLong}
+use Rattle.polcert_format.specs.declared.fault.ItemFault.TheVariants.{Token, TextTooLong, TooManyCells}
 use Rattle.polcert_format.specs.declared.fault.ModelFault.{ModelFault}
 use Rattle.polcert_format.specs.declared.fault.ModelFault.TheVariants.{RowSum, Memory}
 use Rattle.polcert_format.specs.declared.fault.ModelFault.TheVariants as model_faults
@@ -14,11 +14,11 @@ use Rattle.polcert_cells.specs.Preamble.{Preamble}
 use Rattle.polcert_cells.specs.Meaning.{Meaning, meaning_of}
 use Rattle.polcert_cells.specs.Rows.{IsFirstWrongRow}
 use Rattle.polcert_format.specs.Text.{Known, nothing_known, AreRight, IsRightText, IsModelText}
-use Rattle.polcert_format.specs.Forms.{IsFormless, IsPossible}
+use Rattle.polcert_format.specs.Forms.{IsFormless, IsPossible, IsTooMuch}
 use Rattle.polcert_format.specs.Reading.{IsWrong}
 use Rattle.polcert_format.specs.FirstNumber.{IsLateIn}
 use Rattle.polcert_format.specs.FirstWrong.{TextTokens, IsFirstWrong, LiesIn, IsDecided, word_place}
-use Rattle.polcert_format.specs.Reasons.{IsReason, is_sign}
+use Rattle.polcert_format.specs.Reasons.{IsReason, PassesLimit, is_sign}
 use Rattle.polcert_format.specs.Misfits.{misfit, IsOfValue, IsMisfit}
 use Rattle.polcert_format.specs.Wants.{wanted}
 
@@ -53,13 +53,13 @@ place_or [] behind = behind
 place_or (l ∷ ls) behind = l.place
 
 -- Behind the lexemes taken the item hasn't even the form of one any more: with the next lexeme, or with the next two as a sign
--- and a numeral. Or nothing is left of it, and it isn't right as it is. The kind is so of what this place is for and of what
--- stands there.
+-- and a numeral. Or nothing is left of it, and it isn't right as it is, and not only for the limits of cells. The kind is so of
+-- what this place is for and of what stands there.
 pub data Stops (k : Known) (t : Topic) (kind : ItemFault) (taken : List Lexeme) : List Lexeme → Type 0 where
   at_lexeme : {l : Lexeme} {behind : List Lexeme} → IsFormless k t (taken ++ l ∷ []) → IsMisfit (wanted k t taken) l kind → Stops k t kind taken (l ∷ behind)
   at_number : {sign l : Lexeme} {behind : List Lexeme} → is_sign sign.kind ≡ true → l.kind ≡ Numeral → IsPossible k t (taken ++ sign ∷ [])
       → IsFormless k t (taken ++ sign ∷ l ∷ []) → IsOfValue kind → IsMisfit (wanted k t (taken ++ sign ∷ [])) l kind → Stops k t kind taken (sign ∷ l ∷ behind)
-  at_end : IsWrong k t taken → kind ≡ misfit (wanted k t taken) None → Stops k t kind taken []
+  at_end : IsWrong k t taken → (IsTooMuch k t taken → ⊥) → kind ≡ misfit (wanted k t taken) None → Stops k t kind taken []
 
 -- The place stands in the item where its lexemes so far are still possible, and with what stands there they aren't.
 -- Where nothing is left of the item and of the text, the tokens end cleanly.
@@ -105,10 +105,12 @@ pub data EndsPossible (ts : TextTokens) (number : ℕ) : Type 0 where
   in_item : IsLastTaken ts number → EndsPossible ts number
 
 -- Where the refusal of an item stands: it is decided before the item's body, or stands in the body as far as that is
--- possible, or is that of a start item's first number, or a fault of the tokens behind what is possible.
+-- possible, or at the end of an entry that gives too many cells, or is that of a start item's first number, or a fault of the
+-- tokens behind what is possible.
 pub data StandsRight (ts : TextTokens) (kind : ItemFault) (number place : ℕ) : Type 0 where
   before_body : IsDecided ts number kind place → StandsRight ts kind number place
   in_body : StopsInBody ts kind number place → StandsRight ts kind number place
+  behind_body : kind ≡ TooManyCells → PassesLimit ts number place → StandsRight ts kind number place
   of_first_number : IsLateIn ts number kind place → StandsRight ts kind number place
   of_tokens : IsOfTokens kind → EndsPossible ts number → StandsRight ts kind number place
 

@@ -2,7 +2,7 @@
 -- Source: the POMDP file format page and its grammar at pomdp.org. The lines of the preamble stand in any order, each
 -- once, before the start item and all entries; at most one start item stands before all entries. Our own: MDP files, which
 -- have no line of observations; that no other line is missing; the limits of cells; and that rows sum exactly.
-use Rattle.std.specs.Prelude.{◌≡◌, ℕ, ◌*◌, ◌≤◌, Bool, true, false, List, [], ◌∷◌, ◌++◌, pos, Option, Some, None, codes}
+use Rattle.std.specs.Prelude.{◌≡◌, ℕ, ◌≤◌, Bool, true, false, List, [], ◌∷◌, ◌++◌, pos, Option, Some, None, codes}
 use Rattle.polcert_text.specs.Cut.{Lexeme, text_rest, IsCut, text_limit}
 use Rattle.polcert_text.specs.declared.lexeme.TokenKind.TheVariants.{Colon}
 use Rattle.polcert_cells.specs.declared.entry.Table.{Table}
@@ -12,9 +12,10 @@ use Rattle.polcert_cells.specs.declared.words.Topic.TheVariants.{Discount, Value
 use Rattle.polcert_cells.specs.Words.{topic, IsWord}
 use Rattle.polcert_cells.specs.Numbers.{IsNumber, one}
 use Rattle.polcert_cells.specs.declared.elements.Elements.{Elements}
-use Rattle.polcert_cells.specs.Elements.{AreElements, count_of, most_states, most_actions, most_observations}
+use Rattle.polcert_cells.specs.Elements.{AreElements, most_states, most_actions, most_observations}
 use Rattle.polcert_format.specs.Items.{Item, IsDivided}
-use Rattle.polcert_cells.specs.Preamble.{Preamble, observed, rewarded}
+use Rattle.polcert_format.specs.Limits.{HasFewPairs, HasFewCells}
+use Rattle.polcert_cells.specs.Preamble.{Preamble}
 use Rattle.polcert_cells.specs.Entry.{MayBeGiven, IsEntry}
 use Rattle.polcert_cells.specs.declared.shares.Shares.{Shares}
 use Rattle.polcert_cells.specs.Start.{IsStart}
@@ -38,10 +39,6 @@ pub record IsInPreamble (k : Known) : Type 0 where
   pub no_start : k.start ≡ None
   pub no_entry : k.entries ≡ []
 
--- how many cells of one table there may be
-abbrev pub most_cells : ℕ
-most_cells = 16_777_216
-
 -- No line of the preamble is missing but that of observations, which an MDP leaves out, and this is what they say.
 pub record HasLines (k : Known) (p : Preamble) : Type 0 where
   pub discount : k.discount ≡ Some p.discount
@@ -50,16 +47,10 @@ pub record HasLines (k : Known) (p : Preamble) : Type 0 where
   pub actions : k.actions ≡ Some p.actions
   pub observations : k.observations ≡ p.observations
 
--- no table has too many cells
-pub record IsWithinCells (p : Preamble) : Type 0 where
-  pub transitions : count_of p.actions * count_of p.states * count_of p.states ≤ most_cells
-  pub observations : count_of p.actions * count_of p.states * count_of (observed p) ≤ most_cells
-  pub rewards : count_of p.actions * count_of p.states * count_of p.states * count_of (rewarded p) ≤ most_cells
-
 -- the preamble is complete, so that a start item, an entry or the end may stand
 pub record IsComplete (k : Known) (p : Preamble) : Type 0 where
   pub lines : HasLines k p
-  pub cells : IsWithinCells p
+  pub pairs : HasFewPairs p
 
 -- An item of this topic and body is right behind what is known, and this is known behind it.
 pub data IsRight (k : Known) : Topic → List Lexeme → Known → Type 0 where
@@ -78,7 +69,7 @@ pub data IsRight (k : Known) : Topic → List Lexeme → Known → Type 0 where
   start : {p : Preamble} {ls : List Lexeme} {shares : Shares} → IsInPreamble k → IsComplete k p
       → IsStart p.states ls shares → IsRight k Start ls (record k { start = Some shares })
   entry : {p : Preamble} {table : Table} {ls : List Lexeme} {e : Entry} → IsComplete k p → MayBeGiven p table
-      → IsEntry p table ls e → IsRight k (Cells table) ls (record k { entries = k.entries ++ e ∷ [] })
+      → IsEntry p table ls e → HasFewCells p (k.entries ++ e ∷ []) → IsRight k (Cells table) ls (record k { entries = k.entries ++ e ∷ [] })
 
 -- Each item is right behind those before it, from what was known to what is known at the end.
 pub data AreRight : Known → List Item → Known → Type 0 where

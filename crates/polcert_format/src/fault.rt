@@ -28,8 +28,9 @@ pub enum ItemFault {
     /// M7: a line of the preamble is missing where the start item, an entry or the end stands.
     #[error("a line of the preamble is missing")]
     MissingLine,
-    /// M8: no count from 1 to 1,000, and not 1 to 1,000 names.
-    #[error("neither a count from 1 to 1,000 nor as many names")]
+    /// M8: no count from 1 to the most elements of its kind (10,000 states, 1,000 actions, 10,000 observations), and not so many
+    /// names.
+    #[error("neither a count of elements within the limit nor as many names")]
     BadCount,
     /// M9: the name stands for the second time in its item.
     #[error("this name stands for the second time")]
@@ -52,8 +53,9 @@ pub enum ItemFault {
     /// M14: the word `reset`, whose meaning is left out here.
     #[error("the word `reset` is not supported")]
     Reset,
-    /// M16: a table of more than 16,777,216 cells.
-    #[error("a table of more than 16,777,216 cells")]
+    /// M16: more than 5,000,000 pairs of a state and an observation; or an entry with which entries give more of a table of more
+    /// than 16,777,216 cells than as many cells with a weight above 0, or 1,048,576 entries of R.
+    #[error("too many cells")]
     TooManyCells,
     /// M18: the start probabilities do not sum to one.
     #[error("the start probabilities do not sum to one")]

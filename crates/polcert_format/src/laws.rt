@@ -1,13 +1,13 @@
 //! Laws of the definitions: each function has an empty body, and its contract is the law.
-ghost use Rattle.std.specs.Prelude.{◌≡◌, ℕ, List, ℤ, pos, Option, Some, None, ◌+◌, ◌++◌, ◌∷◌, [], true, false, length};
+ghost use Rattle.std.specs.Prelude.{◌≡◌, ℕ, List, ℤ, pos, Option, Some, None, ◌+◌, ◌≤◌, ◌++◌, ◌∷◌, [], true, false, length};
 ghost use Rattle.std.specs.List.{list_any};
 ghost use Rattle.polcert_text.specs.Cut.{Lexeme};
 ghost use Rattle.polcert_text.specs.declared.tokens.TokenFault.{TokenFault};
 ghost use Rattle.polcert_cells.specs.declared.entry.Table.{Table};
 ghost use Rattle.polcert_cells.specs.Numbers.{AreNumbers};
 ghost use Rattle.polcert_cells.specs.declared.elements.Elements.{Elements};
-ghost use Rattle.polcert_cells.specs.Elements.{StandsFor};
-ghost use Rattle.polcert_cells.specs.Preamble.{Preamble};
+ghost use Rattle.polcert_cells.specs.Elements.{StandsFor, count_of};
+ghost use Rattle.polcert_cells.specs.Preamble.{Preamble, observed};
 ghost use Rattle.polcert_cells.specs.Entry.{IsEntry};
 ghost use Rattle.polcert_cells.specs.declared.entry.Entry.{Entry};
 ghost use Rattle.polcert_cells.specs.declared.shares.Shares.{Shares};
@@ -28,6 +28,10 @@ ghost use Rattle.polcert_format.specs.Order.{preamble_fault, word_fault};
 ghost use Rattle.polcert_format.specs.declared.fault.ModelFault.{ModelFault};
 ghost use Rattle.polcert_format.specs.Refusals.{IsRefusal, SaysOfText, place_or};
 ghost use Rattle.polcert_format.specs.Items.{Item, IsDivided};
+ghost use Rattle.polcert_format.specs.Forms.{IsTooMuch, IsPossible};
+ghost use Rattle.polcert_format.specs.Limits.{HasFewPairs, HasFewCells};
+ghost use Rattle.polcert_format.specs.Printable.{IsPrintable};
+ghost use Rattle.polcert_format.specs.Reasons.{PassesLimit};
 
 /// Each list of lexemes is divided into items in just one way.
 pub fn one_division()
@@ -176,6 +180,22 @@ pub fn one_late_refusal()
     ensures one { (ts : TextTokens) (n : ℕ) (f g : ItemFault) (p q : ℕ) →
         IsLateIn ts n f p → IsLateIn ts n g q → (f ≡ g) × (p ≡ q) }
     ensures undecided { (ts : TextTokens) (n : ℕ) (f g : ItemFault) (p q : ℕ) → IsLateIn ts n f p → IsDecided ts n g q → ⊥ }
+{}
+
+/// An entry that gives too many cells isn't right, though all of its body is possible; it is refused at one place, and nothing is
+/// decided before its body.
+pub fn one_refusal_of_cells()
+    ensures wrong { (k : Known) (t : Topic) (body : List Lexeme) → IsTooMuch k t body → IsWrong k t body }
+    ensures possible { (k : Known) (t : Topic) (body : List Lexeme) → IsTooMuch k t body → IsPossible k t body }
+    ensures one { (ts : TextTokens) (n p q : ℕ) → PassesLimit ts n p → PassesLimit ts n q → p ≡ q }
+    ensures undecided { (ts : TextTokens) (n p q : ℕ) (g : ItemFault) → PassesLimit ts n p → IsDecided ts n g q → ⊥ }
+{}
+
+/// Where there are at most 1,000 states and 1,000 observations and no table has more cells than are printed, no limit of cells is
+/// passed, whatever the entries are.
+pub fn small_models_are_within_limits()
+    ensures pairs { (p : Preamble) → count_of p.states ≤ 1000 → count_of (observed p) ≤ 1000 → HasFewPairs p }
+    ensures cells { (p : Preamble) (es : List Entry) → IsPrintable p → HasFewCells p es }
 {}
 
 /// A text that is refused, but for want of memory, isn't the text of a model.

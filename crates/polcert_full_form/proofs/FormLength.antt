@@ -16,7 +16,7 @@ use Rattle.polcert_cells.specs.declared.elements.Elements.{Elements}
 use Rattle.polcert_cells.specs.declared.elements.Elements.TheVariants.{Count, Names}
 use Rattle.polcert_cells.specs.declared.shares.Shares.{Shares}
 use Rattle.polcert_cells.specs.Numbers.{one}
-use Rattle.polcert_format.specs.Text.{most_cells}
+use Rattle.polcert_format.specs.Limits.{most_cells}
 use Rattle.polcert_format.specs.Printable.{IsPrintable}
 use Rattle.polcert_cells.specs.Elements.{count_of, most_states, most_actions, most_observations, most_elements}
 use Rattle.polcert_cells.specs.Preamble.{is_mdp, rewarded}
@@ -75,6 +75,9 @@ table_length Observation = omega arith
 table_length Reward = omega arith
 
 -- ---- rows
+an_element : (a : ℕ) → a < most_actions → a < most_elements
+an_element a l = omega (arith, l)
+
 module _ (table : Table) (a s n : ℕ) (w : ℕ → ℕ) (la : a < most_actions) (ls : s < most_states) (some : 0 < n) (few : n ≤ most_elements) (within : (c : ℕ) → c < n → w c ≤ one * n) where
   share_small : (c : ℕ) → c < n → w c / n ≤ largest
   share_small c d =
@@ -84,14 +87,14 @@ module _ (table : Table) (a s n : ℕ) (w : ℕ → ℕ) (la : a < most_actions)
       omega (arith, q)
 
   head_length : length (line (row_words table a s)) ≤ 16
-  head_length = omega (arith, line_length (row_words table a s), table_length table, index_length a la, index_length s ls)
+  head_length = omega (arith, line_length (row_words table a s), table_length table, index_length a (an_element a la), index_length s ls)
 
   cell_length : (c : ℕ) → c < n → length (cell_text table a s n w c) ≤ 54
   cell_length c d = at (w c == one)
     where
       at : (b : Bool) → length (cond b [] (line (row_words table a s ++ codes ":" ∷ decimal c ∷ millionths_text (w c / n) ∷ []))) ≤ 54
       at true = omega arith
-      at false = omega (arith, line_length (row_words table a s ++ codes ":" ∷ decimal c ∷ millionths_text (w c / n) ∷ []), table_length table, index_length a la, index_length s ls, index_length c (omega (arith, d, few)), unsigned_length (w c / n) (share_small c d))
+      at false = omega (arith, line_length (row_words table a s ++ codes ":" ∷ decimal c ∷ millionths_text (w c / n) ∷ []), table_length table, index_length a (an_element a la), index_length s ls, index_length c (omega (arith, d, few)), unsigned_length (w c / n) (share_small c d))
 
   row_length : length (row_text table a s n w) ≤ n * 80
   row_length = at (is_uniform n w) (is_decimal n w)
@@ -128,10 +131,10 @@ rewards_length costs words n r head some small = at (all_below n (λ z. is_zero 
 
 -- the lines that begin a row of rewards
 cell_head : (a s e : ℕ) → a < most_actions → s < most_states → e < most_states → length (line (reward_words a s e)) ≤ 23
-cell_head a s e la ls le = omega (arith, line_length (reward_words a s e), index_length a la, index_length s ls, index_length e le)
+cell_head a s e la ls le = omega (arith, line_length (reward_words a s e), index_length a (an_element a la), index_length s ls, index_length e le)
 
 row_head : (a s : ℕ) → a < most_actions → s < most_states → length (line (row_words Reward a s)) ≤ 23
-row_head a s la ls = omega (arith, line_length (row_words Reward a s), index_length a la, index_length s ls)
+row_head a s la ls = omega (arith, line_length (row_words Reward a s), index_length a (an_element a la), index_length s ls)
 
 -- ---- the preamble and the start
 names_length : (names : List (List ℕ)) → All IsWritableName names → words_length names ≤ length names * 401
@@ -147,6 +150,10 @@ elements_length word (Count n) l w =
     omega (arith, l, count, line_length (word ∷ decimal n ∷ []))
 elements_length word (Names names) l w = omega (arith, l, names_length names w.0, w.2, line_length (word ∷ names))
 
+more_may : (elements : Elements) → AreWritable most_actions elements → AreWritable most_elements elements
+more_may (Count n) w = (w.0, omega (arith, w.1))
+more_may (Names names) w = (w.0, w.1, omega (arith, w.2), w.3)
+
 preamble_length : (m : Meaning) → m.preamble.discount ≤ one → AreWritable most_states m.preamble.states → AreWritable most_actions m.preamble.actions → ForSome m.preamble.observations (AreWritable most_observations) → length (preamble_text m) ≤ 13_000_000
 preamble_length m small states actions observations =
     let p = m.preamble in
@@ -161,7 +168,7 @@ preamble_length m small states actions observations =
       unsigned_length p.discount (omega (arith, small)),
       values_length p.costs,
       elements_length (codes "states:") p.states (omega arith) states,
-      elements_length (codes "actions:") p.actions (omega arith) actions,
+      elements_length (codes "actions:") p.actions (omega arith) (more_may p.actions actions),
       observed_length p.observations observations,
       length-append (d ++ v ++ s ++ a) o,
       length-append (d ++ v ++ s) a,

@@ -1,20 +1,13 @@
 -- What is not too large to print is within the limits of a text's cells.
 use Rattle.polcert_cells.specs.Preamble.{Preamble}
 use Rattle.polcert_cells.specs.Meaning.{Meaning, IsWithinLimits}
+use Rattle.polcert_format.specs.Limits.{HasFewPairs}
 use Rattle.polcert_format.specs.Printable.{IsPrintable}
-use Rattle.polcert_format.specs.Text.{IsWithinCells}
 
 -- there is room for what is printed behind this preamble, and for the cells of a text
 pub record HasRoom (p : Preamble) : Type 0 where
   pub printable : IsPrintable p
-  pub cells : IsWithinCells p
-
-pub printable_is_within : (m : Meaning) → IsWithinLimits m → IsPrintable m.preamble → IsWithinCells m.preamble
-printable_is_within m limits printable = record {
-  transitions = printable.transitions;
-  observations = printable.observations;
-  rewards = printable.rewards;
-}
+  pub pairs : HasFewPairs p
 
 pub has_room : (m : Meaning) → IsWithinLimits m → IsPrintable m.preamble → HasRoom m.preamble
-has_room m limits printable = record { printable = printable; cells = printable_is_within m limits printable }
+has_room m limits printable = record { printable = printable; pairs = limits.pairs }

@@ -18,6 +18,7 @@ use Rattle.polcert_cells.specs.Elements.{count_of, by_number}
 use Rattle.polcert_cells.specs.Preamble.{Preamble, is_mdp, dimensions, named}
 use Rattle.polcert_cells.specs.Entry.{cells_in, forms, MayBeGiven, ArePlaces, IsBody, IsEntry}
 use Rattle.polcert_cells.specs.Entry as entries
+use Rattle.polcert_format.proofs.CellLimits.{printable_cells}
 use Rattle.polcert_format.specs.Text as texts
 use Rattle.polcert_format.specs.Text.{Known, IsComplete}
 use Rattle.polcert_format.specs.FullForm.{for_each, table_word}
@@ -83,7 +84,7 @@ known_of p start es = record {
 pub complete : (p : Preamble) (start : Shares) (es : List Entry) → HasRoom p → IsComplete (known_of p start es) p
 complete p start es room = record {
   lines = record { discount = refl; costs = refl; states = refl; actions = refl; observations = refl };
-  cells = room.cells;
+  pairs = room.pairs;
 }
 
 module _ (p : Preamble) (start : Shares) (room : HasRoom p) where
@@ -107,7 +108,7 @@ module _ (p : Preamble) (start : Shares) (room : HasRoom p) where
   right_entry : (table : Table) (word : Lexeme) (body : List Lexeme) (e : Entry) (es : List Entry) → word.kind ≡ Name → word.bytes ≡ letter table → list_any begins_item body ≡ false
       → MayBeGiven p table → IsEntry p table body e → AreItems (word ∷ body) (known_of p start es) (known_of p start (es ++ e ∷ []))
   right_entry table word body e es k b none given a =
-      one_item word body (Cells table) (known_of p start es) (known_of p start (es ++ e ∷ [])) (letter_topic table word k b) none (texts.entry (complete p start es room) given a)
+      one_item word body (Cells table) (known_of p start es) (known_of p start (es ++ e ∷ [])) (letter_topic table word k b) none (texts.entry (complete p start es room) given a (printable_cells p (es ++ e ∷ []) room.printable))
 
   -- two places before a body
   pub two_places : (table : Table) (a s : ℕ) (column names : List Elements) (body : Body) → MayBeGiven p table → dimensions p table ≡ p.actions ∷ p.states ∷ column → named p table ≡ p.actions ∷ p.states ∷ names → a < count_of p.actions → s < count_of p.states

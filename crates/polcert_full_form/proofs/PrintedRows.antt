@@ -60,17 +60,20 @@ colon_piece = record { kind_is = colon_kind; short = omega arith }
 index_piece : (i : ℕ) → i < most_elements → IsPiece Numeral (decimal i)
 index_piece i l = whole_piece i (omega (arith, l))
 
+an_element : (a : ℕ) → a < most_actions → a < most_elements
+an_element a l = omega (arith, l)
+
 row_printed : (table : Table) (a s : ℕ) → a < most_actions → s < most_states → ArePrinted (spelled_line (key (letter table)) (row_line a s))
-row_printed table a s l k = line_printed (key (letter table)) (row_line a s) (letter_piece table) (index_piece a l, (colon_piece, (index_piece s k, tt)))
+row_printed table a s l k = line_printed (key (letter table)) (row_line a s) (letter_piece table) (index_piece a (an_element a l), (colon_piece, (index_piece s k, tt)))
 
 cell_printed : (table : Table) (a s c : ℕ) → a < most_actions → s < most_states → c < most_elements → ArePrinted (spelled_line (key (letter table)) (cell_line a s c))
 cell_printed table a s c l k d =
-    line_printed (key (letter table)) (cell_line a s c) (letter_piece table) (index_piece a l, (colon_piece, (index_piece s k, (colon_piece, (index_piece c d, tt)))))
+    line_printed (key (letter table)) (cell_line a s c) (letter_piece table) (index_piece a (an_element a l), (colon_piece, (index_piece s k, (colon_piece, (index_piece c d, tt)))))
 
 share_printed : (table : Table) (a s c q : ℕ) → a < most_actions → s < most_states → c < most_elements → q ≤ largest → ArePrinted (spelled_line (key (letter table)) (share_words a s c q))
 share_printed table a s c q l k d m =
     line_printed (key (letter table)) (share_words a s c q) (letter_piece table)
-    (index_piece a l, (colon_piece, (index_piece s k, (colon_piece, (index_piece c d, (numeral_piece (unsigned_text q) (plain_size q m), tt))))))
+    (index_piece a (an_element a l), (colon_piece, (index_piece s k, (colon_piece, (index_piece c d, (numeral_piece (unsigned_text q) (plain_size q m), tt))))))
 
 uniform_kind : kind_of (codes "uniform") ≡ Some Name
 unfolding class_of

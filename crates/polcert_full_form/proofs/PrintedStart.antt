@@ -185,7 +185,7 @@ module _ (p : Preamble) (start : Shares) (room : HasRoom p) (few : count_of p.st
   right_start word body k b none s =
       one_item word body Start (lines_known p) (known_of p start []) (simp k (ap topic_of b ∙ start_topic)) none
       (texts.start (record { no_start = refl; no_entry = refl })
-      (record { lines = record { discount = refl; costs = refl; states = refl; actions = refl; observations = refl }; cells = room.cells }) s)
+      (record { lines = record { discount = refl; costs = refl; states = refl; actions = refl; observations = refl }; pairs = room.pairs }) s)
 
   uniform_prints : is_whole start ≡ true → Prints (line (codes "start:" ∷ codes "uniform" ∷ [])) (lines_known p) (known_of p start [])
   uniform_prints e = prints_start (spelled_line (key (codes "start")) (plain Name (codes "uniform") ∷ [])) _

@@ -1,5 +1,5 @@
 -- A row of rewards that is read block by block.
-use Rattle.std.proofs.Common.{◌≡◌, ◌∙◌, ℕ, zero, suc, ◌+◌, ◌-◌, ◌<◌, ◌≤◌, ◌⊎◌, inl, inr, ⊎_elim, Bool, true, false, Option, Some, None, List, [], ◌∷◌, ◌++◌, length, min, take, get_or, ℤ, pos, negsuc, neg_ℤ, unsigned_abs, refl, sym, ap, subst, arith, append_assoc, codes}
+use Rattle.std.proofs.Common.{◌≡◌, ◌∙◌, ℕ, zero, suc, ◌+◌, ◌-◌, ◌<◌, ◌≤◌, ◌⊎◌, ⊎_elim, Bool, true, false, Option, Some, None, List, [], ◌∷◌, ◌++◌, length, min, take, get_or, ℤ, pos, negsuc, unsigned_abs, refl, sym, ap, subst, arith, append_assoc, codes}
 use Rattle.std.specs.List.{list_all}
 use Rattle.std.proofs.lemmas.List.{length-take-le, get_or-take}
 use Rattle.polcert_text.specs.Numbers.{largest}
@@ -9,7 +9,7 @@ use Rattle.polcert_cells.specs.Elements.{most_elements}
 use Rattle.std.specs.Option.{ForSome}
 use Rattle.polcert_cells.proofs.Basics.{is_true_or_false, true≢false}
 use Rattle.polcert_format.specs.FullForm.{for_each, all_below, written, is_zero, row_words, reward_words}
-use Rattle.polcert_full_form.specs.PrintSteps.{number_text, zeros_text, pattern_text, reward_columns, reward_in, reward_head, reward_row_text, reward_text, block_text, IsFilled, IsPaidFrom}
+use Rattle.polcert_full_form.specs.PrintSteps.{number_text, zeros_text, reward_columns, reward_in, reward_head, reward_row_text, reward_text, block_text, IsFilled, IsPaidFrom}
 use Rattle.polcert_full_form.proofs.PrintedParts as texts
 use Rattle.polcert_full_form.proofs.RowEntries.{test_below}
 use Rattle.polcert_full_form.proofs.SameForms.{same_for_each, same_test}

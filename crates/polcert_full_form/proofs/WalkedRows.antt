@@ -1,5 +1,5 @@
 -- A row that is walked from one weight above 0 to the next: what is known of the columns passed, and what is printed of them.
-use Rattle.std.proofs.Common.{◌≡◌, ◌≢◌, ◌∙◌, ℕ, zero, suc, ◌+◌, ◌-◌, ◌*◌, ◌/◌, ◌%◌, ◌<◌, ◌≤◌, ◌==◌, ◌⊎◌, ⊎_elim, Bool, true, false, Some, None, List, [], ◌∷◌, ◌++◌, pos, refl, sym, ap, subst, arith, codes, decimal}
+use Rattle.std.proofs.Common.{◌≡◌, ◌≢◌, ◌∙◌, ℕ, zero, suc, ◌+◌, ◌-◌, ◌/◌, ◌%◌, ◌<◌, ◌≤◌, ◌==◌, ⊎_elim, Bool, true, false, Some, None, [], ◌∷◌, ◌++◌, pos, refl, sym, ap, subst, arith, codes, decimal}
 use Rattle.std.proofs.Math.Nat.{zero-div, zero-mod}
 use Rattle.polcert_cells.specs.declared.entry.Table.{Table}
 use Rattle.polcert_cells.specs.declared.entry.Table.TheVariants.{Transition, Observation, Reward}

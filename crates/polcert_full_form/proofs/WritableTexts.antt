@@ -97,7 +97,7 @@ right_writable k t ls next a w (texts.states {elements = found} p e c b) = recor
 right_writable k t ls next a w (texts.actions {elements = found} p e c b) = record { states = w.states; actions = elements_writable most_actions _ found a.1 b; observations = w.observations; start = w.start }
 right_writable k t ls next a w (texts.observations {elements = found} p e c b) = record { states = w.states; actions = w.actions; observations = elements_writable most_observations _ found a.1 b; start = w.start }
 right_writable k t ls next a w (texts.start {p = q} {shares = shares} p c b) = record { states = w.states; actions = w.actions; observations = w.observations; start = subst (λ o. StartHasShape o (Some shares)) (sym c.lines.states) (start_shape q.states _ shares b) }
-right_writable k t ls next a w (texts.entry c given b) = record { states = w.states; actions = w.actions; observations = w.observations; start = w.start }
+right_writable k t ls next a w (texts.entry c given b few) = record { states = w.states; actions = w.actions; observations = w.observations; start = w.start }
 
 all_writable : (k : Known) (items : List Item) (end : Known) → AreOfText (flat_map lexemes_of items) → KnownWritable k → AreRight k items end → KnownWritable end
 all_writable k items end a w texts.none = w

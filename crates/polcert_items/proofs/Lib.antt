@@ -1,5 +1,7 @@
 pub mod AheadLaws
 pub mod AheadPlaces
+pub mod CountedCells
+pub mod CoveringLaws
 pub mod ElementLaws
 pub mod FirstNumberLaws
 pub mod FormLaws

@@ -8,8 +8,11 @@ use Rattle.polcert_items.specs.declared.item.Said.TheVariants as says
 use Rattle.polcert_cells.specs.declared.elements.Elements.{Elements}
 use Rattle.polcert_cells.specs.Elements.{count_of, most_states, most_actions, most_observations}
 use Rattle.polcert_cells.specs.declared.shares.Shares.{Shares}
+use Rattle.polcert_cells.specs.declared.words.Topic.{Topic}
+use Rattle.polcert_cells.specs.declared.words.Topic.TheVariants.{Discount, Values, States, Actions, Observations, Start, Cells}
 use Rattle.polcert_cells.specs.Meaning.{IsCount}
 use Rattle.polcert_cells.specs.Drafts.{Draft}
+use Rattle.polcert_cells.specs.Sound.{IsSoundEntry}
 use Rattle.polcert_format.specs.KnownPreamble.{preamble_in}
 use Rattle.polcert_format.specs.Order.{preamble_fault}
 use Rattle.polcert_format.specs.Reading.{AreRightItems}
@@ -41,11 +44,30 @@ learned k (says.Observations e) = record k { observations = Some e }
 learned k (says.Start found) = record k { start = Some found }
 learned k (says.Entry e) = record k { entries = k.entries ++ e ∷ [] }
 
+-- an item of this topic says so
+abbrev pub IsSaidOf : Topic → Said → Type 0
+IsSaidOf Discount (says.Discount g) = Unit {0}
+IsSaidOf Values (says.Costs b) = Unit {0}
+IsSaidOf States (says.States e) = Unit {0}
+IsSaidOf Actions (says.Actions e) = Unit {0}
+IsSaidOf Observations (says.Observations e) = Unit {0}
+IsSaidOf Start (says.Start found) = Unit {0}
+IsSaidOf (Cells table) (says.Entry e) = Unit {0}
+IsSaidOf _ _ = ⊥
+
 abbrev pub IsSaidWithin : Said → Type 0
 IsSaidWithin (says.States e) = IsCount most_states (count_of e)
 IsSaidWithin (says.Actions e) = IsCount most_actions (count_of e)
 IsSaidWithin (says.Observations e) = IsCount most_observations (count_of e)
 IsSaidWithin _ = Unit {0}
+
+-- What may be learned behind what is known: an entry behind a complete preamble, and elements before all entries.
+abbrev pub MayBeLearned : Known → Said → Type 0
+MayBeLearned k (says.Entry e) = (preamble_fault k ≡ None) × IsSoundEntry (preamble_in k) e
+MayBeLearned k (says.States e) = k.entries ≡ []
+MayBeLearned k (says.Actions e) = k.entries ≡ []
+MayBeLearned k (says.Observations e) = k.entries ≡ []
+MayBeLearned k _ = Unit {0}
 
 -- the whole text was read: its items are right, and its preamble is complete
 pub record IsWholeRead (seen : List Lexeme) (k : Known) : Type 0 where

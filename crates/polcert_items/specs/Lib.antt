@@ -1,4 +1,5 @@
 pub mod AheadSteps
+pub mod Covering
 pub mod ElementSteps
 pub mod EntrySteps
 pub mod ItemSteps

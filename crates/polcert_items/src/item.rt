@@ -5,7 +5,7 @@ ghost use Rattle.polcert_text.specs.Reading.{lexeme_of};
 ghost use Rattle.polcert_items.specs.ElementSteps.{IsText};
 ghost use Rattle.polcert_items.specs.EntrySteps.{IfRefused};
 ghost use Rattle.polcert_items.specs.ItemSteps.{ItemGoes, ItemForms, IsItemWithin, IsItemReason, IsItemEndReason, topic_in, IsSeen, new_item, HasElements, pending_in};
-ghost use Rattle.polcert_items.specs.KnownView.{learned, IsSaidWithin};
+ghost use Rattle.polcert_items.specs.KnownView.{learned, IsSaidOf, IsSaidWithin};
 ghost use Rattle.polcert_items.specs.LineSteps.{Takes, CannotTake, CannotEnd};
 ghost use Rattle.polcert_format.specs.Misfits.{misfit, IsMisfit};
 ghost use Rattle.polcert_items.specs.StartSteps.{IfNotMemory, IsLateEnd, StopsStart};
@@ -154,6 +154,7 @@ impl ItemReader {
         requires { IsItemWithin known.now self }
         ensures said { IfOk result (λ said. ItemGoes known.now self [] (learned known.now said)) }
         ensures within { IfOk result IsSaidWithin }
+        ensures topic { IfOk result (IsSaidOf (topic_in self)) }
         ensures refused { HasElements known.now (topic_in self) → IfErr result (λ e. IfNotMemory e (CannotEnd (ItemGoes known.now) self)) }
         ensures reason { (body : List Lexeme) → IsSeen (states_known known.now) body self →
             IfErr result (IsItemEndReason (states_known known.now) (topic_in self) body) }

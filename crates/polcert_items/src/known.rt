@@ -1,5 +1,5 @@
 //! What the items of a text have said so far.
-ghost use Rattle.std.specs.Prelude.{◌≡◌, ◌<◌, ◌≤◌, length, drop, get_or, List, Some, unwrap_or, OnOk, OnErr, IfOk, if◌then◌else◌};
+ghost use Rattle.std.specs.Prelude.{◌≡◌, ◌<◌, ◌≤◌, ◌++◌, ◌∷◌, [], length, drop, get_or, List, Some, None, unwrap_or, OnOk, OnErr, IfOk, IsErrOf, if◌then◌else◌};
 ghost use Rattle.std.specs.Option.{option_copied};
 ghost use Rattle.polcert_cells.specs.declared.elements.Elements.{Elements};
 ghost use Rattle.polcert_cells.specs.declared.elements.Elements.TheVariants.{Count};
@@ -9,26 +9,30 @@ ghost use Rattle.polcert_cells.specs.declared.words.Topic.{Topic};
 ghost use Rattle.polcert_cells.specs.Preamble.{is_mdp};
 ghost use Rattle.polcert_format.specs.KnownPreamble.{preamble_in, indices_in, named_in};
 ghost use Rattle.polcert_format.specs.Wants.{least_written};
-ghost use Rattle.polcert_items.specs.KnownView.{learned, IsSaidWithin};
+ghost use Rattle.polcert_format.specs.Limits.{HasFewCells};
+ghost use Rattle.polcert_items.specs.Covering.{AreSizesOf};
+ghost use Rattle.polcert_items.specs.KnownView.{learned, IsSaidWithin, MayBeLearned};
 ghost use Rattle.polcert_cells.specs.Meaning.{IsCount};
 ghost use Rattle.polcert_tables.specs.Kept.{IsKeptOf};
 ghost use Rattle.polcert_format.specs.Order.{word_fault};
-ghost use Rattle.polcert_format.specs.Order.{count_in, preamble_fault, is_late, came_before, is_unobserved, cells_are_too_many};
+ghost use Rattle.polcert_format.specs.Order.{count_in, preamble_fault, is_late, came_before, is_unobserved, pairs_are_too_many};
 ghost use Rattle.polcert_format.specs.Text.{nothing_known};
 ghost use Rattle.polcert_items.specs.KnownView.{IsWholeRead, said};
 ghost use Rattle.polcert_text.specs.Cut.{Lexeme};
 
+use crate::covering::{Covering, Sizes};
 use crate::item::Said;
-use polcert_cells::{Elements, Entries, Shares, Table, Topic};
+use crate::stop::Unlearned;
+use polcert_cells::{Elements, Entries, Entry, Shares, Table, Topic};
 use polcert_format::ItemFault;
 use polcert_tables::{Draft, count_or};
 use std::alloc::{AllocError, Global};
 use std::marker::Model;
 
-const MOST_CELLS: usize = 16_777_216;
+/// How many pairs of a state and an observation there may be.
+const MOST_PAIRS: usize = 5_000_000;
 
-/// What the items so far say: the lines of the preamble that came, the start item, and the entries. There are 1 to 1,000
-/// elements of each kind.
+/// What the items so far say: the lines of the preamble that came, the start item, and the entries.
 #[derive(Drop)]
 pub struct Known {
     discount: Option<u32>,
@@ -38,18 +42,22 @@ pub struct Known {
     observations: Option<Elements>,
     start: Option<Shares>,
     entries: Entries,
+    covering: Covering,
 }
 
 impl Model for Known {
     ghost use Rattle.polcert_format.specs.Text as text;
     ghost use Rattle.polcert_cells.specs.Elements.{most_states, most_actions, most_observations};
+    ghost use Rattle.polcert_format.specs.KnownPreamble.{preamble_in};
+    ghost use Rattle.polcert_items.specs.Covering.{IsCoveringOf};
     ghost use Rattle.polcert_items.specs.KnownView.{known_of, IsCountIn};
 
     ghost Value = { text.Known };
 
     ghost view = { λ k. known_of k.discount k.costs k.states k.actions k.observations k.start k.entries };
 
-    ghost invariant = { λ k. IsCountIn most_states k.states × IsCountIn most_actions k.actions × IsCountIn most_observations k.observations };
+    ghost invariant = { λ k. IsCountIn most_states k.states × IsCountIn most_actions k.actions × IsCountIn most_observations k.observations
+        × IsCoveringOf (preamble_in (known_of k.discount k.costs k.states k.actions k.observations k.start k.entries)) k.entries k.covering };
 }
 
 impl Known {
@@ -65,14 +73,19 @@ impl Known {
             observations: None,
             start: None,
             entries: Entries::new(alloc),
+            covering: Covering::new(),
         }
     }
 
-    /// Adds what a whole item says. Where memory is wanting all stays as it was.
-    pub fn learn(&mut self, said: Said) -> Result<(), AllocError>
-        requires { IsSaidWithin said }
+    /// Adds what a whole item says, unless it is an entry with which entries give too much of a large table. Where memory is
+    /// wanting, too, all stays as it was.
+    pub fn learn(&mut self, said: Said) -> Result<(), Unlearned>
+        requires within { IsSaidWithin said }
+        requires next { MayBeLearned self.old said }
         ensures ok { OnOk result (self.new ≡ learned self.old said) }
+        ensures few { OnOk result (HasFewCells (preamble_in self.old) (learned self.old said).entries) }
         ensures err { OnErr result (self.new ≡ self.old) }
+        ensures many { IsErrOf result Unlearned.TooManyCells → HasFewCells (preamble_in self.old) (learned self.old said).entries → ⊥ }
     {
         match said {
             Said::Discount(discount) => self.discount = Some(discount),
@@ -81,9 +94,39 @@ impl Known {
             Said::Actions(actions) => self.actions = Some(actions),
             Said::Observations(observations) => self.observations = Some(observations),
             Said::Start(shares) => self.start = Some(shares),
-            Said::Entry(entry) => self.entries.push(entry)?,
+            Said::Entry(entry) => self.learn_entry(entry)?,
         }
         Ok(())
+    }
+
+    /// Adds an entry.
+    fn learn_entry(&mut self, entry: Entry) -> Result<(), Unlearned>
+        requires { MayBeLearned self.old (Said.Entry entry) }
+        ensures ok { OnOk result (self.new ≡ learned self.old (Said.Entry entry)) }
+        ensures few { OnOk result (HasFewCells (preamble_in self.old) (self.old.entries ++ entry ∷ [])) }
+        ensures err { OnErr result (self.new ≡ self.old) }
+        ensures many { IsErrOf result Unlearned.TooManyCells → HasFewCells (preamble_in self.old) (self.old.entries ++ entry ∷ []) → ⊥ }
+    {
+        let Some(covering) = self.covering.with(self.sizes(), &entry) else {
+            return Err(Unlearned::TooManyCells);
+        };
+        self.entries.push(entry)?;
+        self.covering = covering;
+        Ok(())
+    }
+
+    /// How many elements the indices of the tables run over.
+    fn sizes(&self) -> Sizes
+        requires { preamble_fault self.now ≡ None }
+        ensures { AreSizesOf (preamble_in self.now) result }
+    {
+        let states = count_in(&self.states);
+        Sizes {
+            actions: count_in(&self.actions),
+            states,
+            observed: count_or(states, &self.observations),
+            rewarded: count_or(1, &self.observations),
+        }
     }
 
     /// The draft of a complete preamble, start item and entries.
@@ -99,6 +142,7 @@ impl Known {
             observations,
             start,
             entries,
+            covering: _,
         } = self;
         Draft::of(
             alloc,
@@ -219,7 +263,7 @@ impl Known {
         }
     }
 
-    /// Why the preamble isn't complete: a line is missing, or else a table has too many cells.
+    /// Why the preamble isn't complete: a line is missing, or else there are too many pairs of a state and an observation.
     pub fn preamble_fault(&self) -> Option<ItemFault>
         ensures { result ≡ preamble_fault self.now }
     {
@@ -227,11 +271,10 @@ impl Known {
             return Some(ItemFault::MissingLine);
         }
         match (&self.states, &self.actions) {
-            (Some(states), Some(actions)) => {
+            (Some(states), Some(_)) => {
                 let states = states.count();
                 let observed = count_or(states, &self.observations);
-                let rewarded = count_or(1, &self.observations);
-                cells_fault(states, actions.count(), observed, rewarded)
+                pairs_fault(states, observed)
             }
             _ => Some(ItemFault::MissingLine),
         }
@@ -244,19 +287,13 @@ fn count_in(elements: &Option<Elements>) -> usize
     count_or(0, elements)
 }
 
-fn cells_fault(states: usize, actions: usize, observed: usize, rewarded: usize) -> Option<ItemFault>
+/// Why there are too many pairs of a state and an observation, if there are.
+fn pairs_fault(states: usize, observed: usize) -> Option<ItemFault>
     requires states { states ≤ most_states }
-    requires actions { actions ≤ most_actions }
     requires observed { observed ≤ most_observations }
-    requires rewarded { rewarded ≤ most_observations }
-    ensures { result ≡ (if cells_are_too_many states actions observed rewarded then Some ItemFault.TooManyCells else None) }
+    ensures { result ≡ (if pairs_are_too_many states observed then Some ItemFault.TooManyCells else None) }
 {
-    let pairs = actions * states;
-    let transitions = pairs * states;
-    if transitions > MOST_CELLS
-        || pairs * observed > MOST_CELLS
-        || transitions * rewarded > MOST_CELLS
-    {
+    if states * observed > MOST_PAIRS {
         Some(ItemFault::TooManyCells)
     } else {
         None

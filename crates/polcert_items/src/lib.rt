@@ -2,6 +2,7 @@
 #![tactic(auto)]
 
 mod ahead;
+mod covering;
 mod elements;
 mod elements_reader;
 mod entry_reader;
@@ -19,4 +20,4 @@ pub use known::Known;
 pub use lines::{DiscountReader, ValuesReader};
 pub use number::{Refusal, Sign};
 pub use start_reader::{Choice, Chosen, Digits, FirstNumber, StartReader};
-pub use stop::{ItemEnd, Stop};
+pub use stop::{ItemEnd, Stop, Unlearned};

@@ -62,3 +62,22 @@ impl From<ItemFault> for ItemEnd {
         ItemEnd::AtEnd(kind)
     }
 }
+
+/// Why what a whole item says isn't added to what is known.
+#[derive(Clone, Copy, Debug, PartialEq, Eq)]
+pub enum Unlearned {
+    /// It is an entry with which entries give too much of a large table.
+    TooManyCells,
+    /// A growth of memory was refused.
+    Memory,
+}
+
+impl From<AllocError> for Unlearned {
+    ghost use Rattle.polcert_items.specs.declared.stop.Unlearned.TheVariants.{Memory};
+
+    ghost from_gives = { λ _ end. end ≡ Memory };
+
+    fn from(_e: AllocError) -> Unlearned {
+        Unlearned::Memory
+    }
+}

@@ -4,6 +4,7 @@ pub mod ReadingAhead
 pub mod Refusing
 pub mod RefusingEnds
 pub mod SameRows
+pub mod Shaped
 pub mod TakenItems
 pub mod TextReading
 pub mod WholeTexts

@@ -1,12 +1,12 @@
 -- What the reader of a text refuses within an item: each refusal is of the first wrong item, lies in it, and has its
 -- reason.
-use Rattle.std.proofs.Common.{◌≡◌, ◌∙◌, ℕ, ◌+◌, true, false, Bool, Option, Some, None, List, [], ◌∷◌, ◌++◌, length, refl, sym, ap, subst}
+use Rattle.std.proofs.Common.{◌≡◌, ◌∙◌, ℕ, ◌+◌, inr, true, false, Bool, Option, Some, None, List, [], ◌∷◌, ◌++◌, length, refl, sym, ap, subst}
 use Rattle.std.proofs.lemmas.List.{append_assoc, append-nil}
 use Rattle.polcert_text.specs.Cut.{Lexeme}
 use Rattle.polcert_text.specs.declared.lexeme.TokenKind.TheVariants.{Numeral}
 use Rattle.polcert_text.specs.declared.tokens.TokenFault.{TokenFault}
 use Rattle.polcert_format.specs.declared.fault.ItemFault.{ItemFault}
-use Rattle.polcert_format.specs.declared.fault.ItemFault.TheVariants.{Number, BadShape, BadCount, DuplicateName, UnknownName, IndexOutOfRange, WrongNumberCount, ProbabilityRange, DiscountRange, Reset, StartSum, StartEmpty}
+use Rattle.polcert_format.specs.declared.fault.ItemFault.TheVariants.{Number, BadShape, BadCount, DuplicateName, UnknownName, IndexOutOfRange, WrongNumberCount, ProbabilityRange, DiscountRange, Reset, StartSum, StartEmpty, TooManyCells}
 use Rattle.polcert_format.specs.declared.fault.ModelFault.TheVariants as model_faults
 use Rattle.polcert_items.specs.declared.item.ItemReader.{ItemReader}
 use Rattle.polcert_items.specs.declared.item.ItemReader.TheVariants as items
@@ -20,12 +20,12 @@ use Rattle.polcert_cells.specs.Words.{topic, begins_item}
 use Rattle.polcert_format.specs.Items.{Item, IsDivided}
 use Rattle.polcert_format.specs.Text.{Known, nothing_known, IsRight, AreRight}
 use Rattle.polcert_format.specs.Order.{word_fault}
-use Rattle.polcert_format.specs.Forms.{HasForm, IsFormless, IsPossible}
+use Rattle.polcert_format.specs.Forms.{HasForm, IsFormless, IsPossible, IsTooMuch}
 use Rattle.polcert_format.specs.Reading.{IsWithinItem, IsWrong, CannotGoOn}
 use Rattle.polcert_format.specs.FirstWrong.{TextTokens, AreTokensOf, IsFirstWrong, LiesIn, IsDecided, word_place, wrong_item, wrong_last}
-use Rattle.polcert_format.specs.Reasons.{IsReason, InItem, StandsIn, NumberStandsIn, IsRepeated, is_sign}
+use Rattle.polcert_format.specs.Reasons.{IsReason, PassesLimit, InItem, StandsIn, NumberStandsIn, IsRepeated, is_sign}
 use Rattle.polcert_format.specs.Reasons as reasons
-use Rattle.polcert_format.specs.Refusals.{place_or, Stops, StopsInBody, in_body, of_first_number}
+use Rattle.polcert_format.specs.Refusals.{place_or, Stops, StopsInBody, in_body, behind_body, of_first_number}
 use Rattle.polcert_format.specs.Refusals as refusals
 use Rattle.polcert_items.specs.NumberSteps.{is_negative, number_place, IsSignAt, SignEnds}
 use Rattle.polcert_items.specs.NumberSteps as steps
@@ -49,8 +49,10 @@ use Rattle.polcert_format.proofs.ReadLaws.{within_division}
 use Rattle.polcert_format.proofs.PlaceLaws.{Rises, tokens_rise, lies_in_item}
 use Rattle.polcert_format.proofs.DecidedLaws.{nothing_decided}
 use Rattle.polcert_format.proofs.Possible.{possible_front}
+use Rattle.polcert_format.proofs.CellLimits.{too_much_wrong}
 use Rattle.polcert_format.proofs.Within.{within_goes_on}
 use Rattle.polcert_items.proofs.StartSeen.{pending_reason}
+use Rattle.polcert_model.proofs.Shaped.{right_shaped, too_much_shaped}
 
 none≢some : {A : Type 0} {x : A} → None ≡ Some x → ⊥
 none≢some e = cc
@@ -260,7 +262,7 @@ refused_here ts n place k t sign body more l _ h rises ends taken stuck unfit m 
 stuck : (seen : List Lexeme) (r : TextReader) (w : IsItemRead seen r) (l : Lexeme) → CannotTake (ItemGoes r.known) w.item l
     → CannotGoOn r.known w.t (w.body ++ l ∷ [])
 stuck seen r w l none more after taken =
-    none more after (w.read.on (l ∷ more) after (subst (λ b. IsRight r.known w.t b after) (append_assoc w.body (l ∷ []) more) taken))
+    none more after (w.read.on (l ∷ more) after (right_shaped r.known w.t _ after (subst (λ b. IsRight r.known w.t b after) (append_assoc w.body (l ∷ []) more) taken)))
 
 -- and hasn't even the form of one with it
 without_form : (seen : List Lexeme) (r : TextReader) (w : IsItemRead seen r) (l : Lexeme) → CannotTake (ItemGoes r.known) w.item l
@@ -537,7 +539,7 @@ end_refused seen r kind place w none reason kinds unheld undue text ts tokens en
     let x = ends_here ts r.number place seen w.body r.known w.t w.within w.number_is ends in
     record {
       refusal = record {
-        first_wrong = first_here ts r.number r.known w.t (w.body ++ []) x.here_is (λ after taken. none after (w.read.on [] after taken));
+        first_wrong = first_here ts r.number r.known w.t (w.body ++ []) x.here_is (λ after taken. none after (w.read.on [] after (right_shaped r.known w.t _ after taken)));
         lies = lies_here ts r.number place r.known w.t (w.body ++ []) w.body [] x.here_is (tokens_rise text ts tokens) refl x.place_is;
         reason = end_reason ts r.number place r.known w.t (w.body ++ []) kind x.here_is (subst (λ t. IsEndReason t kind) w.read.topic_is reason);
         decided = λ fault at y. absurd (free_here ts r.number r.known w.t (w.body ++ []) x.here_is w.read.may_stand fault at y);
@@ -552,7 +554,8 @@ end_refused seen r kind place w none reason kinds unheld undue text ts tokens en
   where
     stops : Stops r.known w.t kind w.body []
     stops =
-        refusals.at_end (λ after right. none after (w.read.on [] after (subst (λ b. IsRight r.known w.t b after) (sym (append-nil w.body)) right)))
+        refusals.at_end (λ after right. none after (w.read.on [] after (right_shaped r.known w.t _ after (subst (λ b. IsRight r.known w.t b after) (sym (append-nil w.body)) right))))
+        (λ much. let s = too_much_shaped r.known w.t (w.body ++ []) (subst (IsTooMuch r.known w.t) (sym (append-nil w.body)) much) in none s.0 (w.read.on [] s.0 s.1))
         (kinds ∙ ap (λ v. misfit v None) (wants_here r.known w.t w.body w.item w.read.wants))
 
 -- a start item that cannot end, for the number before its end
@@ -566,7 +569,42 @@ end_refused_before seen r kind at place w none start reason late due text ts tok
     subst (λ b. IsLate (states_known r.known) (w.body ++ []) b kind at) (sym (clean_ends x.here_is.after ts.ending x.clean))
     (subst (λ (b : List Lexeme). IsLate (states_known r.known) b true kind at) (sym (append-nil w.body)) late) in
     start_refused text ts r.number at r.known w.t w.body [] kind tokens x.here_is w.read.may_stand
-    (first_here ts r.number r.known w.t (w.body ++ []) x.here_is (λ after taken. none after (w.read.on [] after taken))) (sym w.read.topic_is ∙ start) reason here_late
+    (first_here ts r.number r.known w.t (w.body ++ []) x.here_is (λ after taken. none after (w.read.on [] after (right_shaped r.known w.t _ after taken)))) (sym w.read.topic_is ∙ start) reason here_late
     (λ fault p y.
     let found = due_at_end ts r.number place r.known w.t w.body fault p x y in
     due (record { kind = fault; place = p }) (w.read.topic_is ∙ found.0) found.1)
+
+-- ---- an entry that gives too much
+
+pub too_much_refused : (seen : List Lexeme) (r : TextReader) (place : ℕ) (w : IsItemRead seen r) → IsTooMuch r.known w.t w.body → IsRefusedAt seen place (model_faults.Item TooManyCells r.number place)
+too_much_refused seen r place w much text ts tokens ends =
+    let x = ends_here ts r.number place seen w.body r.known w.t w.within w.number_is ends in
+    let here_much : IsTooMuch r.known w.t (w.body ++ []) = subst (IsTooMuch r.known w.t) (sym (append-nil w.body)) much in
+    let passes : PassesLimit ts r.number place = record {
+      before = x.here_is.before;
+      item = item_here x.here_is;
+      after = x.here_is.after;
+      divided = x.here_is.divided;
+      number_is = x.here_is.number_is;
+      k = r.known;
+      t = w.t;
+      known = x.here_is.taken;
+      topic_is = x.here_is.topic_is;
+      too_much = here_much;
+      place_is = x.place_is;
+      clean = x.clean;
+    } in
+    record {
+      refusal = record {
+        first_wrong = first_here ts r.number r.known w.t (w.body ++ []) x.here_is (too_much_wrong r.known w.t (w.body ++ []) here_much);
+        lies = lies_here ts r.number place r.known w.t (w.body ++ []) w.body [] x.here_is (tokens_rise text ts tokens) refl x.place_is;
+        reason = inr passes;
+        decided = λ fault at y. absurd (free_here ts r.number r.known w.t (w.body ++ []) x.here_is w.read.may_stand fault at y);
+      };
+      placed = record {
+        stands = behind_body refl passes;
+        late = λ fault at y.
+            let found = due_at_end ts r.number place r.known w.t w.body fault at x y in
+            absurd (cells_no_start much.table (sym much.topic_is ∙ found.0));
+      };
+    }

@@ -1,6 +1,6 @@
 -- What the reader of a text refuses outside of a body: before the first item, at an item's word, at the end, and where
 -- the tokens end in a fault.
-use Rattle.std.proofs.Common.{◌≡◌, ◌∙◌, ℕ, ◌+◌, Bool, true, false, cond, Option, Some, None, List, [], ◌∷◌, ◌++◌, length, refl, sym, ap, subst}
+use Rattle.std.proofs.Common.{◌≡◌, ◌∙◌, ℕ, ◌+◌, inl, Bool, true, false, cond, Option, Some, None, List, [], ◌∷◌, ◌++◌, length, refl, sym, ap, subst}
 use Rattle.std.proofs.lemmas.List.{append-nil}
 use Rattle.polcert_text.specs.Cut.{Lexeme}
 use Rattle.polcert_text.specs.Reading.{fault_place}
@@ -73,7 +73,7 @@ order_reason ts n place BadShape o d = tt
 order_reason ts n place DuplicateLine o d = d
 order_reason ts n place LateLine o d = d
 order_reason ts n place MissingLine o d = d
-order_reason ts n place TooManyCells o d = d
+order_reason ts n place TooManyCells o d = inl d
 order_reason ts n place _ o d = absurd o
 
 some_once : {A : Type 0} {x y : A} → Some x ≡ Some y → x ≡ y
@@ -82,7 +82,7 @@ some_once e = cc
 none≢some : {A : Type 0} {x : A} → None ≡ Some x → ⊥
 none≢some e = cc
 
--- the reason for an incomplete preamble, of whether all lines came and whether there are too many cells
+-- the reason for an incomplete preamble, of whether all lines came and whether there are too many pairs
 abbrev lacking : Bool → Bool → Option ItemFault
 lacking lines many = cond lines (cond many (Some TooManyCells) None) (Some MissingLine)
 

@@ -34,7 +34,8 @@ use Rattle.polcert_format.specs.Wants.{wanted}
 use Rattle.polcert_items.specs.WantSteps.{Leads, item_wants, IfStart}
 use Rattle.polcert_items.proofs.FormLaws.{is_start, start_form, right_forms, forms_take}
 use Rattle.polcert_format.specs.FirstNumber.{states_known}
-use Rattle.polcert_model.specs.TextSteps.{IsBodyRead}
+use Rattle.polcert_model.specs.TextSteps.{IsShaped, IsBodyRead}
+use Rattle.polcert_model.proofs.Shaped.{shaped_form}
 use Rattle.polcert_format.proofs.FirstPlaces.{entry_begins}
 use Rattle.polcert_format.proofs.KnownLaws.{same_preamble, same_indices, same_states}
 use Rattle.polcert_model.proofs.Continuing.{can_end}
@@ -46,10 +47,9 @@ use Rattle.polcert_items.proofs.PatternLaws.{colon_takes}
 -- ---- what is right goes on
 
 -- an entry behind its word
-entry_goes : (k next : Known) (p : Preamble) (table : Table) (ls : List Lexeme) (e : Entry) → IsComplete k p → IsRight k (Cells table) ls next → IsEntry p table ls e
-    → EntryGoes (preamble_in k) (new_entry table) ls e
-entry_goes k next p table ls e complete taken a =
-    let b = entry_begins k next table ls taken in
+entry_goes : (k : Known) (p : Preamble) (table : Table) (ls : List Lexeme) (e : Entry) → IsComplete k p → IsEntry p table ls e → EntryGoes (preamble_in k) (new_entry table) ls e
+entry_goes k p table ls e complete a =
+    let b = entry_begins p table ls e a in
     let behind : IsEntryBehind p table [] ls e =
     record { further = e.places; pattern = a.pattern; rest = a.rest; whole = a.whole; places_are = refl; table_is = a.table_is; form = a.form; places = a.places; body = a.body } in
     let goes : EntryGoes p (new_entry table) ls e =
@@ -57,15 +57,24 @@ entry_goes k next p table ls e complete taken a =
     (b.colon_is, (colon_takes p table [] b.colon b.colon_is).on (b.place ∷ b.rest) e (subst (λ x. IsEntryBehind p table [] x e) b.whole behind)) in
     subst (λ q. EntryGoes q (new_entry table) ls e) (sym (same_preamble k p complete.lines)) goes
 
-pub taken_goes : (k : Known) (t : Topic) (body : List Lexeme) (next : Known) → IsRight k t body next → ItemGoes k (new_item t) body next
-taken_goes k t body next (texts.discount {g = g} p absent c n l) = (g, ((c, (n, l)), refl))
-taken_goes k t body next (texts.rewards p absent c w) = (false, ((c, (refl, w)), refl))
-taken_goes k t body next (texts.costs p absent c w) = (true, ((c, (refl, w)), refl))
-taken_goes k t body next (texts.states {elements = found} p absent c a) = (found, ((c, a), refl))
-taken_goes k t body next (texts.actions {elements = found} p absent c a) = (found, ((c, a), refl))
-taken_goes k t body next (texts.observations {elements = found} p absent c a) = (found, ((c, a), refl))
-taken_goes k t body next (texts.start {p = p} {shares = found} i c a) = (found, (new_start_on (preamble_in k).states body found (subst (λ e. IsStart e body found) (sym (same_states k p c)) a), refl))
-taken_goes k t body next (texts.entry {p = p} {table = table} {e = entry} complete given a) = (entry, (entry_goes k next p table body entry complete (texts.entry complete given a) a, refl))
+right_goes : (k : Known) (t : Topic) (body : List Lexeme) (next : Known) → IsRight k t body next → ItemGoes k (new_item t) body next
+right_goes k t body next (texts.discount {g = g} p absent c n l) = (g, ((c, (n, l)), refl))
+right_goes k t body next (texts.rewards p absent c w) = (false, ((c, (refl, w)), refl))
+right_goes k t body next (texts.costs p absent c w) = (true, ((c, (refl, w)), refl))
+right_goes k t body next (texts.states {elements = found} p absent c a) = (found, ((c, a), refl))
+right_goes k t body next (texts.actions {elements = found} p absent c a) = (found, ((c, a), refl))
+right_goes k t body next (texts.observations {elements = found} p absent c a) = (found, ((c, a), refl))
+right_goes k t body next (texts.start {p = p} {shares = found} i c a) = (found, (new_start_on (preamble_in k).states body found (subst (λ e. IsStart e body found) (sym (same_states k p c)) a), refl))
+right_goes k t body next (texts.entry {p = p} {table = table} {e = entry} complete given a few) = (entry, (entry_goes k p table body entry complete a, refl))
+
+pub taken_goes : (k : Known) (t : Topic) (body : List Lexeme) (next : Known) → IsShaped k t body next → ItemGoes k (new_item t) body next
+taken_goes k Discount body next s = right_goes k Discount body next s
+taken_goes k Values body next s = right_goes k Values body next s
+taken_goes k States body next s = right_goes k States body next s
+taken_goes k Actions body next s = right_goes k Actions body next s
+taken_goes k Observations body next s = right_goes k Observations body next s
+taken_goes k Start body next s = right_goes k Start body next s
+taken_goes k (Cells table) body next s = (s.e, (entry_goes k s.p table body s.e s.complete s.entry, s.next_is))
 
 -- ---- what goes on is right
 
@@ -109,7 +118,7 @@ start_taken k body next free (found, (goes, e)) =
     let a : IsStart stands.1.0.states body found = subst (λ s. IsStart s body found) (same_states k stands.1.0 stands.1.1) (new_start_back (preamble_in k).states body found goes) in
     subst (IsRight k Start body) (sym e) (texts.start stands.0 stands.1.1 a)
 
-entry_taken : (k : Known) (table : Table) (body : List Lexeme) (next : Known) → word_fault k (Cells table) ≡ None → ItemGoes k (items.Entry (new_entry table)) body next → IsRight k (Cells table) body next
+entry_taken : (k : Known) (table : Table) (body : List Lexeme) (next : Known) → word_fault k (Cells table) ≡ None → ItemGoes k (items.Entry (new_entry table)) body next → IsShaped k (Cells table) body next
 entry_taken k table [] next free (entry, (goes, e)) = absurd goes
 entry_taken k table (l ∷ ls) next free (entry, (goes, e)) =
     let stands = entry_may_stand k table free in
@@ -118,9 +127,9 @@ entry_taken k table (l ∷ ls) next free (entry, (goes, e)) =
     let b : IsEntryBehind p table [] (l ∷ ls) entry = (colon_takes p table [] l rest.0).back ls entry rest.1 in
     let a : IsEntry stands.0 table (l ∷ ls) entry =
     record { pattern = b.pattern; rest = b.rest; whole = b.whole; table_is = b.table_is; form = b.form; places = subst (ArePlaces (named p table) b.pattern) (sym b.places_are) b.places; body = b.body } in
-    subst (IsRight k (Cells table) (l ∷ ls)) (sym e) (texts.entry stands.1 stands.2 a)
+    record { p = stands.0; e = entry; complete = stands.1; may_be_given = stands.2; entry = a; next_is = e }
 
-pub goes_taken : (k : Known) (t : Topic) (body : List Lexeme) (next : Known) → word_fault k t ≡ None → ItemGoes k (new_item t) body next → IsRight k t body next
+pub goes_taken : (k : Known) (t : Topic) (body : List Lexeme) (next : Known) → word_fault k t ≡ None → ItemGoes k (new_item t) body next → IsShaped k t body next
 goes_taken k Discount body next free goes = discount_taken k body next free goes
 goes_taken k Values body next free goes = values_taken k body next free goes
 goes_taken k States body next free goes = states_taken k body next free goes
@@ -150,7 +159,10 @@ forms_formed k Observations body free g = shapes.right (goes_taken k Observation
 forms_formed k Start body free g =
     let stands = start_may_stand k free in
     shapes.start refl stands.0 stands.1.1 (subst (λ s. IsStartForm s body) (same_states k stands.1.0 stands.1.1) g)
-forms_formed k (Cells table) body free g = shapes.right (goes_taken k (Cells table) body g.0 free g.1)
+forms_formed k (Cells table) body free g = shaped_form k (Cells table) body g.0 (goes_taken k (Cells table) body g.0 free g.1)
+
+start_no_cells : {table : Table} → Start ≡ Cells table → ⊥
+start_no_cells e = cc
 
 -- and what has it goes on so
 formed_forms : (k : Known) (t : Topic) (body : List Lexeme) → HasForm k t body → ItemForms k (new_item t) body tt
@@ -160,7 +172,8 @@ formed_forms k t body f = of (is_start t)
     states_form found goes = start_form (preamble_in k).states body found (new_start_back (preamble_in k).states body found goes)
 
     of_start : (u : Topic) → u ≡ Start → HasForm k u body → ItemForms k (new_item u) body tt
-    of_start Start e (shapes.right {after} r) = let g = taken_goes k Start body after r in states_form g.0 g.1.0
+    of_start Start e (shapes.right {after} r) = let g = right_goes k Start body after r in states_form g.0 g.1.0
+    of_start Start e (shapes.entry c complete given a) = absurd (start_no_cells c)
     of_start Start e (shapes.start {p} s i c form) = subst (λ s. IsStartForm s body) (sym (same_states k p c)) form
     of_start Discount e h = cc
     of_start Values e h = cc
@@ -174,7 +187,8 @@ formed_forms k t body f = of (is_start t)
     of (inr other) = other_form f
       where
         other_form : HasForm k t body → ItemForms k (new_item t) body tt
-        other_form (shapes.right {after} r) = right_forms k (new_item t) body after (λ e. other (sym (new_topic t) ∙ e)) (taken_goes k t body after r)
+        other_form (shapes.right {after} r) = right_forms k (new_item t) body after (λ e. other (sym (new_topic t) ∙ e)) (right_goes k t body after r)
+        other_form (shapes.entry {p} {table} {e} c complete given a) = subst (λ u. ItemForms k (new_item u) body tt) (sym c) (record k { entries = k.entries ++ e ∷ [] }, (e, (entry_goes k p table body e complete a, refl)))
         other_form (shapes.start s i c form) = absurd (other s)
 
 -- ---- an item as it is read
@@ -237,8 +251,8 @@ item_goes_on k t body old new l r same within takes of_form seen leads =
       topic_is = same ∙ r.topic_is;
       within = within;
       seen = seen;
-      back = λ ls next goes. subst (λ x. IsRight k t x next) (sym (append_assoc body (l ∷ []) ls)) (r.back (l ∷ ls) next (takes.back ls next goes));
-      on = λ ls next taken. takes.on ls next (r.on (l ∷ ls) next (subst (λ x. IsRight k t x next) (append_assoc body (l ∷ []) ls) taken));
+      back = λ ls next goes. subst (λ x. IsShaped k t x next) (sym (append_assoc body (l ∷ []) ls)) (r.back (l ∷ ls) next (takes.back ls next goes));
+      on = λ ls next taken. takes.on ls next (r.on (l ∷ ls) next (subst (λ x. IsShaped k t x next) (append_assoc body (l ∷ []) ls) taken));
       formed = formed;
       forms = λ ls f. form.on ls tt (r.forms (l ∷ ls) (subst (HasForm k t) (append_assoc body (l ∷ []) ls) f));
       possible = λ unheld. let last = can_end k new within unheld in record { more = last.more; form = formed last.more last.forms };

@@ -3,7 +3,7 @@ use Rattle.std.proofs.Common.{◌≡◌, ◌∙◌, ℕ, ◌+◌, Bool, true, fa
 use Rattle.std.proofs.lemmas.List.{append-nil}
 use Rattle.polcert_text.specs.Cut.{Lexeme}
 use Rattle.polcert_format.specs.declared.fault.ItemFault.{ItemFault}
-use Rattle.polcert_format.specs.declared.fault.ItemFault.TheVariants.{BeforeFirstItem}
+use Rattle.polcert_format.specs.declared.fault.ItemFault.TheVariants.{BeforeFirstItem, TooManyCells}
 use Rattle.polcert_format.specs.declared.fault.ModelFault.{ModelFault}
 use Rattle.polcert_format.specs.declared.fault.ModelFault.TheVariants as model_faults
 use Rattle.polcert_items.specs.declared.item.ItemReader.{ItemReader}
@@ -15,22 +15,25 @@ use Rattle.polcert_cells.specs.Words.{topic, begins_item}
 use Rattle.polcert_format.specs.Items.{IsDivided}
 use Rattle.polcert_format.specs.Text.{Known, nothing_known, IsRight, AreRight}
 use Rattle.polcert_format.specs.Text as texts
+use Rattle.polcert_format.specs.KnownPreamble.{preamble_in}
+use Rattle.polcert_format.specs.Limits.{HasFewCells}
 use Rattle.polcert_format.specs.Order.{word_fault, preamble_fault}
 use Rattle.polcert_items.specs.LineSteps.{Takes, CannotTake, CannotEnd}
 use Rattle.polcert_items.specs.StartSteps.{IsStartReason, StopsStart}
 use Rattle.polcert_items.specs.ItemSteps.{ItemGoes, ItemForms, IsItemWithin, IsItemReason, IsEndReason, IsSeen, topic_in, pending_in, new_item, HasElements}
-use Rattle.polcert_items.specs.KnownView.{learned}
+use Rattle.polcert_items.specs.KnownView.{learned, IsSaidOf, MayBeLearned}
 use Rattle.polcert_format.specs.Misfits.{misfit, IsMisfit}
 use Rattle.polcert_items.specs.WantSteps.{Leads, item_wants, IfNotStart, IfStart}
 use Rattle.polcert_items.specs.declared.number.Refusal.{Refusal}
 use Rattle.polcert_format.specs.FirstNumber.{IsLate, states_known}
-use Rattle.polcert_model.specs.TextSteps.{Refuses, IsTextRead, IsItemRead, IsBodyRead, AreItemsRead, IsRefusedBehind, IsRefusedAt, IsRefusedWhole, at_word, at_end, nothing, item}
+use Rattle.polcert_model.specs.TextSteps.{Refuses, IsShaped, IsTextRead, IsItemRead, IsBodyRead, AreItemsRead, IsRefusedBehind, IsRefusedAt, IsRefusedWhole, at_word, at_end, nothing, item}
 use Rattle.polcert_cells.proofs.Basics.{one_some}
 use Rattle.polcert_format.proofs.Dividing.{begins, empty_division}
 use Rattle.polcert_format.proofs.ReadLaws.{item_ends}
 use Rattle.polcert_model.proofs.TakenItems.{item_begun, item_goes_on, has_elements}
 use Rattle.polcert_format.proofs.Within.{within_goes_on, item_begins}
-use Rattle.polcert_model.proofs.Refusing.{feed_refused, end_refused, end_refused_before}
+use Rattle.polcert_model.proofs.Refusing.{feed_refused, end_refused, end_refused_before, too_much_refused}
+use Rattle.polcert_model.proofs.Shaped.{shaped_right, shaped_too_much, may_be_learned}
 use Rattle.polcert_model.proofs.RefusingEnds.{before_refused, word_refused, text_end_refused}
 
 none≢some : {A : Type 0} {o : Option A} {x : A} → o ≡ None → o ≡ Some x → ⊥
@@ -58,19 +61,37 @@ pub open_within : (seen : List Lexeme) (r : TextReader) (i : ItemReader) → IsT
 open_within seen r i (nothing n) e = absurd (none≢some n.item_is e)
 open_within seen r i (item w) e = subst (IsItemWithin r.known) (same_item seen r i e w) w.read.within
 
+-- what the open item says, as it ends
+shaped_end : (seen : List Lexeme) (r : TextReader) (i : ItemReader) (next : Known) (w : IsItemRead seen r) → r.item ≡ Some i → ItemGoes r.known i [] next → IsShaped r.known w.t w.body next
+shaped_end seen r i next w e goes =
+    subst (λ b. IsShaped r.known w.t b next) (append-nil w.body) (w.read.back [] next (subst (λ j. ItemGoes r.known j [] next) (sym (same_item seen r i e w)) goes))
+
+pub said_may_be_learned : (seen : List Lexeme) (r : TextReader) (i : ItemReader) (said : Said) → IsTextRead seen r → r.item ≡ Some i → ItemGoes r.known i [] (learned r.known said) → IsSaidOf (topic_in i) said
+    → MayBeLearned r.known said
+said_may_be_learned seen r i said (nothing n) e goes about = absurd (none≢some n.item_is e)
+said_may_be_learned seen r i said (item w) e goes about =
+    let topics : topic_in i ≡ w.t = sym (ap topic_in (same_item seen r i e w)) ∙ w.read.topic_is in
+    may_be_learned r.known w.t w.body said w.read.may_stand (subst (λ t. IsSaidOf t said) topics about) (shaped_end seen r i (learned r.known said) w e goes)
+
 -- the open item ends
 pub item_ended : (seen : List Lexeme) (r : TextReader) (held : Option ItemReader) (i : ItemReader) (known : Known) (said : Said) → IsTextRead seen r → r.item ≡ Some i → held ≡ None
-    → ItemGoes r.known i [] (learned r.known said) → known ≡ learned r.known said → AreItemsRead seen (reader_of known held r.number)
-item_ended seen r held i known said (nothing n) e none goes e' = absurd (none≢some n.item_is e)
-item_ended seen r held i known said (item w) e none goes same =
+    → ItemGoes r.known i [] (learned r.known said) → known ≡ learned r.known said → HasFewCells (preamble_in r.known) (learned r.known said).entries → AreItemsRead seen (reader_of known held r.number)
+item_ended seen r held i known said (nothing n) e none goes same few = absurd (none≢some n.item_is e)
+item_ended seen r held i known said (item w) e none goes same few =
     let after = learned r.known said in
-    let taken : IsRight r.known w.t w.body after =
-    subst (λ b. IsRight r.known w.t b after) (append-nil w.body) (w.read.back [] after (subst (λ j. ItemGoes r.known j [] after) (sym (same_item seen r i e w)) goes)) in
+    let taken : IsRight r.known w.t w.body after = shaped_right r.known w.t w.body after (shaped_end seen r i after w e goes) few in
     subst (λ k. AreItemsRead seen (reader_of k held r.number)) (sym same) (record {
       items = item_ends seen w.body r.known after w.t w.within taken;
       item_is = none;
       number_is = w.number_is ∙ sym (length-append w.within.items.items (record { word = w.within.word; body = w.body } ∷ []));
     })
+
+-- it is an entry that gives too much
+pub item_too_much : (seen : List Lexeme) (r : TextReader) (i : ItemReader) (said : Said) (place : ℕ) → IsTextRead seen r → r.item ≡ Some i → ItemGoes r.known i [] (learned r.known said)
+    → (HasFewCells (preamble_in r.known) (learned r.known said).entries → ⊥) → IsRefusedAt seen place (model_faults.Item TooManyCells r.number place)
+item_too_much seen r i said place (nothing n) e goes many = absurd (none≢some n.item_is e)
+item_too_much seen r i said place (item w) e goes many =
+    too_much_refused seen r place w (shaped_too_much r.known w.t w.body (learned r.known said) (shaped_end seen r i (learned r.known said) w e goes) many)
 
 some_elements : (seen : List Lexeme) (r : TextReader) (i : ItemReader) (w : IsItemRead seen r) → r.item ≡ Some i → HasElements r.known (topic_in i)
 some_elements seen r i w e =

@@ -15,9 +15,14 @@ use Rattle.polcert_format.specs.declared.fault.ModelFault.TheVariants as model_f
 use Rattle.polcert_items.specs.declared.item.ItemReader.{ItemReader}
 use Rattle.polcert_items.specs.declared.number.Refusal.{Refusal}
 use Rattle.polcert_model.specs.declared.reader.TextReader.{TextReader}
+use Rattle.polcert_cells.specs.declared.entry.Entry.{Entry}
+use Rattle.polcert_cells.specs.declared.entry.Table.{Table}
 use Rattle.polcert_cells.specs.declared.words.Topic.{Topic}
+use Rattle.polcert_cells.specs.declared.words.Topic.TheVariants.{Cells}
+use Rattle.polcert_cells.specs.Entry.{IsEntry, MayBeGiven}
+use Rattle.polcert_cells.specs.Preamble.{Preamble}
 use Rattle.polcert_cells.specs.Words.{begins_item}
-use Rattle.polcert_format.specs.Text.{Known, nothing_known, IsRight}
+use Rattle.polcert_format.specs.Text.{Known, nothing_known, IsComplete, IsRight}
 use Rattle.polcert_format.specs.Order.{word_fault}
 use Rattle.polcert_format.specs.Forms.{HasForm, IsPossible}
 use Rattle.polcert_format.specs.Reading.{AreRightItems, IsWithinItem}
@@ -29,14 +34,28 @@ use Rattle.polcert_items.specs.WantSteps.{item_wants}
 use Rattle.polcert_items.specs.ItemSteps.{ItemGoes, ItemForms, IsItemWithin, IsSeen, topic_in, pending_in}
 use Rattle.polcert_items.specs.KnownView.{IsWholeRead}
 
+-- an entry of this body, right but perhaps for the limits of cells, and what is known behind it
+pub record IsEntryTo (k : Known) (table : Table) (body : List Lexeme) (next : Known) : Type 0 where
+  pub p : Preamble
+  pub e : Entry
+  pub complete : IsComplete k p
+  pub may_be_given : MayBeGiven p table
+  pub entry : IsEntry p table body e
+  pub next_is : next ≡ record k { entries = k.entries ++ e ∷ [] }
+
+-- right, but perhaps for the limits of cells
+abbrev pub IsShaped : Known → Topic → List Lexeme → Known → Type 0
+IsShaped k (Cells table) body next = IsEntryTo k table body next
+IsShaped k t body next = IsRight k t body next
+
 -- the item's body so far, and what its reader makes of what is still to come of it
 pub record IsBodyRead (k : Known) (t : Topic) (body : List Lexeme) (item : ItemReader) : Type 0 where
   pub may_stand : word_fault k t ≡ None
   pub topic_is : topic_in item ≡ t
   pub within : IsItemWithin k item
   pub seen : IsSeen (states_known k) body item
-  pub back : (ls : List Lexeme) (next : Known) → ItemGoes k item ls next → IsRight k t (body ++ ls) next
-  pub on : (ls : List Lexeme) (next : Known) → IsRight k t (body ++ ls) next → ItemGoes k item ls next
+  pub back : (ls : List Lexeme) (next : Known) → ItemGoes k item ls next → IsShaped k t (body ++ ls) next
+  pub on : (ls : List Lexeme) (next : Known) → IsShaped k t (body ++ ls) next → ItemGoes k item ls next
   pub formed : (ls : List Lexeme) → ItemForms k item ls tt → HasForm k t (body ++ ls)
   pub forms : (ls : List Lexeme) → HasForm k t (body ++ ls) → ItemForms k item ls tt
   pub possible : pending_in item ≡ None → IsPossible k t body

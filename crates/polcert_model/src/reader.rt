@@ -17,7 +17,7 @@ ghost use Rattle.polcert_model.specs.TextSteps.{IsTextRead, IsReadAhead, IsPasse
 
 use polcert_cells::{Topic, begun_topic};
 use polcert_format::{ItemFault, ModelFault};
-use polcert_items::{ItemEnd, ItemReader, Known, Stop};
+use polcert_items::{ItemEnd, ItemReader, Known, Stop, Unlearned};
 use polcert_tables::{Model, WrongRow, first_wrong_row};
 use polcert_text::{
     Source, SourceFault, StreamFault, StreamTokens, TEXT_LIMIT, Token, TokenFault, Tokens,
@@ -122,7 +122,8 @@ impl TextReader {
         match item.end(alloc, &self.known) {
             Ok(said) => match self.known.learn(said) {
                 Ok(()) => Ok(()),
-                Err(AllocError) => Err(ModelFault::Memory),
+                Err(Unlearned::TooManyCells) => Err(self.fault(ItemFault::TooManyCells, place)),
+                Err(Unlearned::Memory) => Err(ModelFault::Memory),
             },
             Err(ItemEnd::AtEnd(kind)) => Err(self.fault(kind, place)),
             Err(ItemEnd::At(refusal)) => Err(self.fault(refusal.kind, refusal.place)),

@@ -2,6 +2,7 @@
 mod elements;
 mod faults;
 mod filled;
+mod limits;
 mod mdps;
 mod model_rows;
 mod names_and_starts;

@@ -11,7 +11,7 @@ use Rattle.polcert_cells.specs.Elements.{most_actions, most_elements}
 
 -- the base of the keys: each place is a digit to it
 abbrev pub key_base : ℕ
-key_base = 1024
+key_base = 16_384
 
 -- the most places that an entry has
 abbrev pub most_places : ℕ

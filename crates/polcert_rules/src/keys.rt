@@ -1,7 +1,7 @@
 //! What the keys of rules are made of: a digit for each place, and the table in front.
 
 /// The base of the keys: each place is a digit to it.
-pub(crate) const KEY_BASE: u64 = 1024;
+pub(crate) const KEY_BASE: u64 = 16_384;
 
 /// How many places a key has at most.
 pub(crate) const MOST_PLACES: usize = 4;

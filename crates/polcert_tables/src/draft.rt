@@ -98,7 +98,7 @@ impl Draft {
         })
     }
 
-    /// How many states there are: 1 to 1,000.
+    /// How many states there are: 1 to 10,000.
     pub fn states(&self) -> usize
         ensures elements { result ≡ states_of (meaning self.now) }
         ensures count { IsCount most_states result }
@@ -114,7 +114,7 @@ impl Draft {
         self.actions.count()
     }
 
-    /// How many observations there are: 1 to 1,000.
+    /// How many observations there are: 1 to 10,000.
     pub fn observations(&self) -> usize
         ensures elements { result ≡ observations_of (meaning self.now) }
         ensures count { IsCount most_observations result }

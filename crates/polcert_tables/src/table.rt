@@ -15,6 +15,7 @@ impl Cells for Model {
       states = m.limits.states;
       actions = m.limits.actions;
       observations = m.limits.observations;
+      pairs = m.limits.pairs;
       discount = m.limits.discount;
       t_scale = refl;
       o_scale = refl;

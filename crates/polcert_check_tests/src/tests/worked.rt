@@ -385,38 +385,120 @@ fn lowered_vectors(rt: HostRuntime) {
     }
 }
 
-const LARGEST: &[u8] =
+/// Models in which a value of 10,000,000 everywhere is backed by rewards and values of -10,000,000: of 256 states and observations,
+/// whose filled tables take 134 MB, and of as many pairs of both as there may be.
+const FILLED: &[u8] =
     b"discount: 1 values: reward states: 256 actions: 1 observations: 256 T: 0 uniform O: 0 uniform R: * : * : * : * -10000000";
 
-/// Adds the part to the text 256 times.
-fn push_256(text: &mut Vec<u8>, part: &[u8]) -> Result<(), AllocError> {
-    for _ in 0..256 {
+const LARGEST: &[u8] =
+    b"discount: 1 values: reward states: 2500 actions: 1 observations: 2000 T: 0 uniform O: 0 uniform R: * : * : * : * -10000000";
+
+/// Adds the part to the text so many times.
+fn push_times(text: &mut Vec<u8>, part: &[u8], count: usize) -> Result<(), AllocError> {
+    for _ in 0..count {
         text.extend_from_slice(part)?;
     }
     Ok(())
 }
 
-/// The greatest shortfall that there is, also over filled tables, whose rewards take 134 MB.
+/// A graph of two nodes, of which the second follows both at each of so many observations.
+fn last_follows(alloc: Global, observations: usize) -> Result<Vec<u8>, AllocError> {
+    let mut graph = Vec::new(alloc);
+    graph.extend_from_slice(b"0 0")?;
+    push_times(&mut graph, b" 1", observations)?;
+    graph.extend_from_slice(b" 1 0")?;
+    push_times(&mut graph, b" 1", observations)?;
+    Ok(graph)
+}
+
+/// The vectors of two nodes over so many states: 10,000,000 everywhere, and -10,000,000.
+fn high_and_low(alloc: Global, states: usize) -> Result<Vec<u8>, AllocError> {
+    let mut vectors = Vec::new(alloc);
+    vectors.extend_from_slice(b"0")?;
+    push_times(&mut vectors, b" 10000000", states)?;
+    vectors.extend_from_slice(b" 0")?;
+    push_times(&mut vectors, b" -10000000", states)?;
+    Ok(vectors)
+}
+
+fn short_at_once(amount: i128) -> Option<Verdict> {
+    Some(Verdict::Short {
+        node: 0,
+        state: 0,
+        amount,
+    })
+}
+
+#[test]
+fn a_large_amount_over_filled_tables(rt: HostRuntime) -> Result<(), Fail> {
+    let alloc = rt.alloc();
+    let graph = last_follows(alloc, 256)?;
+    let vectors = high_and_low(alloc, 256)?;
+    let answer = short_at_once(1_966_080_000_000_000_000_000_000_000_000_000_000);
+    assert_eq!(rt; verdict(alloc, FILLED, &graph, &vectors), answer);
+    assert_eq!(rt; dense_verdict(alloc, FILLED, &graph, &vectors), answer);
+    Ok(())
+}
+
+/// The greatest shortfall that there is.
 #[test]
 fn the_largest_amount(rt: HostRuntime) -> Result<(), Fail> {
     let alloc = rt.alloc();
-    let mut graph = Vec::with_capacity(alloc, 4_000)?;
-    graph.extend_from_slice(b"0 0")?;
-    push_256(&mut graph, b" 1")?;
-    graph.extend_from_slice(b" 1 0")?;
-    push_256(&mut graph, b" 1")?;
-    let mut vectors = Vec::with_capacity(alloc, 4_000)?;
-    vectors.extend_from_slice(b"0")?;
-    push_256(&mut vectors, b" 10000000")?;
-    vectors.extend_from_slice(b" 0")?;
-    push_256(&mut vectors, b" -10000000")?;
+    let graph = last_follows(alloc, 2000)?;
+    let vectors = high_and_low(alloc, 2500)?;
+    let answer = short_at_once(150_000_000_000_000_000_000_000_000_000_000_000_000);
+    assert_eq!(rt; verdict(alloc, LARGEST, &graph, &vectors), answer);
+    Ok(())
+}
+
+/// More states, and more observations, than are gone through at once: what the last of them give counts too.
+#[test]
+fn behind_the_first_thousands(rt: HostRuntime) -> Result<(), Fail> {
+    let alloc = rt.alloc();
+    let mut last_low = Vec::new(alloc);
+    last_low.extend_from_slice(b"0")?;
+    push_times(&mut last_low, b" 0", 2499)?;
+    last_low.extend_from_slice(b" -2500")?;
+    assert_eq!(rt;
+        verdict(
+            alloc,
+            b"discount: 1 values: reward states: 2500 actions: 1 observations: 1 T: 0 uniform O: 0 uniform",
+            b"0 0 0",
+            &last_low
+        ),
+        short_at_once(2_500_000_000_000_000_000_000_000_000)
+    );
+
+    let mut stays = Vec::new(alloc);
+    stays.extend_from_slice(b"0 0")?;
+    push_times(&mut stays, b" 0", 2000)?;
+    assert_eq!(rt;
+        verdict(
+            alloc,
+            b"discount: 1 values: reward states: 2 actions: 1 observations: 2000 T: 0 identity O: 0 uniform R: 0 : * : * : 1999 -2000",
+            &stays,
+            b"0 0 0"
+        ),
+        short_at_once(4_000_000_000_000_000_000_000_000_000)
+    );
+
+    let mut zeros = Vec::new(alloc);
+    zeros.extend_from_slice(b"0")?;
+    push_times(&mut zeros, b" 0", 2500)?;
     let answer = Some(Verdict::Short {
         node: 0,
-        state: 0,
-        amount: 1_966_080_000_000_000_000_000_000_000_000_000_000,
+        state: 2400,
+        amount: 2_500_000_000_000_000_000_000_000_000,
     });
-    assert_eq!(rt; verdict(alloc, LARGEST, &graph, &vectors), answer);
-    assert_eq!(rt; dense_verdict(alloc, LARGEST, &graph, &vectors), answer);
+    assert_eq!(rt;
+        verdict(
+            alloc,
+            b"discount: 1 values: reward states: 2500 actions: 1 observations: 1 T: 0 identity O: 0 uniform R: 0 : 2400 : * : * -1",
+            b"0 0 0",
+            &zeros
+        ),
+        answer
+    );
     Ok(())
 }
 

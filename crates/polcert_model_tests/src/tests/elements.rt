@@ -17,7 +17,9 @@ fn refused_tokens(rt: HostRuntime) {
     for (text, kind, place) in [
         (b"states a".as_slice(), ItemFault::BadShape, 7),
         (b"states: 0".as_slice(), ItemFault::BadCount, 8),
-        (b"states: 1001".as_slice(), ItemFault::BadCount, 8),
+        (b"states: 10001".as_slice(), ItemFault::BadCount, 8),
+        (b"actions: 1001".as_slice(), ItemFault::BadCount, 9),
+        (b"observations: 10001".as_slice(), ItemFault::BadCount, 14),
         (b"states: 2.5".as_slice(), ItemFault::BadCount, 8),
         (b"states: 2 a".as_slice(), ItemFault::BadShape, 10),
         (b"states: 2 reset".as_slice(), ItemFault::Reset, 10),
@@ -65,10 +67,10 @@ fn counts(rt: HostRuntime) {
     }
 }
 
-/// A line of a thousand names, and the offset of the next name.
-fn thousand_names(alloc: Global) -> Result<(String, u64), Fail> {
-    let mut text = String::from_str(alloc, "states:")?;
-    for number in 0..1000u32 {
+/// A line of so many names, and the offset of the next name.
+fn names(alloc: Global, line: &str, count: u32) -> Result<(String, u64), Fail> {
+    let mut text = String::from_str(alloc, line)?;
+    for number in 0..count {
         text.push_str(&format!(in alloc; " n{number}")?)?;
     }
     let place = text.len() as u64 + 1;
@@ -78,13 +80,19 @@ fn thousand_names(alloc: Global) -> Result<(String, u64), Fail> {
 #[test]
 fn a_name_too_many(rt: HostRuntime) -> Result<(), Fail> {
     let alloc = rt.alloc();
-    let (names, place) = thousand_names(alloc)?;
-    for name in ["n1000", "n7"] {
-        let text = format!(in alloc; "{names} {name}")?;
-        assert_eq!(rt;
-            refusal(alloc, text.as_bytes()),
-            refused(ItemFault::BadCount, place)
-        );
+    for (line, count) in [
+        ("states:", 10_000u32),
+        ("actions:", 1000),
+        ("observations:", 10_000),
+    ] {
+        let (text, place) = names(alloc, line, count)?;
+        for number in [count, 7] {
+            let text = format!(in alloc; "{text} n{number}")?;
+            assert_eq!(rt;
+                refusal(alloc, text.as_bytes()),
+                refused(ItemFault::BadCount, place)
+            );
+        }
     }
     Ok(())
 }

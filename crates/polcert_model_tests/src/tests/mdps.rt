@@ -142,16 +142,16 @@ const REFUSED_ITEMS: [(&[u8], ItemFault, u64, u64); 17] = [
     ),
     (b"discount: 0.5 O: 0 uniform", ItemFault::MissingLine, 2, 14),
     (
-        b"discount: 0.5 values: reward states: 257 actions: 256 T: 0 uniform",
+        b"discount: 0.5 values: reward states: 2237 actions: 1 T: 0 uniform",
         ItemFault::TooManyCells,
         5,
-        54,
+        53,
     ),
     (
-        b"discount: 0.5 values: reward states: 257 actions: 256 O: 0 uniform",
+        b"discount: 0.5 values: reward states: 2237 actions: 1 O: 0 uniform",
         ItemFault::TooManyCells,
         5,
-        54,
+        53,
     ),
     (
         b"discount: 0.5 values: reward states: 2 actions: 1 T: 0 0 1 1 0 observations: 2",

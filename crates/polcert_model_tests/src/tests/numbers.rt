@@ -141,6 +141,13 @@ fn has_name(model: &Model, kind: Kind, index: usize, name: Option<&str>) -> bool
     index < count && model.name_of(kind, index) == name
 }
 
+/// How many states, actions and observations the model of the text has, and whether it may be printed.
+pub fn counts_and_printable(alloc: Global, text: &[u8]) -> Option<([usize; 3], bool)> {
+    let model = read_model(alloc, text).ok()?;
+    let counts = [model.states(), model.actions(), model.observations()];
+    Some((counts, model.printable()))
+}
+
 /// Why the text is refused, where it is: from a slice, and just so from a source in pieces of any size.
 pub fn refusal(alloc: Global, text: &[u8]) -> Option<ModelFault> {
     let fault = read_model(alloc, text).err()?;

@@ -14,7 +14,7 @@ const REFUSED_ITEMS: [(&[u8], ItemFault, u64, u64); 20] = [
         35,
     ),
     (
-        b"discount: 1 values: reward states: 1001",
+        b"discount: 1 values: reward states: 10001",
         ItemFault::BadCount,
         3,
         35,

@@ -13,6 +13,14 @@ weighed-requires g c =
     let back : to_z w128 (of_z w128 c.args.earned) ≡ c.args.earned = to_z-of_z w128 c.args.earned c.ranges.earned in
     rw back (factor_room (g.C.Cells.table c.args.cells.now) (g.met.C.Cells.is_within_limits c.args.cells.now) 1000000 c.args.earned (omega arith) c.requires.earned)
 
+pub weighed-requires-2 : goal.weighed-requires-2
+weighed-requires-2 g c =
+    let m : Table = g.C.Cells.table c.args.cells.now in
+    let limits : IsWithinLimits m = g.met.C.Cells.is_within_limits c.args.cells.now in
+    let back : to_z w128 (of_z w128 c.args.expected) ≡ c.args.expected = to_z-of_z w128 c.args.expected c.ranges.expected in
+    let discount : c.from-discount.result ≡ m.discount = c.from-discount.ensures ∙ c.discount.ensures in
+    rw (back, discount) (factor_room m limits m.discount c.args.expected (discount_small m limits) c.requires.expected)
+
 pub overflow_add-backing : goal.overflow_add-backing
 unfolding one
 overflow_add-backing g c =

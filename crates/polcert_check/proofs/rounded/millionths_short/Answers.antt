@@ -1,7 +1,10 @@
 use Rattle.std.proofs.Common.{◌≡◌, ◌∙◌, ℕ, ◌*◌, ◌≤◌, ℤ, pos, negsuc, ◌<ℤ◌, unsigned_abs, arith, refl, ap, subst, rules, to_z, of_z, w64, to_z-of_z, FitsSigned}
 use Rattle.std.specs.Int.{w128}
 use Rattle.std.proofs.lemmas.Int.{ints}
+use Rattle.std.proofs.Math.Nat.{mul-le-mul_right}
 use Rattle.polcert_text.specs.Numbers.{largest}
+use Rattle.polcert_check.specs.Ranges.{most_scales}
+use Rattle.polcert_check.proofs.Scales.{scales_le}
 use Rattle.polcert_check.specs.Horizon.{one}
 use Rattle.polcert_check.specs.StartWorth.{IsCeilQuotient}
 use Rattle.polcert_check.proofs.rounded.millionths_short.Goals as goal
@@ -23,6 +26,16 @@ small_quotient-requires-clause-small g c =
     let fits : FitsSigned w128 c.args.amount = search rules in
     let same = c.unsigned_abs.ensures.value ∙ ap unsigned_abs (to_z-of_z {w = w128} fits) in
     rw (same, c.t_scale.ensures, c.o_scale.ensures) (small_enough _ _ _ c.requires.small)
+
+pub overflow_mul-scale : goal.overflow_mul-scale
+overflow_mul-scale g c =
+    let product : c.t_scale.result * c.o_scale.result ≤ most_scales = rw (c.t_scale.ensures, c.o_scale.ensures) (scales_le (g.C.Cells.table c.args.cells.now) (g.met.C.Cells.is_within_limits c.args.cells.now)) in
+    record { fits = omega (arith, product) }
+
+pub small_quotient-requires-clause-room : goal.small_quotient-requires-clause-room
+small_quotient-requires-clause-room g c =
+    let product : c.t_scale.result * c.o_scale.result ≤ most_scales = rw (c.t_scale.ensures, c.o_scale.ensures) (scales_le (g.C.Cells.table c.args.cells.now) (g.met.C.Cells.is_within_limits c.args.cells.now)) in
+    mul-le-mul_right 1000000 product
 
 pub returns : goal.returns
 returns g c =

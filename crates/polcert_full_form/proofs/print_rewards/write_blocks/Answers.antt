@@ -1,4 +1,4 @@
-use Rattle.std.proofs.Common.{◌≡◌, ◌∙◌, ◌+◌, ◌-◌, ◌≤◌, ◌++◌, ℕ, List, length, take, refl, sym, ap, subst, rules, arith}
+use Rattle.std.proofs.Common.{◌≡◌, ◌∙◌, ◌+◌, ◌-◌, ◌≤◌, ◌++◌, ℕ, List, length, take, refl, ap, subst, rules, arith}
 use Rattle.polcert_text.specs.Sink.{Takes, nothing}
 use Rattle.polcert_text.proofs.Taking.{took_then}
 use Rattle.polcert_tables.specs.Contents.{meaning}

@@ -1,4 +1,4 @@
-use Rattle.std.proofs.Common.{◌≡◌, sym, true, refl, arith}
+use Rattle.std.proofs.Common.{refl, arith}
 use Rattle.polcert_cells.specs.Preamble.{columns}
 use Rattle.polcert_tables.specs.RowSums.{row_of}
 use Rattle.polcert_full_form.proofs.WalkedRows.{at_start, uniform_gap, uniform_other, uniform_more, uniform_end}

@@ -1,11 +1,11 @@
-use Rattle.std.proofs.Common.{◌≡◌, ◌∙◌, ◌+◌, ◌-◌, ◌/◌, ◌++◌, ℕ, List, pos, refl, ap, subst, rules, arith}
+use Rattle.std.proofs.Common.{◌≡◌, ◌∙◌, ◌+◌, ◌-◌, ◌/◌, ◌++◌, ℕ, List, pos, refl, subst, rules, arith}
 use Rattle.polcert_text.specs.Sink.{Takes, nothing}
 use Rattle.polcert_text.proofs.Taking.{took_then}
 use Rattle.polcert_text.proofs.Written.{wrote, ends_with, as_text}
 use Rattle.polcert_cells.specs.Preamble.{columns}
 use Rattle.polcert_tables.specs.RowSums.{row_of}
 use Rattle.polcert_format.specs.FullForm.{for_each}
-use Rattle.polcert_full_form.specs.PrintSteps.{number_text, zeros_text, decimal_text}
+use Rattle.polcert_full_form.specs.PrintSteps.{number_text, decimal_text}
 use Rattle.polcert_full_form.proofs.Runs.{step_is, rest_is, run_fails}
 use Rattle.polcert_full_form.proofs.WalkedRows.{at_start, zero_decimal, step_decimal}
 use Rattle.polcert_full_form.proofs.print_rows.write_decimals.Goals as goal

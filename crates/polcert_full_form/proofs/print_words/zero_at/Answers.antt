@@ -1,4 +1,4 @@
-use Rattle.std.proofs.Common.{◌≡◌, ◌∷◌, [], ◌∙◌, ◌++◌, ◌==◌, ℕ, pos, false, cond, refl, sym, ap, subst, codes}
+use Rattle.std.proofs.Common.{◌≡◌, ◌∷◌, [], ◌∙◌, ◌++◌, ◌==◌, pos, false, cond, refl, sym, ap, subst, codes}
 use Rattle.std.specs.Fmt.{digits}
 use Rattle.polcert_text.specs.Millionths.{scaled_text}
 use Rattle.polcert_full_form.specs.PrintSteps.{number_text}

@@ -1,4 +1,4 @@
-use Rattle.std.proofs.Common.{◌≡◌, ◌∙◌, ◌+◌, ◌-◌, ◌≤◌, ℕ, length, sym, arith}
+use Rattle.std.proofs.Common.{◌≡◌, ◌∙◌, ◌+◌, ◌-◌, ◌≤◌, length, sym, arith}
 use Rattle.polcert_tables.specs.Contents.{meaning}
 use Rattle.polcert_full_form.specs.PrintSteps.{reward_columns, reward_in}
 use Rattle.polcert_full_form.proofs.PrintedParts.{all_zero}

@@ -1,6 +1,6 @@
-use Rattle.std.proofs.Common.{◌∙◌, sym, subst}
+use Rattle.std.proofs.Common.{◌∙◌, Err, sym, ap, subst}
 use Rattle.polcert_model.specs.TextSteps.{Refuses}
-use Rattle.polcert_model.proofs.TextReading.{none_open, open_within, item_ended, item_not_ended, item_not_ended_before}
+use Rattle.polcert_model.proofs.TextReading.{none_open, open_within, said_may_be_learned, item_ended, item_too_much, item_not_ended, item_not_ended_before}
 use Rattle.polcert_model.proofs.reader.TextReader.close.Goals as goal
 
 pub returns-in_default-clause-items : goal.returns-in_default-clause-items
@@ -11,11 +11,22 @@ pub end-requires : goal.end-requires
 end-requires c =
     open_within c.requires.0 c.args.self.now c.in-Some.item c.requires.1 (sym c.take.ensures.value ∙ c.in-Some.is)
 
+pub learn-requires-clause-next : goal.learn-requires-clause-next
+learn-requires-clause-next c =
+    said_may_be_learned c.requires.0 c.args.self.now c.in-Some.item c.in-Ok.said c.requires.1 (sym c.take.ensures.value ∙ c.in-Some.is) c.in-Ok.ensures.said c.in-Ok.ensures.topic
+
 pub returns-in-Ok-learn-clause-items : goal.returns-in-Ok-learn-clause-items
 returns-in-Ok-learn-clause-items c = λ seen read.
     let r = c.args.self.now in
     item_ended seen r c.take.new.self c.in-Some.item c.learn.new.self c.in-Ok.said read (sym c.take.ensures.value ∙ c.in-Some.is) c.take.ensures.after
-    c.in-Ok.ensures.said c.in-Ok-learn.ensures.ok
+    c.in-Ok.ensures.said c.in-Ok-learn.ensures.ok c.in-Ok-learn.ensures.few
+
+pub returns-in-Err-TooManyCells-clause-items : goal.returns-in-Err-TooManyCells-clause-items
+returns-in-Err-TooManyCells-clause-items c = λ seen read text ts tokens ends.
+    let r = c.args.self.now in
+    subst (Refuses ts) (sym c.fault.ensures)
+    (item_too_much seen r c.in-Some.item c.in-Ok.said c.args.place read (sym c.take.ensures.value ∙ c.in-Some.is) c.in-Ok.ensures.said
+    (c.in-Err-TooManyCells.ensures.many (ap Err c.in-Err-TooManyCells.field-0-is)) text ts tokens ends)
 
 pub returns-in-Err-AtEnd-clause-items : goal.returns-in-Err-AtEnd-clause-items
 returns-in-Err-AtEnd-clause-items c = λ seen read text ts tokens ends.
@@ -25,7 +36,7 @@ returns-in-Err-AtEnd-clause-items c = λ seen read text ts tokens ends.
     let kinds = rw c.in-Err-AtEnd.field-0-is at c.in-Err-AtEnd.ensures.kind in
     let unheld = rw c.in-Err-AtEnd.field-0-is at c.in-Err-AtEnd.ensures.unheld in
     let undue = rw c.in-Err-AtEnd.field-0-is at c.in-Err-AtEnd.ensures.late in
-    subst (Refuses ts) (sym c.fault.ensures)
+    subst (Refuses ts) (sym c.fault-in-Err-AtEnd.ensures)
     (item_not_ended seen r c.in-Some.item c.in-Err-AtEnd.kind c.args.place read (sym c.take.ensures.value ∙ c.in-Some.is) refused reason kinds unheld undue text ts tokens ends)
 
 pub returns-in-Err-At-clause-items : goal.returns-in-Err-At-clause-items

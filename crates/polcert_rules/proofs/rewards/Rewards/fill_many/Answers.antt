@@ -1,4 +1,4 @@
-use Rattle.std.proofs.Common.{◌≡◌, ℕ, ◌+◌, ◌-◌, ◌<◌, List, [], ◌∷◌, length, get_or, pos, subst, arith}
+use Rattle.std.proofs.Common.{◌≡◌, ◌+◌, [], ◌∷◌, get_or, pos, subst, arith}
 use Rattle.polcert_cells.specs.Cells.{reward}
 use Rattle.polcert_rules.proofs.FilledParts.{filled_part}
 use Rattle.polcert_rules.proofs.rewards.Rewards.fill_many.Goals as goal
