@@ -53,8 +53,8 @@ pub enum ItemFault {
     /// M14: the word `reset`, whose meaning is left out here.
     #[error("the word `reset` is not supported")]
     Reset,
-    /// M16: more than 5,000,000 pairs of a state and an observation; or an entry with which entries give more of a table of more
-    /// than 16,777,216 cells than as many cells with a weight above 0, or 1,048,576 entries of R.
+    /// M16: more than 5,000,000 pairs of a state and an observation; or, of a table of more than 16,777,216 cells, an entry of T or O
+    /// with which entries cover more than as many with a weight above 0, or an entry of R behind 1,048,576 others.
     #[error("too many cells")]
     TooManyCells,
     /// M18: the start probabilities do not sum to one.
