@@ -1,14 +1,14 @@
 -- Limits of cells: an entry that passes them isn't right, though it has the form of one, and it is refused at one place. Small
 -- models are within them.
-use Rattle.std.proofs.Common.{◌≡◌, ◌∙◌, ℕ, ◌*◌, ◌<◌, ◌≤◌, None, List, [], ◌∷◌, ◌++◌, sym, ap, subst, arith}
-use Rattle.std.proofs.lemmas.List.{append-nil}
+use Rattle.std.proofs.Common.{◌≡◌, ◌∙◌, ℕ, ◌*◌, ◌<◌, ◌≤◌, None, List, [], ◌∷◌, ◌++◌, length, sym, ap, subst, arith, Option, Some, ◌+◌}
+use Rattle.std.proofs.lemmas.List.{append_assoc, append-nil}
 use Rattle.std.proofs.Math.Nat.{mul_assoc, mul-le-mul, mul-one}
 use Rattle.polcert_text.specs.Cut.{Lexeme}
 use Rattle.polcert_cells.specs.declared.entry.Entry.{Entry}
 use Rattle.polcert_cells.specs.declared.entry.Table.{Table}
 use Rattle.polcert_cells.specs.declared.entry.Table.TheVariants.{Transition, Observation, Reward}
 use Rattle.polcert_cells.specs.declared.words.Topic.{Topic}
-use Rattle.polcert_cells.specs.declared.words.Topic.TheVariants.{Cells}
+use Rattle.polcert_cells.specs.declared.words.Topic.TheVariants.{Start, Cells}
 use Rattle.polcert_cells.specs.Elements.{count_of}
 use Rattle.polcert_cells.specs.Entry.{IsEntry}
 use Rattle.polcert_cells.specs.Preamble.{Preamble, observed, rewarded}
@@ -17,17 +17,24 @@ use Rattle.polcert_format.specs.declared.fault.ItemFault.{ItemFault}
 use Rattle.polcert_format.specs.FirstWrong.{TextTokens, IsDecided, word_place}
 use Rattle.polcert_format.specs.Forms.{HasForm, IsTooMuch, IsPossible}
 use Rattle.polcert_format.specs.Forms as shapes
+use Rattle.polcert_format.specs.Items.{Item, IsDivided}
+use Rattle.polcert_format.specs.FirstNumber.{IsLateIn}
 use Rattle.polcert_format.specs.Limits.{IsLarge, HasFewPairs, HasFewCells, most_cells}
 use Rattle.polcert_format.specs.Order.{word_fault}
 use Rattle.polcert_format.specs.Printable.{IsPrintable}
 use Rattle.polcert_format.specs.Reading.{IsWrong}
-use Rattle.polcert_format.specs.Reasons.{PassesLimit}
+use Rattle.polcert_format.specs.Reasons.{IsReason, PassesLimit}
+use Rattle.polcert_format.specs.Refusals.{Stops, at_lexeme, at_number, at_end, StopsInBody, IsOfTokens, EndsPossible, at_once, in_item, StandsRight, before_body, in_body, behind_body, of_first_number, of_tokens}
+use Rattle.polcert_format.specs.declared.fault.ItemFault.TheVariants.{Token, TextTooLong, TooManyCells}
+use Rattle.polcert_cells.specs.Words.{topic}
+use Rattle.polcert_cells.proofs.Basics.{one_some, cons≢nil}
+use Rattle.polcert_format.proofs.Dividing.{empty_division}
 use Rattle.polcert_format.specs.Text as texts
-use Rattle.polcert_format.specs.Text.{Known}
+use Rattle.polcert_format.specs.Text.{Known, nothing_known, AreRight}
 use Rattle.polcert_format.proofs.DecidedLaws.{same_cut, same_length, nothing_decided}
 use Rattle.polcert_format.proofs.ItemLaws.{one_division}
 use Rattle.polcert_format.proofs.OrderLaws.{cells_stand}
-use Rattle.polcert_format.proofs.TextLaws.{one_preamble}
+use Rattle.polcert_format.proofs.TextLaws.{one_preamble, one_known}
 
 same_table : {s t : Table} → Cells s ≡ Cells t → s ≡ t
 same_table e = cc
@@ -65,6 +72,79 @@ one_limit_passed ts n p q a b =
 pub limit_undecided : (ts : TextTokens) (n p q : ℕ) (g : ItemFault) → PassesLimit ts n p → IsDecided ts n g q → ⊥
 limit_undecided ts n p q g a d =
     nothing_decided ts a.before a.item a.after a.k a.t g q a.divided a.known a.topic_is (may_stand a.k a.t a.item.body a.too_much) (subst (λ m. IsDecided ts m g q) a.number_is d)
+
+-- ---- no other refusal of such an entry
+
+-- the same item, behind the same items
+record IsSameItem (a b : Item) (xs ys us vs : List Item) (j k : Known) : Type 0 where
+  item : a ≡ b
+  after : us ≡ vs
+  known : j ≡ k
+
+same_here : (ts : TextTokens) (n p : ℕ) (a : PassesLimit ts n p) (before : List Item) (item : Item) (after : List Item) (k : Known) → IsDivided ts.lexemes [] (before ++ item ∷ after)
+    → AreRight nothing_known before k → n ≡ length before + 1 → IsSameItem a.item item a.before before a.after after a.k k
+same_here ts n p a before item after k divided known number =
+    let cut = same_cut a.before before a.after after a.item item (one_division ts.lexemes [] [] (a.before ++ a.item ∷ a.after) (before ++ item ∷ after) a.divided divided).1
+    (same_length n a.before before a.number_is number) in
+    record { item = cut.here; after = cut.behind; known = one_known nothing_known before a.k k (subst (λ xs. AreRight nothing_known xs a.k) cut.front a.known) known }
+
+-- it gives too much there too
+too_much_here : (ts : TextTokens) (n p : ℕ) (a : PassesLimit ts n p) (before : List Item) (item : Item) (after : List Item) (k : Known) (t : Topic)
+    → IsSameItem a.item item a.before before a.after after a.k k → topic item.word ≡ Some t → IsTooMuch k t item.body
+too_much_here ts n p a before item after k t same topics =
+    let topic_is : a.t ≡ t = one_some (subst (λ (i : Item). topic i.word ≡ Some a.t) same.item a.topic_is) topics in
+    subst (λ u. IsTooMuch k u item.body) topic_is (subst (λ (i : Item). IsTooMuch k a.t i.body) same.item (subst (λ j. IsTooMuch j a.t a.item.body) same.known a.too_much))
+
+has_form : (k : Known) (t : Topic) (body : List Lexeme) → IsTooMuch k t body → HasForm k t body
+has_form k t body m = shapes.entry m.topic_is m.complete m.may_be_given m.entry
+
+no_stop : (k : Known) (t : Topic) (kind : ItemFault) (body taken rest : List Lexeme) → IsTooMuch k t body → body ≡ taken ++ rest → Stops k t kind taken rest → ⊥
+no_stop k t kind body taken rest m whole (at_lexeme {l = l} {behind = behind} formless unfit) =
+    formless behind (subst (HasForm k t) (whole ∙ sym (append_assoc taken (l ∷ []) behind)) (has_form k t body m))
+no_stop k t kind body taken rest m whole (at_number {sign = sign} {l = l} {behind = behind} is numeral possible formless value unfit) =
+    formless behind (subst (HasForm k t) (whole ∙ sym (append_assoc taken (sign ∷ l ∷ []) behind)) (has_form k t body m))
+no_stop k t kind body taken rest m whole (at_end wrong other kinds) = other (subst (IsTooMuch k t) (whole ∙ append-nil taken) m)
+
+not_stopped : (ts : TextTokens) (kind : ItemFault) (n p q : ℕ) → PassesLimit ts n p → StopsInBody ts kind n q → ⊥
+not_stopped ts kind n p q a s =
+    let same = same_here ts n p a s.before s.item s.after s.k s.divided s.known s.number_is in
+    no_stop s.k s.t kind s.item.body s.taken s.rest (too_much_here ts n p a s.before s.item s.after s.k s.t same s.topic_is) s.whole s.stops
+
+start_or_cells : {table : Table} → Start ≡ Cells table → ⊥
+start_or_cells e = cc
+
+not_late : (ts : TextTokens) (kind : ItemFault) (n p q : ℕ) → PassesLimit ts n p → IsLateIn ts n kind q → ⊥
+not_late ts kind n p q a w =
+    let same = same_here ts n p a w.before w.item w.after w.k w.divided w.known w.number_is in
+    let much = too_much_here ts n p a w.before w.item w.after w.k Start same w.topic_is in
+    start_or_cells much.topic_is
+
+-- the tokens end cleanly where it is the last item
+no_end : {A : Type 0} {o : Option A} {x : A} → o ≡ None → o ≡ Some x → ⊥
+no_end e f = cc
+
+no_items : (xs : List Item) (x : Item) (ys : List Item) → xs ++ x ∷ ys ≡ [] → ⊥
+no_items [] x ys e = cons≢nil e
+no_items (z ∷ xs) x ys e = cons≢nil e
+
+clean_end : (ts : TextTokens) (n p : ℕ) → PassesLimit ts n p → EndsPossible ts n → ts.ending ≡ None
+clean_end ts n p a (at_once e) =
+    absurd (no_items a.before a.item a.after (one_division [] [] [] (a.before ++ a.item ∷ a.after) [] (subst (λ ls. IsDivided ls [] (a.before ++ a.item ∷ a.after)) e a.divided) empty_division).1)
+clean_end ts n p a (in_item w) =
+    let same = same_here ts n p a w.before w.item [] w.k w.divided w.known w.number_is in
+    a.clean same.after
+
+not_of_tokens : (ts : TextTokens) (kind : ItemFault) (n p q : ℕ) → PassesLimit ts n p → IsOfTokens kind → EndsPossible ts n → IsReason ts n q kind → ⊥
+not_of_tokens ts (Token f) n p q a of ends reason = no_end (clean_end ts n p a ends) reason.0
+not_of_tokens ts TextTooLong n p q a of ends reason = no_end (clean_end ts n p a ends) reason
+not_of_tokens ts _ n p q a of ends reason = absurd of
+
+pub only_limit : (ts : TextTokens) (kind : ItemFault) (n p q : ℕ) → PassesLimit ts n p → IsReason ts n q kind → StandsRight ts kind n q → (kind ≡ TooManyCells) × (q ≡ p)
+only_limit ts kind n p q a reason (before_body d) = absurd (limit_undecided ts n p q kind a d)
+only_limit ts kind n p q a reason (in_body s) = absurd (not_stopped ts kind n p q a s)
+only_limit ts kind n p q a reason (behind_body k b) = (k, one_limit_passed ts n q p b a)
+only_limit ts kind n p q a reason (of_first_number w) = absurd (not_late ts kind n p q a w)
+only_limit ts kind n p q a reason (of_tokens of ends) = absurd (not_of_tokens ts kind n p q a of ends reason)
 
 -- ---- small models
 

@@ -26,12 +26,12 @@ ghost use Rattle.polcert_format.specs.FirstWrong.{TextTokens, tokens_of, IsFirst
 ghost use Rattle.polcert_format.specs.declared.fault.ItemFault.{ItemFault};
 ghost use Rattle.polcert_format.specs.Order.{preamble_fault, word_fault};
 ghost use Rattle.polcert_format.specs.declared.fault.ModelFault.{ModelFault};
-ghost use Rattle.polcert_format.specs.Refusals.{IsRefusal, SaysOfText, place_or};
+ghost use Rattle.polcert_format.specs.Refusals.{IsRefusal, SaysOfText, StandsRight, place_or};
 ghost use Rattle.polcert_format.specs.Items.{Item, IsDivided};
 ghost use Rattle.polcert_format.specs.Forms.{IsTooMuch, IsPossible};
 ghost use Rattle.polcert_format.specs.Limits.{HasFewPairs, HasFewCells};
 ghost use Rattle.polcert_format.specs.Printable.{IsPrintable};
-ghost use Rattle.polcert_format.specs.Reasons.{PassesLimit};
+ghost use Rattle.polcert_format.specs.Reasons.{IsReason, PassesLimit};
 
 /// Each list of lexemes is divided into items in just one way.
 pub fn one_division()
@@ -182,13 +182,15 @@ pub fn one_late_refusal()
     ensures undecided { (ts : TextTokens) (n : ℕ) (f g : ItemFault) (p q : ℕ) → IsLateIn ts n f p → IsDecided ts n g q → ⊥ }
 {}
 
-/// An entry that gives too many cells isn't right, though all of its body is possible; it is refused at one place, and nothing is
-/// decided before its body.
+/// An entry that gives too many cells isn't right, though all of its body is possible; nothing is decided before its body, and no
+/// refusal of it has another kind or place.
 pub fn one_refusal_of_cells()
     ensures wrong { (k : Known) (t : Topic) (body : List Lexeme) → IsTooMuch k t body → IsWrong k t body }
     ensures possible { (k : Known) (t : Topic) (body : List Lexeme) → IsTooMuch k t body → IsPossible k t body }
     ensures one { (ts : TextTokens) (n p q : ℕ) → PassesLimit ts n p → PassesLimit ts n q → p ≡ q }
     ensures undecided { (ts : TextTokens) (n p q : ℕ) (g : ItemFault) → PassesLimit ts n p → IsDecided ts n g q → ⊥ }
+    ensures only { (ts : TextTokens) (kind : ItemFault) (n p q : ℕ) → PassesLimit ts n p → IsReason ts n q kind → StandsRight ts kind n q →
+        (kind ≡ ItemFault.TooManyCells) × (q ≡ p) }
 {}
 
 /// Where there are at most 1,000 states and 1,000 observations and no table has more cells than are printed, no limit of cells is

@@ -12,3 +12,6 @@ returns-clause-one c = laws.one_limit_passed
 
 pub returns-clause-undecided : goal.returns-clause-undecided
 returns-clause-undecided c = laws.limit_undecided
+
+pub returns-clause-only : goal.returns-clause-only
+returns-clause-only c = laws.only_limit
