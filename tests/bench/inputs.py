@@ -289,6 +289,23 @@ def most_rows(folder):
         out.write('T: * identity\nO: * uniform\nR: * : * : * : * 1\n')
 
 
+def most_zeros(folder):
+    """The same rows of T over a single cell of weight 0 in each column, for each action and state."""
+    with open(f'{folder}/most_zeros.POMDP', 'w') as out:
+        preamble(out, 10_000, 1000, 1)
+        out.writelines(f'T: * : * : {end} 0\n' for end in range(10_000))
+        out.write('T: * identity\nO: * uniform\nR: * : * : * : * 1\n')
+
+
+def most_hidden(folder):
+    """Rows of T of which a newer single cell of weight 0 hides what the identity gives, and over which one cell is 1: 800 actions of 10,000 states."""
+    with open(f'{folder}/most_hidden.POMDP', 'w') as out:
+        preamble(out, 10_000, 800, 1)
+        out.write('T: * identity\n')
+        out.writelines(f'T: * : * : {end} 0\n' for end in range(1, 10_000))
+        out.write('T: * : * : 0 1\nO: * uniform\nR: * : * : * : * 1\n')
+
+
 def most_pairs(folder):
     """As many pairs of a state and an observation as there may be, all of them above 0, in three actions of 10,000 states."""
     with open(f'{folder}/most_pairs.POMDP', 'w') as out:
@@ -304,6 +321,8 @@ MOST = {
     'most_cells': most_cells,
     'most_rewards': most_rewards,
     'most_rows': most_rows,
+    'most_zeros': most_zeros,
+    'most_hidden': most_hidden,
     'most_pairs': most_pairs,
 }
 

@@ -103,7 +103,7 @@ cell_to rules low action state start x c is =
     record { rule = c.rule; among = c.among; key_is = omega arith; column = c.column; number_is = c.number_is }
 
 -- a place that fits an index has one of two digits
-two_digits : (p : Place) (i : ℕ) → fits_place p i ≡ true → (digit p ≡ 1) ⊎ (digit p ≡ i + 2)
+pub two_digits : (p : Place) (i : ℕ) → fits_place p i ≡ true → (digit p ≡ 1) ⊎ (digit p ≡ i + 2)
 two_digits Every i e = inl refl
 two_digits (Only n) i e = inr (ap (λ k. k + 2) (same_number n i e))
 

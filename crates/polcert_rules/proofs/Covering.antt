@@ -7,9 +7,7 @@ use Rattle.polcert_cells.specs.declared.entry.Table.{Table}
 use Rattle.polcert_cells.specs.declared.entry.Table.TheVariants.{Transition, Observation, Reward}
 use Rattle.polcert_cells.specs.declared.entry.Place.{Place}
 use Rattle.polcert_cells.specs.declared.entry.Entry.{Entry}
-use Rattle.polcert_cells.specs.Preamble.{Preamble}
-use Rattle.polcert_cells.specs.Cells.{is_table, fit_places, covers, IsLastCovering, last, none, weight, weight_of, value_or}
-use Rattle.polcert_cells.proofs.CellLaws.{last_is_one}
+use Rattle.polcert_cells.specs.Cells.{is_table, fit_places, covers, IsLastCovering, last, none}
 use Rattle.polcert_rules.specs.declared.rule.Rule.{Rule}
 use Rattle.polcert_rules.specs.Keys.{key_base, key_in, key_of, table_digit, table_key, AreDigits, AreIndices, Fits, most_places}
 use Rattle.polcert_rules.specs.Newest.{IsNewest, IsIndexOf, AreKeyed, IsLastNumber, entry_at}
@@ -127,9 +125,3 @@ pub newest_in : (rules part : List Rule) (table : Table) (indices : List ℕ) (l
 newest_in rules part table indices low size result at full a span n =
     let whole = newest_of_span rules part most_places low indices result a (subst (IsSpan rules part low) full span) n in
     subst (λ l. IsNewest rules (Fits most_places l indices) result) at whole
-
--- the weight of a cell is what the entry of its last number gives
-pub number_weight : (p : Preamble) (entries : List Entry) (table : Table) (indices : List ℕ) (number : Option ℕ) → IsLastNumber entries table indices number
-    → weight p entries table indices ≡ value_or 0 (weight_of p indices) (entry_at entries number)
-number_weight p entries table indices number l =
-    ap (value_or 0 (weight_of p indices)) (sym (last_is_one entries table indices (entry_at entries number) (last_is entries table indices number l)))

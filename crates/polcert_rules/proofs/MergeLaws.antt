@@ -130,7 +130,3 @@ merged_row n f base newer row r =
       sparse = sparse_from 0 n (merged base newer) (merged_climbs 0 n base newer h r);
       each = λ c l. merged_weights 0 n c base newer h r ∙ over_same newer (weight_at base) f c (row.each c l);
     }
-
-pub merged_cells : (n : ℕ) (f : ℕ → ℕ) (base items newer cells : List Cell) → cells ≡ merged items newer → items ≡ base → IsRow n f base → Rises 0 n newer → IsRow n (weight_over newer f) cells
-merged_cells n f base items newer cells e i row r =
-    subst (λ (xs : List Cell). IsRow n (weight_over newer f) xs) (sym (e ∙ ap (λ (xs : List Cell). merged xs newer) i)) (merged_row n f base newer row r)

@@ -1,4 +1,4 @@
--- The single cells of a row that are newer than what covers the whole row.
+-- The single cells of a row that are newer than what is under them.
 use Rattle.std.proofs.Common.{◌≡◌, ◌∙◌, ℕ, suc, ◌+◌, ◌<◌, ◌≤◌, Bool, true, false, cond, eqb, leb, ltb, Option, Some, None, List, [], ◌∷◌, All, refl, sym, ap, arith}
 use Rattle.std.proofs.lemmas.Bool.Decides.{nat_tests}
 use Rattle.std.proofs.lemmas.List.Elements.{All-head, All-tail}
@@ -29,73 +29,64 @@ none_below low c (r ∷ rs) h l = at (eqb r.key c) refl (none_below (r.key + 1) 
     at true e ih = let a = h.0 in absurd (grind (arith, nat_tests))
     at false e ih = ih
 
-module _ (columns : ℕ) (entries : List Entry) (whole : Option ℕ) (s : ℕ) where
-  -- what a column has: that of its cell where it is newer
-  picked : Option ℕ → ℕ → ℕ
-  picked None c = given_at columns entries whole s c
-  picked (Some n) c = cond (is_newer whole n) (given_at columns entries (Some n) s c) (given_at columns entries whole s c)
+module _ (columns : ℕ) (entries : List Entry) (s : ℕ) where
+  -- what a column has: that of its cell where it is newer than what is under it
+  abbrev pub picked : Option ℕ → Option ℕ → ℕ → ℕ
+  picked under None c = given_at columns entries under s c
+  picked under (Some n) c = cond (is_newer under n) (given_at columns entries (Some n) s c) (given_at columns entries under s c)
 
-  newer_picked : (low c : ℕ) (rs : List Rule) → RulesRise low rs → weight_over (newer_cells columns entries whole s rs) (given_at columns entries whole s) c ≡ picked (at_column rs c) c
-  unfolding picked
-  newer_picked low c [] h = refl
-  newer_picked low c (r ∷ rs) h = at (is_newer whole r.number) refl (eqb r.key c) refl (newer_picked (r.key + 1) c rs h.1)
+  pub picked_number : (under : Option ℕ) (c : ℕ) (o : Option ℕ) → picked under o c ≡ given_at columns entries (later under o) s c
+  picked_number None c None = refl
+  picked_number (Some m) c None = refl
+  picked_number None c (Some n) = refl
+  picked_number (Some m) c (Some n) = two (ltb m n) refl (leb m n) refl
     where
-      w : Cell
-      w = record { column = r.key; weight = given_at columns entries (Some r.number) s r.key }
+      two : (b : Bool) → ltb m n ≡ b → (t : Bool) → leb m n ≡ t
+          → cond b (given_at columns entries (Some n) s c) (given_at columns entries (Some m) s c) ≡ given_at columns entries (cond t (Some n) (Some m)) s c
+      two true g true h = refl
+      two true g false h = absurd (grind (arith, nat_tests))
+      two false g true h = let same : m ≡ n = grind (arith, nat_tests) in ap (λ k. given_at columns entries (Some k) s c) same
+      two false g false h = refl
 
-      at : (b : Bool) → is_newer whole r.number ≡ b → (t : Bool) → eqb r.key c ≡ t → weight_over (newer_cells columns entries whole s rs) (given_at columns entries whole s) c ≡ picked (at_column rs c) c
-          → weight_over (cond b (record { column = r.key; weight = given_at columns entries (Some r.number) s r.key } ∷ newer_cells columns entries whole s rs) (newer_cells columns entries whole s rs)) (given_at columns entries whole s) c
-          ≡ picked (cond t (Some r.number) (at_column rs c)) c
-      at true e true f ih =
-          let same : r.key ≡ c = grind (arith, nat_tests) in
-          ap (λ t. cond t (given_at columns entries (Some r.number) s r.key) (weight_over (newer_cells columns entries whole s rs) (given_at columns entries whole s) c)) f
-          ∙ ap (given_at columns entries (Some r.number) s) same
-          ∙ sym (ap (λ b. cond b (given_at columns entries (Some r.number) s c) (given_at columns entries whole s c)) e)
-      at true e false f ih =
-          ap (λ t. cond t (given_at columns entries (Some r.number) s r.key) (weight_over (newer_cells columns entries whole s rs) (given_at columns entries whole s) c)) f ∙ ih
-      at false e true f ih =
-          let same : r.key ≡ c = grind (arith, nat_tests) in
-          let none : at_column rs c ≡ None = none_below (r.key + 1) c rs h.1 (omega arith) in
-          ih ∙ ap (λ o. picked o c) none ∙ sym (ap (λ b. cond b (given_at columns entries (Some r.number) s c) (given_at columns entries whole s c)) e)
-      at false e false f ih = ih
+  module _ (under : ℕ → Option ℕ) where
+    newer_picked : (low c : ℕ) (rs : List Rule) → RulesRise low rs → weight_over (newer_cells columns entries under s rs) (λ i. given_at columns entries (under i) s i) c ≡ picked (under c) (at_column rs c) c
+    newer_picked low c [] h = refl
+    newer_picked low c (r ∷ rs) h = at (is_newer (under r.key) r.number) refl (eqb r.key c) refl (newer_picked (r.key + 1) c rs h.1)
+      where
+        here : (b : Bool) → r.key ≡ c → is_newer (under r.key) r.number ≡ b
+            → picked (under c) (Some r.number) c ≡ cond b (given_at columns entries (Some r.number) s c) (given_at columns entries (under c) s c)
+        here b same e = ap (λ t. cond t (given_at columns entries (Some r.number) s c) (given_at columns entries (under c) s c)) (ap (λ i. is_newer (under i) r.number) (sym same) ∙ e)
 
-  picked_number : (c : ℕ) (o : Option ℕ) → picked o c ≡ given_at columns entries (later whole o) s c
-  unfolding picked
-  picked_number c None = ap (λ o. given_at columns entries o s c) (sym (later_none whole))
-    where
-      later_none : (o : Option ℕ) → later o None ≡ o
-      later_none None = refl
-      later_none (Some n) = refl
-  picked_number c (Some n) = at whole refl
-    where
-      at : (o : Option ℕ) → whole ≡ o → cond (is_newer whole n) (given_at columns entries (Some n) s c) (given_at columns entries whole s c) ≡ given_at columns entries (later whole (Some n)) s c
-      at None f =
-          ap (λ w. cond (is_newer w n) (given_at columns entries (Some n) s c) (given_at columns entries whole s c)) f ∙ sym (ap (λ w. given_at columns entries (later w (Some n)) s c) f)
-      at (Some m) f =
-          ap (λ w. cond (is_newer w n) (given_at columns entries (Some n) s c) (given_at columns entries whole s c)) f ∙ two (ltb m n) refl (leb m n) refl ∙ sym (ap (λ w. given_at columns entries (later w (Some n)) s c) f)
-        where
-          base_is : given_at columns entries whole s c ≡ given_at columns entries (Some m) s c
-          base_is = ap (λ w. given_at columns entries w s c) f
+        at : (b : Bool) → is_newer (under r.key) r.number ≡ b → (t : Bool) → eqb r.key c ≡ t
+            → weight_over (newer_cells columns entries under s rs) (λ i. given_at columns entries (under i) s i) c ≡ picked (under c) (at_column rs c) c
+            → weight_over (cond b (record { column = r.key; weight = given_at columns entries (Some r.number) s r.key } ∷ newer_cells columns entries under s rs) (newer_cells columns entries under s rs)) (λ i. given_at columns entries (under i) s i) c
+            ≡ picked (under c) (cond t (Some r.number) (at_column rs c)) c
+        at true e true f ih =
+            let same : r.key ≡ c = grind (arith, nat_tests) in
+            ap (λ t. cond t (given_at columns entries (Some r.number) s r.key) (weight_over (newer_cells columns entries under s rs) (λ i. given_at columns entries (under i) s i) c)) f
+            ∙ ap (given_at columns entries (Some r.number) s) same ∙ sym (here true same e)
+        at true e false f ih =
+            ap (λ t. cond t (given_at columns entries (Some r.number) s r.key) (weight_over (newer_cells columns entries under s rs) (λ i. given_at columns entries (under i) s i) c)) f ∙ ih
+        at false e true f ih =
+            let same : r.key ≡ c = grind (arith, nat_tests) in
+            let none : at_column rs c ≡ None = none_below (r.key + 1) c rs h.1 (omega arith) in
+            ih ∙ ap (λ o. picked (under c) o c) none ∙ sym (here false same e)
+        at false e false f ih = ih
 
-          two : (b : Bool) → ltb m n ≡ b → (t : Bool) → leb m n ≡ t → cond b (given_at columns entries (Some n) s c) (given_at columns entries whole s c) ≡ given_at columns entries (cond t (Some n) (Some m)) s c
-          two true g true h = refl
-          two true g false h = absurd (grind (arith, nat_tests))
-          two false g true h = let same : m ≡ n = grind (arith, nat_tests) in base_is ∙ ap (λ k. given_at columns entries (Some k) s c) same
-          two false g false h = base_is
+    -- the cells over what is under them have what the number of each column gives
+    pub newer_over : (c : ℕ) (rs : List Rule) → IsRising rs
+        → weight_over (newer_cells columns entries under s rs) (λ i. given_at columns entries (under i) s i) c ≡ given_at columns entries (number_in (under c) rs c) s c
+    newer_over c rs up = newer_picked 0 c rs (rules_rise 0 rs up (λ k d l. omega arith)) ∙ picked_number (under c) c (at_column rs c)
 
-  -- the cells over the whole row have what the number of each column gives
-  pub newer_over : (c : ℕ) (rs : List Rule) → IsRising rs → weight_over (newer_cells columns entries whole s rs) (given_at columns entries whole s) c ≡ given_at columns entries (number_in whole rs c) s c
-  newer_over c rs up = newer_picked 0 c rs (rules_rise 0 rs up (λ k d l. omega arith)) ∙ picked_number c (at_column rs c)
-
-  pub newer_rise : (low n : ℕ) (rs : List Rule) → RulesRise low rs → All (λ r. is_newer whole r.number ≡ true → r.key < n) rs → Rises low n (newer_cells columns entries whole s rs)
-  newer_rise low n [] h within = tt
-  newer_rise low n (r ∷ rs) h within = at (is_newer whole r.number) refl (newer_rise (r.key + 1) n rs h.1 (All-tail (λ (r : Rule). is_newer whole r.number ≡ true → r.key < n) r rs within))
-    where
-      at : (b : Bool) → is_newer whole r.number ≡ b → Rises (r.key + 1) n (newer_cells columns entries whole s rs)
-          → Rises low n (cond b (record { column = r.key; weight = given_at columns entries (Some r.number) s r.key } ∷ newer_cells columns entries whole s rs) (newer_cells columns entries whole s rs))
-      at true e rest = (h.0, All-head (λ (r : Rule). is_newer whole r.number ≡ true → r.key < n) r rs within e, rest)
-      at false e rest = let a = h.0 in rises_lower low (r.key + 1) n (newer_cells columns entries whole s rs) (omega arith) rest
-        where
-          rises_lower : (k low n : ℕ) (xs : List Cell) → k ≤ low → Rises low n xs → Rises k n xs
-          rises_lower k low n [] le h = tt
-          rises_lower k low n (x ∷ xs) le h = let a = h.0 in (omega arith, h.1, h.2)
+    pub newer_rise : (low n : ℕ) (rs : List Rule) → RulesRise low rs → All (λ r. r.key < n) rs → Rises low n (newer_cells columns entries under s rs)
+    newer_rise low n [] h within = tt
+    newer_rise low n (r ∷ rs) h within = at (is_newer (under r.key) r.number) (newer_rise (r.key + 1) n rs h.1 (All-tail (λ (r : Rule). r.key < n) r rs within))
+      where
+        at : (b : Bool) → Rises (r.key + 1) n (newer_cells columns entries under s rs)
+            → Rises low n (cond b (record { column = r.key; weight = given_at columns entries (Some r.number) s r.key } ∷ newer_cells columns entries under s rs) (newer_cells columns entries under s rs))
+        at true rest = (h.0, All-head (λ (r : Rule). r.key < n) r rs within, rest)
+        at false rest = let a = h.0 in rises_lower low (r.key + 1) n (newer_cells columns entries under s rs) (omega arith) rest
+          where
+            rises_lower : (k low n : ℕ) (xs : List Cell) → k ≤ low → Rises low n xs → Rises k n xs
+            rises_lower k low n [] le h = tt
+            rises_lower k low n (x ∷ xs) le h = let a = h.0 in (omega arith, h.1, h.2)

@@ -13,7 +13,7 @@ use Rattle.polcert_rules.proofs.Fitting.{fit_digits}
 use Rattle.polcert_rules.proofs.Covering.{same_keys, keyed_at}
 use Rattle.polcert_rules.proofs.RowNumbers.{single_fit}
 
-single_entry : (entries : List Entry) (rules : List Rule) (table : Table) (a s : ℕ) → AreKeyed entries → IsIndexOf entries rules → a + 2 < key_base → s + 2 < key_base
+pub single_entry : (entries : List Entry) (rules : List Rule) (table : Table) (a s : ℕ) → AreKeyed entries → IsIndexOf entries rules → a + 2 < key_base → s + 2 < key_base
     → (x : Rule) → IsCell rules (table_key table) a s x → IsSingleEntry entries table x
 single_entry entries rules table a s keyed index la ls x c =
     let entry = index.sound c.rule c.among in

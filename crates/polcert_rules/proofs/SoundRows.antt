@@ -17,8 +17,12 @@ use Rattle.polcert_cells.proofs.CellLaws as cells
 use Rattle.polcert_cells.proofs.SoundLaws.{rewarded_few}
 use Rattle.polcert_rules.specs.declared.rule.Rule.{Rule}
 use Rattle.polcert_rules.specs.declared.shape.Shape.{Shape}
+use Rattle.polcert_rules.specs.declared.split.SplitRules.{SplitRules}
+use Rattle.polcert_rules.specs.declared.row.Row.{Row}
+use Rattle.polcert_rules.specs.Zeros.{IsSplit, IsRowOf, under}
+use Rattle.polcert_rules.specs.Repeats.{IsWholeNumber}
 use Rattle.polcert_rules.specs.Keys.{key_base, digit, AreDigits, most_places}
-use Rattle.polcert_rules.specs.Newest.{IsRising, IsIndexOf, AreKeyed, IsLastNumber, entry_at}
+use Rattle.polcert_rules.specs.Newest.{IsIndexOf, AreKeyed, IsLastNumber, entry_at}
 use Rattle.polcert_rules.specs.Rows.{HasNoSuchColumn, HaveColumns, IsSingleEntry, no_column, number_in}
 use Rattle.polcert_rules.specs.Given.{IsWithin, FitsShape, HasColumn, given}
 use Rattle.polcert_rules.specs.Shapes.{IsShapeOf, AreSound}
@@ -119,17 +123,17 @@ module _ (p : Preamble) (table : Table) (shape : Shape) (entries : List Entry) (
           let i = covering entries table (a ∷ s ∷ c ∷ []) e f in
           sym (given_is q table shape e a s c w like i.of_table (fits i.number e i.is i.of_table).form)
 
-  module _ (within : IsWithin shape) (a s : ℕ) (whole : Option ℕ) (found : List Rule) (single : All (IsSingleEntry entries table) found)
-      (of_whole : IsLastNumber entries table (a ∷ s ∷ no_column ∷ []) whole) (of_cells : (c : ℕ) → c < no_column → IsLastNumber entries table (a ∷ s ∷ c ∷ []) (number_in whole found c)) where
-    newer_is : (r : Rule) → IsSingleEntry entries table r → (r.key < shape.columns) × IsNumber entries r.number
-    newer_is r e =
-        let f = fits r.number e.entry e.is e.of_table in
-        let one_number = single_number shape table e.entry e.first e.second (Only r.key) w e.of_table e.places f in
-        let column : HasColumn shape.columns (e.first ∷ e.second ∷ Only r.key ∷ []) = subst (HasColumn shape.columns) e.places f.column in (
-          column,
-          record { entry = e.entry; is = e.is; written = one_number.written; body = one_number.is; small = one_number.small; places = ap length e.places },
-        )
+  -- a single cell is a number, in a column
+  pub newer_is : (r : Rule) → IsSingleEntry entries table r → (r.key < shape.columns) × IsNumber entries r.number
+  newer_is r e =
+      let f = fits r.number e.entry e.is e.of_table in
+      let one_number = single_number shape table e.entry e.first e.second (Only r.key) w e.of_table e.places f in
+      let column : HasColumn shape.columns (e.first ∷ e.second ∷ Only r.key ∷ []) = subst (HasColumn shape.columns) e.places f.column in (
+        column,
+        record { entry = e.entry; is = e.is; written = one_number.written; body = one_number.is; small = one_number.small; places = ap length e.places },
+      )
 
+  module _ (within : IsWithin shape) (a s : ℕ) (row : Row) (h : IsRowOf entries table a s row) where
     whole_is : (o : Option ℕ) → IsLastNumber entries table (a ∷ s ∷ no_column ∷ []) o → IsWhole shape entries o
     whole_is None l = tt
     whole_is (Some n) l =
@@ -145,14 +149,18 @@ module _ (p : Preamble) (table : Table) (shape : Shape) (entries : List Entry) (
             let i = covering entries table (a ∷ s ∷ c ∷ []) e f in
             given_small shape e s c within (fits i.number e i.is i.of_table)
 
-    pub numbers_are : IsRising found → AreNumbersOf shape entries table a s whole found
-    numbers_are up =
+    pub numbers_are : AreNumbersOf shape entries table a s row
+    numbers_are =
         let few = within.columns.1 in
         record {
-          rising = up;
-          newer = λ k d l e. newer_is _ (single k d l);
-          covering = whole_is whole of_whole;
-          last = λ c l. sym (cells.last_is_one entries table (a ∷ s ∷ c ∷ []) (entry_at entries (number_in whole found c)) (last_is entries table (a ∷ s ∷ c ∷ []) (number_in whole found c) (of_cells c (omega arith))));
+          rising = h.rising;
+          ordered = h.ordered;
+          cells = λ k d l. newer_is _ (h.single k d l);
+          zeros = λ c n l e. h.zeros c n (omega arith) e;
+          covering = whole_is row.whole h.whole;
+          last = λ c l.
+              let number = number_in (under row c) row.cells.items c in
+              sym (cells.last_is_one entries table (a ∷ s ∷ c ∷ []) (entry_at entries number) (last_is entries table (a ∷ s ∷ c ∷ []) number (h.last c (omega arith))));
           small = λ c l. small_is c;
         }
 
@@ -169,13 +177,11 @@ sound_within p Observation shape entries w is sound =
 sound_within p Reward shape entries w is sound = absurd w
 
 -- the numbers of a row, by what the index says of it
-pub row_numbers : (p : Preamble) (table : Table) (shape : Shape) (entries : List Entry) (rules : List Rule) (a s : ℕ) (whole : Option ℕ) (found : List Rule)
-    → IsWeighted table → IsShapeOf p table shape → AreSound p entries → IsIndexOf entries rules → IsRising found
-    → ((es : List Entry) → AreKeyed es → IsIndexOf es rules → All (IsSingleEntry es table) found)
-    → ((es : List Entry) → AreKeyed es → IsIndexOf es rules → IsLastNumber es table (a ∷ s ∷ no_column ∷ []) whole)
-    → ((es : List Entry) → AreKeyed es → HaveColumns es → IsIndexOf es rules → (c : ℕ) → c < no_column → IsLastNumber es table (a ∷ s ∷ c ∷ []) (number_in whole found c))
-    → AreNumbersOf shape entries table a s whole found
-row_numbers p table shape entries rules a s whole found w is sound index up single of_whole of_cells =
+pub row_numbers : (p : Preamble) (table : Table) (shape : Shape) (entries : List Entry) (rules : List Rule) (split : SplitRules) (a s : ℕ) (whole : Option ℕ) (row : Row)
+    → IsWeighted table → IsShapeOf p table shape → AreSound p entries → IsIndexOf entries rules → IsSplit entries table rules split → IsWholeNumber rules table a s whole
+    → ((es : List Entry) (rs : List Rule) → AreKeyed es → HaveColumns es → IsIndexOf es rs → IsSplit es table rs split → IsWholeNumber rs table a s whole → IsRowOf es table a s row)
+    → AreNumbersOf shape entries table a s row
+row_numbers p table shape entries rules split a s whole row w is sound index parted covering of_row =
     let keyed = sound_keyed p entries sound in
-    numbers_are p table shape entries w is sound.each (sound_within p table shape entries w is sound) a s whole found (single entries keyed index) (of_whole entries keyed index)
-    (of_cells entries keyed (sound_columns p entries sound) index) up
+    let columns = sound_columns p entries sound in
+    numbers_are p table shape entries w is sound.each (sound_within p table shape entries w is sound) a s row (of_row entries rules keyed columns index parted covering)

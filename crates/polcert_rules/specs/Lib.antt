@@ -8,6 +8,8 @@ pub mod Shapes
 pub mod RowTables
 pub mod Sources
 pub mod Matching
+pub mod Zeros
+pub mod Repeats
 pub mod Rewards
 pub mod RewardSearch
 pub mod RewardAt

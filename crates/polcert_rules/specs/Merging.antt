@@ -16,16 +16,16 @@ weight_in columns entries table a s c = value_or 0 (λ e. given columns e s c) (
 abbrev pub given_at : ℕ → List Entry → Option ℕ → ℕ → ℕ → ℕ
 given_at columns entries number s c = value_or 0 (λ e. given columns e s c) (entry_at entries number)
 
--- a number is greater than that of what covers the whole row
+-- a number is greater than that of what is under it
 abbrev pub is_newer : Option ℕ → ℕ → Bool
 is_newer None number = true
-is_newer (Some whole) number = nat_lt whole number
+is_newer (Some under) number = nat_lt under number
 
--- the single cells that are newer than what covers the whole row, with what their entries give
-abbrev pub newer_cells : ℕ → List Entry → Option ℕ → ℕ → List Rule → List Cell
-newer_cells columns entries whole s [] = []
-newer_cells columns entries whole s (r ∷ rs) =
-    if is_newer whole r.number then (record { column = r.key; weight = given_at columns entries (Some r.number) s r.key } ∷ newer_cells columns entries whole s rs) else newer_cells columns entries whole s rs
+-- the single cells that are newer than what is under them, column by column, with what their entries give
+abbrev pub newer_cells : ℕ → List Entry → (ℕ → Option ℕ) → ℕ → List Rule → List Cell
+newer_cells columns entries under s [] = []
+newer_cells columns entries under s (r ∷ rs) =
+    if is_newer (under r.key) r.number then (record { column = r.key; weight = given_at columns entries (Some r.number) s r.key } ∷ newer_cells columns entries under s rs) else newer_cells columns entries under s rs
 
 -- the cells before a column
 abbrev pub before : ℕ → List Cell → List Cell

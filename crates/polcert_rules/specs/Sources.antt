@@ -1,5 +1,5 @@
 -- Rows that are kept once for many actions and states. Nobody has to believe this file: only private functions cite it.
-use Rattle.std.specs.Prelude.{◌≡◌, ℕ, ◌+◌, ◌*◌, ◌<◌, ◌≤◌, All, true, List, [], ◌∷◌, ◌++◌, Option, Some, None, length, slice_get, slice_index}
+use Rattle.std.specs.Prelude.{◌≡◌, ℕ, ◌+◌, ◌*◌, ◌<◌, ◌≤◌, All, IfSome, true, List, [], ◌∷◌, ◌++◌, Option, Some, None, length, slice_get, slice_index}
 use Rattle.polcert_cells.specs.declared.entry.Table.{Table}
 use Rattle.polcert_cells.specs.declared.entry.Place.{Place}
 use Rattle.polcert_cells.specs.declared.entry.Body.{Body}
@@ -12,30 +12,30 @@ use Rattle.polcert_cells.specs.declared.cell.Cell.{Cell}
 use Rattle.polcert_rules.specs.declared.rule.Rule.{Rule}
 use Rattle.polcert_rules.specs.declared.shape.Shape.{Shape}
 use Rattle.polcert_rules.specs.declared.kept.Source.{Source}
-use Rattle.polcert_rules.specs.declared.kept.Source.TheVariants.{Nothing, Line}
+use Rattle.polcert_rules.specs.declared.kept.Source.TheVariants.{Nothing, Even, Diagonal, Line}
 use Rattle.polcert_rules.specs.declared.kept.Kept.{Kept}
 use Rattle.polcert_rules.specs.Newest.{IsRising, entry_at}
 use Rattle.polcert_rules.specs.Rows.{number_in}
+use Rattle.polcert_rules.specs.declared.row.Row.{Row}
+use Rattle.polcert_rules.specs.Zeros.{AreOrdered, is_zero, zero_of, under}
 use Rattle.polcert_rules.specs.Given.{FitsShape}
 use Rattle.polcert_cells.specs.Sparse.{weight_at, IsSparse}
-use Rattle.polcert_rules.specs.Merging.{given_at, is_newer, weight_in}
+use Rattle.polcert_rules.specs.Merging.{given_at, weight_in}
 
 -- ---- what a row is made of
--- the line of a body that is the row of this state: all lines of `uniform` are alike, and so is what stands for each state
-abbrev pub line_in : List Place → Body → ℕ → ℕ
-line_in (p ∷ []) (Probabilities ps) s = s
-line_in _ (Probabilities ps) s = 0
-line_in _ Identity s = s
-line_in _ Uniform s = 0
-line_in _ (Rewards hs) s = 0
-
-abbrev pub line_of : Entry → ℕ → ℕ
-line_of e s = line_in e.places e.body s
+-- the row of this state, where the entry of this number has these places and this body: all rows of `uniform` are
+-- alike, whatever the entry, and so are those of one state of `identity`
+abbrev pub source_in : ℕ → List Place → Body → ℕ → Source
+source_in n (p ∷ []) (Probabilities ps) s = Line n s
+source_in n _ (Probabilities ps) s = Line n 0
+source_in n _ Identity s = Diagonal s
+source_in n _ Uniform s = Even
+source_in n _ (Rewards hs) s = Nothing
 
 -- what a row without single cells is made of, by the number of the entry that covers the whole row
 abbrev pub source_of : List Entry → Option ℕ → ℕ → Source
 source_of entries None s = Nothing
-source_of entries (Some n) s = Line n (value_or 0 (λ e. line_of e s) (slice_get entries n))
+source_of entries (Some n) s = value_or Nothing (λ e. source_in n e.places e.body s) (slice_get entries n)
 
 -- the cells are each row that is made of this
 abbrev pub IsFrom : ℕ → List Entry → Source → List Cell → Type 0
@@ -51,21 +51,23 @@ pub record IsNumber (entries : List Entry) (number : ℕ) : Type 0 where
   pub small : written ≤ one
   pub places : length entry.places ≡ 3
 
--- a newer cell is a column, and a number
-abbrev pub IsColumnOf : ℕ → List Entry → Option ℕ → Rule → Type 0
-IsColumnOf columns entries whole r = is_newer whole r.number ≡ true → (r.key < columns) × IsNumber entries r.number
+-- a cell is a column, and a number
+abbrev pub IsColumnOf : ℕ → List Entry → Rule → Type 0
+IsColumnOf columns entries r = (r.key < columns) × IsNumber entries r.number
 
 -- what covers the whole row is an entry that fits the shape
 abbrev pub IsWhole : Shape → List Entry → Option ℕ → Type 0
 IsWhole shape entries None = Unit {0}
 IsWhole shape entries (Some n) = (e : Entry) × (slice_get entries n ≡ Some e) × FitsShape shape e
 
--- the numbers of a row: that of what covers the whole row, and those of its single cells
-pub record AreNumbersOf (shape : Shape) (entries : List Entry) (table : Table) (a s : ℕ) (whole : Option ℕ) (cells : List Rule) : Type 0 where
-  pub rising : IsRising cells
-  pub newer : All (IsColumnOf shape.columns entries whole) cells
-  pub covering : IsWhole shape entries whole
-  pub last : (c : ℕ) → c < shape.columns → last_covering entries table (a ∷ s ∷ c ∷ []) ≡ entry_at entries (number_in whole cells c)
+-- the numbers of a row: that of what covers the whole row, those of its single cells, and those of its zeros
+pub record AreNumbersOf (shape : Shape) (entries : List Entry) (table : Table) (a s : ℕ) (row : Row) : Type 0 where
+  pub rising : IsRising row.cells.items
+  pub ordered : IfSome row.zeros AreOrdered
+  pub cells : All (IsColumnOf shape.columns entries) row.cells.items
+  pub zeros : (c n : ℕ) → c < shape.columns → zero_of row.zeros c ≡ Some n → is_zero entries n ≡ true
+  pub covering : IsWhole shape entries row.whole
+  pub last : (c : ℕ) → c < shape.columns → last_covering entries table (a ∷ s ∷ c ∷ []) ≡ entry_at entries (number_in (under row c) row.cells.items c)
   pub small : (c : ℕ) → c < shape.columns → weight_in shape.columns entries table a s c ≤ one * shape.columns
 
 -- ---- rows as they are kept

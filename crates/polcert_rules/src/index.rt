@@ -1,5 +1,5 @@
 //! The index of a list of entries.
-ghost use Rattle.std.specs.Prelude.{◌≡◌, ℕ, ◌+◌, ◌^◌, ◌<◌, ◌≤◌, ◌↔◌, List, [], ◌∷◌, All, Contains, IfOk};
+ghost use Rattle.std.specs.Prelude.{◌≡◌, ℕ, ◌+◌, ◌-◌, ◌*◌, ◌^◌, ◌<◌, ◌≤◌, ◌↔◌, List, [], ◌∷◌, All, Contains, IfOk, IsTrue};
 ghost use Rattle.polcert_rules.specs.declared.rule.Rule.{Rule as R};
 ghost use Rattle.polcert_rules.specs.Rows.{HaveColumns, IsSingleEntry, no_column, number_in};
 ghost use Rattle.polcert_cells.specs.declared.entry.Entry.{Entry as E};
@@ -7,19 +7,16 @@ ghost use Rattle.polcert_cells.specs.Cells.{IsLastCovering, weight, weight_of, v
 ghost use Rattle.polcert_cells.specs.Preamble.{Preamble};
 ghost use Rattle.polcert_rules.specs.Keys.{key_base, AreIndices, Fits, table_key, most_places};
 ghost use Rattle.polcert_rules.specs.Newest.{AreKeyed, IsIndexOf, IsNewest, IsRising, IsLastNumber, entry_at};
+ghost use Rattle.polcert_rules.specs.Repeats.{NamesNoAction};
 
 use crate::Rule;
 use crate::build::{newest_of_each, numbered, table_digit};
-use crate::keys::KEY_BASE;
+use crate::keys::{ACTION, COLUMN_KEYS, MOST_PLACES};
 use crate::newest::{newest, span};
-use crate::part::between;
-use crate::row::{Row, cells};
+use crate::part::{between, from, none_below};
 use polcert_cells::{Entries, Table};
 use std::alloc::{AllocError, Global};
 use std::marker::Model;
-
-/// A column that no row has: the last that has a digit.
-const NO_COLUMN: usize = KEY_BASE as usize - 3;
 
 /// The patterns of a list of entries, in order, each with the number of the last entry that has it.
 #[derive(Drop)]
@@ -63,33 +60,6 @@ impl Index {
         self.newest_rule(table, indices)
     }
 
-    /// The row of a table at this action and state.
-    pub fn row(
-        &self,
-        alloc: Global,
-        table: Table,
-        action: usize,
-        state: usize,
-    ) -> Result<Row, AllocError>
-        requires action { action + 2 < key_base }
-        requires state { state + 2 < key_base }
-        ensures rising { IfOk result (λ row. IsRising row.cells.items) }
-        ensures single { IfOk result (λ row. (entries : List E) → AreKeyed entries → IsIndexOf entries self.now →
-            All (IsSingleEntry entries table) row.cells.items) }
-        ensures whole { IfOk result (λ row. (entries : List E) → AreKeyed entries → IsIndexOf entries self.now →
-            IsLastNumber entries table (action ∷ state ∷ no_column ∷ []) row.whole) }
-        ensures cells { IfOk result (λ row. (entries : List E) → AreKeyed entries → HaveColumns entries → IsIndexOf entries self.now →
-            (c : ℕ) → c < no_column → IsLastNumber entries table (action ∷ state ∷ c ∷ []) (number_in row.whole row.cells.items c)) }
-        ensures weights { IfOk result (λ row. (p : Preamble) (entries : List E) → AreKeyed entries → HaveColumns entries → IsIndexOf entries self.now →
-            (c : ℕ) → c < no_column → weight p entries table (action ∷ state ∷ c ∷ [])
-            ≡ value_or 0 (weight_of p (action ∷ state ∷ c ∷ [])) (entry_at entries (number_in row.whole row.cells.items c))) }
-    {
-        let whole = self.newest_rule(table, &[action, state, NO_COLUMN]);
-        let low = table_digit(table) * span(4);
-        let cells = cells(alloc, self.rules.as_slice(), low, action, state)?;
-        Ok(Row { whole, cells })
-    }
-
     /// The rules of this table.
     pub(crate) fn of_table(&self, table: Table) -> &[Rule]
         ensures rising { IsRising result.now }
@@ -99,8 +69,27 @@ impl Index {
         between(self.rules.as_slice(), low, low + span(4))
     }
 
+    /// Whether there is no rule from this key on, as far as keys of columns go.
+    pub(crate) fn has_no_columns(&self, start: u64) -> bool
+        requires { start + (key_base - 2) * key_base < 2 ^ 64 }
+        ensures { IsTrue result → (r : R) → Contains self.now r → start ≤ r.key →
+            start + (key_base - 2) * key_base ≤ r.key }
+    {
+        none_below(from(self.rules.as_slice(), start), start + COLUMN_KEYS)
+    }
+
+    /// Whether no rule of this table begins with this action.
+    pub(crate) fn names_no_action(&self, table: Table, action: usize) -> bool
+        requires { action + 2 < key_base }
+        ensures { IsTrue result → NamesNoAction self.now table action }
+    {
+        let low = table_digit(table) * span(MOST_PLACES);
+        let start = low + (action as u64 + 2) * ACTION;
+        none_below(from(self.rules.as_slice(), start), start + ACTION)
+    }
+
     /// The number of the newest rule that fits these indices of this table.
-    fn newest_rule(&self, table: Table, indices: &[usize]) -> Option<usize>
+    pub(crate) fn newest_rule(&self, table: Table, indices: &[usize]) -> Option<usize>
         requires { AreIndices most_places indices.now }
         ensures { IsNewest self.now (Fits most_places (table_key table) indices.now) result }
     {

@@ -1,5 +1,5 @@
 //! Rows that are kept once for many actions and states.
-ghost use Rattle.std.specs.Prelude.{◌≡◌, ℕ, ◌*◌, ◌<◌, ◌≤◌, ◌^◌, ◌↔◌, All, IfOk, OnOk, IfSome, IsTrue, Contains, length};
+ghost use Rattle.std.specs.Prelude.{◌≡◌, ℕ, [], ◌*◌, ◌<◌, ◌≤◌, ◌^◌, ◌↔◌, All, IfOk, OnOk, IfSome, IsTrue, Contains, length};
 ghost use Rattle.std.specs.Option.{ForSome};
 ghost use Rattle.polcert_cells.specs.Numbers.{one};
 ghost use Rattle.polcert_cells.specs.Elements.{most_elements};
@@ -8,14 +8,16 @@ ghost use Rattle.polcert_cells.specs.declared.entry.Table.{Table as T};
 ghost use Rattle.polcert_rules.specs.declared.shape.Shape.{Shape as S};
 ghost use Rattle.polcert_rules.specs.Given.{IsWithin};
 ghost use Rattle.polcert_cells.specs.Sparse.{weight_at, IsRow, IsSparse};
-ghost use Rattle.polcert_rules.specs.Merging.{given_at, weight_in, weight_over, Rises};
-ghost use Rattle.polcert_rules.specs.Sources.{source_of, line_of, IsWhole, IsFrom, AreKept, AreNumbersOf, IsKeptRow, IsMadeOf, HasCells, IsBehind, Stays, total};
+ghost use Rattle.polcert_rules.specs.Merging.{given_at, weight_in};
+ghost use Rattle.polcert_rules.specs.Sources.{source_of, source_in, IsWhole, IsFrom, AreKept, AreNumbersOf, IsKeptRow, IsMadeOf, HasCells, IsBehind, Stays, total};
 
+use crate::Shape;
 use crate::body::body_row;
-use crate::merging::merged;
+use crate::hiding::row_cells;
+use crate::row::Row;
 use crate::single::newer_cells;
-use crate::{Row, Shape};
-use polcert_cells::{BodyRef, Cell, Entries, EntryRef};
+use crate::slots::Slots;
+use polcert_cells::{BodyRef, Cell, Entries, EntryRef, Table};
 use std::alloc::{AllocError, Global};
 
 /// What a row is made of.
@@ -23,7 +25,11 @@ use std::alloc::{AllocError, Global};
 pub(crate) enum Source {
     /// No entry.
     Nothing,
-    /// A line of the body of one entry, by its number.
+    /// `uniform`: all columns alike.
+    Even,
+    /// `identity`: one column, that of the state.
+    Diagonal { state: usize },
+    /// A line of the numbers of one entry, by its number.
     Line { entry: usize, line: usize },
     /// Single cells, over one of these.
     Cells,
@@ -37,106 +43,132 @@ pub(crate) struct Kept {
     pub cells: Vec<Cell>,
 }
 
-/// The number under which the row of these entries is kept, of this action and state. A row is kept once where it is that of a
-/// neighbour, by the numbers of the rows before it.
-pub(crate) fn row_number(
-    alloc: Global,
-    kept: &mut Vec<Kept>,
-    numbers: &[usize],
-    entries: &Entries,
-    row: &Row,
-    state: usize,
-    shape: Shape,
-) -> Result<usize, AllocError>
-    requires within { IsWithin shape }
-    requires state { state < shape.states }
-    requires numbers { All (λ n. n < length kept.old.items) numbers.now }
-    requires kept { AreKept shape.columns entries.now kept.old.items }
-    requires row { (table : T) × (a : ℕ) × AreNumbersOf shape entries.now table a state row.now.whole row.now.cells.items }
-    ensures stays { OnOk result (Stays kept.old.items kept.new.items) }
-    ensures kept { OnOk result (AreKept shape.columns entries.now kept.new.items) }
-    ensures row { IfOk result (λ n. (table : T) (a : ℕ) →
-        AreNumbersOf shape entries.now table a state row.now.whole row.now.cells.items →
-        IsKeptRow shape.columns (weight_in shape.columns entries.now table a state) kept.new.items n) }
-{
-    let newer = newer_cells(
-        alloc,
-        entries,
-        row.whole,
-        row.cells.as_slice(),
-        shape.columns,
-    )?;
-    if newer.is_empty() {
-        Ok(shared_row(alloc, kept, numbers, entries, row.whole, state, shape)?)
-    } else {
-        Ok(own_row(
-            alloc,
-            kept,
+/// The entries whose bodies give rows, and the shape of the table that has these rows.
+#[derive(Clone, Copy)]
+pub(crate) struct Bodies<'a> {
+    pub entries: &'a Entries,
+    pub shape: Shape,
+}
+
+/// Rows that are kept once for many actions and states. A row that one entry gives alone is made once and kept once. A row of
+/// single cells is kept once where it is that of a neighbour.
+#[derive(Drop)]
+pub(crate) struct Keeper {
+    pub kept: Vec<Kept>,
+    slots: Slots,
+}
+
+impl Keeper {
+    /// No rows so far, of this table of so many states.
+    pub(crate) fn of(
+        alloc: Global,
+        entries: &Entries,
+        table: Table,
+        states: usize,
+    ) -> Result<Keeper, AllocError>
+        ensures { IfOk result (λ keeper. keeper.kept.items ≡ []) }
+    {
+        let slots = Slots::of(alloc, entries, table, states)?;
+        Ok(Keeper {
+            kept: Vec::new(alloc),
+            slots,
+        })
+    }
+
+    /// The number under which the row of these entries is kept, of this action and state. The numbers are those of the rows
+    /// before it.
+    pub(crate) fn row_number(
+        &mut self,
+        alloc: Global,
+        bodies: Bodies<'_>,
+        numbers: &[usize],
+        row: &Row<'_>,
+        state: usize,
+    ) -> Result<usize, AllocError>
+        requires within { IsWithin bodies.shape }
+        requires state { state < bodies.shape.states }
+        requires numbers { All (λ n. n < length self.old.kept.items) numbers.now }
+        requires kept { AreKept bodies.shape.columns bodies.entries.now self.old.kept.items }
+        requires row { (table : T) × (a : ℕ) ×
+            AreNumbersOf bodies.shape bodies.entries.now table a state row.now }
+        ensures stays { OnOk result (Stays self.old.kept.items self.new.kept.items) }
+        ensures kept { OnOk result
+            (AreKept bodies.entry.shape.columns bodies.entry.entries.now self.new.kept.items) }
+        ensures row { IfOk result (λ n. (table : T) (a : ℕ) →
+            AreNumbersOf bodies.entry.shape bodies.entry.entries.now table a state row.now →
+            IsKeptRow bodies.entry.shape.columns
+            (weight_in bodies.entry.shape.columns bodies.entry.entries.now table a state)
+            self.new.kept.items n) }
+    {
+        let base = self.shared_row(alloc, bodies, row.whole, state)?;
+        let newer = newer_cells(alloc, bodies.entries, row, bodies.shape.columns)?;
+        if row.zeros.is_none() && newer.is_empty() {
+            return Ok(base);
+        }
+        let below = cells_of(self.kept.as_slice(), base);
+        let cells = row_cells(alloc, row, below, newer.as_slice())?;
+        Ok(self.own_row(bodies, numbers, cells)?)
+    }
+
+    /// The number of the row that the entry of this number gives alone, which is made where it is not yet kept.
+    fn shared_row(
+        &mut self,
+        alloc: Global,
+        bodies: Bodies<'_>,
+        whole: Option<usize>,
+        state: usize,
+    ) -> Result<usize, AllocError>
+        requires within { IsWithin bodies.shape }
+        requires state { state < bodies.shape.states }
+        requires kept { AreKept bodies.shape.columns bodies.entries.now self.old.kept.items }
+        requires whole { IsWhole bodies.shape bodies.entries.now whole }
+        ensures stays { OnOk result (Stays self.old.kept.items self.new.kept.items) }
+        ensures kept { OnOk result
+            (AreKept bodies.entry.shape.columns bodies.entry.entries.now self.new.kept.items) }
+        ensures row { IfOk result (IsKeptRow bodies.entry.shape.columns
+            (given_at bodies.entry.shape.columns bodies.entry.entries.now whole state) self.new.kept.items) }
+    {
+        let source = source_of(bodies.entries, whole, state);
+        let noted = self.slots.number_of(source);
+        if is_made_of(self.kept.as_slice(), noted, source) {
+            return Ok(noted);
+        }
+        let cells = whole_row(alloc, bodies.entries, whole, state, bodies.shape)?;
+        let number = keep(&mut self.kept, source, cells, bodies.shape.columns)?;
+        self.slots.note(source, number)?;
+        Ok(number)
+    }
+
+    /// The number of a row of these cells, which no entry gives alone.
+    fn own_row(
+        &mut self,
+        bodies: Bodies<'_>,
+        numbers: &[usize],
+        cells: Vec<Cell>,
+    ) -> Result<usize, AllocError>
+        requires within { IsWithin bodies.shape }
+        requires numbers { All (λ n. n < length self.old.kept.items) numbers.now }
+        requires kept { AreKept bodies.shape.columns bodies.entries.now self.old.kept.items }
+        requires sparse { IsSparse bodies.shape.columns cells.items }
+        requires small { (c : ℕ) → c < bodies.shape.columns →
+            weight_at cells.items c ≤ one * bodies.shape.columns }
+        ensures stays { OnOk result (Stays self.old.kept.items self.new.kept.items) }
+        ensures kept { OnOk result
+            (AreKept bodies.entry.shape.columns bodies.entry.entries.now self.new.kept.items) }
+        ensures row { IfOk result
+            (IsKeptRow bodies.entry.shape.columns (weight_at cells.items) self.new.kept.items) }
+    {
+        let shape = bodies.shape;
+        if let Some(number) = alike(
+            self.kept.as_slice(),
             numbers,
-            newer.as_slice(),
-            entries,
-            row.whole,
-            state,
-            shape,
-        )?)
+            shape.states,
+            cells.as_slice(),
+        ) {
+            return Ok(number);
+        }
+        Ok(keep(&mut self.kept, Source::Cells, cells, shape.columns)?)
     }
-}
-
-/// The number of a row without single cells.
-fn shared_row(
-    alloc: Global,
-    kept: &mut Vec<Kept>,
-    numbers: &[usize],
-    entries: &Entries,
-    whole: Option<usize>,
-    state: usize,
-    shape: Shape,
-) -> Result<usize, AllocError>
-    requires within { IsWithin shape }
-    requires state { state < shape.states }
-    requires numbers { All (λ n. n < length kept.old.items) numbers.now }
-    requires kept { AreKept shape.columns entries.now kept.old.items }
-    requires whole { IsWhole shape entries.now whole }
-    ensures stays { OnOk result (Stays kept.old.items kept.new.items) }
-    ensures kept { OnOk result (AreKept shape.columns entries.now kept.new.items) }
-    ensures row { IfOk result (IsKeptRow shape.columns (given_at shape.columns entries.now whole state) kept.new.items) }
-{
-    let source = source_of(entries, whole, state);
-    if let Some(number) = known(kept.as_slice(), numbers, shape.states, source) {
-        return Ok(number);
-    }
-    let cells = whole_row(alloc, entries, whole, state, shape)?;
-    Ok(keep(kept, source, cells, shape.columns)?)
-}
-
-/// The number of a row with newer cells.
-fn own_row(
-    alloc: Global,
-    kept: &mut Vec<Kept>,
-    numbers: &[usize],
-    newer: &[Cell],
-    entries: &Entries,
-    whole: Option<usize>,
-    state: usize,
-    shape: Shape,
-) -> Result<usize, AllocError>
-    requires within { IsWithin shape }
-    requires state { state < shape.states }
-    requires numbers { All (λ n. n < length kept.old.items) numbers.now }
-    requires kept { AreKept shape.columns entries.now kept.old.items }
-    requires whole { IsWhole shape entries.now whole }
-    requires newer { Rises 0 shape.columns newer.now }
-    requires small { (c : ℕ) → c < shape.columns → weight_over newer.now (given_at shape.columns entries.now whole state) c ≤ one * shape.columns }
-    ensures stays { OnOk result (Stays kept.old.items kept.new.items) }
-    ensures kept { OnOk result (AreKept shape.columns entries.now kept.new.items) }
-    ensures row { IfOk result (IsKeptRow shape.columns (weight_over newer.now (given_at shape.columns entries.now whole state)) kept.new.items) }
-{
-    let base = whole_row(alloc, entries, whole, state, shape)?;
-    let cells = merged(alloc, base.as_slice(), newer)?;
-    if let Some(number) = alike(kept.as_slice(), numbers, shape.states, cells.as_slice()) {
-        return Ok(number);
-    }
-    Ok(keep(kept, Source::Cells, cells, shape.columns)?)
 }
 
 /// What the entry that covers the whole row gives it, if there is one.
@@ -165,41 +197,23 @@ fn source_of(entries: &Entries, whole: Option<usize>, state: usize) -> Source
 {
     match whole {
         None => Source::Nothing,
-        Some(number) => Source::Line {
-            entry: number,
-            line: line_of(entries.at(number), state),
-        },
+        Some(number) => source_in(entries.at(number), number, state),
     }
 }
 
-/// The line of the entry's body that is the row of this state.
-fn line_of(entry: EntryRef<'_>, state: usize) -> usize
-    ensures { result ≡ line_of (entry_of entry.entry) state }
+/// What the row of a state is made of that the entry of this number gives.
+fn source_in(entry: EntryRef<'_>, number: usize, state: usize) -> Source
+    ensures { result ≡ source_in number (entry_of entry.entry).places (entry_of entry.entry).body state }
 {
     match entry.body {
-        BodyRef::Probabilities(_) => if entry.places.len() == 1 { state } else { 0 },
-        BodyRef::Identity => state,
-        BodyRef::Uniform | BodyRef::Rewards(_) => 0,
+        BodyRef::Probabilities(_) => Source::Line {
+            entry: number,
+            line: if entry.places.len() == 1 { state } else { 0 },
+        },
+        BodyRef::Identity => Source::Diagonal { state },
+        BodyRef::Uniform => Source::Even,
+        BodyRef::Rewards(_) => Source::Nothing,
     }
-}
-
-/// The number of a row before this one that is made of the same: of the state before, or of the action before.
-fn known(kept: &[Kept], numbers: &[usize], states: usize, source: Source) -> Option<usize>
-    requires some { 0 < states }
-    requires numbers { All (λ n. n < length kept.now) numbers.now }
-    ensures { IfSome result (λ n. IsMadeOf kept.now n source) }
-{
-    if let Some(number) = neighbour(numbers, 1) {
-        if is_made_of(kept, number, source) {
-            return Some(number);
-        }
-    }
-    if let Some(number) = neighbour(numbers, states) {
-        if is_made_of(kept, number, source) {
-            return Some(number);
-        }
-    }
-    None
 }
 
 /// The number of a row before this one that has these cells: of the state before, or of the action before.
@@ -219,6 +233,14 @@ fn alike(kept: &[Kept], numbers: &[usize], states: usize, cells: &[Cell]) -> Opt
         }
     }
     None
+}
+
+/// The cells of the row of this number.
+fn cells_of(kept: &[Kept], number: usize) -> &[Cell]
+    requires { number < length kept.now }
+    ensures { HasCells kept.now number result.now }
+{
+    kept[number].cells.as_slice()
 }
 
 /// Whether the row of this number has these cells.
@@ -243,10 +265,12 @@ fn neighbour(numbers: &[usize], back: usize) -> Option<usize>
 
 /// Whether the row of this number is made of this.
 fn is_made_of(kept: &[Kept], number: usize, source: Source) -> bool
-    requires { number < length kept.now }
     ensures { IsTrue result → IsMadeOf kept.now number source }
 {
-    is_same(kept[number].source, source)
+    match kept.get(number) {
+        Some(row) => is_same(row.source, source),
+        None => false,
+    }
 }
 
 /// Whether two rows are made of the same.
@@ -255,7 +279,9 @@ fn is_same(one: Source, other: Source) -> bool
 {
     match (one, other) {
         (Source::Nothing, Source::Nothing) => true,
+        (Source::Even, Source::Even) => true,
         (Source::Cells, Source::Cells) => true,
+        (Source::Diagonal { state }, Source::Diagonal { state: place }) => state == place,
         (
             Source::Line { entry, line },
             Source::Line {

@@ -3,6 +3,7 @@
 
 mod body;
 mod build;
+mod hiding;
 mod index;
 mod kept;
 mod keys;
@@ -10,6 +11,7 @@ mod merging;
 mod newest;
 mod noting;
 mod part;
+mod repeats;
 mod reward_bodies;
 mod reward_parts;
 mod reward_search;
@@ -20,11 +22,13 @@ mod rows;
 mod rule;
 mod shape;
 mod single;
+mod slots;
+mod split;
+mod zeros;
 
 pub use index::Index;
 pub use reward_parts::{RewardBody, RewardShape};
 pub use rewards::Rewards;
-pub use row::Row;
 pub use rows::Rows;
 pub use rule::Rule;
 pub use shape::Shape;

@@ -145,7 +145,7 @@ fn all_below(rules: &[Rule], key: u64) -> bool
 }
 
 /// Whether no rule is before this key.
-fn none_below(rules: &[Rule], key: u64) -> bool
+pub(crate) fn none_below(rules: &[Rule], key: u64) -> bool
     requires { IsRising rules.now }
     ensures { IsTrue result → (r : R) → Contains rules.now r → key ≤ r.key }
 {

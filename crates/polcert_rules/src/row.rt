@@ -1,26 +1,71 @@
-//! The single cells of a row of T or O.
-ghost use Rattle.std.specs.Prelude.{◌≡◌, ◌+◌, ◌-◌, ◌*◌, ◌<◌, ◌≤◌, ◌↔◌, ◌⊎◌, ◌++◌, ◌^◌, ℕ, All, Contains, OnOk, IfOk};
+//! A row of T or O by the numbers of its entries, and its single cells above 0.
+ghost use Rattle.std.specs.Prelude.{◌≡◌, ◌+◌, ◌-◌, ◌*◌, ◌<◌, ◌≤◌, ◌↔◌, ◌⊎◌, ◌++◌, ◌^◌, ℕ, List, All, Contains, IfSome, OnOk, IfOk};
 ghost use Rattle.polcert_rules.specs.declared.rule.Rule.{Rule as R};
+ghost use Rattle.polcert_cells.specs.declared.entry.Entry.{Entry as E};
 ghost use Rattle.polcert_rules.specs.Keys.{key_base};
-ghost use Rattle.polcert_rules.specs.Newest.{IsRising, IsNewest};
-ghost use Rattle.polcert_rules.specs.Rows.{IsSingle, IsColumn, IsCell, columns_of, at_column};
+ghost use Rattle.polcert_rules.specs.Newest.{AreKeyed, IsIndexOf, IsRising, IsNewest};
+ghost use Rattle.polcert_rules.specs.Rows.{HaveColumns, IsSingle, IsColumn, IsCell, columns_of, at_column};
+ghost use Rattle.polcert_rules.specs.Repeats.{IsWholeNumber};
+ghost use Rattle.polcert_rules.specs.Zeros.{AreOrdered, IsSplit, IsRowOf, under};
 
 use crate::Rule;
-use crate::build::newest_of_each;
-use crate::keys::{ACTION, COLUMN, KEY_BASE, ROW};
+use crate::build::{newest_of_each, table_digit};
+use crate::keys::{COLUMN, COLUMN_KEYS, MOST_PLACES, first_column};
+use crate::newest::{later, span};
 use crate::part::between;
+use crate::split::SplitRules;
+use crate::zeros::{RowZeros, row_zeros};
+use polcert_cells::Table;
 use std::alloc::{AllocError, Global};
 
-/// A row of T or O by the numbers of its entries: that of what covers the whole row, if anything does, and those of
-/// single cells, by column.
+/// A row of T or O by the numbers of its entries: that of what covers the whole row, if anything does, those of
+/// single cells above 0, by column, and its zeros, if there are any.
 #[derive(Drop)]
-pub struct Row {
+pub(crate) struct Row<'a> {
     pub whole: Option<usize>,
     pub cells: Vec<Rule>,
+    pub zeros: Option<RowZeros<'a>>,
 }
 
-/// How many columns have a digit.
-const COLUMNS: u64 = KEY_BASE - 2;
+impl<'a> Row<'a> {
+    /// The row of a table at this action and state, where the entry of this number covers the whole row.
+    pub(crate) fn of(
+        alloc: Global,
+        whole: Option<usize>,
+        split: &'a SplitRules<'a>,
+        table: Table,
+        action: usize,
+        state: usize,
+    ) -> Result<Row<'a>, AllocError>
+        requires action { action + 2 < key_base }
+        requires state { state + 2 < key_base }
+        requires split { (entries : List E) × (rules : List R) × IsSplit entries table rules split.now }
+        ensures { IfOk result (λ row. (entries : List E) (rules : List R) → AreKeyed entries →
+            HaveColumns entries → IsIndexOf entries rules → IsSplit entries table rules split.now →
+            IsWholeNumber rules table action state whole → IsRowOf entries table action state row) }
+    {
+        let low = table_digit(table) * span(MOST_PLACES);
+        let cells = cells(alloc, split.others(), low, action, state)?;
+        let zeros = row_zeros(split.zeros.as_slice(), low, action, state);
+        Ok(Row {
+            whole,
+            cells,
+            zeros,
+        })
+    }
+
+    /// What lies under the cells above 0 in a column, by its number: what covers the whole row, or a newer zero.
+    pub(crate) fn under(&self, column: usize) -> Option<usize>
+        requires ordered { IfSome self.now.zeros AreOrdered }
+        requires column { column + 2 < key_base }
+        ensures { result ≡ under self.now column }
+    {
+        match self.zeros {
+            None => self.whole,
+            Some(zeros) => later(self.whole, zeros.newest(column)),
+        }
+    }
+}
 
 /// The single cells of the row at this action and state, by column: of each column the newest.
 pub(crate) fn cells(
@@ -68,28 +113,13 @@ fn gathered(
     Ok(cells)
 }
 
-/// The key of the first column of a row, by the digits of its places.
-fn first_column(low: u64, first: u64, second: u64) -> u64
-    requires room { low + key_base ^ 4 < 2 ^ 64 }
-    requires first { first < key_base }
-    requires second { second < key_base }
-    ensures is { result ≡ low + first * key_base ^ 3 + second * key_base ^ 2 + 2 * key_base }
-    ensures small { result + (key_base - 2) * key_base ≤ low + key_base ^ 4 }
-{
-    low + first * ACTION + second * ROW + 2 * COLUMN
-}
-
 /// Puts the single cells that begin at this key behind the others.
 fn add_columns(cells: &mut Vec<Rule>, rules: &[Rule], start: u64) -> Result<(), AllocError>
     requires rising { IsRising rules.now }
     requires room { start + (key_base - 2) * key_base < 2 ^ 64 }
     ensures { OnOk result ((x : R) → Contains cells.new.items x ↔ (Contains cells.old.items x ⊎ IsColumn rules.now start x)) }
 {
-    add_part(
-        cells,
-        between(rules, start, start + COLUMNS * COLUMN),
-        start,
-    )?;
+    add_part(cells, between(rules, start, start + COLUMN_KEYS), start)?;
     Ok(())
 }
 

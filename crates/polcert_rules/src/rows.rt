@@ -11,15 +11,19 @@ ghost use Rattle.polcert_rules.specs.Merging.{from as cells_from};
 ghost use Rattle.polcert_rules.specs.RowTables.{AreRowsOf, row_at};
 ghost use Rattle.polcert_rules.specs.Sources.{IsKept};
 
-use crate::kept::{Kept, row_number};
+use crate::kept::{Bodies, Keeper, Kept};
+use crate::repeats::{Repeats, is_as_before};
+use crate::row::Row;
+use crate::split::SplitRules;
 use crate::{Index, Shape};
 use polcert_cells::{Cell, Entries, Table};
 use std::alloc::{AllocError, Global};
 use std::marker::Model;
 
 /// The rows of T or O: of each action and state the columns with a weight above 0, in order, with their weights. In a
-/// table of n columns the scale is 1,000,000 * n. A row is kept once where it is that of the state before, or of the same state
-/// under the action before.
+/// table of n columns the scale is 1,000,000 * n. What the body of an entry gives is kept once; a row of single cells is kept once
+/// where it is that of the state before, or of the same state under the action before, and is not even built where no entry tells
+/// it from a row of before.
 #[derive(Drop)]
 pub struct Rows {
     shape: Shape,
@@ -60,20 +64,36 @@ impl Rows {
         requires index { IsIndexOf entries.now index.now }
         ensures { IfOk result (λ rows. (p : Preamble) → IsShapeOf p table shape → AreRowsOf p entries.now table rows) }
     {
+        let split = SplitRules::of(alloc, index.of_table(table), entries)?;
         let mut numbers = Vec::with_capacity(alloc, shape.actions * shape.states)?;
-        let mut kept = Vec::new(alloc);
+        let mut keeper = Keeper::of(alloc, entries, table, shape.states)?;
+        let mut repeats = Repeats::of(alloc, index.of_table(table), shape.states)?;
+        let bodies = Bodies { entries, shape };
         for action in 0..shape.actions {
+            let as_before = is_as_before(index, table, action);
             for state in 0..shape.states {
-                let row = index.row(alloc, table, action, state)?;
+                if as_before {
+                    let number = numbers[numbers.len() - shape.states];
+                    numbers.push(number)?;
+                    continue;
+                }
+                let outline = repeats.outline(index, table, action, state);
+                if let Some(number) = repeats.number_of(bodies, outline) {
+                    repeats.note(outline, number);
+                    numbers.push(number)?;
+                    continue;
+                }
+                let row = Row::of(alloc, outline.whole, &split, table, action, state)?;
                 let before = numbers.as_slice();
-                let number = row_number(alloc, &mut kept, before, entries, &row, state, shape)?;
+                let number = keeper.row_number(alloc, bodies, before, &row, state)?;
+                repeats.note(outline, number);
                 numbers.push(number)?;
             }
         }
         Ok(Rows {
             shape,
             numbers,
-            kept,
+            kept: keeper.kept,
         })
     }
 

@@ -1,46 +1,45 @@
 //! The single cells of a row that are newer than what covers the whole row.
-ghost use Rattle.std.specs.Prelude.{◌≡◌, ℕ, ◌≤◌, All, IfOk};
+ghost use Rattle.std.specs.Prelude.{◌≡◌, ℕ, ◌≤◌, All, IfOk, IfSome, Some};
 ghost use Rattle.polcert_cells.specs.Elements.{most_elements};
-ghost use Rattle.polcert_rules.specs.declared.rule.Rule.{Rule as R};
 ghost use Rattle.polcert_rules.specs.Merging.{given_at, is_newer, newer_cells};
 ghost use Rattle.polcert_rules.specs.Sources.{IsNumber, IsColumnOf};
+ghost use Rattle.polcert_rules.specs.Zeros.{AreOrdered, under};
 
-use crate::Rule;
+use crate::row::Row;
 use polcert_cells::{BodyRef, Cell, Entries};
 use std::alloc::{AllocError, Global};
 
-/// Of the cells of a row those that are newer than what covers the whole row, with their weights, 0 too.
+/// Of the cells of a row those that are newer than what lies under them, with their weights.
 pub(crate) fn newer_cells(
     alloc: Global,
     entries: &Entries,
-    whole: Option<usize>,
-    cells: &[Rule],
+    row: &Row<'_>,
     columns: usize,
 ) -> Result<Vec<Cell>, AllocError>
     requires few { columns ≤ most_elements }
-    requires newer { All (IsColumnOf columns entries.now whole) cells.now }
-    ensures { IfOk result (λ newer. (s : ℕ) → newer.items ≡ newer_cells columns entries.now whole s cells.now) }
+    requires cells { All (IsColumnOf columns entries.now) row.now.cells.items }
+    requires ordered { IfSome row.now.zeros AreOrdered }
+    ensures { IfOk result (λ newer. (s : ℕ) →
+        newer.items ≡ newer_cells columns entries.now (under row.now) s row.now.cells.items) }
 {
     let mut newer = Vec::new(alloc);
-    for rule in cells {
-        if is_newer(whole, rule.number) {
+    for rule in &row.cells {
+        let column = rule.key as usize;
+        if is_newer(row.under(column), rule.number) {
             let weight = single_weight(entries, rule.number, columns);
-            newer.push(Cell {
-                column: rule.key as usize,
-                weight,
-            })?;
+            newer.push(Cell { column, weight })?;
         }
     }
     Ok(newer)
 }
 
-/// Whether a number is greater than that of what covers the whole row.
-fn is_newer(whole: Option<usize>, number: usize) -> bool
-    ensures { result ≡ is_newer whole number }
+/// Whether a number is greater than that of what is under it, if there is anything.
+pub(crate) fn is_newer(under: Option<usize>, number: usize) -> bool
+    ensures { result ≡ is_newer under number }
 {
-    match whole {
+    match under {
         None => true,
-        Some(whole) => whole < number,
+        Some(under) => under < number,
     }
 }
 

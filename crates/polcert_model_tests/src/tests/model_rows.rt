@@ -2,6 +2,7 @@
 use crate::tests::numbers::{Number, first_wrong, read_is_cost, refusal};
 use crate::tests::texts::{FIRST, GENERAL_FIRST, GENERAL_LAST, SINGLE};
 use polcert_model::{ModelFault, Table};
+use std::alloc::Global;
 
 #[test]
 fn the_first_text(rt: HostRuntime) {
@@ -72,6 +73,130 @@ fn newer_cells_hide_those_below(rt: HostRuntime) {
         (Number::O(0, 0, 5), 0),
     ];
     assert_eq!(rt; first_wrong(rt.alloc(), NEWER, &numbers), None);
+}
+
+/// A matrix for each action, `identity` for two of them, another matrix for one, and behind them `uniform` and single cells for
+/// states of their own.
+const LINES: &[u8] = b"discount: 1 values: reward states: 3 actions: 4 observations: 1 O: * uniform
+T: *
+0.5 0.5 0
+0 0.5 0.5
+0.5 0 0.5
+T: 1 identity
+T: 2 identity
+T: 3
+0 1 0
+0 0 1
+1 0 0
+T: 3 : 2 uniform
+T: 0 : 2 uniform
+T: 0 : 1 : 0 0.25
+T: 0 : 1 : 1 0.25
+T: 2 : 0 : 0 0.5
+T: 2 : 0 : 2 0.5
+";
+
+#[test]
+fn lines_of_bodies_under_several_actions(rt: HostRuntime) {
+    let numbers = [
+        (Number::TScale, 3_000_000),
+        (Number::T(0, 0, 0), 1_500_000),
+        (Number::T(0, 0, 1), 1_500_000),
+        (Number::T(0, 0, 2), 0),
+        (Number::T(0, 1, 0), 750_000),
+        (Number::T(0, 1, 1), 750_000),
+        (Number::T(0, 1, 2), 1_500_000),
+        (Number::T(0, 2, 0), 1_000_000),
+        (Number::T(0, 2, 1), 1_000_000),
+        (Number::T(1, 0, 0), 3_000_000),
+        (Number::T(1, 1, 1), 3_000_000),
+        (Number::T(1, 2, 2), 3_000_000),
+        (Number::T(2, 0, 0), 1_500_000),
+        (Number::T(2, 0, 2), 1_500_000),
+        (Number::T(2, 1, 1), 3_000_000),
+        (Number::T(2, 2, 2), 3_000_000),
+        (Number::T(3, 0, 1), 3_000_000),
+        (Number::T(3, 1, 2), 3_000_000),
+        (Number::T(3, 2, 0), 1_000_000),
+        (Number::T(3, 2, 2), 1_000_000),
+    ];
+    assert_eq!(rt; first_wrong(rt.alloc(), LINES, &numbers), None);
+}
+
+/// Two states, two actions, and four observations: the rows of O.
+const OBSERVED: usize = 4;
+
+/// A zero of each pattern over what covers the whole row, and a weight over some of them.
+const ZEROS_OVER_ROWS: &[u8] =
+    b"discount: 1 values: reward states: 2 actions: 2 observations: 4 T: * identity O: * uniform O: * : * : 0 0 O: * : 1 : 1 0 O: 1 : * : 2 0 O: 1 : 1 : 3 0 O: 0 : 0 : 0 0.25 O: 0 : 1 : 1 0.5 O: 1 : 0 : 0 0.5 O: 1 : 1 : 2 1";
+
+/// A weight of each pattern over a zero of each pattern, and what is wanting in the other rows.
+const WEIGHTS_OVER_ZEROS: &[u8] =
+    b"discount: 1 values: reward states: 2 actions: 2 observations: 4 T: * identity O: 1 : 1 : 0 0 O: 1 : * : 1 0 O: * : 1 : 2 0 O: * : * : 3 0 O: * : * : 0 0.1 O: * : 1 : 1 0.2 O: 1 : * : 2 0.3 O: 1 : 1 : 3 0.4 O: 1 : 0 : 1 0.6 O: 0 : 1 : 3 0.7 O: 0 : 0 : 3 0.9";
+
+/// A zero of each pattern over a weight of each pattern.
+const ZEROS_OVER_WEIGHTS: &[u8] =
+    b"discount: 1 values: reward states: 2 actions: 2 observations: 4 T: * identity O: * : * : 0 0.5 O: * : 1 : 1 0.5 O: 1 : * : 2 0.5 O: 1 : 1 : 3 0.5 O: 1 : 1 : 0 0 O: 1 : * : 1 0 O: * : 1 : 2 0 O: * : * : 3 0 O: 1 : 1 : 2 1 O: 0 : 0 : 1 0.5";
+
+/// A zero and a weight below what covers the whole rows of one action, and a zero and a weight over it.
+const ROWS_BETWEEN: &[u8] =
+    b"discount: 1 values: reward states: 2 actions: 2 observations: 4 T: * identity O: * : * : 0 0 O: * : * : 1 0.3 O: 0 uniform O: 1 : * : 2 0.7 O: 0 : 1 : 2 0 O: 0 : 1 : 3 0.5";
+
+/// The first cell of O that is not this one, where there is one: rows by action and state, in hundredths.
+fn first_wrong_cell(alloc: Global, text: &[u8], rows: &[[u32; OBSERVED]; 4]) -> Option<Number> {
+    for row in 0..4 {
+        for column in 0..OBSERVED {
+            let cell = Number::O(row / 2, row % 2, column);
+            let weight = i128::from(rows[row][column]) * 40_000;
+            let wrong = first_wrong(alloc, text, &[(cell, weight)]);
+            if wrong.is_some() {
+                return wrong;
+            }
+        }
+    }
+    None
+}
+
+/// Of each cell the last entry that covers it holds, whether it gives 0 or more.
+#[test]
+fn zeros_and_weights(rt: HostRuntime) {
+    let over_rows = [
+        [25, 25, 25, 25],
+        [0, 50, 25, 25],
+        [50, 25, 0, 25],
+        [0, 0, 100, 0],
+    ];
+    assert_eq!(rt;
+        first_wrong_cell(rt.alloc(), ZEROS_OVER_ROWS, &over_rows),
+        None
+    );
+    let over_zeros = [
+        [10, 0, 0, 90],
+        [10, 20, 0, 70],
+        [10, 60, 30, 0],
+        [10, 20, 30, 40],
+    ];
+    assert_eq!(rt;
+        first_wrong_cell(rt.alloc(), WEIGHTS_OVER_ZEROS, &over_zeros),
+        None
+    );
+    let over_weights = [
+        [50, 50, 0, 0],
+        [50, 50, 0, 0],
+        [50, 0, 50, 0],
+        [0, 0, 100, 0],
+    ];
+    assert_eq!(rt;
+        first_wrong_cell(rt.alloc(), ZEROS_OVER_WEIGHTS, &over_weights),
+        None
+    );
+    let between = [
+        [25, 25, 25, 25],
+        [25, 25, 0, 50],
+        [0, 30, 70, 0],
+        [0, 30, 70, 0],
+    ];
+    assert_eq!(rt; first_wrong_cell(rt.alloc(), ROWS_BETWEEN, &between), None);
 }
 
 #[test]

@@ -1,7 +1,8 @@
 use Rattle.std.proofs.Common.{◌≡◌, ℕ, ◌++◌, drop}
 use Rattle.polcert_rules.specs.Merging.{newer_cells}
+use Rattle.polcert_rules.specs.Zeros.{under}
 use Rattle.polcert_rules.proofs.single.newer_cells.Given as goal
 
 abbrev pub invariant-loop-rule : goal.invariant-loop-rule
 invariant-loop-rule l = (s : ℕ) →
-    l.newer.items ++ newer_cells l.columns l.entries l.whole s (drop l.rule-index l.cells) ≡ newer_cells l.columns l.entries l.whole s l.cells
+    l.newer.items ++ newer_cells l.columns l.entries (under l.row) s (drop l.rule-index l.row.cells.items) ≡ newer_cells l.columns l.entries (under l.row) s l.row.cells.items

@@ -1,0 +1,8 @@
+use Rattle.polcert_rules.proofs.ZeroLaws.{found_at}
+use Rattle.polcert_rules.proofs.zeros.ZeroColumns.newest.Goals as goal
+
+pub first_at-requires-clause-from : goal.first_at-requires-clause-from
+first_at-requires-clause-from c r among = ((c.from.ensures.kept r).0 among).1
+
+pub returns : goal.returns
+returns c = found_at c.args.self.now.rules.now c.from.result.now _ c.first_at.result c.from.ensures.kept c.first_at.ensures

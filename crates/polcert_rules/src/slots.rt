@@ -1,0 +1,91 @@
+//! Where the rows may be kept that one entry gives alone. Nothing is promised of these numbers: whoever reads one looks
+//! whether the row of this number is the one that is asked for.
+use crate::kept::Source;
+use crate::reward_bodies::in_half;
+use polcert_cells::{BodyRef, Entries, EntryRef, Place, Table};
+use std::alloc::{AllocError, Global};
+
+/// The slot of a row that no entry gives.
+const NOTHING: usize = 0;
+
+/// The slot of a row of `uniform`.
+const EVEN: usize = 1;
+
+/// The slot of the first row of `identity`, which the others follow, one for each state.
+const FIRST_DIAGONAL: usize = 2;
+
+/// A slot for each row that one entry may give alone.
+#[derive(Drop)]
+pub(crate) struct Slots {
+    /// Of each entry the slot of the first line of its body.
+    starts: Vec<u32>,
+    /// In each slot the number of a row.
+    numbers: Vec<u32>,
+}
+
+impl Slots {
+    /// Slots for the rows of this table. More of them than 32 bits can count are taken for want of memory.
+    pub(crate) fn of(
+        alloc: Global,
+        entries: &Entries,
+        table: Table,
+        states: usize,
+    ) -> Result<Slots, AllocError> {
+        let mut starts = Vec::with_capacity(alloc, entries.len())?;
+        let mut end = states.saturating_add(FIRST_DIAGONAL);
+        for number in 0..entries.len() {
+            starts.push(in_half(end)?)?;
+            end = end.saturating_add(lines_of(entries.at(number), table, states));
+        }
+        let numbers = vec![in alloc; 0; in_half(end)? as usize]?;
+        Ok(Slots { starts, numbers })
+    }
+
+    /// The number of the row that is made of this, if it was noted, and else any number.
+    pub(crate) fn number_of(&self, source: Source) -> usize {
+        match self.slot_of(source) {
+            Some(slot) => self.numbers.get(slot).copied().unwrap_or(0) as usize,
+            None => 0,
+        }
+    }
+
+    /// Notes the number of the row that is made of this. One beyond 32 bits is taken for want of memory.
+    pub(crate) fn note(&mut self, source: Source, number: usize) -> Result<(), AllocError> {
+        if let Some(slot) = self.slot_of(source) {
+            if slot < self.numbers.len() {
+                self.numbers[slot] = in_half(number)?;
+            }
+        }
+        Ok(())
+    }
+
+    /// The slot of what is made of this.
+    fn slot_of(&self, source: Source) -> Option<usize> {
+        match source {
+            Source::Nothing => Some(NOTHING),
+            Source::Even => Some(EVEN),
+            Source::Diagonal { state } => state.checked_add(FIRST_DIAGONAL),
+            Source::Line { entry, line } => match self.starts.get(entry) {
+                Some(start) => (*start as usize).checked_add(line),
+                None => None,
+            },
+            Source::Cells => None,
+        }
+    }
+}
+
+/// How many rows of this table the numbers of an entry's body give, each its own line.
+fn lines_of(entry: EntryRef<'_>, table: Table, states: usize) -> usize {
+    if entry.table != table {
+        return 0;
+    }
+    match entry.body {
+        BodyRef::Probabilities(_) => match entry.places {
+            [_] => states,
+            [_, _] => 1,
+            [_, _, Place::Every] => 1,
+            _ => 0,
+        },
+        BodyRef::Uniform | BodyRef::Identity | BodyRef::Rewards(_) => 0,
+    }
+}
