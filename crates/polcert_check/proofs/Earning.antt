@@ -11,7 +11,7 @@ use Rattle.polcert_check.specs.Ranges.{most_sum}
 use Rattle.polcert_check.specs.Factored.{reward_behind, reward_ahead}
 use Rattle.polcert_check.proofs.SumLaws.{sum_below_same, sum_below_scale}
 use Rattle.polcert_check.proofs.RowTotals.{t_rows, o_rows}
-use Rattle.polcert_check.proofs.Bounds.{abs-*ℤ_le, abs_part_le}
+use Rattle.polcert_check.proofs.Bounds.{abs-*ℤ_le, abs_part_le, term_le}
 use Rattle.polcert_check.proofs.Scales.{ahead_room, behind_room}
 use Rattle.polcert_check.proofs.Ahead.{ahead_part_le}
 use Rattle.polcert_check.proofs.Gaps.{gap, no_weight, cursor_step, weighed_is}
@@ -28,6 +28,13 @@ module _ (m : Table) (p : IsProper m) (limits : IsWithinLimits m) where
   pub reward_ahead_le : (a s : ℕ) → a < m.actions → s < m.states → unsigned_abs (reward_ahead m a s) ≤ m.t_scale * (m.o_scale * largest)
   reward_ahead_le a s al sl =
       ahead_part_le m p limits a s al sl (reward_behind m a s) (λ e el. reward_behind_le a s e al sl el) m.states (omega arith)
+
+  pub reward_room : (a s e z w : ℕ) (h : ℤ) → a < m.actions → s < m.states → e < m.states → z < m.observations → w ≡ m.o a e z → h ≡ m.r a s e z → w * unsigned_abs h ≤ most_sum
+  reward_room a s e z w h al sl el zl we he =
+      let le : m.o a e z ≤ m.o_scale = term_le (λ j. m.o a e j) z m.observations m.o_scale (o_rows m p a e al el) zl in
+      let small : unsigned_abs h ≤ largest = subst (λ (x : ℤ). unsigned_abs x ≤ largest) (sym he) (limits.r a s e z al sl el zl) in
+      let q : w * unsigned_abs h ≤ m.o_scale * largest = mul-le-mul (omega (arith, le, we)) small in
+      omega (arith, q, behind_room m limits)
 
   -- one observation more
   pub reward_step : (a s e from z w : ℕ) (sum x h : ℤ) → a < m.actions → s < m.states → e < m.states → from ≤ z → z < m.observations → w ≡ m.o a e z → ((k : ℕ) → from ≤ k → k < z → m.o a e k ≡ 0) → sum ≡ sum_below (λ z. pos (m.o a e z) *ℤ m.r a s e z) from → FitsSigned w128 x → FitsSigned w64 h → FitsSigned w128 (to_z w64 (of_z w64 h)) → x ≡ pos w *ℤ to_z w128 (of_z w128 (to_z w64 (of_z w64 h))) → h ≡ m.r a s e z → FitsSigned w128 (sum +ℤ to_z w128 (of_z w128 x)) × (to_z w128 (of_z w128 (sum +ℤ to_z w128 (of_z w128 x))) ≡ sum_below (λ z. pos (m.o a e z) *ℤ m.r a s e z) (z + 1))

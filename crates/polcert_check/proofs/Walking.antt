@@ -6,6 +6,7 @@ use Rattle.polcert_check.specs.Horizon.{Controller}
 use Rattle.polcert_check.specs.Factored.{value_behind, IsLeastOf}
 use Rattle.polcert_check.specs.Walks.{value_before, AreFollowed, AreSteps, IsMissedBefore, IsWalk, AreWalks, begun, walk_at}
 use Rattle.polcert_check.specs.declared.blocks.Block.{Block}
+use Rattle.polcert_check.specs.declared.blocks.TheConstants.{STARTS_AT_ONCE}
 use Rattle.polcert_check.specs.declared.ends.Steps.{Steps}
 use Rattle.polcert_check.specs.declared.walks.Walk.{Walk}
 use Rattle.polcert_check.proofs.Gaps.{gap, no_weight}
@@ -45,7 +46,7 @@ walk_over c n s walk is =
     subst (λ (k : ℕ). AreSteps c n s k walk.steps) all is.steps
 
 -- ---- the walks of a block
-pub walks_low : (c : Controller) (n low low' : ℕ) (block : Block) (walks : List Walk) → low' ≤ low → AreWalks c n block low walks → AreWalks c n block low' walks
+pub walks_low : (c : Controller) (n low low' : ℕ) (block : Block STARTS_AT_ONCE) (walks : List Walk) → low' ≤ low → AreWalks c n block low walks → AreWalks c n block low' walks
 walks_low c n low low' block walks l are i il = walk_low c n (block.first + i) low low' (walk_at walks i) l (are i il)
 
 -- that of one of its states

@@ -6,6 +6,7 @@ use Rattle.polcert_cells.specs.LentRows.{reached}
 use Rattle.polcert_check.specs.Horizon.{Controller, sum_below}
 use Rattle.polcert_check.specs.Factored.{value_behind, IsLeastOf, Misses}
 use Rattle.polcert_check.specs.declared.blocks.Block.{Block}
+use Rattle.polcert_check.specs.declared.blocks.TheConstants.{ENDS_AT_ONCE, STARTS_AT_ONCE}
 use Rattle.polcert_check.specs.declared.ends.Steps.{Steps}
 use Rattle.polcert_check.specs.declared.known.Known.{Known}
 use Rattle.polcert_check.specs.declared.known.Known.TheVariants.{Nothing, Followed, Missing}
@@ -25,7 +26,7 @@ IsKnown c n e Followed worth = (worth ≡ value_behind c n e) × IsLeastOf (Miss
 IsKnown c n e (Missing z) worth = (worth ≡ value_behind c n e) × IsLeastOf (Misses c n e c.cells.observations) (Some z)
 
 -- the same of each state of the block
-pub record AreKnown (c : Controller) (n : ℕ) (block : Block) (known : List Known) (worths : List ℤ) : Type 0 where
+pub record AreKnown (c : Controller) (n : ℕ) (block : Block ENDS_AT_ONCE) (known : List Known) (worths : List ℤ) : Type 0 where
   pub each : (i : ℕ) → block.first + i < block.until → IsKnown c n (block.first + i) (slice_index_or known i Nothing) (slice_index_or worths i (pos 0))
 
 -- the list has what node n expects behind each of the first end states, and it has a successor for each observation there
@@ -62,7 +63,7 @@ abbrev pub walk_at : List Walk → ℕ → Walk
 walk_at walks i = slice_index_or walks i begun
 
 -- the same of the walk from each state of the block
-abbrev pub AreWalks : Controller → ℕ → Block → ℕ → List Walk → Type 0
+abbrev pub AreWalks : Controller → ℕ → Block STARTS_AT_ONCE → ℕ → List Walk → Type 0
 AreWalks c n block low walks = (i : ℕ) → block.first + i < block.until → IsWalk c n (block.first + i) low (walk_at walks i)
 
 -- ---- a place of a row

@@ -3,6 +3,7 @@ ghost use Rattle.std.specs.Prelude.{◌≡◌, ◌*◌, ◌<◌, ◌≤◌, pos,
 ghost use Rattle.polcert_check.specs.Ranges.{most_sum};
 ghost use Rattle.polcert_check.specs.Factored.{reward_behind, reward_ahead, AreFilled};
 
+use crate::blocks::OBSERVATIONS_AT_ONCE;
 use crate::ends::Sight;
 use crate::filled::Filled;
 use crate::walk::{next_end, next_seen};
@@ -56,7 +57,8 @@ fn reward_of<C: Cells>(
     }
 }
 
-/// What each observation earns behind end state `e`, one by one.
+/// What all observations earn behind end state `e`, where they needn't earn the same. Mostly there are few, of which many can be made:
+/// then their rewards are filled in at once.
 fn each_reward<C: Cells>(cells: &C, a: usize, s: usize, e: usize, filled: &mut Filled) -> i128
     requires action { a < (C.table cells.now).actions }
     requires start { s < (C.table cells.now).states }
@@ -64,6 +66,9 @@ fn each_reward<C: Cells>(cells: &C, a: usize, s: usize, e: usize, filled: &mut F
     ensures { result ≡ reward_behind (C.table cells.now) a s e }
 {
     let crowded = is_crowded(cells, a, e);
+    if crowded && cells.observations() <= OBSERVATIONS_AT_ONCE {
+        return filled.reward_behind(cells, a, s, e);
+    }
     filled.clear();
     let mut sum: i128 = 0;
     let row = cells.o_row(a, e);

@@ -1,9 +1,9 @@
 //! What an action earns at the states of a block, kept for all nodes that take it.
 ghost use Rattle.std.specs.Prelude.{◌≡◌, ◌+◌, ◌<◌, ◌≤◌, length};
 ghost use Rattle.polcert_check.specs.Factored.{reward_ahead, AreKept};
-ghost use Rattle.polcert_check.specs.declared.blocks.TheConstants.{BLOCK};
+ghost use Rattle.polcert_check.specs.declared.blocks.TheConstants.{STARTS_AT_ONCE};
 
-use crate::blocks::BLOCK;
+use crate::blocks::STARTS_AT_ONCE;
 use crate::earned::reward_ahead;
 use crate::filled::Filled;
 use polcert_cells::Cells;
@@ -15,9 +15,9 @@ pub(crate) struct Earnings {
     pub first: usize,
     /// At so many of its states it is kept.
     pub count: usize,
-    pub sums: [i128; BLOCK],
+    pub sums: [i128; STARTS_AT_ONCE],
     filled: Filled,
-    ghost room: { length sums ≡ BLOCK },
+    ghost room: { length sums ≡ STARTS_AT_ONCE },
 }
 
 impl Earnings {
@@ -26,7 +26,7 @@ impl Earnings {
         Earnings {
             first: 0,
             count: 0,
-            sums: [0; BLOCK],
+            sums: [0; STARTS_AT_ONCE],
             filled: Filled::new(),
         }
     }
@@ -45,7 +45,7 @@ impl Earnings {
         requires action { a < (C.table cells.now).actions }
         requires start { s < (C.table cells.now).states }
         requires from { self.old.first ≤ s }
-        requires room { s < self.old.first + BLOCK }
+        requires room { s < self.old.first + STARTS_AT_ONCE }
         requires before { s ≤ self.old.first + self.old.count }
         requires kept { AreKept (C.table cells.now) a self.old.first self.old.sums self.old.count }
         ensures earned { result ≡ reward_ahead (C.table cells.now) a s }

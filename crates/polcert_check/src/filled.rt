@@ -1,11 +1,13 @@
 //! The rewards of observations in a row, filled in together.
 ghost use Rattle.std.specs.Prelude.{◌≡◌, ◌<◌, ◌≤◌, ℕ, length};
 ghost use Rattle.polcert_cells.specs.Tables.{Table};
-ghost use Rattle.polcert_check.specs.Factored.{AreFilled};
-ghost use Rattle.polcert_check.specs.declared.blocks.TheConstants.{BLOCK};
+ghost use Rattle.polcert_check.specs.Factored.{AreFilled, reward_behind};
+ghost use Rattle.polcert_check.specs.declared.blocks.TheConstants.{OBSERVATIONS_AT_ONCE};
 
-use crate::blocks::BLOCK;
+use crate::blocks::OBSERVATIONS_AT_ONCE;
+use crate::earned::weighed;
 use crate::ends::Sight;
+use crate::walk::next_seen;
 use polcert_cells::Cells;
 
 /// The rewards of observations in a row, where an action, a start state and an end state are known.
@@ -15,9 +17,9 @@ pub(crate) struct Filled {
     pub first: usize,
     /// The rewards of so many are filled in.
     pub count: usize,
-    pub rewards: [i64; BLOCK],
-    ghost few: { count ≤ BLOCK },
-    ghost room: { length rewards ≡ BLOCK },
+    pub rewards: [i64; OBSERVATIONS_AT_ONCE],
+    ghost few: { count ≤ OBSERVATIONS_AT_ONCE },
+    ghost room: { length rewards ≡ OBSERVATIONS_AT_ONCE },
 }
 
 impl Filled {
@@ -26,7 +28,7 @@ impl Filled {
         Filled {
             first: 0,
             count: 0,
-            rewards: [0; BLOCK],
+            rewards: [0; OBSERVATIONS_AT_ONCE],
         }
     }
 
@@ -35,6 +37,33 @@ impl Filled {
         ensures { (m : Table) (a s e : ℕ) → AreFilled m a s e self.new.first self.new.count self.new.rewards }
     {
         self.count = 0;
+    }
+
+    /// What every observation earns behind end state `e`, weighed, where they are so few that their rewards are filled in at once.
+    pub(crate) fn reward_behind<C: Cells>(
+        &mut self,
+        cells: &C,
+        a: usize,
+        s: usize,
+        e: usize,
+    ) -> i128
+        requires action { a < (C.table cells.now).actions }
+        requires start { s < (C.table cells.now).states }
+        requires end { e < (C.table cells.now).states }
+        requires few { (C.table cells.now).observations ≤ OBSERVATIONS_AT_ONCE }
+        ensures { result ≡ reward_behind (C.table cells.now) a s e }
+    {
+        self.clear();
+        cells.fill_rewards(a, s, e, 0, &mut self.rewards);
+        let mut sum: i128 = 0;
+        let row = cells.o_row(a, e);
+        let mut at = 0;
+        while let Some(seen) = next_seen(cells, a, e, row, at) {
+            let reward = self.rewards[seen.column];
+            sum += weighed(seen.weight, reward as i128);
+            at = seen.next;
+        }
+        sum
     }
 
     /// The reward of one observation, filled in with those behind it where it isn't yet.
@@ -61,11 +90,11 @@ impl Filled {
         requires start { s < (C.table cells.now).states }
         requires end { sight.end < (C.table cells.now).states }
         ensures first { self.new.first ≡ sight.observation }
-        ensures count { self.new.count ≡ BLOCK }
+        ensures count { self.new.count ≡ OBSERVATIONS_AT_ONCE }
         ensures filled { AreFilled (C.table cells.now) a s sight.end self.new.first self.new.count self.new.rewards }
     {
         self.first = sight.observation;
-        self.count = BLOCK;
+        self.count = OBSERVATIONS_AT_ONCE;
         cells.fill_rewards(a, s, sight.end, sight.observation, &mut self.rewards);
     }
 }

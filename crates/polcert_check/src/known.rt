@@ -4,9 +4,10 @@ ghost use Rattle.polcert_check.specs.Certificate.{controller};
 ghost use Rattle.polcert_check.specs.Horizon.{Controller};
 ghost use Rattle.polcert_check.specs.Factored.{value_behind, IsLeastOf, Misses};
 ghost use Rattle.polcert_check.specs.Walks.{AreFollowed, AreKnown, IsKnownAs};
-ghost use Rattle.polcert_check.specs.declared.blocks.TheConstants.{BLOCK};
+ghost use Rattle.polcert_check.specs.declared.blocks.TheConstants.{ENDS_AT_ONCE};
 
-use crate::blocks::{BLOCK, Block};
+use crate::asked::Asked;
+use crate::blocks::{ENDS_AT_ONCE, EndBlock};
 use crate::certificate::Certificate;
 use crate::ends::{Steps, end_of};
 use polcert_model::Cells;
@@ -24,11 +25,13 @@ pub(crate) enum Known {
 /// What a node expects behind the end states of a block, as far as it was asked for.
 #[derive(Drop)]
 pub(crate) struct Ends {
-    pub block: Block,
-    pub known: [Known; BLOCK],
-    pub worths: [i128; BLOCK],
-    ghost room_for_known: { length known ≡ BLOCK },
-    ghost room_for_worths: { length worths ≡ BLOCK },
+    pub block: EndBlock,
+    pub known: [Known; ENDS_AT_ONCE],
+    pub worths: [i128; ENDS_AT_ONCE],
+    /// The end states that the nodes before asked for, in whatever block.
+    pub asked: Asked,
+    ghost room_for_known: { length known ≡ ENDS_AT_ONCE },
+    ghost room_for_worths: { length worths ≡ ENDS_AT_ONCE },
 }
 
 /// What is known where this observation is the least that has no successor, or there is none.
@@ -45,14 +48,15 @@ impl Ends {
     /// Room for a block of which nothing is known.
     pub(crate) fn new() -> Self {
         Ends {
-            block: Block::from(0, 1),
-            known: [Known::Nothing; BLOCK],
-            worths: [0; BLOCK],
+            block: EndBlock::from(0, 1),
+            known: [Known::Nothing; ENDS_AT_ONCE],
+            worths: [0; ENDS_AT_ONCE],
+            asked: Asked::new(),
         }
     }
 
     /// Goes on to a block of end states, of which nothing is known yet.
-    pub(crate) fn begin(&mut self, block: Block)
+    fn clear(&mut self, block: EndBlock)
         ensures block { self.new.block ≡ block }
         ensures known { (c : Controller) (n : ℕ) → AreKnown c n self.new.block self.new.known self.new.worths }
     {
@@ -62,11 +66,34 @@ impl Ends {
         }
     }
 
+    /// Goes on to the block of end states that begins with this one. What node `n` expects behind those that the nodes before asked for is
+    /// found ahead: in their order, since what it is found from stands in that order.
+    pub(crate) fn begin<C: Cells>(
+        &mut self,
+        certificate: &Certificate<'_, C>,
+        n: usize,
+        first: usize,
+    )
+        requires node { n < (controller certificate.now).nodes }
+        requires end { first < (controller certificate.now).cells.states }
+        ensures first { self.new.block.first ≡ first }
+        ensures within { self.new.block.until ≤ (controller certificate.now).cells.states }
+        ensures known { AreKnown (controller certificate.now) n self.new.block self.new.known self.new.worths }
+    {
+        let block = EndBlock::from(first, certificate.cells.states());
+        self.clear(block);
+        for e in block.first..block.until {
+            if self.asked.has(e) {
+                self.find(certificate, n, e);
+            }
+        }
+    }
+
     /// Finds what node `n` expects behind every end state, where these are one block, unless an observation that can be made behind one
     /// of them has no successor. Whether none is such.
     pub(crate) fn fill<C: Cells>(&mut self, certificate: &Certificate<'_, C>, n: usize) -> bool
         requires node { n < (controller certificate.now).nodes }
-        requires few { (controller certificate.now).cells.states ≤ BLOCK }
+        requires few { (controller certificate.now).cells.states ≤ ENDS_AT_ONCE }
         ensures { IsTrue result → AreFollowed (controller certificate.now) n (controller certificate.now).cells.states self.new.worths }
     {
         for e in 0..certificate.cells.states() {
@@ -111,7 +138,7 @@ impl Ends {
         }
     }
 
-    /// The same, where it was not asked for yet.
+    /// The same, where it is not known yet.
     #[inline(never)]
     fn find<C: Cells>(&mut self, certificate: &Certificate<'_, C>, n: usize, e: usize) -> Steps
         requires node { n < (controller certificate.now).nodes }
@@ -124,6 +151,7 @@ impl Ends {
         ensures block { self.new.block ≡ self.old.block }
         ensures known { AreKnown (controller certificate.now) n self.new.block self.new.known self.new.worths }
     {
+        self.asked.note(e);
         let end = end_of(certificate, n, e);
         let i = e - self.block.first;
         self.worths[i] = end.worth;

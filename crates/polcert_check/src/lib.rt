@@ -2,6 +2,7 @@
 #![tactic(auto)]
 
 mod above;
+mod asked;
 mod blocks;
 mod certificate;
 mod earned;

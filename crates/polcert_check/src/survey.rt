@@ -4,7 +4,7 @@ ghost use Rattle.polcert_check.specs.Certificate.{controller, judged};
 ghost use Rattle.polcert_check.specs.Factored.{AreKept};
 ghost use Rattle.polcert_check.specs.Findings.{IsFound, IsFoundBefore, IsFoundUpTo, IsPair};
 
-use crate::blocks::Block;
+use crate::blocks::StartBlock;
 use crate::certificate::Certificate;
 use crate::earnings::Earnings;
 use crate::findings::{Aim, Findings};
@@ -24,7 +24,7 @@ struct Buffers {
 fn survey_states<C: Cells>(
     certificate: &Certificate<'_, C>,
     n: usize,
-    block: Block,
+    block: StartBlock,
     buffers: &mut Buffers,
     findings: &mut Findings,
 )
@@ -55,7 +55,7 @@ fn survey_states<C: Cells>(
 fn survey_node<C: Cells, W: Watch>(
     certificate: &Certificate<'_, C>,
     n: usize,
-    block: Block,
+    block: StartBlock,
     buffers: &mut Buffers,
     findings: &mut Findings,
     watch: &mut W,
@@ -83,7 +83,7 @@ fn survey_node<C: Cells, W: Watch>(
 fn survey_block<C: Cells, W: Watch>(
     certificate: &Certificate<'_, C>,
     a: usize,
-    block: Block,
+    block: StartBlock,
     buffers: &mut Buffers,
     findings: &mut Findings,
     watch: &mut W,
@@ -93,6 +93,7 @@ fn survey_block<C: Cells, W: Watch>(
     ensures found { IsFoundUpTo (judged certificate.now) a block.until findings.new }
     ensures aim { findings.new.aim ≡ findings.old.aim }
 {
+    buffers.walks.forget(certificate.cells.states());
     buffers.earnings.begin(block.first);
     for n in 0..certificate.graph.nodes() {
         if certificate.graph.action(n) == a {
@@ -116,7 +117,7 @@ fn survey_action<C: Cells, W: Watch>(
     let states = certificate.cells.states();
     let mut first = 0;
     while first < states {
-        let block = Block::from(first, states);
+        let block = StartBlock::from(first, states);
         survey_block(certificate, a, block, buffers, findings, watch);
         first = block.until;
     }

@@ -2,9 +2,9 @@
 ghost use Rattle.std.specs.Prelude.{◌≡◌, ℕ, ◌+◌, ◌<◌, ◌≤◌, length};
 ghost use Rattle.polcert_check.specs.Certificate.{controller};
 ghost use Rattle.polcert_check.specs.Walks.{AreFollowed, AreKnown, AreWalks, IsWalk, begun, value_before, walk_at};
-ghost use Rattle.polcert_check.specs.declared.blocks.TheConstants.{BLOCK};
+ghost use Rattle.polcert_check.specs.declared.blocks.TheConstants.{ENDS_AT_ONCE, STARTS_AT_ONCE};
 
-use crate::blocks::{BLOCK, Block};
+use crate::blocks::{ENDS_AT_ONCE, STARTS_AT_ONCE, StartBlock};
 use crate::certificate::Certificate;
 use crate::earned::weighed;
 use crate::ends::{Steps, lesser};
@@ -32,9 +32,9 @@ const BEGUN: Walk = Walk {
 /// The walks from the states of a block, and what the node expects behind the block of end states that they go over.
 #[derive(Drop)]
 pub(crate) struct Walks {
-    pub walks: [Walk; BLOCK],
+    pub walks: [Walk; STARTS_AT_ONCE],
     pub ends: Ends,
-    ghost room: { length walks ≡ BLOCK },
+    ghost room: { length walks ≡ STARTS_AT_ONCE },
 }
 
 /// Goes on with the walk from state `s` over a block of end states, which it does not stand before.
@@ -111,14 +111,19 @@ impl Walks {
     /// Room for walks.
     pub(crate) fn new() -> Self {
         Walks {
-            walks: [BEGUN; BLOCK],
+            walks: [BEGUN; STARTS_AT_ONCE],
             ends: Ends::new(),
         }
     }
 
+    /// Goes on to another action or block of states, from which other end states are reached. It matters to speed alone.
+    pub(crate) fn forget(&mut self, states: usize) {
+        self.ends.asked.forget(states);
+    }
+
     /// Walks that are not begun, from so many states.
     fn begin(&mut self, count: usize)
-        requires { count ≤ BLOCK }
+        requires { count ≤ STARTS_AT_ONCE }
         ensures { (i : ℕ) → i < count → walk_at self.new.walks i ≡ begun }
     {
         for i in 0..count {
@@ -132,7 +137,7 @@ impl Walks {
         &mut self,
         certificate: &Certificate<'_, C>,
         n: usize,
-        block: Block,
+        block: StartBlock,
         first: usize,
     ) -> usize
         requires node { n < (controller certificate.now).nodes }
@@ -143,7 +148,7 @@ impl Walks {
         ensures walks { AreWalks (controller certificate.now) n block result self.new.walks }
     {
         let states = certificate.cells.states();
-        self.ends.begin(Block::from(first, states));
+        self.ends.begin(certificate, n, first);
         let mut nearest = states;
         for s in block.first..block.until {
             let i = s - block.first;
@@ -155,10 +160,15 @@ impl Walks {
     }
 
     /// Walks from each state of a block over all end states, over what was found behind each of them.
-    fn walk_at_once<C: Cells>(&mut self, certificate: &Certificate<'_, C>, n: usize, block: Block)
+    fn walk_at_once<C: Cells>(
+        &mut self,
+        certificate: &Certificate<'_, C>,
+        n: usize,
+        block: StartBlock,
+    )
         requires node { n < (controller certificate.now).nodes }
         requires within { block.until ≤ (controller certificate.now).cells.states }
-        requires few { (controller certificate.now).cells.states ≤ BLOCK }
+        requires few { (controller certificate.now).cells.states ≤ ENDS_AT_ONCE }
         requires followed { AreFollowed (controller certificate.now) n (controller certificate.now).cells.states self.old.ends.worths }
         ensures { AreWalks (controller certificate.now) n block (controller certificate.now).cells.states self.new.walks }
     {
@@ -181,14 +191,14 @@ impl Walks {
         &mut self,
         certificate: &Certificate<'_, C>,
         n: usize,
-        block: Block,
+        block: StartBlock,
     )
         requires node { n < (controller certificate.now).nodes }
         requires within { block.until ≤ (controller certificate.now).cells.states }
         ensures { AreWalks (controller certificate.now) n block (controller certificate.now).cells.states self.new.walks }
     {
         let states = certificate.cells.states();
-        if states <= BLOCK && self.ends.fill(certificate, n) {
+        if states <= ENDS_AT_ONCE && self.ends.fill(certificate, n) {
             self.walk_at_once(certificate, n, block);
             return;
         }

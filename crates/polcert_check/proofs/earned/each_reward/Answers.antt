@@ -1,9 +1,19 @@
-use Rattle.std.proofs.Common.{rules, arith, FitsSigned, to_z, of_z, w64}
+use Rattle.std.proofs.Common.{rules, arith, FitsSigned, to_z, of_z, w64, ◌∙◌}
 use mir.Syntax.{w128}
+use Rattle.std.proofs.lemmas.Int.{to_z-of_z}
 use Rattle.polcert_cells.specs.Tables.{Table}
-use Rattle.polcert_check.proofs.Earning.{reward_step, reward_done}
+use Rattle.polcert_check.proofs.Earning.{reward_room, reward_step, reward_done}
 use Rattle.polcert_cells.specs.LentRows.{reached}
 use Rattle.polcert_check.proofs.earned.each_reward.Goals as goal
+
+pub weighed-sum-requires : goal.weighed-sum-requires
+weighed-sum-requires g c =
+    let m : Table = g.C.Cells.table c.args.cells.now in
+    let h = c.reward_of-reward.result in
+    let fh : FitsSigned w64 h = search rules in
+    let fh2 : FitsSigned w128 (to_z w64 (of_z w64 h)) = search rules in
+    let next = c.in-Some.ensures.0 in
+    reward_room m (g.met.C.Cells.is_proper c.args.cells.now) (g.met.C.Cells.is_within_limits c.args.cells.now) c.args.a c.args.s c.args.e c.in-Some.seen.column c.in-Some.seen.weight (to_z w128 (of_z w128 (to_z w64 (of_z w64 h)))) c.requires.action c.requires.start c.requires.end next.1 next.2 (to_z-of_z w128 (to_z w64 (of_z w64 h)) fh2 ∙ to_z-of_z w64 h fh ∙ c.reward_of-reward.ensures.reward)
 
 pub overflow_add-sum : goal.overflow_add-sum
 overflow_add-sum g c =

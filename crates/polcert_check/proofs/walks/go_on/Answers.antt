@@ -9,6 +9,7 @@ use Rattle.polcert_check.specs.Horizon.{Controller}
 use Rattle.polcert_check.specs.Factored.{value_behind}
 use Rattle.polcert_check.specs.Walks.{AreSteps, IsPlace}
 use Rattle.polcert_check.specs.declared.blocks.Block.{Block}
+use Rattle.polcert_check.specs.declared.blocks.TheConstants.{ENDS_AT_ONCE}
 use Rattle.polcert_check.proofs.Ahead.{weight_room, ahead_step}
 use Rattle.polcert_check.proofs.Expecting.{value_behind_le}
 use Rattle.polcert_check.proofs.Missing.{before_more}
@@ -36,14 +37,14 @@ returns-then-end-until-clause-walk g c =
     let k : Controller = controller c.args.certificate.now in
     let next = rw c.action-a.ensures.value at c.in-Some.ensures.0 in
     walk_stopped k c.args.n c.args.s (reached c.t_row-row.result c.loop-end.at) c.in-Some.end.column c.loop-end.ends.block.until next.0 (omega (arith, next.1)) next.4 (record { worth = to_z w128 c.loop-end.worth-bits; missing = c.loop-end.missing }) (record { worth = c.loop-end.invariant.worth; missing = c.loop-end.invariant.missing })
-    (subst (λ (b : Block). b.until ≤ c.in-Some.end.column) (sym c.loop-end.invariant.block) c.if-end-until.true)
+    (subst (λ (b : Block ENDS_AT_ONCE). b.until ≤ c.in-Some.end.column) (sym c.loop-end.invariant.block) c.if-end-until.true)
 
 pub returns-clause-walk : goal.returns-clause-walk
 returns-clause-walk g c =
     let k : Controller = controller c.args.certificate.now in
     let none = rw c.action-a.ensures.value at c.in_default.ensures in
     let stopped = walk_stopped k c.args.n c.args.s (reached c.t_row-row.result c.loop-end.at) k.cells.states c.loop-end.ends.block.until c.loop-end.invariant.within (omega arith) none (record { worth = to_z w128 c.loop-end.worth-bits; missing = c.loop-end.missing }) (record { worth = c.loop-end.invariant.worth; missing = c.loop-end.invariant.missing })
-    (subst (λ (b : Block). b.until ≤ k.cells.states) (sym c.loop-end.invariant.block) c.requires.within) in
+    (subst (λ (b : Block ENDS_AT_ONCE). b.until ≤ k.cells.states) (sym c.loop-end.invariant.block) c.requires.within) in
     rw c.states.ensures stopped
 
 pub weighed-worth-requires : goal.weighed-worth-requires
@@ -78,7 +79,7 @@ loop-end-preserved g c =
       worth = (ahead_step k.cells c.args.certificate.now.proper.cells limits (k.action c.args.n) c.args.s (c.args.certificate.now.proper.closed.actions_in_range c.args.n c.requires.node) c.requires.start (value_behind k c.args.n) small (reached c.t_row-row.result c.loop-end.at) c.in-Some.end.column c.in-Some.end.weight (to_z w128 c.loop-end.worth-bits) c.weighed-worth.result c.behind-step.result.worth next.0 next.1 next.2 next.4 c.loop-end.invariant.worth fx fy c.weighed-worth.ensures c.behind-step.ensures.worth).1;
       missing = before_more k c.args.n c.args.s (reached c.t_row-row.result c.loop-end.at) c.in-Some.end.column c.in-Some.end.weight c.loop-end.missing c.behind-step.result.missing c.lesser-missing.result next.0 next.4 next.2 next.3 c.loop-end.invariant.missing c.behind-step.ensures.missing c.lesser-missing.ensures;
       within = omega (arith, next.1);
-      clear = λ j l h. absurd (omega (arith, l, first, subst (λ (b : Block). j < b.first) c.behind-step.ensures.block h));
+      clear = λ j l h. absurd (omega (arith, l, first, subst (λ (b : Block ENDS_AT_ONCE). j < b.first) c.behind-step.ensures.block h));
       block = c.behind-step.ensures.block ∙ c.loop-end.invariant.block;
       known = c.behind-step.ensures.known;
     })

@@ -1,10 +1,13 @@
-use Rattle.std.proofs.Common.{◌≡◌, ℕ, ◌<◌}
-use Rattle.std.specs.Prelude.{slice_index_or}
-use Rattle.polcert_check.specs.declared.known.Known.TheVariants.{Nothing}
+use Rattle.std.proofs.Common.{◌≡◌, ◌≤◌}
+use Rattle.polcert_check.specs.Certificate.{controller}
+use Rattle.polcert_check.specs.Walks.{AreKnown}
 use Rattle.polcert_check.proofs.known.Ends.begin.Given as goal
 
-abbrev pub invariant-loop-i : goal.invariant-loop-i
-invariant-loop-i l = record {
-  nothing : (k : ℕ) → k < l.i → slice_index_or l.self.known k Nothing ≡ Nothing;
-  block : l.self.block ≡ l.fn.block;
+abbrev pub invariant-loop-e : goal.invariant-loop-e
+invariant-loop-e g l = record {
+  first : l.self.block.first ≡ l.fn.first;
+  from : l.self.block.first ≤ l.e;
+  until : l.self.block.until ≡ l.e-end;
+  within : l.self.block.until ≤ (controller l.certificate).cells.states;
+  known : AreKnown (controller l.certificate) l.n l.self.block l.self.known l.self.worths;
 }

@@ -3,6 +3,7 @@ use Rattle.polcert_check.specs.Certificate.{controller}
 use Rattle.polcert_check.specs.Horizon.{Controller}
 use Rattle.polcert_check.specs.Walks.{IsWalk, walk_at}
 use Rattle.polcert_check.specs.declared.blocks.Block.{Block}
+use Rattle.polcert_check.specs.declared.blocks.TheConstants.{ENDS_AT_ONCE}
 use Rattle.polcert_check.proofs.Walking.{at_state, gone_on, not_gone}
 use Rattle.polcert_check.proofs.walks.Walks.through.Goals as goal
 
@@ -16,8 +17,8 @@ pub loop-s-preserved : goal.loop-s-preserved
 loop-s-preserved g c =
     let k : Controller = controller c.args.certificate.now in
     let same : c.go_on-walk.new.ends.block ≡ c.loop-s.self.ends.block = c.go_on-walk.ensures.block in
-    let first : c.go_on-walk.new.ends.block.first ≡ c.loop-s.self.ends.block.first = ap (λ (b : Block). b.first) same in
-    let until : c.go_on-walk.new.ends.block.until ≡ c.loop-s.self.ends.block.until = ap (λ (b : Block). b.until) same in
+    let first : c.go_on-walk.new.ends.block.first ≡ c.loop-s.self.ends.block.first = ap (λ (b : Block ENDS_AT_ONCE). b.first) same in
+    let until : c.go_on-walk.new.ends.block.until ≡ c.loop-s.self.ends.block.until = ap (λ (b : Block ENDS_AT_ONCE). b.until) same in
     let room : c.loop-s.s - c.args.block.first < length c.loop-s.self.walks = omega (arith, c.loop-s.self.room, c.args.block.few, c.loop-s-test.true, c.loop-s.auto.s) in
     record {
       further = omega (arith, until, c.loop-s.invariant.further, c.go_on-walk.ensures.walk.behind, c.min-nearest.ensures);
