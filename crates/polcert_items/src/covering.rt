@@ -7,9 +7,7 @@ ghost use Rattle.polcert_cells.specs.Preamble.{Preamble};
 ghost use Rattle.polcert_items.specs.Covering.{IsNext, IsCoveredWith, chosen, covered_by, open_cells, weighty, counted, most_covered};
 
 use polcert_cells::{Body, Entry, Place, Table};
-
-/// A table is large where it has more cells than these. Of a large one, entries may cover as many with a weight above 0.
-const MOST_CELLS: usize = 16_777_216;
+use polcert_tables::MOST_CELLS;
 
 /// How many entries of rewards there may be where the table of rewards is large.
 const MOST_REWARD_ENTRIES: usize = 1_048_576;

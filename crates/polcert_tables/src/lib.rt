@@ -10,5 +10,5 @@ mod table;
 
 pub use dense::{DenseModel, dense_of};
 pub use draft::{Draft, ONE, count_or};
-pub use model::Model;
+pub use model::{MOST_CELLS, Model};
 pub use rows::{WrongRow, first_wrong_row};

@@ -12,8 +12,9 @@ use crate::Draft;
 use polcert_cells::Kind;
 use std::marker;
 
-/// How many cells a table may have where it is printed or filled.
-const MOST_CELLS: usize = 16_777_216;
+/// A table is large where it has more cells than these. One that is printed or filled is not large, and of a large one entries may
+/// cover as many cells with a weight above 0.
+pub const MOST_CELLS: usize = 16_777_216;
 
 /// A model of a partially observable Markov decision process, or of one whose states are observed (an MDP): what its text
 /// says.
