@@ -1,16 +1,17 @@
-//! Runs over devices that give a byte at a time, fail, or know what they took.
+//! The runs that read a model alone.
+use self::runs::{Answer, Devices, Outcome, Run, SOUND, Texts, over_devices, over_slices};
 use polcert_answer::{Fault, RunFault, run_model, status_of};
 use polcert_model::{ItemFault, ModelFault, Table};
-use polcert_text::{
-    NumberFault, Sink, SinkFailed, SliceSink, SliceSource, Source, SourceFailed, TokenFault,
-};
+use polcert_text::{NumberFault, Sink, SinkFailed, SliceSink, SliceSource, TokenFault};
 use std::alloc::Global;
 use std::test::Fail;
 
 mod above;
 mod answers;
 mod devices;
+mod runs;
 mod streams;
+mod trials;
 
 /// A model of two states, one action and two observations.
 const FIRST: &[u8] =
@@ -18,99 +19,52 @@ const FIRST: &[u8] =
 
 const LINE: &[u8] = b"pomdp: 2 states, 1 actions, 2 observations, discount 0.95, reward\n";
 
-/// Gives bytes in pieces of at most `most` bytes, and fails at the read of number `failing`, from 0 on.
-#[derive(Drop)]
-struct Pieces<'a> {
-    rest: &'a [u8],
-    most: usize,
-    failing: Option<u64>,
-    reads: u64,
-    failures: u64,
-}
+/// The model FIRST in full form.
+const FULL: &[u8] =
+    b"discount: 0.95\nvalues: reward\nstates: 2\nactions: 1\nobservations: 2\nstart: uniform\nT: 0 : 0\n1 0\nT: 0 : 1\n0 1\nO: 0 : 0\n0.85 0.15\nO: 0 : 1\n0.15 0.85\nR: 0 : 0 : 0\n-1 0\n";
 
-impl<'a> Pieces<'a> {
-    fn new(rest: &'a [u8], most: usize, failing: Option<u64>) -> Pieces<'a> {
-        Pieces {
-            rest,
-            most,
-            failing,
-            reads: 0,
-            failures: 0,
-        }
-    }
-}
+/// Texts of models, and the kind, the item and the place of the fault of each.
+const REFUSED_MODELS: [(&[u8], ItemFault, u64, u64); 10] = [
+    (b"", ItemFault::MissingLine, 1, 0),
+    (b"hello discount: 1", ItemFault::BeforeFirstItem, 0, 0),
+    (
+        b"discount: 1 values: reward states: 0",
+        ItemFault::BadCount,
+        3,
+        35,
+    ),
+    (b"discount: 2", ItemFault::DiscountRange, 1, 10),
+    (b"discount: 1 discount: 1", ItemFault::DuplicateLine, 2, 12),
+    (
+        b"discount: 1.2.3",
+        ItemFault::Token(TokenFault::Glued(10)),
+        1,
+        10,
+    ),
+    (
+        b"discount: 0.1234567",
+        ItemFault::Number(NumberFault::TooFine),
+        1,
+        10,
+    ),
+    (
+        b"discount: 1e400",
+        ItemFault::Number(NumberFault::TooLarge),
+        1,
+        10,
+    ),
+    (b"discount: 0e400", ItemFault::MissingLine, 2, 15),
+    (
+        b"discount: 1 values: reward states: 2 actions: 1 observations: 1 T: 0 reset",
+        ItemFault::Reset,
+        6,
+        69,
+    ),
+];
 
-impl Source for Pieces<'_> {
-    ghost failures = { λ s. s.failures };
-
-    ghost reads = { λ s room answer t. Unit {0} };
-
-    fn read(&mut self, piece: &mut [u8]) -> Result<usize, SourceFailed> {
-        let number = self.reads;
-        self.reads = self.reads.saturating_add(1);
-        if self.failing == Some(number) {
-            self.failures = self.failures.saturating_add(1);
-            return Err(SourceFailed);
-        }
-        let count = self.rest.len().min(piece.len()).min(self.most);
-        let (front, rest) = self.rest.split_at(count);
-        piece[..count].copy_from_slice(front);
-        self.rest = rest;
-        Ok(count)
-    }
-}
-
-/// The bytes that a sink of one byte at a time has room for.
-const ROOM: usize = 200;
-
-/// Takes a byte at a time, and fails at the write of number `failing`, from 0 on.
-#[derive(Drop)]
-struct OneByte {
-    taken: [u8; ROOM],
-    len: usize,
-    failing: Option<usize>,
-    failures: u64,
-}
-
-impl OneByte {
-    fn new(failing: Option<usize>) -> OneByte {
-        OneByte {
-            taken: [0; ROOM],
-            len: 0,
-            failing,
-            failures: 0,
-        }
-    }
-
-    fn taken(&self) -> &[u8] {
-        &self.taken[..self.len.min(ROOM)]
-    }
-}
-
-impl Sink for OneByte {
-    ghost failures = { λ s. s.failures };
-
-    ghost writes = { λ s answer t. Unit {0} };
-
-    fn write(&mut self, piece: &[u8]) -> Result<usize, SinkFailed> {
-        let Some(byte) = piece.first() else {
-            return Ok(0);
-        };
-        if self.failing == Some(self.len) || self.len >= ROOM {
-            self.failures = self.failures.saturating_add(1);
-            return Err(SinkFailed);
-        }
-        self.taken[self.len] = *byte;
-        self.len += 1;
-        Ok(1)
-    }
-}
-
-/// What a run of a slice answers, and the bytes that it wrote, of which there are at most ROOM.
-fn summed(alloc: Global, text: &[u8]) -> (Result<(), RunFault>, OneByte) {
-    let mut sink = OneByte::new(None);
-    let result = run_model(alloc, &mut SliceSource::new(text), &mut sink);
-    (result, sink)
+/// Summing up the text of a slice.
+fn summed(alloc: Global, text: &[u8]) -> Outcome {
+    over_slices(alloc, Run::Model, (text, b"", b""))
 }
 
 fn item(kind: ItemFault, item: u64, place: u64) -> RunFault {
@@ -121,37 +75,11 @@ fn item(kind: ItemFault, item: u64, place: u64) -> RunFault {
 #[test]
 fn reads_in_pieces(rt: HostRuntime) {
     for (most, reads) in [(1usize, 126u64), (2, 64), (3, 43), (7, 19)] {
-        let mut source = Pieces::new(FIRST, most, None);
-        let mut sink = OneByte::new(None);
-        assert_eq!(rt; run_model(rt.alloc(), &mut source, &mut sink), Ok(()));
-        assert_eq!(rt; sink.taken(), LINE);
-        assert_eq!(rt; (source.failures, source.reads), (0, reads));
-        assert_eq!(rt; sink.failures, 0);
-    }
-}
-
-/// FIRST comes a byte at a time, and then its end. The read that fails is the last.
-#[test]
-fn fails_at_each_read(rt: HostRuntime) {
-    for failing in 0..=FIRST.len() as u64 {
-        let mut source = Pieces::new(FIRST, 1, Some(failing));
-        let mut sink = OneByte::new(None);
-        let result = run_model(rt.alloc(), &mut source, &mut sink);
-        assert_eq!(rt; result, Err(RunFault::ReadModel));
-        assert_eq!(rt; (source.failures, source.reads), (1, failing + 1));
-        assert_eq!(rt; sink.taken().len(), 0);
-    }
-}
-
-#[test]
-fn fails_at_each_write(rt: HostRuntime) {
-    for failing in 0..66usize {
-        let mut source = SliceSource::new(FIRST);
-        let mut sink = OneByte::new(Some(failing));
-        let result = run_model(rt.alloc(), &mut source, &mut sink);
-        assert_eq!(rt; result, Err(RunFault::Write));
-        assert_eq!(rt; sink.taken(), &LINE[..failing]);
-        assert_eq!(rt; sink.failures, 1);
+        let devices = Devices { most, ..SOUND };
+        let outcome = over_devices(rt.alloc(), Run::Model, (FIRST, b"", b""), devices);
+        assert_eq!(rt; outcome.answer, Ok(Answer::Done));
+        assert_eq!(rt; outcome.written.as_slice(), LINE);
+        assert_eq!(rt; (outcome.reads.0, outcome.failures), (reads, 0));
     }
 }
 
@@ -181,28 +109,32 @@ fn too_large_to_print(rt: HostRuntime) -> Result<(), Fail> {
 /// The first 123 bytes of FIRST are refused at their end; a source that fails behind them is no refused text.
 #[test]
 fn a_failed_read_is_no_end(rt: HostRuntime) {
-    let mut source = Pieces::new(&FIRST[..123], 123, Some(1));
-    let mut sink = OneByte::new(None);
-    let result = run_model(rt.alloc(), &mut source, &mut sink);
-    assert_eq!(rt; result, Err(RunFault::ReadModel));
-    assert_eq!(rt; source.reads, 2);
+    let devices = Devices {
+        most: 123,
+        model: Some(1),
+        ..SOUND
+    };
+    let texts: Texts<'_> = (&FIRST[..123], b"", b"");
+    let outcome = over_devices(rt.alloc(), Run::Model, texts, devices);
+    assert_eq!(rt; outcome.answer, Err(RunFault::ReadModel));
+    assert_eq!(rt; outcome.reads.0, 2);
     assert_eq!(rt; status_of(&RunFault::ReadModel), 3);
-    assert_eq!(rt; sink.taken().len(), 0);
+    assert_eq!(rt; outcome.written.len(), 0);
 }
 
 #[test]
 fn beginnings_of_a_text(rt: HostRuntime) {
-    let (result, sink) = summed(rt.alloc(), &FIRST[..105]);
-    assert_eq!(rt; result, Ok(()));
-    assert_eq!(rt; sink.taken(), LINE);
+    let outcome = summed(rt.alloc(), &FIRST[..105]);
+    assert_eq!(rt; outcome.answer, Ok(Answer::Done));
+    assert_eq!(rt; outcome.written.as_slice(), LINE);
     for (len, kind) in [
         (106usize, ItemFault::BadShape),
         (121, ItemFault::WrongNumberCount),
         (123, ItemFault::BadShape),
     ] {
-        let (result, sink) = summed(rt.alloc(), &FIRST[..len]);
-        assert_eq!(rt; result, Err(item(kind, 8, len as u64)), "at {len}");
-        assert_eq!(rt; sink.taken().len(), 0);
+        let outcome = summed(rt.alloc(), &FIRST[..len]);
+        assert_eq!(rt; outcome.answer, Err(item(kind, 8, len as u64)), "at {len}");
+        assert_eq!(rt; outcome.written.len(), 0);
     }
 }
 
@@ -210,53 +142,24 @@ fn beginnings_of_a_text(rt: HostRuntime) {
 fn a_row_that_is_no_sum_of_one(rt: HostRuntime) {
     let text =
         b"discount: 0.95\nvalues: reward\nstates: 2\nactions: 1\nobservations: 2\nT: 0\n1 0\n0 1\nO: 0\n0.85 0.15\n0.15 0.84\nR: 0 : 0 : 0 : 0 -1\n";
-    let (result, sink) = summed(rt.alloc(), text);
+    let outcome = summed(rt.alloc(), text);
     let wanted = ModelFault::RowSum {
         table: Table::Observation,
         action: 0,
         row: 1,
     };
-    assert_eq!(rt; result, Err(RunFault::Text(Fault::Model(wanted))));
-    assert_eq!(rt; sink.taken().len(), 0);
+    assert_eq!(rt; outcome.answer, Err(RunFault::Text(Fault::Model(wanted))));
+    assert_eq!(rt; outcome.written.len(), 0);
 }
 
 #[test]
 fn refused_texts(rt: HostRuntime) {
-    let rows: [(&[u8], RunFault); 10] = [
-        (b"", item(ItemFault::MissingLine, 1, 0)),
-        (b"hello discount: 1", item(ItemFault::BeforeFirstItem, 0, 0)),
-        (
-            b"discount: 1 values: reward states: 0",
-            item(ItemFault::BadCount, 3, 35),
-        ),
-        (b"discount: 2", item(ItemFault::DiscountRange, 1, 10)),
-        (
-            b"discount: 1 discount: 1",
-            item(ItemFault::DuplicateLine, 2, 12),
-        ),
-        (
-            b"discount: 1.2.3",
-            item(ItemFault::Token(TokenFault::Glued(10)), 1, 10),
-        ),
-        (
-            b"discount: 0.1234567",
-            item(ItemFault::Number(NumberFault::TooFine), 1, 10),
-        ),
-        (
-            b"discount: 1e400",
-            item(ItemFault::Number(NumberFault::TooLarge), 1, 10),
-        ),
-        (b"discount: 0e400", item(ItemFault::MissingLine, 2, 15)),
-        (
-            b"discount: 1 values: reward states: 2 actions: 1 observations: 1 T: 0 reset",
-            item(ItemFault::Reset, 6, 69),
-        ),
-    ];
-    for (text, fault) in rows {
-        let (result, sink) = summed(rt.alloc(), text);
-        assert_eq!(rt; result, Err(fault));
+    for (text, kind, number, place) in REFUSED_MODELS {
+        let fault = item(kind, number, place);
+        let outcome = summed(rt.alloc(), text);
+        assert_eq!(rt; outcome.answer, Err(fault));
         assert_eq!(rt; status_of(&fault), 2);
-        assert_eq!(rt; sink.taken().len(), 0);
+        assert_eq!(rt; outcome.written.len(), 0);
     }
 }
 
@@ -264,10 +167,10 @@ fn refused_texts(rt: HostRuntime) {
 fn costs_and_other_counts(rt: HostRuntime) {
     let text =
         b"discount: 1 values: cost states: 12 actions: 1000 observations: 1 T: * uniform O: * uniform";
-    let (result, sink) = summed(rt.alloc(), text);
-    assert_eq!(rt; result, Ok(()));
+    let outcome = summed(rt.alloc(), text);
+    assert_eq!(rt; outcome.answer, Ok(Answer::Done));
     assert_eq!(rt;
-        sink.taken(),
+        outcome.written.as_slice(),
         b"pomdp: 12 states, 1000 actions, 1 observations, discount 1, cost\n".as_slice()
     );
 }

@@ -1,13 +1,7 @@
 //! Worked rows from above: what three texts answer, what is printed of it, and what raising gives.
-use super::answers::{
-    ALWAYS_FIRST, COST, EITHER, LOSS, MDP, REFUSED, TIGER, TWO_STATES, Texts, answer,
-};
-use super::devices::{Failing, SOUND, failing_source};
-use super::{OneByte, Pieces};
-use polcert_answer::{
-    Fault, RunFault, check_texts_above, run_check_above, run_raise, status_of,
-    status_of_above_verdict,
-};
+use super::answers::{ALWAYS_FIRST, COST, EITHER, LOSS, MDP, REFUSED, TIGER, TWO_STATES, answer};
+use super::runs::{Answer, Run, SOUND, Texts, over_devices};
+use polcert_answer::{Fault, RunFault, check_texts_above, status_of, status_of_above_verdict};
 use polcert_check::{AboveVerdict, RaiseFault, Verdict};
 use std::alloc::Global;
 
@@ -25,30 +19,6 @@ const BELOW: Texts<'static> = (TIGER, b"0 0 0 0", b"0 -20.000001 -20.000001");
 const LONG: &[u8] = b"no: node 0, state 0, long by 0.000001\n";
 
 const RAISED: &[u8] = b"0\n-20 -20\n\n";
-
-/// What a run of a check from above answers, over devices that give and take a byte at a time and may fail, and what it wrote.
-fn checked(
-    alloc: Global,
-    texts: Texts<'_>,
-    failing: Failing,
-) -> (Result<AboveVerdict, RunFault>, OneByte) {
-    let mut model = Pieces::new(texts.0, 1, failing.model);
-    let mut graph = Pieces::new(texts.1, 1, failing.graph);
-    let mut vectors = Pieces::new(texts.2, 1, failing.vectors);
-    let mut sink = OneByte::new(failing.sink);
-    let result = run_check_above(alloc, &mut model, &mut graph, &mut vectors, &mut sink);
-    (result, sink)
-}
-
-/// What a run of raising answers, over such devices, and what it wrote.
-fn raised(alloc: Global, texts: Texts<'_>, failing: Failing) -> (Result<i64, RunFault>, OneByte) {
-    let mut model = Pieces::new(texts.0, 1, failing.model);
-    let mut graph = Pieces::new(texts.1, 1, failing.graph);
-    let mut vectors = Pieces::new(texts.2, 1, failing.vectors);
-    let mut sink = OneByte::new(failing.sink);
-    let result = run_raise(alloc, &mut model, &mut graph, &mut vectors, &mut sink);
-    (result, sink)
-}
 
 /// The answer from above to the texts.
 fn answer_above(alloc: Global, texts: Texts<'_>) -> Result<AboveVerdict, Fault> {
@@ -153,9 +123,9 @@ fn answers_from_above(rt: HostRuntime) {
     for (texts, verdict, status, line) in rows {
         assert_eq!(rt; answer_above(rt.alloc(), texts), Ok(verdict));
         assert_eq!(rt; status_of_above_verdict(verdict), status);
-        let (result, sink) = checked(rt.alloc(), texts, SOUND);
-        assert_eq!(rt; result, Ok(verdict));
-        assert_eq!(rt; sink.taken(), line);
+        let outcome = over_devices(rt.alloc(), Run::CheckAbove, texts, SOUND);
+        assert_eq!(rt; outcome.answer, Ok(Answer::SaidAbove(verdict)));
+        assert_eq!(rt; outcome.written.as_slice(), line);
     }
 }
 
@@ -178,10 +148,10 @@ fn raises(rt: HostRuntime) {
         ),
     ];
     for (texts, by, text) in rows {
-        let (result, sink) = raised(rt.alloc(), texts, SOUND);
-        assert_eq!(rt; result, Ok(by));
-        assert_eq!(rt; sink.taken(), text);
-        let given_back = (texts.0, texts.1, sink.taken());
+        let outcome = over_devices(rt.alloc(), Run::Raise, texts, SOUND);
+        assert_eq!(rt; outcome.answer, Ok(Answer::By(by)));
+        assert_eq!(rt; outcome.written.as_slice(), text);
+        let given_back = (texts.0, texts.1, outcome.written.as_slice());
         assert_eq!(rt; answer_above(rt.alloc(), given_back), Ok(AboveVerdict::Yes));
     }
 }
@@ -208,10 +178,10 @@ fn refuses_to_raise(rt: HostRuntime) {
         ),
     ];
     for (texts, fault) in rows {
-        let (result, sink) = raised(rt.alloc(), texts, SOUND);
-        assert_eq!(rt; result, Err(RunFault::Raise(fault)));
+        let outcome = over_devices(rt.alloc(), Run::Raise, texts, SOUND);
+        assert_eq!(rt; outcome.answer, Err(RunFault::Raise(fault)));
         assert_eq!(rt; status_of(&RunFault::Raise(fault)), 1);
-        assert_eq!(rt; sink.taken().len(), 0);
+        assert_eq!(rt; outcome.written.len(), 0);
     }
     assert_eq!(rt; status_of(&RunFault::Raise(RaiseFault::Memory)), 4);
 }
@@ -229,49 +199,10 @@ fn the_same_file_from_both_sides(rt: HostRuntime) {
 fn refuses_texts_from_above(rt: HostRuntime) {
     for (texts, fault) in REFUSED {
         assert_eq!(rt; answer_above(rt.alloc(), texts), Err(fault));
-        let (result, sink) = checked(rt.alloc(), texts, SOUND);
-        assert_eq!(rt; result, Err(RunFault::Text(fault)));
-        assert_eq!(rt; sink.taken().len(), 0);
-        let (result, sink) = raised(rt.alloc(), texts, SOUND);
-        assert_eq!(rt; result, Err(RunFault::Text(fault)));
-        assert_eq!(rt; sink.taken().len(), 0);
-    }
-}
-
-#[test]
-fn runs_from_above_fail_at_each_read(rt: HostRuntime) {
-    let sources = [(0u8, BELOW.0.len()), (1, BELOW.1.len()), (2, BELOW.2.len())];
-    for (source, len) in sources {
-        for read in 0..=len as u64 {
-            let (failing, fault) = failing_source(source, read);
-            let (result, sink) = checked(rt.alloc(), BELOW, failing);
-            assert_eq!(rt; result, Err(fault), "read {read}");
-            assert_eq!(rt; sink.taken().len(), 0);
-            let (result, sink) = raised(rt.alloc(), BELOW, failing);
-            assert_eq!(rt; result, Err(fault), "read {read}");
-            assert_eq!(rt; sink.taken().len(), 0);
+        for run in [Run::CheckAbove, Run::Raise] {
+            let outcome = over_devices(rt.alloc(), run, texts, SOUND);
+            assert_eq!(rt; outcome.answer, Err(RunFault::Text(fault)), "{run:?}");
+            assert_eq!(rt; outcome.written.len(), 0);
         }
-    }
-}
-
-#[test]
-fn runs_from_above_fail_at_each_write(rt: HostRuntime) {
-    for write in 0..LONG.len() {
-        let failing = Failing {
-            sink: Some(write),
-            ..SOUND
-        };
-        let (result, sink) = checked(rt.alloc(), BELOW, failing);
-        assert_eq!(rt; result, Err(RunFault::Write), "write {write}");
-        assert_eq!(rt; sink.taken(), &LONG[..write]);
-    }
-    for write in 0..RAISED.len() {
-        let failing = Failing {
-            sink: Some(write),
-            ..SOUND
-        };
-        let (result, sink) = raised(rt.alloc(), BELOW, failing);
-        assert_eq!(rt; result, Err(RunFault::Write), "write {write}");
-        assert_eq!(rt; sink.taken(), &RAISED[..write]);
     }
 }

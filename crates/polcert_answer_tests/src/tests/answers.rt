@@ -1,8 +1,6 @@
 //! Worked rows: what three texts answer, what is printed of it, and what lowering gives.
-use super::{OneByte, Pieces};
-use polcert_answer::{
-    Fault, RunFault, check_texts, run_check, run_lower, status_of, status_of_verdict,
-};
+use super::runs::{Answer, Run, SOUND, Texts, over_devices};
+use polcert_answer::{Fault, RunFault, check_texts, status_of, status_of_verdict};
 use polcert_check::{LowerFault, Verdict};
 use polcert_model::{ItemFault, ModelFault};
 use polcert_policy::{GraphFault, VectorFault};
@@ -44,29 +42,6 @@ pub const TWO_STATES: &[u8] =
 /// An MDP of two states, each of which leads to the other; the step from the first is worth 1.
 pub const MDP: &[u8] =
     b"discount: 0.5 values: reward states: left right actions: 1 T: 0 0 1 1 0 R: 0 : left : right 1";
-
-/// The texts of a model, of a graph and of its vectors.
-pub type Texts<'a> = (&'a [u8], &'a [u8], &'a [u8]);
-
-/// What a run of a check answers, over sources that give a byte at a time, and what it wrote.
-pub fn checked(alloc: Global, texts: Texts<'_>) -> (Result<Verdict, RunFault>, OneByte) {
-    let mut model = Pieces::new(texts.0, 1, None);
-    let mut graph = Pieces::new(texts.1, 1, None);
-    let mut vectors = Pieces::new(texts.2, 1, None);
-    let mut sink = OneByte::new(None);
-    let result = run_check(alloc, &mut model, &mut graph, &mut vectors, &mut sink);
-    (result, sink)
-}
-
-/// What a run of lowering answers, over sources that give a byte at a time, and what it wrote.
-pub fn lower_run(alloc: Global, texts: Texts<'_>) -> (Result<i64, RunFault>, OneByte) {
-    let mut model = Pieces::new(texts.0, 1, None);
-    let mut graph = Pieces::new(texts.1, 1, None);
-    let mut vectors = Pieces::new(texts.2, 1, None);
-    let mut sink = OneByte::new(None);
-    let result = run_lower(alloc, &mut model, &mut graph, &mut vectors, &mut sink);
-    (result, sink)
-}
 
 /// The answer to the texts.
 pub fn answer(alloc: Global, texts: Texts<'_>) -> Result<Verdict, Fault> {
@@ -174,9 +149,9 @@ fn answers(rt: HostRuntime) {
     for (texts, verdict, status, line) in ANSWERS {
         assert_eq!(rt; answer(rt.alloc(), texts), Ok(verdict));
         assert_eq!(rt; status_of_verdict(verdict), status);
-        let (result, sink) = checked(rt.alloc(), texts);
-        assert_eq!(rt; result, Ok(verdict));
-        assert_eq!(rt; sink.taken(), line);
+        let outcome = over_devices(rt.alloc(), Run::Check, texts, SOUND);
+        assert_eq!(rt; outcome.answer, Ok(Answer::Said(verdict)));
+        assert_eq!(rt; outcome.written.as_slice(), line);
     }
 }
 
@@ -199,10 +174,10 @@ fn lowers(rt: HostRuntime) {
         ),
     ];
     for (texts, by, text) in rows {
-        let (result, sink) = lower_run(rt.alloc(), texts);
-        assert_eq!(rt; result, Ok(by));
-        assert_eq!(rt; sink.taken(), text);
-        let given_back = (texts.0, texts.1, sink.taken());
+        let outcome = over_devices(rt.alloc(), Run::Lower, texts, SOUND);
+        assert_eq!(rt; outcome.answer, Ok(Answer::By(by)));
+        assert_eq!(rt; outcome.written.as_slice(), text);
+        let given_back = (texts.0, texts.1, outcome.written.as_slice());
         assert_eq!(rt; answer(rt.alloc(), given_back), Ok(Verdict::Yes));
     }
 }
@@ -237,10 +212,10 @@ fn refuses_to_lower(rt: HostRuntime) {
         ),
     ];
     for (texts, fault) in rows {
-        let (result, sink) = lower_run(rt.alloc(), texts);
-        assert_eq!(rt; result, Err(RunFault::Lower(fault)));
+        let outcome = over_devices(rt.alloc(), Run::Lower, texts, SOUND);
+        assert_eq!(rt; outcome.answer, Err(RunFault::Lower(fault)));
         assert_eq!(rt; status_of(&RunFault::Lower(fault)), 1);
-        assert_eq!(rt; sink.taken().len(), 0);
+        assert_eq!(rt; outcome.written.len(), 0);
     }
 }
 
@@ -341,11 +316,10 @@ fn refuses_texts(rt: HostRuntime) {
     for (texts, fault) in REFUSED {
         assert_eq!(rt; answer(rt.alloc(), texts), Err(fault));
         assert_eq!(rt; status_of(&RunFault::Text(fault)), 2);
-        let (result, sink) = checked(rt.alloc(), texts);
-        assert_eq!(rt; result, Err(RunFault::Text(fault)));
-        assert_eq!(rt; sink.taken().len(), 0);
-        let (result, sink) = lower_run(rt.alloc(), texts);
-        assert_eq!(rt; result, Err(RunFault::Text(fault)));
-        assert_eq!(rt; sink.taken().len(), 0);
+        for run in [Run::Check, Run::Lower] {
+            let outcome = over_devices(rt.alloc(), run, texts, SOUND);
+            assert_eq!(rt; outcome.answer, Err(RunFault::Text(fault)), "{run:?}");
+            assert_eq!(rt; outcome.written.len(), 0);
+        }
     }
 }

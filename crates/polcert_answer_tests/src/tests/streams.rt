@@ -1,10 +1,11 @@
 //! Sources that give their bytes in pieces of any size.
 use super::answers::TIGER;
-use super::{OneByte, Pieces, item};
-use polcert_answer::{RunFault, run_check, run_lower, run_model, run_print};
+use super::item;
+use super::runs::{Answer, Devices, Run, SOUND, Texts, over_devices, over_slices};
+use polcert_answer::RunFault;
 use polcert_check::Verdict;
 use polcert_model::ItemFault;
-use polcert_text::{SliceSink, SliceSource, TokenFault};
+use polcert_text::TokenFault;
 use std::alloc::Global;
 
 /// A graph of five nodes for TIGER, and its vectors as a solver rounds them.
@@ -17,57 +18,40 @@ const VECTORS: &[u8] =
 const LOWERED: &[u8] =
     b"0\n19.37136 19.37136\n\n0\n24.695673 3.014771\n\n0\n3.014771 24.695673\n\n2\n28.402792 -81.597208\n\n1\n-81.597208 28.402792\n\n";
 
-/// Whether printing TIGER from pieces of this size writes the same as from a slice.
-fn prints_alike(alloc: Global, most: usize) -> bool {
-    let mut whole = [0u8; 2_000];
-    let mut cut = [0u8; 2_000];
-    let mut first = SliceSink::new(&mut whole);
-    let mut second = SliceSink::new(&mut cut);
-    let from_slice = run_print(alloc, &mut SliceSource::new(TIGER), &mut first);
-    let from_pieces = run_print(alloc, &mut Pieces::new(TIGER, most, None), &mut second);
-    from_slice == Ok(()) && from_pieces == Ok(()) && first.written() == second.written()
-}
-
-/// What lowering the vectors answers, where all three texts come in pieces of this size, and what it wrote.
-fn lowered(alloc: Global, most: usize) -> (Result<i64, RunFault>, OneByte) {
-    let mut model = Pieces::new(TIGER, most, None);
-    let mut graph = Pieces::new(GRAPH, most, None);
-    let mut vectors = Pieces::new(VECTORS, most, None);
-    let mut sink = OneByte::new(None);
-    let result = run_lower(alloc, &mut model, &mut graph, &mut vectors, &mut sink);
-    (result, sink)
-}
-
-/// What a check of listening for ever answers, where all three texts come in pieces of this size, and what it wrote.
-fn checked(alloc: Global, most: usize) -> (Result<Verdict, RunFault>, OneByte) {
-    let mut model = Pieces::new(TIGER, most, None);
-    let mut graph = Pieces::new(b"0 0 0 0", most, None);
-    let mut vectors = Pieces::new(b"0 -20 -20", most, None);
-    let mut sink = OneByte::new(None);
-    let result = run_check(alloc, &mut model, &mut graph, &mut vectors, &mut sink);
-    (result, sink)
-}
+/// Runs over texts that are longer than those of the other rows, and what they write.
+const RUNS: [(Run, Texts<'static>, Answer, &'static [u8]); 2] = [
+    (Run::Lower, (TIGER, GRAPH, VECTORS), Answer::By(8), LOWERED),
+    (
+        Run::Check,
+        (TIGER, b"0 0 0 0", b"0 -20 -20"),
+        Answer::Said(Verdict::Yes),
+        b"yes: start node 0, at least -20\n",
+    ),
+];
 
 #[test]
 fn the_same_in_any_pieces(rt: HostRuntime) {
+    let printed = over_slices(rt.alloc(), Run::Print, (TIGER, b"", b""));
     for most in [1usize, 2, 3, 399, 400, 401, 4095, 4096, 4097] {
-        assert!(rt; prints_alike(rt.alloc(), most), "pieces of {most}");
-        let (result, sink) = lowered(rt.alloc(), most);
-        assert_eq!(rt; result, Ok(8));
-        assert_eq!(rt; sink.taken(), LOWERED);
-        let (result, sink) = checked(rt.alloc(), most);
-        assert_eq!(rt; result, Ok(Verdict::Yes));
-        assert_eq!(rt;
-            sink.taken(),
-            b"yes: start node 0, at least -20\n".as_slice()
-        );
+        let devices = Devices { most, ..SOUND };
+        let outcome = over_devices(rt.alloc(), Run::Print, (TIGER, b"", b""), devices);
+        assert_eq!(rt; outcome.answer, Ok(Answer::Done), "pieces of {most}");
+        assert_eq!(rt; outcome.written.as_slice(), printed.written.as_slice());
+        for (run, texts, answer, written) in RUNS {
+            let outcome = over_devices(rt.alloc(), run, texts, devices);
+            assert_eq!(rt; outcome.answer, Ok(answer), "pieces of {most}");
+            assert_eq!(rt; outcome.written.as_slice(), written);
+        }
     }
 }
 
 /// What summing up a model answers, whose source gives a byte at a time and fails behind the text.
-fn failed_behind(alloc: Global, text: &[u8]) -> Result<(), RunFault> {
-    let mut source = Pieces::new(text, 1, Some(text.len() as u64));
-    run_model(alloc, &mut source, &mut OneByte::new(None))
+fn failed_behind(alloc: Global, text: &[u8]) -> Result<Answer, RunFault> {
+    let devices = Devices {
+        model: Some(text.len() as u64),
+        ..SOUND
+    };
+    over_devices(alloc, Run::Model, (text, b"", b""), devices).answer
 }
 
 /// A model whose last number could go on.

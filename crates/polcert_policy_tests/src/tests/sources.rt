@@ -1,8 +1,8 @@
 //! Policy files that come from a source, in any pieces.
 
 use polcert_policy::{
-    Graph, GraphFault, VectorFault, Vectors, read_graph_from, read_vectors_from,
-    read_vectors_up_from,
+    Graph, GraphFault, VectorFault, Vectors, read_graph, read_graph_from, read_vectors,
+    read_vectors_from, read_vectors_up, read_vectors_up_from,
 };
 use polcert_text::{Source, SourceFailed, SourceFault, TokenFault};
 use std::alloc::Global;
@@ -191,5 +191,56 @@ fn rounded_up_in_any_pieces(rt: HostRuntime) {
             Some(Err(SourceFault::Device))
         );
         assert_eq!(rt; source.failures, 1);
+    }
+}
+
+/// What reading a graph over two actions and two observations answers where it is cut at any length is that of its slice, in pieces
+/// of any size.
+#[test]
+fn graphs_cut_anywhere(rt: HostRuntime) {
+    for len in 0..=GRAPH.len() {
+        let (front, _) = GRAPH.split_at(len);
+        let slice = match read_graph(rt.alloc(), front, 2, 2) {
+            Ok(graph) => Ok(node_of(&graph)),
+            Err(fault) => Err(SourceFault::Refused(fault)),
+        };
+        for most in [1usize, 3, 4096] {
+            let mut source = Pieces::new(front, most, false);
+            assert_eq!(rt; first_node(rt.alloc(), &mut source), slice, "cut at {len}");
+            assert_eq!(rt; source.failures, 0);
+        }
+    }
+}
+
+/// The same of vectors, rounded down and up.
+#[test]
+fn vectors_cut_anywhere(rt: HostRuntime) {
+    for len in 0..=VECTORS.len() {
+        let (front, _) = VECTORS.split_at(len);
+        let Ok(graph) = read_graph(rt.alloc(), GRAPH, 2, 2) else {
+            panic!(rt; "the graph is right");
+        };
+        let down = match read_vectors(rt.alloc(), front, &graph, 2) {
+            Ok(vectors) => Ok(value_of(&vectors)),
+            Err(fault) => Err(SourceFault::Refused(fault)),
+        };
+        let up = match read_vectors_up(rt.alloc(), front, &graph, 2) {
+            Ok(vectors) => Ok(value_of(&vectors)),
+            Err(fault) => Err(SourceFault::Refused(fault)),
+        };
+        for most in [1usize, 3, 4096] {
+            let mut source = Pieces::new(front, most, false);
+            assert_eq!(rt;
+                first_value(rt.alloc(), &mut source),
+                Some(down),
+                "cut at {len}"
+            );
+            let mut source = Pieces::new(front, most, false);
+            assert_eq!(rt;
+                first_value_up(rt.alloc(), &mut source),
+                Some(up),
+                "cut at {len}"
+            );
+        }
     }
 }
