@@ -17,3 +17,4 @@ pub mod Drafts
 pub mod Laws
 pub mod SameCells
 pub mod EntryLists
+pub mod NameNumbers

@@ -5,6 +5,7 @@ mod cell;
 mod elements;
 mod entries;
 mod entry;
+mod guesses;
 mod names;
 mod row;
 mod shares;

@@ -27,7 +27,8 @@ impl Row<'_> {
     /// The first weight above 0 at this place of the row or behind it.
     #[inline]
     pub fn step(&self, at: usize) -> Option<Step>
-        ensures { (f : ℕ → ℕ) (count : ℕ) → IsRowOf f count self.now → IsStep f count (Some self.now) at result }
+        ensures { (f : ℕ → ℕ) (count : ℕ) → IsRowOf f count self.now
+            → IsStep f count (Some self.now) at result }
     {
         match self {
             Row::Sparse(cells) => match cells.get(at) {

@@ -99,7 +99,8 @@ pub trait Cells {
         requires action { a < (table self.now).actions }
         requires start { s < (table self.now).states }
         requires end { e < (table self.now).states }
-        ensures { ForSome result (λ h. (z : ℕ) → z < (table self.now).observations → (table self.now).r a s e z ≡ h) }
+        ensures { ForSome result (λ h. (z : ℕ) → z < (table self.now).observations
+            → (table self.now).r a s e z ≡ h) }
     {
         None
     }
@@ -109,7 +110,8 @@ pub trait Cells {
     fn r_common(&self, a: usize, s: usize) -> Option<i64>
         requires action { a < (table self.now).actions }
         requires start { s < (table self.now).states }
-        ensures { ForSome result (λ h. (e z : ℕ) → e < (table self.now).states → z < (table self.now).observations →
+        ensures { ForSome result (λ h. (e z : ℕ) → e < (table self.now).states →
+            z < (table self.now).observations →
             (table self.now).r a s e z ≡ h) }
     {
         None
