@@ -27,8 +27,8 @@ const CANNOT_WRITE: u8 = 3;
 /// The exit status where there is no memory for the command line.
 const MEMORY: u8 = 4;
 
-/// Does what the command line asks for, and answers the exit status. A long check, lowering or raising says how far it is, where that is
-/// wanted.
+/// Does what the command line asks for, and answers the exit status. A long check, lowering or raising says
+/// how far it is, where that is wanted.
 pub fn run_program<R: Env + Files + Clock + AllocGlobal + Input + Print + Eprint>(
     rt: &R,
     shows_progress: bool,
@@ -85,10 +85,10 @@ fn run_choice<R: Files + Clock + AllocGlobal + Input + Print + Eprint>(
         Choice::Model(None) => sum_up_input(rt),
         Choice::Model(Some(name)) => sum_up_file(rt, name),
         Choice::Print(name) => print_file(rt, name),
-        Choice::Check(names) => check_files(rt, shows_progress, names),
-        Choice::CheckAbove(names) => check_files_above(rt, shows_progress, names),
-        Choice::Lower(names) => lower_files(rt, shows_progress, names),
-        Choice::Raise(names) => raise_files(rt, shows_progress, names),
+        Choice::Check(names) => run_over_files(rt, shows_progress, Task::Check, names),
+        Choice::CheckAbove(names) => run_over_files(rt, shows_progress, Task::CheckAbove, names),
+        Choice::Lower(names) => run_over_files(rt, shows_progress, Task::Lower, names),
+        Choice::Raise(names) => run_over_files(rt, shows_progress, Task::Raise, names),
     };
     match done {
         Ok(status) => status,
@@ -123,86 +123,51 @@ fn print_file<R: Files + AllocGlobal + Print>(rt: &R, name: &str) -> Result<u8, 
     Ok(DONE)
 }
 
-/// Checks the vectors of a graph for a model.
-fn check_files<R: Files + Clock + AllocGlobal + Print + Eprint>(
-    rt: &R,
-    shows_progress: bool,
-    names: Names<'_>,
-) -> Result<u8, RunFault> {
-    let mut files = opened_files(rt, names)?;
-    let mut sink = WriterSink::new(io::writer(rt));
-    let mut progress = Progress::new(rt, shows_progress);
-    let verdict = run_check_watched(
-        rt.alloc(),
-        &mut files.model,
-        &mut files.graph,
-        &mut files.vectors,
-        &mut sink,
-        &mut progress,
-    )?;
-    Ok(status_of_verdict(verdict))
+/// What is done with a model, a graph and its vectors.
+#[derive(Clone, Copy)]
+enum Task {
+    /// The vectors are checked.
+    Check,
+    /// It is checked that they bound from above what the graph earns.
+    CheckAbove,
+    /// They are lowered so that they pass the check, and by how much is said.
+    Lower,
+    /// They are raised so that they pass the check from above, and by how much is said.
+    Raise,
 }
 
-/// Checks that the vectors of a graph bound from above what it earns.
-fn check_files_above<R: Files + Clock + AllocGlobal + Print + Eprint>(
+/// Does this with three files.
+fn run_over_files<R: Files + Clock + AllocGlobal + Print + Eprint>(
     rt: &R,
     shows_progress: bool,
+    task: Task,
     names: Names<'_>,
 ) -> Result<u8, RunFault> {
     let mut files = opened_files(rt, names)?;
-    let mut sink = WriterSink::new(io::writer(rt));
-    let mut progress = Progress::new(rt, shows_progress);
-    let verdict = run_check_above_watched(
-        rt.alloc(),
-        &mut files.model,
-        &mut files.graph,
-        &mut files.vectors,
-        &mut sink,
-        &mut progress,
-    )?;
-    Ok(status_of_above_verdict(verdict))
-}
-
-/// Lowers the vectors of a graph so that they pass the check, and says by how much.
-fn lower_files<R: Files + Clock + AllocGlobal + Print + Eprint>(
-    rt: &R,
-    shows_progress: bool,
-    names: Names<'_>,
-) -> Result<u8, RunFault> {
-    let mut files = opened_files(rt, names)?;
-    let mut sink = WriterSink::new(io::writer(rt));
-    let mut progress = Progress::new(rt, shows_progress);
-    let by = run_lower_watched(
-        rt.alloc(),
-        &mut files.model,
-        &mut files.graph,
-        &mut files.vectors,
-        &mut sink,
-        &mut progress,
-    )?;
-    let _ = rt.eprintln(LoweredLine(by));
-    Ok(DONE)
-}
-
-/// Raises the vectors of a graph so that they pass the check from above, and says by how much.
-fn raise_files<R: Files + Clock + AllocGlobal + Print + Eprint>(
-    rt: &R,
-    shows_progress: bool,
-    names: Names<'_>,
-) -> Result<u8, RunFault> {
-    let mut files = opened_files(rt, names)?;
-    let mut sink = WriterSink::new(io::writer(rt));
-    let mut progress = Progress::new(rt, shows_progress);
-    let by = run_raise_watched(
-        rt.alloc(),
-        &mut files.model,
-        &mut files.graph,
-        &mut files.vectors,
-        &mut sink,
-        &mut progress,
-    )?;
-    let _ = rt.eprintln(RaisedLine(by));
-    Ok(DONE)
+    let (model, graph, vectors) = (&mut files.model, &mut files.graph, &mut files.vectors);
+    let sink = &mut WriterSink::new(io::writer(rt));
+    let progress = &mut Progress::new(rt, shows_progress);
+    let alloc = rt.alloc();
+    match task {
+        Task::Check => {
+            let verdict = run_check_watched(alloc, model, graph, vectors, sink, progress)?;
+            Ok(status_of_verdict(verdict))
+        }
+        Task::CheckAbove => {
+            let verdict = run_check_above_watched(alloc, model, graph, vectors, sink, progress)?;
+            Ok(status_of_above_verdict(verdict))
+        }
+        Task::Lower => {
+            let by = run_lower_watched(alloc, model, graph, vectors, sink, progress)?;
+            let _ = rt.eprintln(LoweredLine(by));
+            Ok(DONE)
+        }
+        Task::Raise => {
+            let by = run_raise_watched(alloc, model, graph, vectors, sink, progress)?;
+            let _ = rt.eprintln(RaisedLine(by));
+            Ok(DONE)
+        }
+    }
 }
 
 /// The sources of a model, a graph and its vectors.

@@ -17,52 +17,54 @@ const NAMES: Names<'static> = Names {
     vectors: "c",
 };
 
+/// Words, and what is chosen.
+const CHOICES: [(&[&str], Option<Choice<'static>>); 23] = [
+    (&[], Some(Choice::Model(None))),
+    (&["polcert"], Some(Choice::Model(None))),
+    (&["polcert", "model", "F"], Some(Choice::Model(Some("F")))),
+    (&["polcert", "model", "-"], Some(Choice::Model(Some("-")))),
+    (&["polcert", "print", "F"], Some(Choice::Print("F"))),
+    (&["polcert", "print", "--", "-F"], Some(Choice::Print("-F"))),
+    (
+        &["polcert", "check", "a", "b", "c"],
+        Some(Choice::Check(NAMES)),
+    ),
+    (
+        &["polcert", "check", "--at-most", "a", "b", "c"],
+        Some(Choice::CheckAbove(NAMES)),
+    ),
+    (
+        &["polcert", "check", "a", "b", "c", "--at-most"],
+        Some(Choice::CheckAbove(NAMES)),
+    ),
+    (
+        &["polcert", "check", "a", "--at-most", "b", "c"],
+        Some(Choice::CheckAbove(NAMES)),
+    ),
+    (
+        &["polcert", "lower", "a", "b", "c"],
+        Some(Choice::Lower(NAMES)),
+    ),
+    (
+        &["polcert", "raise", "a", "b", "c"],
+        Some(Choice::Raise(NAMES)),
+    ),
+    (&["polcert", "model"], None),
+    (&["polcert", "print"], None),
+    (&["polcert", "check"], None),
+    (&["polcert", "check", "a"], None),
+    (&["polcert", "check", "a", "b"], None),
+    (&["polcert", "check", "--at-most"], None),
+    (&["polcert", "check", "--at-most", "a", "b"], None),
+    (&["polcert", "lower"], None),
+    (&["polcert", "lower", "a", "b"], None),
+    (&["polcert", "raise"], None),
+    (&["polcert", "raise", "a", "b"], None),
+];
+
 #[test]
 fn chooses(rt: HostRuntime) {
-    let rows: [(&[&str], Option<Choice<'_>>); 23] = [
-        (&[], Some(Choice::Model(None))),
-        (&["polcert"], Some(Choice::Model(None))),
-        (&["polcert", "model", "F"], Some(Choice::Model(Some("F")))),
-        (&["polcert", "model", "-"], Some(Choice::Model(Some("-")))),
-        (&["polcert", "print", "F"], Some(Choice::Print("F"))),
-        (&["polcert", "print", "--", "-F"], Some(Choice::Print("-F"))),
-        (
-            &["polcert", "check", "a", "b", "c"],
-            Some(Choice::Check(NAMES)),
-        ),
-        (
-            &["polcert", "check", "--at-most", "a", "b", "c"],
-            Some(Choice::CheckAbove(NAMES)),
-        ),
-        (
-            &["polcert", "check", "a", "b", "c", "--at-most"],
-            Some(Choice::CheckAbove(NAMES)),
-        ),
-        (
-            &["polcert", "check", "a", "--at-most", "b", "c"],
-            Some(Choice::CheckAbove(NAMES)),
-        ),
-        (
-            &["polcert", "lower", "a", "b", "c"],
-            Some(Choice::Lower(NAMES)),
-        ),
-        (
-            &["polcert", "raise", "a", "b", "c"],
-            Some(Choice::Raise(NAMES)),
-        ),
-        (&["polcert", "model"], None),
-        (&["polcert", "print"], None),
-        (&["polcert", "check"], None),
-        (&["polcert", "check", "a"], None),
-        (&["polcert", "check", "a", "b"], None),
-        (&["polcert", "check", "--at-most"], None),
-        (&["polcert", "check", "--at-most", "a", "b"], None),
-        (&["polcert", "lower"], None),
-        (&["polcert", "lower", "a", "b"], None),
-        (&["polcert", "raise"], None),
-        (&["polcert", "raise", "a", "b"], None),
-    ];
-    for (words, choice) in rows {
+    for (words, choice) in CHOICES {
         assert_eq!(rt; chosen(rt.alloc(), words), Ok(choice));
     }
 }
@@ -103,78 +105,4 @@ fn refuses(rt: HostRuntime) {
     for (words, kind) in rows {
         assert_eq!(rt; chosen(rt.alloc(), words), Err(kind));
     }
-}
-
-/// Whether what is chosen behind so many other allocations is chosen rightly, or want of memory is answered.
-/// `tests/refuse-allocations` refuses the twelfth of all allocations, which is one of the first twelve of the choice.
-fn chooses_or_wants_memory(alloc: Global, others: usize) -> bool {
-    for _ in 0..others {
-        if Box::new(alloc, 0u8).is_err() {
-            return false;
-        }
-    }
-    match chosen(alloc, &["polcert", "check", "a", "b", "c"]) {
-        Ok(choice) => choice == Some(Choice::Check(NAMES)),
-        Err(kind) => kind == ErrorKind::OutOfMemory,
-    }
-}
-
-#[test]
-fn chooses_behind_eleven(rt: HostRuntime) {
-    assert!(rt; chooses_or_wants_memory(rt.alloc(), 11));
-}
-
-#[test]
-fn chooses_behind_ten(rt: HostRuntime) {
-    assert!(rt; chooses_or_wants_memory(rt.alloc(), 10));
-}
-
-#[test]
-fn chooses_behind_nine(rt: HostRuntime) {
-    assert!(rt; chooses_or_wants_memory(rt.alloc(), 9));
-}
-
-#[test]
-fn chooses_behind_eight(rt: HostRuntime) {
-    assert!(rt; chooses_or_wants_memory(rt.alloc(), 8));
-}
-
-#[test]
-fn chooses_behind_seven(rt: HostRuntime) {
-    assert!(rt; chooses_or_wants_memory(rt.alloc(), 7));
-}
-
-#[test]
-fn chooses_behind_six(rt: HostRuntime) {
-    assert!(rt; chooses_or_wants_memory(rt.alloc(), 6));
-}
-
-#[test]
-fn chooses_behind_five(rt: HostRuntime) {
-    assert!(rt; chooses_or_wants_memory(rt.alloc(), 5));
-}
-
-#[test]
-fn chooses_behind_four(rt: HostRuntime) {
-    assert!(rt; chooses_or_wants_memory(rt.alloc(), 4));
-}
-
-#[test]
-fn chooses_behind_three(rt: HostRuntime) {
-    assert!(rt; chooses_or_wants_memory(rt.alloc(), 3));
-}
-
-#[test]
-fn chooses_behind_two(rt: HostRuntime) {
-    assert!(rt; chooses_or_wants_memory(rt.alloc(), 2));
-}
-
-#[test]
-fn chooses_behind_one(rt: HostRuntime) {
-    assert!(rt; chooses_or_wants_memory(rt.alloc(), 1));
-}
-
-#[test]
-fn chooses_behind_none(rt: HostRuntime) {
-    assert!(rt; chooses_or_wants_memory(rt.alloc(), 0));
 }

@@ -12,9 +12,9 @@ use Rattle.polcert_model.proofs.TextLaws as models
 use Rattle.polcert_policy.specs.Graphs.{PolicyGraph, IsProperGraph, nodes}
 use Rattle.polcert_policy.specs.declared.fault.GraphFault.{GraphFault}
 use Rattle.polcert_policy.specs.declared.fault.VectorFault.{VectorFault}
-use Rattle.polcert_policy.specs.GraphText.{IsGraphText, IsGraphRefusal, IsNoGraphText}
+use Rattle.polcert_policy.specs.GraphText.{IsGraphText, IsGraphRefusal, IsNoGraphText, IsRefusedGraphText}
 use Rattle.polcert_policy.specs.Vectors.{PolicyVectors, shifted_by}
-use Rattle.polcert_policy.specs.VectorText.{IsVectorsText, IsRoundedVectorsText, IsRoundedVectorsRefusal, IsNoRoundedVectorsText}
+use Rattle.polcert_policy.specs.VectorText.{IsVectorsText, IsRoundedVectorsText, IsRoundedVectorsRefusal, IsNoRoundedVectorsText, IsRefusedRoundedVectorsText}
 use Rattle.polcert_policy.specs.FullForm.{vectors_text}
 use Rattle.polcert_policy.proofs.LimitLaws.{graph_proper}
 use Rattle.polcert_policy.proofs.OneText as texts
@@ -50,14 +50,19 @@ pub for_counts : {m n : Meaning} → IsSame m n → (P : ℕ → ℕ → Type 0)
 for_counts {m} {n} same P is = subst (P (actions_of n)) (same_observations same) (subst (λ a. P a (observations_of m)) (same_actions same) is)
 
 -- a graph's text that is refused for the counts of one model that the first text denotes is refused for those of each
-pub graph_refused : (model text : List ℕ) (fault : GraphFault) (m : Meaning) → IsModelText model m
-    → IsNoGraphText (actions_of m) (observations_of m) text fault → IsGraphRefusal (actions_of m) (observations_of m) text fault → IsGraphRefused model fault text
-graph_refused model text fault m is no_graph refusal = record {
+pub graph_refused : (model : List ℕ) (fault : GraphFault) (m : Meaning) → IsModelText model m
+    → (text : List ℕ)
+    → IsRefusedGraphText (actions_of m) (observations_of m) fault text → IsGraphRefused model fault text
+graph_refused model fault m is text r = record {
   meaning = m;
   is_model = is;
-  no_graph = λ n other. for_counts (models.one_model model m n is other) (λ a o. IsNoGraphText a o text fault) no_graph;
-  refusal = λ n other. for_counts (models.one_model model m n is other) (λ a o. IsGraphRefusal a o text fault) refusal;
+  no_graph = λ n other. moved n other (λ a o. IsNoGraphText a o text fault) r.no_graph;
+  refusal = λ n other. moved n other (λ a o. IsGraphRefusal a o text fault) r.refusal;
 }
+  where
+    moved : (n : Meaning) → IsModelText model n → (P : ℕ → ℕ → Type 0) → P (actions_of m) (observations_of m)
+        → P (actions_of n) (observations_of n)
+    moved n other P said = for_counts (models.one_model model m n is other) P said
 
 -- two texts are one model, as far as indices are in range, and one graph for it
 pub same_graph : {model graph : List ℕ} (m n : Meaning) (g h : PolicyGraph) → HasGraph model graph m g → HasGraph model graph n h → IsSame m n × (g ≡ h)
@@ -66,15 +71,18 @@ same_graph {model} {graph} m n g h x y =
     (same, texts.one_graph (actions_of n) (observations_of n) graph g h (for_counts same (λ a o. IsGraphText a o graph g) x.is_graph) y.is_graph)
 
 -- the same of vectors, for each model and graph that two texts denote
-pub vectors_refused : (rounding : Rounding) (model graph text : List ℕ) (fault : VectorFault) (m : Meaning) (g : PolicyGraph) → HasGraph model graph m g
-    → IsNoRoundedVectorsText rounding g (states_of m) text fault → IsRoundedVectorsRefusal rounding g (states_of m) text fault
+pub vectors_refused : (rounding : Rounding) (model graph : List ℕ) (fault : VectorFault) (m : Meaning)
+    (g : PolicyGraph)
+    → HasGraph model graph m g → (text : List ℕ)
+    → IsRefusedRoundedVectorsText rounding g (states_of m) fault text
     → AreRoundedVectorsRefused rounding model graph fault text
-vectors_refused rounding model graph text fault m g has no_vectors refusal = record {
+vectors_refused rounding model graph fault m g has text r = record {
   meaning = m;
   policy = g;
   has_graph = has;
-  no_vectors = λ n h other. moved n h other (λ p s. IsNoRoundedVectorsText rounding p s text fault) no_vectors;
-  refusal = λ n h other. moved n h other (λ p s. IsRoundedVectorsRefusal rounding p s text fault) refusal;
+  no_vectors = λ n h other. moved n h other (λ p s. IsNoRoundedVectorsText rounding p s text fault)
+      r.no_vectors;
+  refusal = λ n h other. moved n h other (λ p s. IsRoundedVectorsRefusal rounding p s text fault) r.refusal;
 }
   where
     moved : (n : Meaning) (h : PolicyGraph) → HasGraph model graph n h → (P : PolicyGraph → ℕ → Type 0) → P g (states_of m) → P h (states_of n)

@@ -5,5 +5,6 @@ pub mod OfSources
 pub mod OfTexts
 pub mod OneAnswer
 pub mod Passing
+pub mod ReadInTurn
 pub mod Answering
 pub mod AnsweringAbove

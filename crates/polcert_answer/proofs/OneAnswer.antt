@@ -21,6 +21,7 @@ use Rattle.polcert_answer.specs.declared.fault.Fault.{Fault}
 use Rattle.polcert_answer.specs.declared.fault.Fault.TheVariants.{Model, Graph, Vectors}
 use Rattle.polcert_answer.specs.Headline.{controller}
 use Rattle.polcert_answer.specs.Answer.{HasGraph, IsModelFault, IsRoundedAnswer, IsWantOfMemory, IsButForMemory}
+use Rattle.polcert_answer.specs.OneAnswer.{HasOneVerdict, RefusesTheFirst, HasOneRefusal}
 use Rattle.polcert_answer.proofs.Refusing.{refused_of}
 
 -- what is refused as a graph is none, or memory was wanting
@@ -84,3 +85,23 @@ module _ {V : Type 0} (rounding : Rounding) (Is : Controller → V → Type 0) (
   pub but_for_memory : (x : V) → Answers (Ok x) → (r : Result V Fault) → Answers r → IsButForMemory x r
   but_for_memory x h (Ok y) other = one_verdict y x other h
   but_for_memory x h (Err fault) other = no_refusal x fault h other
+
+-- the same of every three texts
+module _ {V : Type 0} (rounding : Rounding) (Is : Controller → V → Type 0)
+    (one : (c : Controller) (x y : V) → Is c x → Is c y → x ≡ y) where
+  abbrev AllAnswers : List ℕ → List ℕ → List ℕ → Result V Fault → Type 0
+  AllAnswers model graph vectors r = IsRoundedAnswer rounding Is model graph vectors r
+
+  pub has_one_verdict : HasOneVerdict AllAnswers
+  has_one_verdict = record { verdict = one_verdict rounding Is one; no_refusal = no_refusal rounding Is one }
+
+  pub refuses_the_first : RefusesTheFirst AllAnswers
+  refuses_the_first = record {
+    model_before_graph = model_before_graph rounding Is one;
+    model_before_vectors = model_before_vectors rounding Is one;
+    graph_before_vectors = graph_before_vectors rounding Is one;
+  }
+
+  pub has_one_refusal : HasOneRefusal AllAnswers
+  has_one_refusal = record
+      { of_graph = one_graph_refusal rounding Is one; of_vectors = one_vectors_refusal rounding Is one }

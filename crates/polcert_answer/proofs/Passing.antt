@@ -1,11 +1,13 @@
 -- What a run says of its result: a fault of a read that it hands on, or the answer of the call that writes.
-use Rattle.std.proofs.Common.{◌≡◌, ◌∙◌, ℕ, Result, Ok, Err, IfOk, IfErr, ap, subst, sym}
+use Rattle.std.proofs.Common.{◌≡◌, ◌∙◌, ℕ, List, Option, Result, Ok, Err, IfOk, IfErr, ap, subst, sym, refl}
 use Rattle.std.specs.Result.{IsErrAnd}
+use Rattle.polcert_text.specs.declared.number.Rounding.{Rounding}
 use Rattle.polcert_check.specs.declared.fault.LowerFault.{LowerFault}
 use Rattle.polcert_check.specs.declared.fault.RaiseFault.{RaiseFault}
+use Rattle.polcert_answer.specs.declared.fault.Fault.TheVariants.{Model, Graph, Vectors}
 use Rattle.polcert_answer.specs.declared.fault.RunFault.{RunFault}
 use Rattle.polcert_answer.specs.declared.fault.RunFault.TheVariants.{Text, ReadModel, ReadGraph, ReadVectors, Write, Lower, Raise, TooLargeToPrint}
-use Rattle.polcert_answer.specs.Run.{IsNamedRightly, ReadsInOrder}
+use Rattle.polcert_answer.specs.Run.{IsNamedRightly, RefusesRightly, NamesSourcesRightly, StopsRightly, ReadsInOrder, IsCheckRunFault, IsLowerRunFault, IsRaiseRunFault}
 use Rattle.polcert_answer.specs.Reading.{IsReadFault, IsNoReadFault}
 
 pub is_err : {T : Type 0} (r : Result T RunFault) (given : RunFault) → IsErrAnd r (λ f. f ≡ given) → r ≡ Err given
@@ -17,12 +19,6 @@ same_fault r f x e same = cc
 
 same_err : {T : Type 0} (f x : RunFault) → ◌≡◌ {A = Result T RunFault} (Err f) (Err x) → f ≡ x
 same_err f x same = cc
-
-lower_not_write : (fault : LowerFault) → Lower fault ≡ Write → ⊥
-lower_not_write fault same = cc
-
-raise_not_write : (fault : RaiseFault) → Raise fault ≡ Write → ⊥
-raise_not_write fault same = cc
 
 -- ---- the fault of a read
 module _ {T : Type 0} (r : Result T RunFault) (given : RunFault) (e : r ≡ Err given) where
@@ -45,9 +41,67 @@ module _ {T : Type 0} (r : Result T RunFault) (given : RunFault) (e : r ≡ Err 
     passed_over = λ unnamed. h.passed_over (λ named. unnamed (e ∙ ap Err (same_err given x named)));
   }
 
-  -- and nothing that is no fault of a read
+  -- what is said of a text, or of a source, of which the read said that it was at fault
+  module _ {U M G V : Type 0} {rounding : Rounding}
+      {model_reads : M → ℕ → Option (List ℕ) → M → Type 0} {model model' : M}
+      {graph_reads : G → ℕ → Option (List ℕ) → G → Type 0} {graph graph' : G}
+      {vectors_reads : V → ℕ → Option (List ℕ) → V → Type 0} {vectors vectors' : V} where
+    pub refuses_again : RefusesRightly {T = U} rounding (Err given) model_reads model model' graph_reads
+        graph graph' vectors_reads vectors vectors'
+        → RefusesRightly rounding r model_reads model model' graph_reads graph graph' vectors_reads vectors
+        vectors'
+    refuses_again h = record {
+      of_model = λ fault same. h.of_model fault (of_read (Text (Model fault)) same);
+      of_graph = λ fault same. h.of_graph fault (of_read (Text (Graph fault)) same);
+      of_vectors = λ fault same. h.of_vectors fault (of_read (Text (Vectors fault)) same);
+    }
+
+  module _ {U M G V : Type 0} {model_failures : M → ℕ} {model model' : M} {graph_failures : G → ℕ}
+      {graph graph' : G}
+      {vectors_failures : V → ℕ} {vectors vectors' : V} where
+    pub names_again : NamesSourcesRightly {T = U} (Err given) model_failures model model' graph_failures
+        graph graph' vectors_failures vectors vectors'
+        → NamesSourcesRightly r model_failures model model' graph_failures graph graph' vectors_failures
+        vectors vectors'
+    names_again h = record {
+      of_model = named_again ReadModel _ _ h.of_model;
+      of_graph = named_again ReadGraph _ _ h.of_graph;
+      of_vectors = named_again ReadVectors _ _ h.of_vectors;
+    }
+
+  -- and nothing else
+  pub none_else : (P : RunFault → Type 0) → P given → (x : RunFault) → (P x → ⊥) → r ≡ Err x → ⊥
+  none_else P of x other same = other (subst P (same_fault r given x e same) of)
+
   pub not_else : IsReadFault given → (x : RunFault) → (IsReadFault x → ⊥) → r ≡ Err x → ⊥
-  not_else of x other same = other (subst IsReadFault (same_fault r given x e same) of)
+  not_else of x other same = none_else IsReadFault of x other same
+
+  -- how the run stops, then
+  module _ {U M G V W : Type 0} {rounding : Rounding}
+      {model_reads : M → ℕ → Option (List ℕ) → M → Type 0} {model_failures : M → ℕ} {model model' : M}
+      {graph_reads : G → ℕ → Option (List ℕ) → G → Type 0} {graph_failures : G → ℕ} {graph graph' : G}
+      {vectors_reads : V → ℕ → Option (List ℕ) → V → Type 0} {vectors_failures : V → ℕ} {vectors vectors' : V}
+      {sink_failures : W → ℕ} {sink : W} where
+    pub stops_again : IsReadFault given
+        → RefusesRightly {T = U} rounding (Err given) model_reads model model' graph_reads graph graph'
+        vectors_reads vectors vectors'
+        → NamesSourcesRightly {T = U} (Err given) model_failures model model' graph_failures graph graph'
+        vectors_failures vectors vectors'
+        → ReadsInOrder given graph graph' vectors vectors'
+        → StopsRightly rounding r model_reads model_failures model model' graph_reads graph_failures graph
+        graph' vectors_reads vectors_failures vectors vectors'
+        sink_failures sink sink
+    stops_again of refused read in_order = record {
+      refused = refuses_again refused;
+      read = names_again read;
+      write = record {
+        failed = λ named. absurd (not_else of Write (λ none. none) named);
+        passed_over = λ
+            unnamed. refl;
+      };
+      in_order = of_fault (λ fault. ReadsInOrder fault graph graph' vectors vectors') in_order;
+      untouched = λ fault same other. refl;
+    }
 
 -- ---- the answer of the call that writes
 no_read_fault : (f : RunFault) → IsReadFault f → IsNoReadFault f → ⊥
@@ -64,9 +118,6 @@ module _ {T : Type 0} (r : Result T RunFault) (none : IfErr r IsNoReadFault) whe
   pub not_read : (x : RunFault) → IsReadFault x → r ≡ Err x → ⊥
   not_read x of same = no_read_fault x of (subst (λ (y : Result T RunFault). IfErr y IsNoReadFault) same none)
 
-  pub not_print : r ≡ Err TooLargeToPrint → ⊥
-  not_print same = subst (λ (y : Result T RunFault). IfErr y IsNoReadFault) same none
-
   -- a source that the read did not name isn't named behind it
   pub named_behind : {U : Type 0} (x : RunFault) → IsReadFault x → (u : U) (before after : ℕ) → IsNamedRightly (◌≡◌ {A = Result U RunFault} (Ok u) (Err x)) before after
       → IsNamedRightly (r ≡ Err x) before after
@@ -74,6 +125,91 @@ module _ {T : Type 0} (r : Result T RunFault) (none : IfErr r IsNoReadFault) whe
     failed = λ named. absurd (not_read x of named);
     passed_over = λ unnamed. h.passed_over (λ named. cc);
   }
+
+  -- and no text is refused behind it
+  module _ {M G V : Type 0} {rounding : Rounding}
+      {model_reads : M → ℕ → Option (List ℕ) → M → Type 0} {model model' : M}
+      {graph_reads : G → ℕ → Option (List ℕ) → G → Type 0} {graph graph' : G}
+      {vectors_reads : V → ℕ → Option (List ℕ) → V → Type 0} {vectors vectors' : V} where
+    pub refuses_nothing : RefusesRightly rounding r model_reads model model' graph_reads graph graph'
+        vectors_reads vectors vectors'
+    refuses_nothing = record {
+      of_model = λ fault same. absurd (not_read (Text (Model fault)) tt same);
+      of_graph = λ fault same. absurd (not_read (Text (Graph fault)) tt same);
+      of_vectors = λ fault same. absurd (not_read (Text (Vectors fault)) tt same);
+    }
+
+  module _ {U M G V : Type 0} {model_failures : M → ℕ} {model model' : M} {graph_failures : G → ℕ}
+      {graph graph' : G}
+      {vectors_failures : V → ℕ} {vectors vectors' : V} where
+    pub names_behind : (u : U)
+        → NamesSourcesRightly (Ok u) model_failures model model' graph_failures graph graph'
+        vectors_failures vectors vectors'
+        → NamesSourcesRightly r model_failures model model' graph_failures graph graph' vectors_failures
+        vectors vectors'
+    names_behind u h = record {
+      of_model = named_behind ReadModel tt u _ _ h.of_model;
+      of_graph = named_behind ReadGraph tt u _ _ h.of_graph;
+      of_vectors = named_behind ReadVectors tt u _ _ h.of_vectors;
+    }
+
+-- the faults of a read are among those of each run
+pub read_in_check : (f : RunFault) → IsReadFault f → IsCheckRunFault f
+read_in_check (Text fault) of = tt
+read_in_check ReadModel of = tt
+read_in_check ReadGraph of = tt
+read_in_check ReadVectors of = tt
+read_in_check Write of = tt
+read_in_check (Lower fault) of = of
+read_in_check (Raise fault) of = of
+read_in_check TooLargeToPrint of = of
+
+pub read_in_lowering : (f : RunFault) → IsReadFault f → IsLowerRunFault f
+read_in_lowering (Text fault) of = tt
+read_in_lowering ReadModel of = tt
+read_in_lowering ReadGraph of = tt
+read_in_lowering ReadVectors of = tt
+read_in_lowering Write of = tt
+read_in_lowering (Lower fault) of = tt
+read_in_lowering (Raise fault) of = of
+read_in_lowering TooLargeToPrint of = of
+
+pub read_in_raise : (f : RunFault) → IsReadFault f → IsRaiseRunFault f
+read_in_raise (Text fault) of = tt
+read_in_raise ReadModel of = tt
+read_in_raise ReadGraph of = tt
+read_in_raise ReadVectors of = tt
+read_in_raise Write of = tt
+read_in_raise (Lower fault) of = of
+read_in_raise (Raise fault) of = tt
+read_in_raise TooLargeToPrint of = of
+
+-- and so are those of the call that writes
+pub written_in_lowering : {T : Type 0} (r : Result T RunFault) → IfErr r IsNoReadFault
+    → ((fault : RaiseFault) → r ≡ Err (Raise fault) → ⊥)
+    → IfErr r IsLowerRunFault
+written_in_lowering (Ok v) none raises = tt
+written_in_lowering (Err (Text fault)) none raises = tt
+written_in_lowering (Err ReadModel) none raises = tt
+written_in_lowering (Err ReadGraph) none raises = tt
+written_in_lowering (Err ReadVectors) none raises = tt
+written_in_lowering (Err Write) none raises = tt
+written_in_lowering (Err (Lower fault)) none raises = tt
+written_in_lowering (Err (Raise fault)) none raises = raises fault refl
+written_in_lowering (Err TooLargeToPrint) none raises = none
+
+pub written_in_raise : {T : Type 0} (r : Result T RunFault) → IfErr r IsNoReadFault
+    → ((fault : LowerFault) → r ≡ Err (Lower fault) → ⊥)
+    → IfErr r IsRaiseRunFault
+written_in_raise (Ok v) none lowers = tt
+written_in_raise (Err (Text fault)) none lowers = tt
+written_in_raise (Err ReadModel) none lowers = tt
+written_in_raise (Err ReadGraph) none lowers = tt
+written_in_raise (Err ReadVectors) none lowers = tt
+written_in_raise (Err Write) none lowers = tt
+written_in_raise (Err (Lower fault)) none lowers = lowers fault refl
+written_in_raise (Err (Raise fault)) none lowers = tt
+written_in_raise (Err TooLargeToPrint) none lowers = none
 
 -- all sources were read
 behind_all : {G V : Type 0} (f : RunFault) → IsNoReadFault f → (graph graph' : G) (vectors vectors' : V) → ReadsInOrder f graph graph' vectors vectors'
@@ -91,13 +227,35 @@ pub written_in_order : {T G V : Type 0} (r : Result T RunFault) → IfErr r IsNo
 written_in_order (Ok v) none graph graph' vectors vectors' = tt
 written_in_order (Err f) none graph graph' vectors vectors' = behind_all f none graph graph' vectors vectors'
 
+-- how the run stops there
+module _ {T : Type 0} (r : Result T RunFault) (none : IfErr r IsNoReadFault) {U M G V W : Type 0}
+    {rounding : Rounding}
+    {model_reads : M → ℕ → Option (List ℕ) → M → Type 0} {model_failures : M → ℕ} {model model' : M}
+    {graph_reads : G → ℕ → Option (List ℕ) → G → Type 0} {graph_failures : G → ℕ} {graph graph' : G}
+    {vectors_reads : V → ℕ → Option (List ℕ) → V → Type 0} {vectors_failures : V → ℕ} {vectors vectors' : V}
+    {sink_failures : W → ℕ} {sink sink' : W} where
+  pub stops_behind : (u : U)
+      → NamesSourcesRightly (Ok u) model_failures model model' graph_failures graph graph' vectors_failures
+      vectors vectors'
+      → IsNamedRightly (r ≡ Err Write) (sink_failures sink) (sink_failures sink')
+      → ((fault : RunFault) → r ≡ Err fault → (fault ≡ Write → ⊥) → sink' ≡ sink)
+      → StopsRightly rounding r model_reads model_failures model model' graph_reads graph_failures graph
+      graph' vectors_reads vectors_failures vectors vectors'
+      sink_failures sink sink'
+  stops_behind u read write untouched = record {
+    refused = refuses_nothing r none;
+    read = names_behind r none u read;
+    write = write;
+    in_order = written_in_order r none graph graph' vectors vectors';
+    untouched = untouched;
+  }
+
 -- a check answers no other fault than that of a write
 module _ {T : Type 0} (r : Result T RunFault) (of_write : IfErr r (λ fault. fault ≡ Write)) where
   pub is_write : (x : RunFault) → r ≡ Err x → x ≡ Write
   is_write x same = subst (λ (y : Result T RunFault). IfErr y (λ fault. fault ≡ Write)) same of_write
 
-  pub not_lower : (fault : LowerFault) → r ≡ Err (Lower fault) → ⊥
-  not_lower fault same = lower_not_write fault (is_write (Lower fault) same)
-
-  pub not_raise : (fault : RaiseFault) → r ≡ Err (Raise fault) → ⊥
-  not_raise fault same = raise_not_write fault (is_write (Raise fault) same)
+pub written_in_check : {T : Type 0} (r : Result T RunFault) → IfErr r (λ fault. fault ≡ Write)
+    → IfErr r IsCheckRunFault
+written_in_check (Ok v) of_write = tt
+written_in_check (Err f) of_write = subst IsCheckRunFault (sym of_write) tt

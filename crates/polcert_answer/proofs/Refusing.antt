@@ -1,13 +1,11 @@
 -- A refused text, and what is said of each text that fits what was read.
 use Rattle.std.proofs.Common.{◌≡◌, ℕ, List, Option, Result, Ok, Err, IfErr, subst, sym}
-use Rattle.std.specs.Result.{IsErrAnd, IsErrOf}
+use Rattle.std.specs.Result.{IsErrAnd}
 use Rattle.polcert_text.specs.Source.{EachTextThatFits}
 use Rattle.polcert_format.specs.declared.fault.ModelFault.{ModelFault}
 use Rattle.polcert_format.specs.declared.fault.ModelFault.TheVariants as faults
-use Rattle.polcert_model.specs.FirstWrong.{TextTokens, AreTokensOf}
 use Rattle.polcert_model.specs.RefusedTexts.{IsRefusedModelText}
-use Rattle.polcert_model.specs.Refusals.{IsRefusal, IsPlacedRight, SaysOfText}
-use Rattle.polcert_model.proofs.RefusalLaws.{no_model}
+use Rattle.polcert_model.specs.Refusals.{SaysOfText}
 use Rattle.polcert_answer.specs.declared.fault.Fault.TheVariants as texts
 use Rattle.polcert_answer.specs.declared.fault.RunFault.{RunFault}
 use Rattle.polcert_answer.specs.declared.fault.RunFault.TheVariants as runs
@@ -21,12 +19,6 @@ model_refused (faults.Item kind item place) text r = record { no_model = r.no_mo
 model_refused (faults.RowSum table action row) text r = record { no_model = r.no_model; refusal = r.refusal; placed = r.placed }
 model_refused faults.Memory text r = tt
 
--- what a reader of models says of a text that it refuses
-pub model_fault : (text : List ℕ) (fault : ModelFault) → ((ts : TextTokens) → AreTokensOf text ts → IsRefusal ts fault)
-    → ((ts : TextTokens) → AreTokensOf text ts → IsPlacedRight ts fault) → IsModelFault text fault
-model_fault text fault refusal placed =
-    model_refused fault text (record { no_model = no_model text fault refusal; refusal = refusal; placed = placed })
-
 -- want of memory aside, what is said of a model's refused text is that it is refused
 pub refused_of : (fault : ModelFault) (text : List ℕ) → SaysOfText fault → IsModelFault text fault → IsRefused fault text
 refused_of (faults.Item kind item place) text says refused = refused
@@ -37,11 +29,6 @@ refused_of faults.Memory text says refused = absurd says
 pub each_text : {S : Type 0} {reads : S → ℕ → Option (List ℕ) → S → Type 0} {old new : S} {P Q : List ℕ → Type 0}
     → ((text : List ℕ) → P text → Q text) → EachTextThatFits reads old new P → EachTextThatFits reads old new Q
 each_text follows h = record { bytes = h.bytes; is_whole = h.is_whole; was_read = h.was_read; each = λ text fits. follows text (h.each text fits) }
-
--- a fault that is handed on
-pub handed_on : {T U E : Type 0} (r : Result T E) (given x : E) → IsErrAnd r (λ f. f ≡ given) → ◌≡◌ {A = Result U E} (Err given) (Err x) → IsErrOf r x
-handed_on (Ok v) given x is same = absurd is
-handed_on (Err f) given x is same = cc
 
 -- ---- a fault of the graph's text or of its source
 of_graph_in_order : {G V : Type 0} (given : RunFault) (graph graph' : G) (vectors vectors' : V) → IsGraphReadFault given → vectors' ≡ vectors
@@ -63,10 +50,3 @@ pub graph_in_order : {T G V : Type 0} (r : Result T RunFault) (given : RunFault)
 graph_in_order (Ok v) given graph graph' vectors vectors' is of same = tt
 graph_in_order (Err f) given graph graph' vectors vectors' is of same =
     subst (λ (x : RunFault). ReadsInOrder x graph graph' vectors vectors') (sym is) (of_graph_in_order given graph graph' vectors vectors' of same)
-
--- and it is none of that source
-pub not_of_vectors : {T : Type 0} (r : Result T RunFault) (given : RunFault) → IsErrAnd r (λ f. f ≡ given) → IsGraphReadFault given → IsErrOf r runs.ReadVectors → ⊥
-not_of_vectors (Ok v) given is of named = absurd is
-not_of_vectors (Err f) given is of named =
-    let same : given ≡ runs.ReadVectors = cc in
-    subst IsGraphReadFault same of

@@ -53,10 +53,6 @@ pub record AreRoundedVectorsRefused (rounding : Rounding) (model graph : List �
   pub no_vectors : (m : Meaning) (p : PolicyGraph) → HasGraph model graph m p → IsNoRoundedVectorsText rounding p (states_of m) text fault
   pub refusal : (m : Meaning) (p : PolicyGraph) → HasGraph model graph m p → IsRoundedVectorsRefusal rounding p (states_of m) text fault
 
--- the same with each value rounded down
-abbrev pub AreVectorsRefused : List ℕ → List ℕ → VectorFault → List ℕ → Type 0
-AreVectorsRefused model graph fault text = AreRoundedVectorsRefused Down model graph fault text
-
 -- what a refusal says of the three texts; want of memory says nothing of the text that was being read
 abbrev pub IsModelFault : List ℕ → ModelFault → Type 0
 IsModelFault model models.Memory = Unit {0}

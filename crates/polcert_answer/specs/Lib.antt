@@ -1,6 +1,7 @@
 pub mod Headline
 pub mod HeadlineAbove
 pub mod Answer
+pub mod OneAnswer
 pub mod Lines
 pub mod Status
 pub mod Run

@@ -3,9 +3,8 @@
 -- The line that sums a model up. It is our own: `pomdp: 2 states, 1 actions, 2 observations, discount 0.95, reward`
 -- and a line end; of an MDP, whose end states are observed, `mdp: 2 states, 1 actions, discount 0.5, reward`. The counts
 -- are decimal, and their words stay plural. The discount is written as a number of millionths is, with no trailing zeros.
-use Rattle.std.specs.Prelude.{◌≡◌, ◌++◌, ◌*◌, ℕ, ℤ, Bool, true, false, if◌then◌else◌, List, [], Option, Result, codes, decimal, pos}
+use Rattle.std.specs.Prelude.{◌≡◌, ◌++◌, ◌*◌, ℕ, ℤ, Bool, true, false, if◌then◌else◌, List, [], codes, decimal, pos}
 use Rattle.polcert_text.specs.Millionths.{scaled_text}
-use Rattle.polcert_text.specs.Sink.{WritesText}
 use Rattle.polcert_cells.specs.Preamble.{is_mdp}
 use Rattle.polcert_cells.specs.Meaning.{Meaning, states_of, actions_of, observations_of}
 use Rattle.polcert_policy.specs.Vectors.{PolicyVectors}
@@ -16,6 +15,8 @@ use Rattle.polcert_check.specs.declared.above.AboveVerdict.TheVariants as above
 use Rattle.polcert_check.specs.Horizon.{Controller, step_scale, one}
 use Rattle.polcert_check.specs.StartWorth.{IsBestStart, IsStartWorth, IsCeilQuotient}
 use Rattle.polcert_check.specs.StartMost.{IsStartMost}
+use Rattle.polcert_answer.specs.declared.lines.VerdictLine.{VerdictLine}
+use Rattle.polcert_answer.specs.declared.lines.VerdictLine.TheVariants as lines
 
 -- a count, and the words behind it
 abbrev pub counted : ℕ → List ℕ → List ℕ
@@ -89,9 +90,10 @@ IsAboveVerdictLine m c v above.Yes line = (most : ℤ) × IsStartMost m v most �
 IsAboveVerdictLine m c v (above.Long n s amount) line = (by : ℤ) × IsCeilQuotient amount (step_scale c * one) by × (line ≡ long_line n s by)
 IsAboveVerdictLine m c v (above.NoSuccessor n s z) line = line ≡ lack_line n s z
 
--- A call that writes a line: one of those lines, at `Ok` all of it, and at an `Err` a beginning.
-pub record WritesLine {S T E : Type 0} (writes : S → Option (List ℕ) → S → Type 0) (failures : S → ℕ) (old : S)
-    (IsLine : List ℕ → Type 0) (result : Result T E) (new : S) : Type 0 where
-  pub line : List ℕ
-  pub is_line : IsLine line
-  pub written : WritesText writes failures old line result new
+-- the line that says this
+abbrev pub line_text : VerdictLine → List ℕ
+line_text (lines.AtLeast n worth) = yes_line n worth
+line_text (lines.AtMost most) = yes_above_line most
+line_text (lines.Short n s by) = short_line n s by
+line_text (lines.Long n s by) = long_line n s by
+line_text (lines.NoSuccessor n s z) = lack_line n s z

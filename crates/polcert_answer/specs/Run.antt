@@ -1,14 +1,17 @@
 -- What runs from sources to sinks promise.
-use Rattle.std.specs.Prelude.{◌≡◌, ℕ, ℤ, neg_ℤ, List, Option, Result, Ok}
+use Rattle.std.specs.Prelude.{◌≡◌, ◌≢◌, ℕ, ℤ, neg_ℤ, List, Option, Result, Ok, IfErr, IsErrOf}
 use Rattle.polcert_text.specs.declared.number.Rounding.{Rounding}
 use Rattle.polcert_text.specs.declared.number.Rounding.TheVariants.{Down}
 use Rattle.polcert_text.specs.Device.{HasFailed}
-use Rattle.polcert_text.specs.Source.{IsText}
+use Rattle.polcert_text.specs.Source.{IsText, EachTextThatFits}
 use Rattle.polcert_text.specs.Sink.{Takes, TakesFront}
+use Rattle.polcert_format.specs.declared.fault.ModelFault.{ModelFault}
 use Rattle.polcert_cells.specs.Meaning.{Meaning}
 use Rattle.polcert_model.specs.Text.{IsModelText}
 use Rattle.polcert_model.specs.FullForm.{full_form}
 use Rattle.polcert_model.specs.Printable.{IsPrintable}
+use Rattle.polcert_policy.specs.declared.fault.GraphFault.{GraphFault}
+use Rattle.polcert_policy.specs.declared.fault.VectorFault.{VectorFault}
 use Rattle.polcert_policy.specs.Vectors.{PolicyVectors, shifted_by}
 use Rattle.polcert_policy.specs.FullForm.{vectors_text}
 use Rattle.polcert_check.specs.declared.fault.LowerFault.{LowerFault}
@@ -20,10 +23,10 @@ use Rattle.polcert_check.specs.Lower.{HasLeastConstant, IsLeastConstant, IsNotLo
 use Rattle.polcert_check.specs.Verdict.{IsVerdict}
 use Rattle.polcert_check.specs.StartWorth.{IsBestStart, IsStartWorth, StartPromise}
 use Rattle.polcert_answer.specs.declared.fault.Fault.{Fault}
-use Rattle.polcert_answer.specs.declared.fault.Fault.TheVariants.{Model, Graph}
+use Rattle.polcert_answer.specs.declared.fault.Fault.TheVariants.{Model, Graph, Vectors}
 use Rattle.polcert_answer.specs.declared.fault.RunFault.{RunFault}
-use Rattle.polcert_answer.specs.declared.fault.RunFault.TheVariants.{Text, ReadModel, ReadGraph, Write, TooLargeToPrint}
-use Rattle.polcert_answer.specs.Answer.{IsRoundedAnswer, IsAnswer, IsButForMemory}
+use Rattle.polcert_answer.specs.declared.fault.RunFault.TheVariants.{Text, ReadModel, ReadGraph, ReadVectors, Write, Lower, Raise, TooLargeToPrint}
+use Rattle.polcert_answer.specs.Answer.{IsModelFault, IsGraphRefused, AreRoundedVectorsRefused, IsRoundedAnswer, IsAnswer, IsButForMemory}
 use Rattle.polcert_answer.specs.Headline.{RoundedCertificate, Certificate, controller, IsCertified, AreRewardsCertified}
 use Rattle.polcert_answer.specs.Lines.{summary_line, yes_line, IsVerdictLine}
 
@@ -107,6 +110,40 @@ IsWhy c v fault = IsNotLowered c v fault
 abbrev pub text_of : {S : Type 0} → (S → ℕ → Option (List ℕ) → S → Type 0) → S → S → List ℕ → Type 0
 text_of reads before after text = IsText reads before text after
 
+-- ---- how a run over three sources ends
+--
+-- The three sources are the model's, the graph's and the vectors', each with its state before and after the
+-- call.
+
+-- A text is refused rightly. No text that fits what was read of a source is a model's; or behind the first
+-- text a graph's; or behind the first two the graph's vectors, each value rounded this way; and the fault
+-- is a right refusal of each of them.
+pub record RefusesRightly {T M G V : Type 0} (rounding : Rounding) (result : Result T RunFault)
+    (model_reads : M → ℕ → Option (List ℕ) → M → Type 0) (model model' : M)
+    (graph_reads : G → ℕ → Option (List ℕ) → G → Type 0) (graph graph' : G)
+    (vectors_reads : V → ℕ → Option (List ℕ) → V → Type 0) (vectors vectors' : V) : Type 0 where
+  pub of_model : (fault : ModelFault) → IsErrOf result (Text (Model fault))
+      → EachTextThatFits model_reads model model' (λ text. IsModelFault text fault)
+  pub of_graph : (fault : GraphFault) → IsErrOf result (Text (Graph fault))
+      → (first : List ℕ) × IsText model_reads model first model'
+      × EachTextThatFits graph_reads graph graph' (IsGraphRefused first fault)
+  pub of_vectors : (fault : VectorFault) → IsErrOf result (Text (Vectors fault))
+      → (first second : List ℕ)
+      × IsText model_reads model first model'
+      × IsText graph_reads graph second graph'
+      × EachTextThatFits vectors_reads vectors vectors' (AreRoundedVectorsRefused rounding first second fault)
+
+-- Each source is named as the one that failed only where it failed in the call, and no failure of it is
+-- passed over.
+pub record NamesSourcesRightly {T M G V : Type 0} (result : Result T RunFault)
+    (model_failures : M → ℕ) (model model' : M)
+    (graph_failures : G → ℕ) (graph graph' : G)
+    (vectors_failures : V → ℕ) (vectors vectors' : V) : Type 0 where
+  pub of_model : IsNamedRightly (IsErrOf result ReadModel) (model_failures model) (model_failures model')
+  pub of_graph : IsNamedRightly (IsErrOf result ReadGraph) (graph_failures graph) (graph_failures graph')
+  pub of_vectors : IsNamedRightly (IsErrOf result ReadVectors) (vectors_failures vectors)
+      (vectors_failures vectors')
+
 -- Each source is read to its end before the next: where the model's text or source is at fault, the other two are as they
 -- were, and where the graph's is, the vectors' is.
 abbrev pub ReadsInOrder : {G V : Type 0} → RunFault → G → G → V → V → Type 0
@@ -115,6 +152,43 @@ ReadsInOrder (Text (Graph fault)) graph graph' vectors vectors' = vectors' ≡ v
 ReadsInOrder ReadModel graph graph' vectors vectors' = (graph' ≡ graph) × (vectors' ≡ vectors)
 ReadsInOrder ReadGraph graph graph' vectors vectors' = vectors' ≡ vectors
 ReadsInOrder _ graph graph' vectors vectors' = Unit {0}
+
+-- How a run over three sources and a sink stops, where it doesn't answer: the first text that is none of
+-- its kind is refused, for a right reason; a device is named only where it failed, and no failure of one is
+-- passed over; each source is read to its end before the next; and with any other fault than that of a
+-- write the sink took nothing.
+pub record StopsRightly {T M G V W : Type 0} (rounding : Rounding) (result : Result T RunFault)
+    (model_reads : M → ℕ → Option (List ℕ) → M → Type 0) (model_failures : M → ℕ) (model model' : M)
+    (graph_reads : G → ℕ → Option (List ℕ) → G → Type 0) (graph_failures : G → ℕ) (graph graph' : G)
+    (vectors_reads : V → ℕ → Option (List ℕ) → V → Type 0) (vectors_failures : V → ℕ) (vectors vectors' : V)
+    (sink_failures : W → ℕ) (sink sink' : W) : Type 0 where
+  pub refused : RefusesRightly rounding result model_reads model model' graph_reads graph graph'
+      vectors_reads vectors vectors'
+  pub read : NamesSourcesRightly result model_failures model model' graph_failures graph graph'
+      vectors_failures vectors vectors'
+  pub write : IsNamedRightly (IsErrOf result Write) (sink_failures sink) (sink_failures sink')
+  pub in_order : IfErr result (λ fault. ReadsInOrder fault graph graph' vectors vectors')
+  pub untouched : (fault : RunFault) → IsErrOf result fault → fault ≢ Write → sink' ≡ sink
+
+-- what a check may answer: a refusal of a text, and its devices; lowering, raising and printing are no part
+-- of it
+abbrev pub IsCheckRunFault : RunFault → Type 0
+IsCheckRunFault (Lower fault) = ⊥
+IsCheckRunFault (Raise fault) = ⊥
+IsCheckRunFault TooLargeToPrint = ⊥
+IsCheckRunFault _ = Unit {0}
+
+-- what a lowering may answer: the same, and that the vectors can't be lowered
+abbrev pub IsLowerRunFault : RunFault → Type 0
+IsLowerRunFault (Raise fault) = ⊥
+IsLowerRunFault TooLargeToPrint = ⊥
+IsLowerRunFault _ = Unit {0}
+
+-- what a raise may answer: the same as a check, and that the vectors can't be raised
+abbrev pub IsRaiseRunFault : RunFault → Type 0
+IsRaiseRunFault (Lower fault) = ⊥
+IsRaiseRunFault TooLargeToPrint = ⊥
+IsRaiseRunFault _ = Unit {0}
 
 module _ (rounding : Rounding) (of_model of_graph of_vectors : List ℕ → Type 0) where
   -- the texts of the three sources, which denote a controller, where values are rounded this way

@@ -1,5 +1,5 @@
 //! The answer to three texts.
-ghost use Rattle.std.specs.Prelude.{◌≡◌, ℕ, ◌<◌, IfOk, Ok};
+ghost use Rattle.std.specs.Prelude.{◌≡◌, ◌<◌, IfOk, Ok};
 ghost use Rattle.polcert_check.specs.Horizon.{MeetsHorizon};
 ghost use Rattle.polcert_check.specs.Above.{MeetsHorizonAbove};
 ghost use Rattle.polcert_check.specs.declared.verdict.Verdict.TheVariants.{Yes};
@@ -7,10 +7,9 @@ ghost use Rattle.polcert_answer.specs.Answer.{IsAnswer, IsAnswerAbove};
 ghost use Rattle.polcert_answer.specs.Headline.{Certificate, controller, IsCertified, AreRewardsCertified};
 ghost use Rattle.polcert_answer.specs.HeadlineAbove.{CertificateAbove, IsCertifiedAbove, AreRewardsCertifiedAbove};
 
+use crate::controller::read_texts;
 use crate::fault::Fault;
-use crate::texts::{graph_of, vectors_of};
 use polcert_check::{AboveVerdict, Verdict, check, check_above};
-use polcert_model::read_model;
 use polcert_text::Rounding;
 use std::alloc::Global;
 
@@ -34,19 +33,17 @@ pub fn check_texts(
     // And for the rewards alone, without the vectors at the end.
     ensures rewards { result ≡ Ok Yes → AreRewardsCertified model.now graph.now vectors.now }
 
-    // A no is refuted by one step: at the pair that it names the promise of one step is false, and a missing successor is a
-    // run of one step that is cut and weighs more than 0.
+    // A no is refuted by one step: at the pair that it names the promise of one step is false, and a
+    // missing successor is a run of one step that is cut and weighs more than 0.
     ensures horizon { IfOk result (λ verdict. (c : Certificate model.now graph.now vectors.now)
         → MeetsHorizon (controller c) verdict) }
 {
-    let model = read_model(alloc, model)?;
-    let graph = graph_of(alloc, &model, graph)?;
-    let vectors = vectors_of(alloc, Rounding::Down, &model, &graph, vectors)?;
-    Ok(check(&model, &graph, &vectors))
+    let read = read_texts(alloc, Rounding::Down, model, graph, vectors)?;
+    Ok(check(&read.model, &read.graph, &read.vectors))
 }
 
-/// The answer from above to the texts of a model, of a policy graph, and of the graph's vectors, each value rounded up: whether the
-/// vectors bound what the graph earns from above.
+/// The answer from above to the texts of a model, of a policy graph, and of the graph's vectors, each value
+/// rounded up: whether the vectors bound what the graph earns from above.
 ///
 /// # Errors
 ///
@@ -60,19 +57,19 @@ pub fn check_texts_above(
     // The verdict from above on what the texts denote, or a right refusal of the first that denotes nothing.
     ensures answer { IsAnswerAbove model.now graph.now vectors.now result }
 
-    // The headline from above: a yes bounds what is earned for every number of steps, every node and every state.
+    // The headline from above: a yes bounds what is earned for every number of steps, every node and every
+    // state.
     ensures promise { result ≡ Ok AboveVerdict.Yes → IsCertifiedAbove model.now graph.now vectors.now }
 
     // And for the rewards alone, without the vectors at the end.
-    ensures rewards { result ≡ Ok AboveVerdict.Yes → AreRewardsCertifiedAbove model.now graph.now vectors.now }
+    ensures rewards { result ≡ Ok AboveVerdict.Yes
+        → AreRewardsCertifiedAbove model.now graph.now vectors.now }
 
-    // A no is refuted by one step: at the pair that it names the promise of one step is false, and a missing successor is a
-    // run of one step that is cut and weighs more than 0.
+    // A no is refuted by one step: at the pair that it names the promise of one step is false, and a
+    // missing successor is a run of one step that is cut and weighs more than 0.
     ensures horizon { IfOk result (λ verdict. (c : CertificateAbove model.now graph.now vectors.now)
         → MeetsHorizonAbove (controller c) verdict) }
 {
-    let model = read_model(alloc, model)?;
-    let graph = graph_of(alloc, &model, graph)?;
-    let vectors = vectors_of(alloc, Rounding::Up, &model, &graph, vectors)?;
-    Ok(check_above(&model, &graph, &vectors))
+    let read = read_texts(alloc, Rounding::Up, model, graph, vectors)?;
+    Ok(check_above(&read.model, &read.graph, &read.vectors))
 }

@@ -18,39 +18,6 @@ pub enum Fault {
     Vectors(VectorFault),
 }
 
-impl From<ModelFault> for Fault {
-    ghost use Rattle.std.specs.Prelude.{◌≡◌};
-    ghost use Rattle.polcert_answer.specs.declared.fault.Fault.TheVariants.{Model};
-
-    ghost from_gives = { λ given fault. fault ≡ Model given };
-
-    fn from(fault: ModelFault) -> Self {
-        Fault::Model(fault)
-    }
-}
-
-impl From<GraphFault> for Fault {
-    ghost use Rattle.std.specs.Prelude.{◌≡◌};
-    ghost use Rattle.polcert_answer.specs.declared.fault.Fault.TheVariants.{Graph};
-
-    ghost from_gives = { λ given fault. fault ≡ Graph given };
-
-    fn from(fault: GraphFault) -> Self {
-        Fault::Graph(fault)
-    }
-}
-
-impl From<VectorFault> for Fault {
-    ghost use Rattle.std.specs.Prelude.{◌≡◌};
-    ghost use Rattle.polcert_answer.specs.declared.fault.Fault.TheVariants.{Vectors};
-
-    ghost from_gives = { λ given fault. fault ≡ Vectors given };
-
-    fn from(fault: VectorFault) -> Self {
-        Fault::Vectors(fault)
-    }
-}
-
 /// Why a run stops before its end.
 #[derive(Clone, Copy, Debug, PartialEq, Eq, Error)]
 pub enum RunFault {

@@ -29,11 +29,14 @@ pub fn write_full_vectors<W: Sink>(
     sink: &mut W,
 ) -> Result<(), SinkFailed>
     requires { nodes graph.now ≡ vectors.now.nodes }
-    ensures written { WritesText W.writes W.failures sink.old (vectors_text graph.now vectors.now) result sink.new }
+    ensures written { WritesText W.writes W.failures sink.old
+        (vectors_text graph.now vectors.now) result sink.new }
 
-    // Read with the same graph and number of states, the text gives the same vectors, whichever way values are rounded.
-    ensures reads_back { (rounding : Rounding) →
-        IsRoundedVectorsText rounding graph.now vectors.now.states (vectors_text graph.now vectors.now) vectors.now }
+    // Read with the same graph and number of states, the text gives the same vectors, whichever way values
+    // are rounded.
+    ensures reads_back { (rounding : Rounding)
+        → IsRoundedVectorsText rounding graph.now vectors.now.states
+        (vectors_text graph.now vectors.now) vectors.now }
 {
     let mut buffered = BufferedSink::new(sink);
     write_vectors(graph, vectors, &mut buffered)?;

@@ -1,5 +1,5 @@
-//! The answer to three texts, and the runs that write it: a model, a policy graph and the graph's vectors go in, and a
-//! verdict, a full form, or lowered or raised vectors come out.
+//! The answer to three texts, and the runs that write it: a model, a policy graph and the graph's vectors
+//! go in, and a verdict, a full form, or lowered or raised vectors come out.
 #![tactic(auto)]
 
 mod answer;
@@ -10,9 +10,7 @@ mod laws;
 mod lines;
 mod runs;
 mod runs_above;
-mod sources;
 mod status;
-mod texts;
 
 pub use answer::{check_texts, check_texts_above};
 pub use fault::{Fault, RunFault};

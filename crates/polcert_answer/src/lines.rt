@@ -1,12 +1,12 @@
 //! The lines that the program writes where all goes well.
-ghost use Rattle.std.specs.Prelude.{◌≡◌, codes};
+ghost use Rattle.std.specs.Prelude.{◌≡◌};
 ghost use Rattle.polcert_text.specs.Sink.{WritesText};
 ghost use Rattle.polcert_model.specs.Contents.{meaning};
 ghost use Rattle.polcert_cells.specs.Tables.{table_of};
 ghost use Rattle.polcert_check.specs.Horizon.{Fits, controller_of};
 ghost use Rattle.polcert_check.specs.Verdict.{IsVerdict, NamesSmallAmount};
 ghost use Rattle.polcert_check.specs.Above.{IsAboveVerdict, NamesSmallAmountAbove};
-ghost use Rattle.polcert_answer.specs.Lines.{counted, gains, kind_word, observations_text, counts_text, values_text, summary_line, pair_text, amount_line, yes_line, yes_above_line, lack_line, IsVerdictLine, IsAboveVerdictLine, WritesLine};
+ghost use Rattle.polcert_answer.specs.Lines.{counted, gains, kind_word, observations_text, counts_text, values_text, summary_line, pair_text, amount_line, yes_line, yes_above_line, lack_line, line_text, IsVerdictLine, IsAboveVerdictLine};
 
 use itoa::Buffer;
 use polcert_check::{AboveVerdict, Verdict, millionths_short, start_most, start_worth};
@@ -14,7 +14,8 @@ use polcert_model::Model;
 use polcert_policy::{Graph, Vectors};
 use polcert_text::{BufferedSink, Sink, SinkFailed, write_all, write_scaled};
 
-/// Writes the line that sums a model up, through a buffer, so that a sink that takes pieces whole is written to once.
+/// Writes the line that sums a model up, through a buffer, so that a sink that takes pieces whole is
+/// written to once.
 pub fn write_summary<W: Sink>(model: &Model, sink: &mut W) -> Result<(), SinkFailed>
     ensures { WritesText W.writes W.failures sink.old (summary_line (meaning model.now)) result sink.new }
 {
@@ -48,7 +49,8 @@ fn kind_word(is_mdp: bool) -> &'static [u8]
 
 /// Writes the count of observations, which an MDP has none of its own of.
 fn write_observations<W: Sink>(model: &Model, sink: &mut W) -> Result<(), SinkFailed>
-    ensures { WritesText W.writes W.failures sink.old (observations_text (meaning model.now)) result sink.new }
+    ensures { WritesText W.writes W.failures sink.old
+        (observations_text (meaning model.now)) result sink.new }
 {
     if model.is_mdp() {
         Ok(())
@@ -81,42 +83,58 @@ fn gains(is_cost: bool) -> &'static [u8]
     if is_cost { b", cost\n" } else { b", reward\n" }
 }
 
-/// Writes the line of a verdict on the model, the graph and its vectors, through a buffer.
-pub fn write_verdict<W: Sink>(
-    model: &Model,
-    graph: &Graph,
-    vectors: &Vectors,
-    verdict: Verdict,
-    sink: &mut W,
-) -> Result<(), SinkFailed>
-    requires fits { Fits (table_of (meaning model.now)) graph.now vectors.now }
-    requires verdict { IsVerdict (controller_of (table_of (meaning model.now)) graph.now vectors.now) verdict }
-    requires small { NamesSmallAmount (controller_of (table_of (meaning model.now)) graph.now vectors.now) verdict }
-    ensures { WritesLine W.writes W.failures sink.old (IsVerdictLine (meaning model.now)
-        (controller_of (table_of (meaning model.now)) graph.now vectors.now) vectors.now verdict) result sink.new }
-{
-    let mut buffered = BufferedSink::new(sink);
-    write_verdict_line(model, graph, vectors, verdict, &mut buffered)?;
-    buffered.flush()
+/// What the line of a verdict says.
+#[derive(Clone, Copy)]
+pub enum VerdictLine {
+    /// A yes: the node that is worth most from the start, and its worth there, in millionths.
+    AtLeast {
+        node: usize,
+        worth: i64,
+    },
+    /// A yes from above: what no node is worth more than from the start, in millionths.
+    AtMost {
+        most: i64,
+    },
+    /// A no: the pair of a node and a state, and by how many millionths it is short.
+    Short {
+        node: usize,
+        state: usize,
+        by: i64,
+    },
+    /// A no from above: the pair, and by how many millionths it is long.
+    Long {
+        node: usize,
+        state: usize,
+        by: i64,
+    },
+    /// A no: the pair, and an observation for which the node has no successor.
+    NoSuccessor {
+        node: usize,
+        state: usize,
+        observation: usize,
+    },
 }
 
-fn write_verdict_line<W: Sink>(
+/// What the line of a verdict on the model, the graph and its vectors says.
+pub fn line_of_verdict(
     model: &Model,
     graph: &Graph,
     vectors: &Vectors,
     verdict: Verdict,
-    sink: &mut W,
-) -> Result<(), SinkFailed>
+) -> VerdictLine
     requires fits { Fits (table_of (meaning model.now)) graph.now vectors.now }
-    requires verdict { IsVerdict (controller_of (table_of (meaning model.now)) graph.now vectors.now) verdict }
-    requires small { NamesSmallAmount (controller_of (table_of (meaning model.now)) graph.now vectors.now) verdict }
-    ensures { WritesLine W.writes W.failures sink.old (IsVerdictLine (meaning model.now)
-        (controller_of (table_of (meaning model.now)) graph.now vectors.now) vectors.now verdict) result sink.new }
+    requires verdict { IsVerdict
+        (controller_of (table_of (meaning model.now)) graph.now vectors.now) verdict }
+    requires small { NamesSmallAmount
+        (controller_of (table_of (meaning model.now)) graph.now vectors.now) verdict }
+    ensures { IsVerdictLine (meaning model.now)
+        (controller_of (table_of (meaning model.now)) graph.now vectors.now)
+        vectors.now verdict (line_text result) }
 {
     match verdict {
         Verdict::Yes => {
             let (node, worth) = start_worth(model, graph, vectors);
-            write_yes(node, worth, sink)
+            VerdictLine::AtLeast { node, worth }
         }
         Verdict::Short {
             node,
@@ -124,59 +142,83 @@ fn write_verdict_line<W: Sink>(
             amount,
         } => {
             let by = millionths_short(model, amount);
-            write_amount(node, state, b", short by ", by, sink)
+            VerdictLine::Short { node, state, by }
         }
         Verdict::NoSuccessor {
             node,
             state,
             observation,
-        } => write_lack(node, state, observation, sink),
+        } => VerdictLine::NoSuccessor {
+            node,
+            state,
+            observation,
+        },
     }
 }
 
-/// Writes the line of a verdict from above on the model, the graph and its vectors, through a buffer.
-pub fn write_above_verdict<W: Sink>(
+/// What the line of a verdict from above on the model, the graph and its vectors says.
+pub fn line_of_above_verdict(
     model: &Model,
     graph: &Graph,
     vectors: &Vectors,
     verdict: AboveVerdict,
-    sink: &mut W,
-) -> Result<(), SinkFailed>
+) -> VerdictLine
     requires fits { Fits (table_of (meaning model.now)) graph.now vectors.now }
-    requires verdict { IsAboveVerdict (controller_of (table_of (meaning model.now)) graph.now vectors.now) verdict }
-    requires small { NamesSmallAmountAbove (controller_of (table_of (meaning model.now)) graph.now vectors.now) verdict }
-    ensures { WritesLine W.writes W.failures sink.old (IsAboveVerdictLine (meaning model.now)
-        (controller_of (table_of (meaning model.now)) graph.now vectors.now) vectors.now verdict) result sink.new }
-{
-    let mut buffered = BufferedSink::new(sink);
-    write_above_verdict_line(model, graph, vectors, verdict, &mut buffered)?;
-    buffered.flush()
-}
-
-fn write_above_verdict_line<W: Sink>(
-    model: &Model,
-    graph: &Graph,
-    vectors: &Vectors,
-    verdict: AboveVerdict,
-    sink: &mut W,
-) -> Result<(), SinkFailed>
-    requires fits { Fits (table_of (meaning model.now)) graph.now vectors.now }
-    requires verdict { IsAboveVerdict (controller_of (table_of (meaning model.now)) graph.now vectors.now) verdict }
-    requires small { NamesSmallAmountAbove (controller_of (table_of (meaning model.now)) graph.now vectors.now) verdict }
-    ensures { WritesLine W.writes W.failures sink.old (IsAboveVerdictLine (meaning model.now)
-        (controller_of (table_of (meaning model.now)) graph.now vectors.now) vectors.now verdict) result sink.new }
+    requires verdict { IsAboveVerdict
+        (controller_of (table_of (meaning model.now)) graph.now vectors.now) verdict }
+    requires small { NamesSmallAmountAbove
+        (controller_of (table_of (meaning model.now)) graph.now vectors.now) verdict }
+    ensures { IsAboveVerdictLine (meaning model.now)
+        (controller_of (table_of (meaning model.now)) graph.now vectors.now)
+        vectors.now verdict (line_text result) }
 {
     match verdict {
-        AboveVerdict::Yes => write_yes_above(start_most(model, graph, vectors), sink),
+        AboveVerdict::Yes => {
+            let most = start_most(model, graph, vectors);
+            VerdictLine::AtMost { most }
+        }
         AboveVerdict::Long {
             node,
             state,
             amount,
         } => {
             let by = millionths_short(model, amount);
-            write_amount(node, state, b", long by ", by, sink)
+            VerdictLine::Long { node, state, by }
         }
         AboveVerdict::NoSuccessor {
+            node,
+            state,
+            observation,
+        } => VerdictLine::NoSuccessor {
+            node,
+            state,
+            observation,
+        },
+    }
+}
+
+/// Writes the line of a verdict, through a buffer.
+pub fn write_verdict<W: Sink>(line: VerdictLine, sink: &mut W) -> Result<(), SinkFailed>
+    ensures { WritesText W.writes W.failures sink.old (line_text line) result sink.new }
+{
+    let mut buffered = BufferedSink::new(sink);
+    write_verdict_line(line, &mut buffered)?;
+    buffered.flush()
+}
+
+fn write_verdict_line<W: Sink>(line: VerdictLine, sink: &mut W) -> Result<(), SinkFailed>
+    ensures { WritesText W.writes W.failures sink.old (line_text line) result sink.new }
+{
+    match line {
+        VerdictLine::AtLeast { node, worth } => write_yes(node, worth, sink),
+        VerdictLine::AtMost { most } => write_yes_above(most, sink),
+        VerdictLine::Short { node, state, by } => {
+            write_amount(node, state, b", short by ", by, sink)
+        }
+        VerdictLine::Long { node, state, by } => {
+            write_amount(node, state, b", long by ", by, sink)
+        }
+        VerdictLine::NoSuccessor {
             node,
             state,
             observation,

@@ -2,7 +2,7 @@
 ghost use Rattle.std.specs.Prelude.{◌≡◌, ◌≢◌, ℕ, ℤ, List, Ok, OnOk, IfOk, IfErr, IsErrOf};
 ghost use Rattle.polcert_text.specs.Device.{HasFailed};
 ghost use Rattle.polcert_text.specs.Sink.{Takes, TakesFront};
-ghost use Rattle.polcert_text.specs.Source.{IsText, EachTextThatFits};
+ghost use Rattle.polcert_text.specs.Source.{EachTextThatFits};
 ghost use Rattle.polcert_cells.specs.Tables.{table_of};
 ghost use Rattle.polcert_model.specs.Contents.{meaning};
 ghost use Rattle.polcert_model.specs.Refusals.{SaysOfText};
@@ -11,25 +11,25 @@ ghost use Rattle.polcert_check.specs.declared.verdict.Verdict.TheVariants.{Yes};
 ghost use Rattle.polcert_check.specs.Horizon.{Fits, controller_of};
 ghost use Rattle.polcert_check.specs.Verdict.{IsVerdict};
 ghost use Rattle.polcert_answer.specs.Lines.{IsVerdictLine};
-ghost use Rattle.polcert_answer.specs.Answer.{IsRefused, IsModelFault, IsGraphRefused, AreVectorsRefused};
+ghost use Rattle.polcert_answer.specs.Answer.{IsRefused, IsModelFault};
 ghost use Rattle.polcert_answer.specs.Reading.{IsAnswerLine, AreLowered, IsNoReadFault};
-ghost use Rattle.polcert_answer.specs.Run.{SumsUp, BeginsToSumUp, Prints, BeginsToPrint, IsTooLargeToPrint, IsModelRunFault, IsPrintRunFault, IsNamedRightly, ReadsInOrder, text_of, HasVerdict, HavePromise, HasStartPromise, HasLowered, IsWhy, IsNotLowerable};
+ghost use Rattle.polcert_answer.specs.Run.{SumsUp, BeginsToSumUp, Prints, BeginsToPrint, IsTooLargeToPrint, IsModelRunFault, IsPrintRunFault, IsNamedRightly, StopsRightly, IsCheckRunFault, IsLowerRunFault, text_of, HasVerdict, HavePromise, HasStartPromise, HasLowered, IsWhy, IsNotLowerable};
 
 use crate::controller::{Controller, model_of_run, read_controller};
 use crate::fault::{Fault, RunFault};
 use crate::forms::{write_full_form, write_full_vectors};
-use crate::lines::{write_summary, write_verdict};
+use crate::lines::{line_of_verdict, write_summary, write_verdict};
 use polcert_check::{Unwatched, Verdict, Watch, check_watched, lowered_watched};
 use polcert_text::{Rounding, Sink, Source};
 use std::alloc::Global;
 
-/// Reads a model from the source, and writes the line that sums it up, and nothing else. Nothing is written before the
-/// whole text is accepted.
+/// Reads a model from the source, and writes the line that sums it up, and nothing else. Nothing is written
+/// before the whole text is accepted.
 ///
 /// # Errors
 ///
-/// `Text` where the text is refused or memory is wanting to read it, `ReadModel` where a read failed, `Write` where a write
-/// failed.
+/// `Text` where the text is refused or memory is wanting to read it, `ReadModel` where a read failed,
+/// `Write` where a write failed.
 pub fn run_model<S: Source, W: Sink>(
     alloc: Global,
     source: &mut S,
@@ -38,18 +38,20 @@ pub fn run_model<S: Source, W: Sink>(
     // The sink took exactly the line of the model that the text of the source denotes.
     ensures summed_up { OnOk result (SumsUp S.reads W.writes source.old source.new sink.old sink.new) }
 
-    // No text that fits what was read is a model's, and the fault is a right refusal of each of them. (Want of memory
-    // says nothing of the text.)
+    // No text that fits what was read is a model's, and the fault is a right refusal of each of them. (Want
+    // of memory says nothing of the text.)
     ensures refused { (fault : _) → IsErrOf result (RunFault.Text (Fault.Model fault))
         → SaysOfText fault
         → EachTextThatFits S.reads source.old source.new (IsRefused fault) }
 
     // A device is named only where it failed in this call.
-    ensures read { IsErrOf result RunFault.ReadModel → HasFailed (S.failures source.old) (S.failures source.new) }
+    ensures read { IsErrOf result RunFault.ReadModel
+        → HasFailed (S.failures source.old) (S.failures source.new) }
     ensures write { IsErrOf result RunFault.Write → HasFailed (W.failures sink.old) (W.failures sink.new) }
 
     // And no failure of a device is passed over.
-    ensures no_read_failed { (result ≢ Err RunFault.ReadModel) → S.failures source.new ≡ S.failures source.old }
+    ensures no_read_failed { (result ≢ Err RunFault.ReadModel)
+        → S.failures source.new ≡ S.failures source.old }
     ensures no_write_failed { (result ≢ Err RunFault.Write) → W.failures sink.new ≡ W.failures sink.old }
 
     // Where a write failed, what was written before is a beginning of the line.
@@ -57,7 +59,8 @@ pub fn run_model<S: Source, W: Sink>(
         → BeginsToSumUp S.reads W.writes source.old source.new sink.old sink.new }
 
     // With any other fault nothing was written. Nothing but these faults is answered.
-    ensures untouched { (fault : RunFault) → IsErrOf result fault → fault ≢ RunFault.Write → sink.new ≡ sink.old }
+    ensures untouched { (fault : RunFault) → IsErrOf result fault
+        → fault ≢ RunFault.Write → sink.new ≡ sink.old }
     ensures of_a_model { IfErr result IsModelRunFault }
 {
     let model = model_of_run(alloc, source)?;
@@ -67,19 +70,20 @@ pub fn run_model<S: Source, W: Sink>(
     }
 }
 
-/// Reads a model from the source, and writes it in full form, and nothing else. Nothing is written before the whole text is
-/// accepted, nor of a model that is too large to print.
+/// Reads a model from the source, and writes it in full form, and nothing else. Nothing is written before
+/// the whole text is accepted, nor of a model that is too large to print.
 ///
 /// # Errors
 ///
-/// `Text` where the text is refused or memory is wanting to read it, `ReadModel` where a read failed, `TooLargeToPrint` where the
-/// model is too large to print, `Write` where a write failed.
+/// `Text` where the text is refused or memory is wanting to read it, `ReadModel` where a read failed,
+/// `TooLargeToPrint` where the model is too large to print, `Write` where a write failed.
 pub fn run_print<S: Source, W: Sink>(
     alloc: Global,
     source: &mut S,
     sink: &mut W,
 ) -> Result<(), RunFault>
-    // The sink took exactly the full form of the model that the text of the source denotes, which isn't too large.
+    // The sink took exactly the full form of the model that the text of the source denotes, which isn't too
+    // large.
     ensures printed { OnOk result (Prints S.reads W.writes source.old source.new sink.old sink.new) }
 
     // Or the model that the text of the source denotes is too large, and nothing was written.
@@ -91,15 +95,18 @@ pub fn run_print<S: Source, W: Sink>(
         → EachTextThatFits S.reads source.old source.new (λ text. IsModelFault text fault) }
 
     // A device is named only where it failed in this call, and no failure of one is passed over.
-    ensures read { IsNamedRightly (IsErrOf result RunFault.ReadModel) (S.failures source.old) (S.failures source.new) }
-    ensures write { IsNamedRightly (IsErrOf result RunFault.Write) (W.failures sink.old) (W.failures sink.new) }
+    ensures read { IsNamedRightly (IsErrOf result RunFault.ReadModel)
+        (S.failures source.old) (S.failures source.new) }
+    ensures write { IsNamedRightly (IsErrOf result RunFault.Write)
+        (W.failures sink.old) (W.failures sink.new) }
 
     // Where a write failed, what was written before is a beginning of the full form.
     ensures begun { IsErrOf result RunFault.Write
         → BeginsToPrint S.reads W.writes source.old source.new sink.old sink.new }
 
     // With any other fault nothing was written. Nothing but these faults is answered.
-    ensures untouched { (fault : RunFault) → IsErrOf result fault → fault ≢ RunFault.Write → sink.new ≡ sink.old }
+    ensures untouched { (fault : RunFault) → IsErrOf result fault
+        → fault ≢ RunFault.Write → sink.new ≡ sink.old }
     ensures of_a_model { IfErr result IsPrintRunFault }
 {
     let accepted = model_of_run(alloc, source)?;
@@ -112,14 +119,14 @@ pub fn run_print<S: Source, W: Sink>(
     }
 }
 
-/// Reads a model, a policy graph and the graph's vectors from three sources, checks them, writes the line of the verdict,
-/// and nothing else, and answers the verdict. Nothing is written before all three texts are accepted and the verdict is
-/// known.
+/// Reads a model, a policy graph and the graph's vectors from three sources, checks them, writes the line
+/// of the verdict, and nothing else, and answers the verdict. Nothing is written before all three texts are
+/// accepted and the verdict is known.
 ///
 /// # Errors
 ///
-/// `Text` where a text is refused or memory is wanting to read it, `ReadModel`, `ReadGraph` or `ReadVectors` where a read of
-/// that source failed, `Write` where a write failed.
+/// `Text` where a text is refused or memory is wanting to read it, `ReadModel`, `ReadGraph` or
+/// `ReadVectors` where a read of that source failed, `Write` where a write failed.
 pub fn run_check<M: Source, G: Source, V: Source, W: Sink>(
     alloc: Global,
     model: &mut M,
@@ -133,8 +140,8 @@ pub fn run_check<M: Source, G: Source, V: Source, W: Sink>(
         (text_of V.reads vectors.old vectors.new) verdict line
         × Takes W.writes sink.old line sink.new) }
 
-    // The headline: a yes is a certificate of the texts that were read, for every number of steps, every node and every
-    // state; and for the rewards alone, without the vectors at the end.
+    // The headline: a yes is a certificate of the texts that were read, for every number of steps, every
+    // node and every state; and for the rewards alone, without the vectors at the end.
     ensures promise { result ≡ Ok Yes → HavePromise (text_of M.reads model.old model.new)
         (text_of G.reads graph.old graph.new) (text_of V.reads vectors.old vectors.new) }
 
@@ -144,43 +151,30 @@ pub fn run_check<M: Source, G: Source, V: Source, W: Sink>(
         (text_of V.reads vectors.old vectors.new) line
         × Takes W.writes sink.old line sink.new }
 
-    // No text that fits what was read of a source is a model's; or behind the first text a graph's; or behind the first
-    // two the graph's vectors; and the fault is a right refusal of each of them.
-    ensures model_refused { (fault : _) → IsErrOf result (RunFault.Text (Fault.Model fault))
-        → EachTextThatFits M.reads model.old model.new (λ text. IsModelFault text fault) }
-    ensures graph_refused { (fault : _) → IsErrOf result (RunFault.Text (Fault.Graph fault))
-        → (first : List ℕ) × IsText M.reads model.old first model.new
-        × EachTextThatFits G.reads graph.old graph.new (IsGraphRefused first fault) }
-    ensures vectors_refused { (fault : _) → IsErrOf result (RunFault.Text (Fault.Vectors fault))
-        → (first second : List ℕ) × IsText M.reads model.old first model.new × IsText G.reads graph.old second graph.new
-        × EachTextThatFits V.reads vectors.old vectors.new (AreVectorsRefused first second fault) }
-
-    // A device is named only where it failed in this call, and no failure of one is passed over.
-    ensures model_read { IsNamedRightly (IsErrOf result RunFault.ReadModel) (M.failures model.old) (M.failures model.new) }
-    ensures graph_read { IsNamedRightly (IsErrOf result RunFault.ReadGraph) (G.failures graph.old) (G.failures graph.new) }
-    ensures vectors_read { IsNamedRightly (IsErrOf result RunFault.ReadVectors) (V.failures vectors.old) (V.failures vectors.new) }
-    ensures write { IsNamedRightly (IsErrOf result RunFault.Write) (W.failures sink.old) (W.failures sink.new) }
-
     // Where a write failed, what was written before is a beginning of the line.
     ensures begun { IsErrOf result RunFault.Write → (verdict : Verdict) × (line : List ℕ)
         × HasVerdict (text_of M.reads model.old model.new) (text_of G.reads graph.old graph.new)
         (text_of V.reads vectors.old vectors.new) verdict line
         × TakesFront W.writes sink.old line sink.new }
 
-    // Each source is read to its end before the next.
-    ensures in_order { IfErr result (λ fault. ReadsInOrder fault graph.old graph.new vectors.old vectors.new) }
+    // The first text that is none of its kind is refused, for a right reason. A device is named only where
+    // it failed in this call, and no failure of one is passed over. Each source is read to its end before
+    // the next. With any other fault than that of a write nothing was written.
+    ensures stops { StopsRightly Rounding.Down result
+        M.reads M.failures model.old model.new
+        G.reads G.failures graph.old graph.new
+        V.reads V.failures vectors.old vectors.new
+        W.failures sink.old sink.new }
 
-    // With any other fault nothing was written; and lowering, raising and printing are no part of a check.
-    ensures untouched { (fault : RunFault) → IsErrOf result fault → fault ≢ RunFault.Write → sink.new ≡ sink.old }
-    ensures not_lowering { (fault : _) → IsErrOf result (RunFault.Lower fault) → ⊥ }
-    ensures not_raising { (fault : _) → IsErrOf result (RunFault.Raise fault) → ⊥ }
-    ensures not_printing { IsErrOf result RunFault.TooLargeToPrint → ⊥ }
+    // Nothing but the faults of a check is answered.
+    ensures of_a_check { IfErr result IsCheckRunFault }
 {
     run_check_watched(alloc, model, graph, vectors, sink, &mut Unwatched)
 }
 
-/// The same, and `watch` is told how far the check is: of each node when all of its pairs have passed. Every clause is that of
-/// `run_check`.
+/// The same, and `watch` is told how far the check is: of each node when all of its pairs have passed.
+/// Every clause is that of `run_check`.
+// (Six parameters: each of the devices is of a type of its own, and whoever calls has them apart.)
 pub fn run_check_watched<M: Source, G: Source, V: Source, W: Sink, O: Watch>(
     alloc: Global,
     model: &mut M,
@@ -199,27 +193,16 @@ pub fn run_check_watched<M: Source, G: Source, V: Source, W: Sink, O: Watch>(
         × HasStartPromise (text_of M.reads model.old model.new) (text_of G.reads graph.old graph.new)
         (text_of V.reads vectors.old vectors.new) line
         × Takes W.writes sink.old line sink.new }
-    ensures model_refused { (fault : _) → IsErrOf result (RunFault.Text (Fault.Model fault))
-        → EachTextThatFits M.reads model.old model.new (λ text. IsModelFault text fault) }
-    ensures graph_refused { (fault : _) → IsErrOf result (RunFault.Text (Fault.Graph fault))
-        → (first : List ℕ) × IsText M.reads model.old first model.new
-        × EachTextThatFits G.reads graph.old graph.new (IsGraphRefused first fault) }
-    ensures vectors_refused { (fault : _) → IsErrOf result (RunFault.Text (Fault.Vectors fault))
-        → (first second : List ℕ) × IsText M.reads model.old first model.new × IsText G.reads graph.old second graph.new
-        × EachTextThatFits V.reads vectors.old vectors.new (AreVectorsRefused first second fault) }
-    ensures model_read { IsNamedRightly (IsErrOf result RunFault.ReadModel) (M.failures model.old) (M.failures model.new) }
-    ensures graph_read { IsNamedRightly (IsErrOf result RunFault.ReadGraph) (G.failures graph.old) (G.failures graph.new) }
-    ensures vectors_read { IsNamedRightly (IsErrOf result RunFault.ReadVectors) (V.failures vectors.old) (V.failures vectors.new) }
-    ensures write { IsNamedRightly (IsErrOf result RunFault.Write) (W.failures sink.old) (W.failures sink.new) }
     ensures begun { IsErrOf result RunFault.Write → (verdict : Verdict) × (line : List ℕ)
         × HasVerdict (text_of M.reads model.old model.new) (text_of G.reads graph.old graph.new)
         (text_of V.reads vectors.old vectors.new) verdict line
         × TakesFront W.writes sink.old line sink.new }
-    ensures in_order { IfErr result (λ fault. ReadsInOrder fault graph.old graph.new vectors.old vectors.new) }
-    ensures untouched { (fault : RunFault) → IsErrOf result fault → fault ≢ RunFault.Write → sink.new ≡ sink.old }
-    ensures not_lowering { (fault : _) → IsErrOf result (RunFault.Lower fault) → ⊥ }
-    ensures not_raising { (fault : _) → IsErrOf result (RunFault.Raise fault) → ⊥ }
-    ensures not_printing { IsErrOf result RunFault.TooLargeToPrint → ⊥ }
+    ensures stops { StopsRightly Rounding.Down result
+        M.reads M.failures model.old model.new
+        G.reads G.failures graph.old graph.new
+        V.reads V.failures vectors.old vectors.new
+        W.failures sink.old sink.new }
+    ensures of_a_check { IfErr result IsCheckRunFault }
 {
     let read = read_controller(alloc, Rounding::Down, model, graph, vectors)?;
     write_answer(&read, sink, watch)
@@ -233,30 +216,36 @@ fn write_answer<W: Sink, O: Watch>(
 ) -> Result<Verdict, RunFault>
     requires fits { Fits (table_of (meaning read.now.model)) read.now.graph read.now.vectors }
     ensures answered { IfOk result (λ verdict. (line : List ℕ)
-        × IsAnswerLine IsVerdict IsVerdictLine (meaning read.now.model) read.now.graph read.now.vectors verdict line
+        × IsAnswerLine IsVerdict IsVerdictLine (meaning read.now.model)
+        read.now.graph read.now.vectors verdict line
         × Takes W.writes sink.old line sink.new) }
     ensures begun { IsErrOf result RunFault.Write → (verdict : Verdict) × (line : List ℕ)
-        × IsAnswerLine IsVerdict IsVerdictLine (meaning read.now.model) read.now.graph read.now.vectors verdict line
+        × IsAnswerLine IsVerdict IsVerdictLine (meaning read.now.model)
+        read.now.graph read.now.vectors verdict line
         × TakesFront W.writes sink.old line sink.new }
-    ensures write { IsNamedRightly (IsErrOf result RunFault.Write) (W.failures sink.old) (W.failures sink.new) }
+    ensures write { IsNamedRightly (IsErrOf result RunFault.Write)
+        (W.failures sink.old) (W.failures sink.new) }
     ensures of_write { IfErr result (λ fault. fault ≡ RunFault.Write) }
     ensures no_read { IfErr result IsNoReadFault }
 {
     let verdict = check_watched(&read.model, &read.graph, &read.vectors, watch);
-    match write_verdict(&read.model, &read.graph, &read.vectors, verdict, sink) {
+    let line = line_of_verdict(&read.model, &read.graph, &read.vectors, verdict);
+    match write_verdict(line, sink) {
         Ok(()) => Ok(verdict),
         Err(_) => Err(RunFault::Write),
     }
 }
 
-/// Reads a model, a policy graph and the graph's vectors from three sources, lowers the vectors by the least constant, in
-/// millionths, by which they pass the check, writes them in full form, and nothing else, and answers the constant. Nothing
-/// is written before all three texts are accepted and the constant is known.
+/// Reads a model, a policy graph and the graph's vectors from three sources, lowers the vectors by the
+/// least constant, in millionths, by which they pass the check, writes them in full form, and nothing else,
+/// and answers the constant. Nothing is written before all three texts are accepted and the constant is
+/// known.
 ///
 /// # Errors
 ///
-/// `Text` where a text is refused or memory is wanting to read it, `ReadModel`, `ReadGraph` or `ReadVectors` where a read of
-/// that source failed, `Write` where a write failed, and `Lower` where the vectors can't be lowered to pass.
+/// `Text` where a text is refused or memory is wanting to read it, `ReadModel`, `ReadGraph` or
+/// `ReadVectors` where a read of that source failed, `Write` where a write failed, and `Lower` where the
+/// vectors can't be lowered to pass.
 pub fn run_lower<M: Source, G: Source, V: Source, W: Sink>(
     alloc: Global,
     model: &mut M,
@@ -264,8 +253,8 @@ pub fn run_lower<M: Source, G: Source, V: Source, W: Sink>(
     vectors: &mut V,
     sink: &mut W,
 ) -> Result<i64, RunFault>
-    // The sink took exactly the lowered vectors in full form. The answer to the model's text, the graph's text and this
-    // text is yes, and the headline holds of them.
+    // The sink took exactly the lowered vectors in full form. The answer to the model's text, the graph's
+    // text and this text is yes, and the headline holds of them.
     ensures lowered { IfOk result (λ by. (text : List ℕ)
         × HasLowered (text_of M.reads model.old model.new) (text_of G.reads graph.old graph.new)
         (text_of V.reads vectors.old vectors.new) by text
@@ -276,41 +265,29 @@ pub fn run_lower<M: Source, G: Source, V: Source, W: Sink>(
         → IsNotLowerable (text_of M.reads model.old model.new) (text_of G.reads graph.old graph.new)
         (text_of V.reads vectors.old vectors.new) fault }
 
-    // No text that fits what was read of a source is a model's; or behind the first text a graph's; or behind the first
-    // two the graph's vectors; and the fault is a right refusal of each of them.
-    ensures model_refused { (fault : _) → IsErrOf result (RunFault.Text (Fault.Model fault))
-        → EachTextThatFits M.reads model.old model.new (λ text. IsModelFault text fault) }
-    ensures graph_refused { (fault : _) → IsErrOf result (RunFault.Text (Fault.Graph fault))
-        → (first : List ℕ) × IsText M.reads model.old first model.new
-        × EachTextThatFits G.reads graph.old graph.new (IsGraphRefused first fault) }
-    ensures vectors_refused { (fault : _) → IsErrOf result (RunFault.Text (Fault.Vectors fault))
-        → (first second : List ℕ) × IsText M.reads model.old first model.new × IsText G.reads graph.old second graph.new
-        × EachTextThatFits V.reads vectors.old vectors.new (AreVectorsRefused first second fault) }
-
-    // A device is named only where it failed in this call, and no failure of one is passed over.
-    ensures model_read { IsNamedRightly (IsErrOf result RunFault.ReadModel) (M.failures model.old) (M.failures model.new) }
-    ensures graph_read { IsNamedRightly (IsErrOf result RunFault.ReadGraph) (G.failures graph.old) (G.failures graph.new) }
-    ensures vectors_read { IsNamedRightly (IsErrOf result RunFault.ReadVectors) (V.failures vectors.old) (V.failures vectors.new) }
-    ensures write { IsNamedRightly (IsErrOf result RunFault.Write) (W.failures sink.old) (W.failures sink.new) }
-
     // Where a write failed, what was written before is a beginning of the lowered vectors.
     ensures begun { IsErrOf result RunFault.Write → (by : ℤ) × (text : List ℕ)
         × HasLowered (text_of M.reads model.old model.new) (text_of G.reads graph.old graph.new)
         (text_of V.reads vectors.old vectors.new) by text
         × TakesFront W.writes sink.old text sink.new }
 
-    // Each source is read to its end before the next.
-    ensures in_order { IfErr result (λ fault. ReadsInOrder fault graph.old graph.new vectors.old vectors.new) }
+    // The first text that is none of its kind is refused, for a right reason. A device is named only where
+    // it failed in this call, and no failure of one is passed over. Each source is read to its end before
+    // the next. With any other fault than that of a write nothing was written.
+    ensures stops { StopsRightly Rounding.Down result
+        M.reads M.failures model.old model.new
+        G.reads G.failures graph.old graph.new
+        V.reads V.failures vectors.old vectors.new
+        W.failures sink.old sink.new }
 
-    // With any other fault nothing was written; and raising and printing are no part of a lowering.
-    ensures untouched { (fault : RunFault) → IsErrOf result fault → fault ≢ RunFault.Write → sink.new ≡ sink.old }
-    ensures not_raising { (fault : _) → IsErrOf result (RunFault.Raise fault) → ⊥ }
-    ensures not_printing { IsErrOf result RunFault.TooLargeToPrint → ⊥ }
+    // Nothing but the faults of a lowering is answered.
+    ensures of_a_lowering { IfErr result IsLowerRunFault }
 {
     run_lower_watched(alloc, model, graph, vectors, sink, &mut Unwatched)
 }
 
 /// The same, and `watch` is told how far it is: of each node once. Every clause is that of `run_lower`.
+// (Six parameters: each of the devices is of a type of its own, and whoever calls has them apart.)
 pub fn run_lower_watched<M: Source, G: Source, V: Source, W: Sink, O: Watch>(
     alloc: Global,
     model: &mut M,
@@ -326,26 +303,16 @@ pub fn run_lower_watched<M: Source, G: Source, V: Source, W: Sink, O: Watch>(
     ensures not_lowered { (fault : _) → IsErrOf result (RunFault.Lower fault)
         → IsNotLowerable (text_of M.reads model.old model.new) (text_of G.reads graph.old graph.new)
         (text_of V.reads vectors.old vectors.new) fault }
-    ensures model_refused { (fault : _) → IsErrOf result (RunFault.Text (Fault.Model fault))
-        → EachTextThatFits M.reads model.old model.new (λ text. IsModelFault text fault) }
-    ensures graph_refused { (fault : _) → IsErrOf result (RunFault.Text (Fault.Graph fault))
-        → (first : List ℕ) × IsText M.reads model.old first model.new
-        × EachTextThatFits G.reads graph.old graph.new (IsGraphRefused first fault) }
-    ensures vectors_refused { (fault : _) → IsErrOf result (RunFault.Text (Fault.Vectors fault))
-        → (first second : List ℕ) × IsText M.reads model.old first model.new × IsText G.reads graph.old second graph.new
-        × EachTextThatFits V.reads vectors.old vectors.new (AreVectorsRefused first second fault) }
-    ensures model_read { IsNamedRightly (IsErrOf result RunFault.ReadModel) (M.failures model.old) (M.failures model.new) }
-    ensures graph_read { IsNamedRightly (IsErrOf result RunFault.ReadGraph) (G.failures graph.old) (G.failures graph.new) }
-    ensures vectors_read { IsNamedRightly (IsErrOf result RunFault.ReadVectors) (V.failures vectors.old) (V.failures vectors.new) }
-    ensures write { IsNamedRightly (IsErrOf result RunFault.Write) (W.failures sink.old) (W.failures sink.new) }
     ensures begun { IsErrOf result RunFault.Write → (by : ℤ) × (text : List ℕ)
         × HasLowered (text_of M.reads model.old model.new) (text_of G.reads graph.old graph.new)
         (text_of V.reads vectors.old vectors.new) by text
         × TakesFront W.writes sink.old text sink.new }
-    ensures in_order { IfErr result (λ fault. ReadsInOrder fault graph.old graph.new vectors.old vectors.new) }
-    ensures untouched { (fault : RunFault) → IsErrOf result fault → fault ≢ RunFault.Write → sink.new ≡ sink.old }
-    ensures not_raising { (fault : _) → IsErrOf result (RunFault.Raise fault) → ⊥ }
-    ensures not_printing { IsErrOf result RunFault.TooLargeToPrint → ⊥ }
+    ensures stops { StopsRightly Rounding.Down result
+        M.reads M.failures model.old model.new
+        G.reads G.failures graph.old graph.new
+        V.reads V.failures vectors.old vectors.new
+        W.failures sink.old sink.new }
+    ensures of_a_lowering { IfErr result IsLowerRunFault }
 {
     let given = read_controller(alloc, Rounding::Down, model, graph, vectors)?;
     write_lower_vectors(alloc, &given, sink, watch)
@@ -363,12 +330,15 @@ fn write_lower_vectors<W: Sink, O: Watch>(
         × AreLowered (meaning given.now.model) given.now.graph given.now.vectors by text
         × Takes W.writes sink.old text sink.new) }
     ensures not_lowered { (fault : _) → IsErrOf result (RunFault.Lower fault)
-        → IsWhy (controller_of (table_of (meaning given.now.model)) given.now.graph given.now.vectors) given.now.vectors fault }
+        → IsWhy (controller_of (table_of (meaning given.now.model)) given.now.graph given.now.vectors)
+        given.now.vectors fault }
     ensures begun { IsErrOf result RunFault.Write → (by : ℤ) × (text : List ℕ)
         × AreLowered (meaning given.now.model) given.now.graph given.now.vectors by text
         × TakesFront W.writes sink.old text sink.new }
-    ensures write { IsNamedRightly (IsErrOf result RunFault.Write) (W.failures sink.old) (W.failures sink.new) }
-    ensures untouched { (fault : RunFault) → IsErrOf result fault → fault ≢ RunFault.Write → sink.new ≡ sink.old }
+    ensures write { IsNamedRightly (IsErrOf result RunFault.Write)
+        (W.failures sink.old) (W.failures sink.new) }
+    ensures untouched { (fault : RunFault) → IsErrOf result fault
+        → fault ≢ RunFault.Write → sink.new ≡ sink.old }
     ensures no_read { IfErr result IsNoReadFault }
     ensures not_raising { (fault : _) → IsErrOf result (RunFault.Raise fault) → ⊥ }
 {

@@ -1,33 +1,32 @@
 //! Runs from sources to sinks that bound what a graph earns from above.
 ghost use Rattle.std.specs.Prelude.{◌≡◌, ◌≢◌, ℕ, ℤ, List, Ok, IfOk, IfErr, IsErrOf};
 ghost use Rattle.polcert_text.specs.Sink.{Takes, TakesFront};
-ghost use Rattle.polcert_text.specs.Source.{IsText, EachTextThatFits};
 ghost use Rattle.polcert_cells.specs.Tables.{table_of};
 ghost use Rattle.polcert_model.specs.Contents.{meaning};
 ghost use Rattle.polcert_check.specs.Horizon.{Fits, controller_of};
 ghost use Rattle.polcert_check.specs.Above.{IsAboveVerdict};
 ghost use Rattle.polcert_answer.specs.Lines.{IsAboveVerdictLine};
-ghost use Rattle.polcert_answer.specs.Answer.{IsModelFault, IsGraphRefused, AreRoundedVectorsRefused};
 ghost use Rattle.polcert_answer.specs.Reading.{IsAnswerLine, AreRaised, IsNoReadFault};
-ghost use Rattle.polcert_answer.specs.Run.{IsNamedRightly, ReadsInOrder, text_of};
+ghost use Rattle.polcert_answer.specs.Run.{IsNamedRightly, StopsRightly, IsCheckRunFault, IsRaiseRunFault, text_of};
 ghost use Rattle.polcert_answer.specs.RunAbove.{HasVerdictAbove, HavePromiseAbove, HasStartPromiseAbove, HasRaised, IsWhyNotRaised, IsNotRaisable};
 
 use crate::controller::{Controller, read_controller};
-use crate::fault::{Fault, RunFault};
+use crate::fault::RunFault;
 use crate::forms::write_full_vectors;
-use crate::lines::write_above_verdict;
+use crate::lines::{line_of_above_verdict, write_verdict};
 use polcert_check::{AboveVerdict, Unwatched, Watch, check_above_watched, raised_watched};
 use polcert_text::{Rounding, Sink, Source};
 use std::alloc::Global;
 
-/// Reads a model, a policy graph and the graph's vectors, each value rounded up, from three sources, checks whether they bound what
-/// the graph earns from above, writes the line of the verdict, and nothing else, and answers the verdict. Nothing is written before
-/// all three texts are accepted and the verdict is known.
+/// Reads a model, a policy graph and the graph's vectors, each value rounded up, from three sources, checks
+/// whether they bound what the graph earns from above, writes the line of the verdict, and nothing else,
+/// and answers the verdict. Nothing is written before all three texts are accepted and the verdict is
+/// known.
 ///
 /// # Errors
 ///
-/// `Text` where a text is refused or memory is wanting to read it, `ReadModel`, `ReadGraph` or `ReadVectors` where a read of
-/// that source failed, `Write` where a write failed.
+/// `Text` where a text is refused or memory is wanting to read it, `ReadModel`, `ReadGraph` or
+/// `ReadVectors` where a read of that source failed, `Write` where a write failed.
 pub fn run_check_above<M: Source, G: Source, V: Source, W: Sink>(
     alloc: Global,
     model: &mut M,
@@ -41,8 +40,8 @@ pub fn run_check_above<M: Source, G: Source, V: Source, W: Sink>(
         (text_of V.reads vectors.old vectors.new) verdict line
         × Takes W.writes sink.old line sink.new) }
 
-    // The headline from above: a yes bounds what the texts that were read denote, for every number of steps, every node and every
-    // state; and for the rewards alone, without the vectors at the end.
+    // The headline from above: a yes bounds what the texts that were read denote, for every number of
+    // steps, every node and every state; and for the rewards alone, without the vectors at the end.
     ensures promise { result ≡ Ok AboveVerdict.Yes → HavePromiseAbove (text_of M.reads model.old model.new)
         (text_of G.reads graph.old graph.new) (text_of V.reads vectors.old vectors.new) }
 
@@ -52,43 +51,30 @@ pub fn run_check_above<M: Source, G: Source, V: Source, W: Sink>(
         (text_of V.reads vectors.old vectors.new) line
         × Takes W.writes sink.old line sink.new }
 
-    // No text that fits what was read of a source is a model's; or behind the first text a graph's; or behind the first
-    // two the graph's vectors; and the fault is a right refusal of each of them.
-    ensures model_refused { (fault : _) → IsErrOf result (RunFault.Text (Fault.Model fault))
-        → EachTextThatFits M.reads model.old model.new (λ text. IsModelFault text fault) }
-    ensures graph_refused { (fault : _) → IsErrOf result (RunFault.Text (Fault.Graph fault))
-        → (first : List ℕ) × IsText M.reads model.old first model.new
-        × EachTextThatFits G.reads graph.old graph.new (IsGraphRefused first fault) }
-    ensures vectors_refused { (fault : _) → IsErrOf result (RunFault.Text (Fault.Vectors fault))
-        → (first second : List ℕ) × IsText M.reads model.old first model.new × IsText G.reads graph.old second graph.new
-        × EachTextThatFits V.reads vectors.old vectors.new (AreRoundedVectorsRefused Rounding.Up first second fault) }
-
-    // A device is named only where it failed in this call, and no failure of one is passed over.
-    ensures model_read { IsNamedRightly (IsErrOf result RunFault.ReadModel) (M.failures model.old) (M.failures model.new) }
-    ensures graph_read { IsNamedRightly (IsErrOf result RunFault.ReadGraph) (G.failures graph.old) (G.failures graph.new) }
-    ensures vectors_read { IsNamedRightly (IsErrOf result RunFault.ReadVectors) (V.failures vectors.old) (V.failures vectors.new) }
-    ensures write { IsNamedRightly (IsErrOf result RunFault.Write) (W.failures sink.old) (W.failures sink.new) }
-
     // Where a write failed, what was written before is a beginning of the line.
     ensures begun { IsErrOf result RunFault.Write → (verdict : AboveVerdict) × (line : List ℕ)
         × HasVerdictAbove (text_of M.reads model.old model.new) (text_of G.reads graph.old graph.new)
         (text_of V.reads vectors.old vectors.new) verdict line
         × TakesFront W.writes sink.old line sink.new }
 
-    // Each source is read to its end before the next.
-    ensures in_order { IfErr result (λ fault. ReadsInOrder fault graph.old graph.new vectors.old vectors.new) }
+    // The first text that is none of its kind is refused, for a right reason. A device is named only where
+    // it failed in this call, and no failure of one is passed over. Each source is read to its end before
+    // the next. With any other fault than that of a write nothing was written.
+    ensures stops { StopsRightly Rounding.Up result
+        M.reads M.failures model.old model.new
+        G.reads G.failures graph.old graph.new
+        V.reads V.failures vectors.old vectors.new
+        W.failures sink.old sink.new }
 
-    // With any other fault nothing was written; and lowering, raising and printing are no part of a check.
-    ensures untouched { (fault : RunFault) → IsErrOf result fault → fault ≢ RunFault.Write → sink.new ≡ sink.old }
-    ensures not_lowering { (fault : _) → IsErrOf result (RunFault.Lower fault) → ⊥ }
-    ensures not_raising { (fault : _) → IsErrOf result (RunFault.Raise fault) → ⊥ }
-    ensures not_printing { IsErrOf result RunFault.TooLargeToPrint → ⊥ }
+    // Nothing but the faults of a check is answered.
+    ensures of_a_check { IfErr result IsCheckRunFault }
 {
     run_check_above_watched(alloc, model, graph, vectors, sink, &mut Unwatched)
 }
 
-/// The same, and `watch` is told how far the check is: of each node when all of its pairs have passed. Every clause is that of
-/// `run_check_above`.
+/// The same, and `watch` is told how far the check is: of each node when all of its pairs have passed.
+/// Every clause is that of `run_check_above`.
+// (Six parameters: each of the devices is of a type of its own, and whoever calls has them apart.)
 pub fn run_check_above_watched<M: Source, G: Source, V: Source, W: Sink, O: Watch>(
     alloc: Global,
     model: &mut M,
@@ -107,27 +93,16 @@ pub fn run_check_above_watched<M: Source, G: Source, V: Source, W: Sink, O: Watc
         × HasStartPromiseAbove (text_of M.reads model.old model.new) (text_of G.reads graph.old graph.new)
         (text_of V.reads vectors.old vectors.new) line
         × Takes W.writes sink.old line sink.new }
-    ensures model_refused { (fault : _) → IsErrOf result (RunFault.Text (Fault.Model fault))
-        → EachTextThatFits M.reads model.old model.new (λ text. IsModelFault text fault) }
-    ensures graph_refused { (fault : _) → IsErrOf result (RunFault.Text (Fault.Graph fault))
-        → (first : List ℕ) × IsText M.reads model.old first model.new
-        × EachTextThatFits G.reads graph.old graph.new (IsGraphRefused first fault) }
-    ensures vectors_refused { (fault : _) → IsErrOf result (RunFault.Text (Fault.Vectors fault))
-        → (first second : List ℕ) × IsText M.reads model.old first model.new × IsText G.reads graph.old second graph.new
-        × EachTextThatFits V.reads vectors.old vectors.new (AreRoundedVectorsRefused Rounding.Up first second fault) }
-    ensures model_read { IsNamedRightly (IsErrOf result RunFault.ReadModel) (M.failures model.old) (M.failures model.new) }
-    ensures graph_read { IsNamedRightly (IsErrOf result RunFault.ReadGraph) (G.failures graph.old) (G.failures graph.new) }
-    ensures vectors_read { IsNamedRightly (IsErrOf result RunFault.ReadVectors) (V.failures vectors.old) (V.failures vectors.new) }
-    ensures write { IsNamedRightly (IsErrOf result RunFault.Write) (W.failures sink.old) (W.failures sink.new) }
     ensures begun { IsErrOf result RunFault.Write → (verdict : AboveVerdict) × (line : List ℕ)
         × HasVerdictAbove (text_of M.reads model.old model.new) (text_of G.reads graph.old graph.new)
         (text_of V.reads vectors.old vectors.new) verdict line
         × TakesFront W.writes sink.old line sink.new }
-    ensures in_order { IfErr result (λ fault. ReadsInOrder fault graph.old graph.new vectors.old vectors.new) }
-    ensures untouched { (fault : RunFault) → IsErrOf result fault → fault ≢ RunFault.Write → sink.new ≡ sink.old }
-    ensures not_lowering { (fault : _) → IsErrOf result (RunFault.Lower fault) → ⊥ }
-    ensures not_raising { (fault : _) → IsErrOf result (RunFault.Raise fault) → ⊥ }
-    ensures not_printing { IsErrOf result RunFault.TooLargeToPrint → ⊥ }
+    ensures stops { StopsRightly Rounding.Up result
+        M.reads M.failures model.old model.new
+        G.reads G.failures graph.old graph.new
+        V.reads V.failures vectors.old vectors.new
+        W.failures sink.old sink.new }
+    ensures of_a_check { IfErr result IsCheckRunFault }
 {
     let read = read_controller(alloc, Rounding::Up, model, graph, vectors)?;
     write_answer_above(&read, sink, watch)
@@ -141,30 +116,36 @@ fn write_answer_above<W: Sink, O: Watch>(
 ) -> Result<AboveVerdict, RunFault>
     requires fits { Fits (table_of (meaning read.now.model)) read.now.graph read.now.vectors }
     ensures answered { IfOk result (λ verdict. (line : List ℕ)
-        × IsAnswerLine IsAboveVerdict IsAboveVerdictLine (meaning read.now.model) read.now.graph read.now.vectors verdict line
+        × IsAnswerLine IsAboveVerdict IsAboveVerdictLine (meaning read.now.model)
+        read.now.graph read.now.vectors verdict line
         × Takes W.writes sink.old line sink.new) }
     ensures begun { IsErrOf result RunFault.Write → (verdict : AboveVerdict) × (line : List ℕ)
-        × IsAnswerLine IsAboveVerdict IsAboveVerdictLine (meaning read.now.model) read.now.graph read.now.vectors verdict line
+        × IsAnswerLine IsAboveVerdict IsAboveVerdictLine (meaning read.now.model)
+        read.now.graph read.now.vectors verdict line
         × TakesFront W.writes sink.old line sink.new }
-    ensures write { IsNamedRightly (IsErrOf result RunFault.Write) (W.failures sink.old) (W.failures sink.new) }
+    ensures write { IsNamedRightly (IsErrOf result RunFault.Write)
+        (W.failures sink.old) (W.failures sink.new) }
     ensures of_write { IfErr result (λ fault. fault ≡ RunFault.Write) }
     ensures no_read { IfErr result IsNoReadFault }
 {
     let verdict = check_above_watched(&read.model, &read.graph, &read.vectors, watch);
-    match write_above_verdict(&read.model, &read.graph, &read.vectors, verdict, sink) {
+    let line = line_of_above_verdict(&read.model, &read.graph, &read.vectors, verdict);
+    match write_verdict(line, sink) {
         Ok(()) => Ok(verdict),
         Err(_) => Err(RunFault::Write),
     }
 }
 
-/// Reads a model, a policy graph and the graph's vectors, each value rounded up, from three sources, raises the vectors by the least
-/// constant, in millionths, by which they pass the check from above, writes them in full form, and nothing else, and answers the
-/// constant. Nothing is written before all three texts are accepted and the constant is known.
+/// Reads a model, a policy graph and the graph's vectors, each value rounded up, from three sources, raises
+/// the vectors by the least constant, in millionths, by which they pass the check from above, writes them
+/// in full form, and nothing else, and answers the constant. Nothing is written before all three texts are
+/// accepted and the constant is known.
 ///
 /// # Errors
 ///
-/// `Text` where a text is refused or memory is wanting to read it, `ReadModel`, `ReadGraph` or `ReadVectors` where a read of
-/// that source failed, `Write` where a write failed, and `Raise` where the vectors can't be raised to pass from above.
+/// `Text` where a text is refused or memory is wanting to read it, `ReadModel`, `ReadGraph` or
+/// `ReadVectors` where a read of that source failed, `Write` where a write failed, and `Raise` where the
+/// vectors can't be raised to pass from above.
 pub fn run_raise<M: Source, G: Source, V: Source, W: Sink>(
     alloc: Global,
     model: &mut M,
@@ -172,8 +153,8 @@ pub fn run_raise<M: Source, G: Source, V: Source, W: Sink>(
     vectors: &mut V,
     sink: &mut W,
 ) -> Result<i64, RunFault>
-    // The sink took exactly the raised vectors in full form. The answer from above to the model's text, the graph's text and this
-    // text is yes, and the headline from above holds of them.
+    // The sink took exactly the raised vectors in full form. The answer from above to the model's text, the
+    // graph's text and this text is yes, and the headline from above holds of them.
     ensures raised { IfOk result (λ by. (text : List ℕ)
         × HasRaised (text_of M.reads model.old model.new) (text_of G.reads graph.old graph.new)
         (text_of V.reads vectors.old vectors.new) by text
@@ -184,41 +165,29 @@ pub fn run_raise<M: Source, G: Source, V: Source, W: Sink>(
         → IsNotRaisable (text_of M.reads model.old model.new) (text_of G.reads graph.old graph.new)
         (text_of V.reads vectors.old vectors.new) fault }
 
-    // No text that fits what was read of a source is a model's; or behind the first text a graph's; or behind the first
-    // two the graph's vectors; and the fault is a right refusal of each of them.
-    ensures model_refused { (fault : _) → IsErrOf result (RunFault.Text (Fault.Model fault))
-        → EachTextThatFits M.reads model.old model.new (λ text. IsModelFault text fault) }
-    ensures graph_refused { (fault : _) → IsErrOf result (RunFault.Text (Fault.Graph fault))
-        → (first : List ℕ) × IsText M.reads model.old first model.new
-        × EachTextThatFits G.reads graph.old graph.new (IsGraphRefused first fault) }
-    ensures vectors_refused { (fault : _) → IsErrOf result (RunFault.Text (Fault.Vectors fault))
-        → (first second : List ℕ) × IsText M.reads model.old first model.new × IsText G.reads graph.old second graph.new
-        × EachTextThatFits V.reads vectors.old vectors.new (AreRoundedVectorsRefused Rounding.Up first second fault) }
-
-    // A device is named only where it failed in this call, and no failure of one is passed over.
-    ensures model_read { IsNamedRightly (IsErrOf result RunFault.ReadModel) (M.failures model.old) (M.failures model.new) }
-    ensures graph_read { IsNamedRightly (IsErrOf result RunFault.ReadGraph) (G.failures graph.old) (G.failures graph.new) }
-    ensures vectors_read { IsNamedRightly (IsErrOf result RunFault.ReadVectors) (V.failures vectors.old) (V.failures vectors.new) }
-    ensures write { IsNamedRightly (IsErrOf result RunFault.Write) (W.failures sink.old) (W.failures sink.new) }
-
     // Where a write failed, what was written before is a beginning of the raised vectors.
     ensures begun { IsErrOf result RunFault.Write → (by : ℤ) × (text : List ℕ)
         × HasRaised (text_of M.reads model.old model.new) (text_of G.reads graph.old graph.new)
         (text_of V.reads vectors.old vectors.new) by text
         × TakesFront W.writes sink.old text sink.new }
 
-    // Each source is read to its end before the next.
-    ensures in_order { IfErr result (λ fault. ReadsInOrder fault graph.old graph.new vectors.old vectors.new) }
+    // The first text that is none of its kind is refused, for a right reason. A device is named only where
+    // it failed in this call, and no failure of one is passed over. Each source is read to its end before
+    // the next. With any other fault than that of a write nothing was written.
+    ensures stops { StopsRightly Rounding.Up result
+        M.reads M.failures model.old model.new
+        G.reads G.failures graph.old graph.new
+        V.reads V.failures vectors.old vectors.new
+        W.failures sink.old sink.new }
 
-    // With any other fault nothing was written; and lowering and printing are no part of a raise.
-    ensures untouched { (fault : RunFault) → IsErrOf result fault → fault ≢ RunFault.Write → sink.new ≡ sink.old }
-    ensures not_lowering { (fault : _) → IsErrOf result (RunFault.Lower fault) → ⊥ }
-    ensures not_printing { IsErrOf result RunFault.TooLargeToPrint → ⊥ }
+    // Nothing but the faults of a raise is answered.
+    ensures of_a_raise { IfErr result IsRaiseRunFault }
 {
     run_raise_watched(alloc, model, graph, vectors, sink, &mut Unwatched)
 }
 
 /// The same, and `watch` is told how far it is: of each node once. Every clause is that of `run_raise`.
+// (Six parameters: each of the devices is of a type of its own, and whoever calls has them apart.)
 pub fn run_raise_watched<M: Source, G: Source, V: Source, W: Sink, O: Watch>(
     alloc: Global,
     model: &mut M,
@@ -234,26 +203,16 @@ pub fn run_raise_watched<M: Source, G: Source, V: Source, W: Sink, O: Watch>(
     ensures not_raised { (fault : _) → IsErrOf result (RunFault.Raise fault)
         → IsNotRaisable (text_of M.reads model.old model.new) (text_of G.reads graph.old graph.new)
         (text_of V.reads vectors.old vectors.new) fault }
-    ensures model_refused { (fault : _) → IsErrOf result (RunFault.Text (Fault.Model fault))
-        → EachTextThatFits M.reads model.old model.new (λ text. IsModelFault text fault) }
-    ensures graph_refused { (fault : _) → IsErrOf result (RunFault.Text (Fault.Graph fault))
-        → (first : List ℕ) × IsText M.reads model.old first model.new
-        × EachTextThatFits G.reads graph.old graph.new (IsGraphRefused first fault) }
-    ensures vectors_refused { (fault : _) → IsErrOf result (RunFault.Text (Fault.Vectors fault))
-        → (first second : List ℕ) × IsText M.reads model.old first model.new × IsText G.reads graph.old second graph.new
-        × EachTextThatFits V.reads vectors.old vectors.new (AreRoundedVectorsRefused Rounding.Up first second fault) }
-    ensures model_read { IsNamedRightly (IsErrOf result RunFault.ReadModel) (M.failures model.old) (M.failures model.new) }
-    ensures graph_read { IsNamedRightly (IsErrOf result RunFault.ReadGraph) (G.failures graph.old) (G.failures graph.new) }
-    ensures vectors_read { IsNamedRightly (IsErrOf result RunFault.ReadVectors) (V.failures vectors.old) (V.failures vectors.new) }
-    ensures write { IsNamedRightly (IsErrOf result RunFault.Write) (W.failures sink.old) (W.failures sink.new) }
     ensures begun { IsErrOf result RunFault.Write → (by : ℤ) × (text : List ℕ)
         × HasRaised (text_of M.reads model.old model.new) (text_of G.reads graph.old graph.new)
         (text_of V.reads vectors.old vectors.new) by text
         × TakesFront W.writes sink.old text sink.new }
-    ensures in_order { IfErr result (λ fault. ReadsInOrder fault graph.old graph.new vectors.old vectors.new) }
-    ensures untouched { (fault : RunFault) → IsErrOf result fault → fault ≢ RunFault.Write → sink.new ≡ sink.old }
-    ensures not_lowering { (fault : _) → IsErrOf result (RunFault.Lower fault) → ⊥ }
-    ensures not_printing { IsErrOf result RunFault.TooLargeToPrint → ⊥ }
+    ensures stops { StopsRightly Rounding.Up result
+        M.reads M.failures model.old model.new
+        G.reads G.failures graph.old graph.new
+        V.reads V.failures vectors.old vectors.new
+        W.failures sink.old sink.new }
+    ensures of_a_raise { IfErr result IsRaiseRunFault }
 {
     let given = read_controller(alloc, Rounding::Up, model, graph, vectors)?;
     write_raised_vectors(alloc, &given, sink, watch)
@@ -271,12 +230,16 @@ fn write_raised_vectors<W: Sink, O: Watch>(
         × AreRaised (meaning given.now.model) given.now.graph given.now.vectors by text
         × Takes W.writes sink.old text sink.new) }
     ensures not_raised { (fault : _) → IsErrOf result (RunFault.Raise fault)
-        → IsWhyNotRaised (controller_of (table_of (meaning given.now.model)) given.now.graph given.now.vectors) given.now.vectors fault }
+        → IsWhyNotRaised
+        (controller_of (table_of (meaning given.now.model)) given.now.graph given.now.vectors)
+        given.now.vectors fault }
     ensures begun { IsErrOf result RunFault.Write → (by : ℤ) × (text : List ℕ)
         × AreRaised (meaning given.now.model) given.now.graph given.now.vectors by text
         × TakesFront W.writes sink.old text sink.new }
-    ensures write { IsNamedRightly (IsErrOf result RunFault.Write) (W.failures sink.old) (W.failures sink.new) }
-    ensures untouched { (fault : RunFault) → IsErrOf result fault → fault ≢ RunFault.Write → sink.new ≡ sink.old }
+    ensures write { IsNamedRightly (IsErrOf result RunFault.Write)
+        (W.failures sink.old) (W.failures sink.new) }
+    ensures untouched { (fault : RunFault) → IsErrOf result fault
+        → fault ≢ RunFault.Write → sink.new ≡ sink.old }
     ensures no_read { IfErr result IsNoReadFault }
     ensures not_lowering { (fault : _) → IsErrOf result (RunFault.Lower fault) → ⊥ }
 {

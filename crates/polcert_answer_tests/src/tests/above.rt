@@ -25,108 +25,109 @@ fn answer_above(alloc: Global, texts: Texts<'_>) -> Result<AboveVerdict, Fault> 
     check_texts_above(alloc, texts.0, texts.1, texts.2)
 }
 
-fn long(amount: i128) -> AboveVerdict {
-    AboveVerdict::Long {
-        node: 0,
-        state: 0,
-        amount,
-    }
+/// Texts that are answered yes from above, and the line.
+const YES: [(Texts<'static>, &[u8]); 8] = [
+    (
+        (TIGER, b"0 0 0 0", b"0 -20 -20"),
+        b"yes: every start node, at most -20\n",
+    ),
+    (
+        (
+            TIGER,
+            b"0 0 0 0",
+            b"0 -19.9999999999999964 -19.9999999999999964",
+        ),
+        b"yes: every start node, at most -19.999999\n",
+    ),
+    (
+        (COST, b"0 0 0", b"0 -2"),
+        b"yes: every start node, at most -2\n",
+    ),
+    (
+        (LOSS, b"0 0 0", b"0 5"),
+        b"yes: every start node, at most 5\n",
+    ),
+    (
+        (MDP, b"0 0 0 0", b"0 1.3333333 0.6666667"),
+        b"yes: every start node, at most 1.000001\n",
+    ),
+    (
+        (TWO_STATES, b"0 0 0", b"0 -0.000001 -0.000002"),
+        b"yes: every start node, at most -0.000001\n",
+    ),
+    (
+        (TWO_STATES, b"0 0 0 1 0 1", b"0 1 1 0 2 2"),
+        b"yes: every start node, at most 2\n",
+    ),
+    (
+        (ALWAYS_FIRST, b"0 0 0 -", b"0 0"),
+        b"yes: every start node, at most 0\n",
+    ),
+];
+
+/// Texts of which a value is too low at the first node and state, by how much, and the line.
+const TOO_LOW: [(Texts<'static>, i128, &[u8]); 4] = [
+    (BELOW, 200_000_000_000_000_000, LONG),
+    (
+        (GAIN, b"0 0 0", b"0 5"),
+        1_000_000_000_000_000_000_000_000,
+        b"no: node 0, state 0, long by 1\n",
+    ),
+    (
+        (GREAT_GAIN, b"0 0 0", b"0 0"),
+        10_000_000_000_000_000_000_000_000_000_000,
+        b"no: node 0, state 0, long by 10000000\n",
+    ),
+    (
+        (COST, b"0 0 0", b"0 -5"),
+        1_500_000_000_000_000_000_000_000,
+        b"no: node 0, state 0, long by 1.5\n",
+    ),
+];
+
+/// Whether this is the verdict on the texts from above, with its exit status and its line.
+fn is_answered(
+    alloc: Global,
+    texts: Texts<'_>,
+    verdict: AboveVerdict,
+    status: u8,
+    line: &[u8],
+) -> bool {
+    let outcome = over_devices(alloc, Run::CheckAbove, texts, SOUND);
+    answer_above(alloc, texts) == Ok(verdict)
+        && status_of_above_verdict(verdict) == status
+        && outcome.answer == Ok(Answer::SaidAbove(verdict))
+        && outcome.written.as_slice() == line
 }
 
-/// Texts, their verdict from above, its exit status, and its line.
 #[test]
 fn answers_from_above(rt: HostRuntime) {
+    for (texts, line) in YES {
+        assert!(rt; is_answered(rt.alloc(), texts, AboveVerdict::Yes, 0, line));
+    }
+    for (texts, amount, line) in TOO_LOW {
+        let verdict = AboveVerdict::Long {
+            node: 0,
+            state: 0,
+            amount,
+        };
+        assert!(rt; is_answered(rt.alloc(), texts, verdict, 1, line));
+    }
     let lack = AboveVerdict::NoSuccessor {
         node: 0,
         state: 0,
         observation: 1,
     };
-    let rows: [(Texts<'_>, AboveVerdict, u8, &[u8]); 13] = [
-        (
-            (TIGER, b"0 0 0 0", b"0 -20 -20"),
-            AboveVerdict::Yes,
-            0,
-            b"yes: every start node, at most -20\n",
-        ),
-        (
-            (
-                TIGER,
-                b"0 0 0 0",
-                b"0 -19.9999999999999964 -19.9999999999999964",
-            ),
-            AboveVerdict::Yes,
-            0,
-            b"yes: every start node, at most -19.999999\n",
-        ),
-        (BELOW, long(200_000_000_000_000_000), 1, LONG),
-        (
-            (GAIN, b"0 0 0", b"0 5"),
-            long(1_000_000_000_000_000_000_000_000),
-            1,
-            b"no: node 0, state 0, long by 1\n",
-        ),
-        (
-            (GREAT_GAIN, b"0 0 0", b"0 0"),
-            long(10_000_000_000_000_000_000_000_000_000_000),
-            1,
-            b"no: node 0, state 0, long by 10000000\n",
-        ),
-        (
-            (COST, b"0 0 0", b"0 -2"),
-            AboveVerdict::Yes,
-            0,
-            b"yes: every start node, at most -2\n",
-        ),
-        (
-            (COST, b"0 0 0", b"0 -5"),
-            long(1_500_000_000_000_000_000_000_000),
-            1,
-            b"no: node 0, state 0, long by 1.5\n",
-        ),
-        (
-            (LOSS, b"0 0 0", b"0 5"),
-            AboveVerdict::Yes,
-            0,
-            b"yes: every start node, at most 5\n",
-        ),
-        (
-            (MDP, b"0 0 0 0", b"0 1.3333333 0.6666667"),
-            AboveVerdict::Yes,
-            0,
-            b"yes: every start node, at most 1.000001\n",
-        ),
-        (
-            (TWO_STATES, b"0 0 0", b"0 -0.000001 -0.000002"),
-            AboveVerdict::Yes,
-            0,
-            b"yes: every start node, at most -0.000001\n",
-        ),
-        (
-            (TWO_STATES, b"0 0 0 1 0 1", b"0 1 1 0 2 2"),
-            AboveVerdict::Yes,
-            0,
-            b"yes: every start node, at most 2\n",
-        ),
-        (
-            (ALWAYS_FIRST, b"0 0 0 -", b"0 0"),
-            AboveVerdict::Yes,
-            0,
-            b"yes: every start node, at most 0\n",
-        ),
-        (
-            (EITHER, b"0 0 0 -", b"0 -5"),
+    let texts: Texts<'_> = (EITHER, b"0 0 0 -", b"0 -5");
+    assert!(rt;
+        is_answered(
+            rt.alloc(),
+            texts,
             lack,
             1,
-            b"no: node 0, state 0, observation 1 has no successor\n",
-        ),
-    ];
-    for (texts, verdict, status, line) in rows {
-        assert_eq!(rt; answer_above(rt.alloc(), texts), Ok(verdict));
-        assert_eq!(rt; status_of_above_verdict(verdict), status);
-        let outcome = over_devices(rt.alloc(), Run::CheckAbove, texts, SOUND);
-        assert_eq!(rt; outcome.answer, Ok(Answer::SaidAbove(verdict)));
-        assert_eq!(rt; outcome.written.as_slice(), line);
-    }
+            b"no: node 0, state 0, observation 1 has no successor\n"
+        )
+    );
 }
 
 /// The answer from above to a model, a graph and the written text is yes.

@@ -1,8 +1,30 @@
 use Rattle.std.proofs.Common.{refl}
+use Rattle.polcert_model.specs.Contents.{meaning}
+use Rattle.polcert_answer.proofs.Denoted.{graph_refused}
+use Rattle.polcert_answer.proofs.Refusing.{each_text}
 use Rattle.polcert_answer.proofs.controller.graph_of_run.Goals as goal
 
+pub read_graph_from-requires-clause-some_actions : goal.read_graph_from-requires-clause-some_actions
+read_graph_from-requires-clause-some_actions g c = c.actions.ensures.count.0
+
+pub read_graph_from-requires-clause-few_actions : goal.read_graph_from-requires-clause-few_actions
+read_graph_from-requires-clause-few_actions g c = c.actions.ensures.count.1
+
+pub read_graph_from-requires-clause-some_observations : goal.read_graph_from-requires-clause-some_observations
+read_graph_from-requires-clause-some_observations g c = c.observations.ensures.count.0
+
+pub read_graph_from-requires-clause-few_observations : goal.read_graph_from-requires-clause-few_observations
+read_graph_from-requires-clause-few_observations g c = c.observations.ensures.count.1
+
+pub returns-in-Ok-clause-accepted : goal.returns-in-Ok-clause-accepted
+returns-in-Ok-clause-accepted g c = rw (c.actions.ensures.elements, c.observations.ensures.elements) at
+    c.in-Ok.ensures.accepted
+
 pub returns-in-Err-Refused-clause-refused : goal.returns-in-Err-Refused-clause-refused
-returns-in-Err-Refused-clause-refused g c = λ fault same first is. c.in-Err-Refused.ensures.refused fault (cc) first is
+returns-in-Err-Refused-clause-refused g c = λ fault same first is.
+    let refused = rw (c.actions.ensures.elements, c.observations.ensures.elements) at
+    c.in-Err-Refused.ensures.refused in
+    each_text (graph_refused first fault (meaning c.args.model.now) is) (refused fault (cc))
 
 pub returns-in-Err-Device-clause-read : goal.returns-in-Err-Device-clause-read
 returns-in-Err-Device-clause-read g c = record {

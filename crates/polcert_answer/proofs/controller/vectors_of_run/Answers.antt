@@ -1,8 +1,17 @@
 use Rattle.std.proofs.Common.{refl}
+use Rattle.polcert_model.specs.Contents.{meaning}
+use Rattle.polcert_answer.proofs.Denoted.{vectors_refused}
+use Rattle.polcert_answer.proofs.Refusing.{each_text}
 use Rattle.polcert_answer.proofs.controller.vectors_of_run.Goals as goal
 
+pub returns-in-Ok-clause-accepted : goal.returns-in-Ok-clause-accepted
+returns-in-Ok-clause-accepted g c = rw c.states.ensures.elements at c.in-Ok.ensures.accepted
+
 pub returns-in-Err-Refused-clause-refused : goal.returns-in-Err-Refused-clause-refused
-returns-in-Err-Refused-clause-refused g c = λ fault same first second has. c.in-Err-Refused.ensures.refused fault (cc) first second has
+returns-in-Err-Refused-clause-refused g c = λ fault same first second has.
+    let refused = rw c.states.ensures.elements at c.in-Err-Refused.ensures.refused in
+    each_text (vectors_refused c.args.rounding first second fault (meaning c.args.model.now)
+    c.args.graph.now has) (refused fault (cc))
 
 pub returns-in-Err-Device-clause-read : goal.returns-in-Err-Device-clause-read
 returns-in-Err-Device-clause-read g c = record {

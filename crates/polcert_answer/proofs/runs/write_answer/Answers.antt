@@ -1,11 +1,18 @@
+use Rattle.polcert_answer.specs.Lines.{line_text}
 use Rattle.polcert_answer.proofs.runs.write_answer.Goals as goal
 
 pub returns-in-Ok-clause-answered : goal.returns-in-Ok-clause-answered
-returns-in-Ok-clause-answered g c =
-    let wrote = c.in-Ok.ensures in
-    (wrote.line, record { verdict_is = c.check_watched-verdict.ensures.verdict; line_is = wrote.is_line }, wrote.written.ok)
+returns-in-Ok-clause-answered g c = (
+  line_text c.line_of_verdict-line.result,
+  record
+      { verdict_is = c.check_watched-verdict.ensures.verdict; line_is = c.line_of_verdict-line.ensures },
+  c.in-Ok.ensures.ok,
+)
 
 pub returns-in-Err-clause-begun : goal.returns-in-Err-clause-begun
-returns-in-Err-clause-begun g c = λ failed.
-    let wrote = c.in-Err.ensures in
-    (c.check_watched-verdict.result, wrote.line, record { verdict_is = c.check_watched-verdict.ensures.verdict; line_is = wrote.is_line }, wrote.written.err)
+returns-in-Err-clause-begun g c = λ failed. (
+  c.check_watched-verdict.result,
+  line_text c.line_of_verdict-line.result,
+  record { verdict_is = c.check_watched-verdict.ensures.verdict; line_is = c.line_of_verdict-line.ensures },
+  c.in-Err.ensures.err,
+)

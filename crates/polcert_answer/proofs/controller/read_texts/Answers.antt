@@ -1,0 +1,26 @@
+use Rattle.polcert_answer.proofs.OfTexts.{denoted_slices, refused_slices}
+use Rattle.polcert_answer.proofs.controller.read_texts.Goals as goal
+
+pub returns-in-Ok-clause-graph_accepted : goal.returns-in-Ok-clause-graph_accepted
+returns-in-Ok-clause-graph_accepted c =
+    (denoted_slices
+    (λ s. s.rest.now) _ _ c.args.model.now c.new-model.ensures
+    (λ s. s.rest.now) _ _ c.args.graph.now c.new-graph.ensures
+    (λ s. s.rest.now) _ _ c.args.vectors.now c.new-vectors.ensures
+    c.args.rounding _ _ _ c.in-Ok.ensures.accepted).0
+
+pub returns-in-Ok-clause-vectors_accepted : goal.returns-in-Ok-clause-vectors_accepted
+returns-in-Ok-clause-vectors_accepted c =
+    (denoted_slices
+    (λ s. s.rest.now) _ _ c.args.model.now c.new-model.ensures
+    (λ s. s.rest.now) _ _ c.args.graph.now c.new-graph.ensures
+    (λ s. s.rest.now) _ _ c.args.vectors.now c.new-vectors.ensures
+    c.args.rounding _ _ _ c.in-Ok.ensures.accepted).1
+
+pub returns-in-Err-Text-clause-refused : goal.returns-in-Err-Text-clause-refused
+returns-in-Err-Text-clause-refused c =
+    refused_slices
+    (λ s. s.rest.now) _ _ c.args.model.now c.new-model.ensures
+    (λ s. s.rest.now) _ _ c.args.graph.now c.new-graph.ensures
+    (λ s. s.rest.now) _ _ c.args.vectors.now c.new-vectors.ensures
+    c.args.rounding _ c.in-Err-Text.ensures.refused c.in-Err-Text.fault (cc)
