@@ -13,12 +13,14 @@ pub mod PrintedParts
 pub mod PrintedPreamble
 pub mod PrintedRows
 pub mod PrintedStart
+pub mod PrintedZeros
 pub mod RewardBlocks
 pub mod RewardEntries
 pub mod RowEntries
 pub mod Runs
 pub mod SameForms
 pub mod StartShapes
+pub mod WalkedColumns
 pub mod WalkedRows
 pub mod WeightForms
 pub mod WritableModels

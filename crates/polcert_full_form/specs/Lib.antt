@@ -1,1 +1,3 @@
 pub mod PrintSteps
+pub mod PrintedRows
+pub mod StartForms

@@ -1,14 +1,16 @@
 -- The full form as its printer writes it: part behind part.
 -- Nobody has to believe this file: only private functions cite it.
 use Rattle.std.specs.Prelude.{◌≡◌, ℕ, ◌+◌, ◌*◌, ◌/◌, ◌<◌, ◌≤◌, ◌==◌, Bool, true, false, Option, Some, None, if◌then◌else◌, List, [], ◌∷◌, ◌++◌, length, slice_index_or, get_or, ℤ, pos, decimal, codes}
+use Rattle.std.specs.Coded.{Unit-prop}
 use Rattle.polcert_text.specs.Millionths.{scaled_text}
 use Rattle.polcert_cells.specs.declared.entry.Table.{Table}
-use Rattle.polcert_cells.specs.declared.entry.Table.TheVariants.{Reward}
+use Rattle.polcert_cells.specs.declared.entry.Table.TheVariants.{Transition, Observation, Reward}
 use Rattle.polcert_cells.specs.declared.elements.Elements.{Elements}
 use Rattle.polcert_cells.specs.declared.elements.Elements.TheVariants.{Count, Names}
 use Rattle.polcert_cells.specs.declared.shares.Shares.{Shares}
 use Rattle.polcert_cells.specs.Preamble.{columns}
 use Rattle.polcert_cells.specs.Numbers.{one}
+use Rattle.polcert_cells.specs.Rows.{IsWeighted}
 use Rattle.polcert_cells.specs.Meaning.{Meaning, states_of, actions_of, observations_of}
 use Rattle.polcert_tables.specs.Kept.{Kept, meaning}
 use Rattle.polcert_tables.specs.RowSums.{row_of}
@@ -72,6 +74,12 @@ abbrev pub zeros_text : ℕ → ℕ → List ℕ
 zeros_text first count = for_each count (λ i. number_text (first + i) (pos 0))
 
 -- ---- the rows of T and O
+-- T and O alone have weights
+pub IsWeighted-prop : (table : Table) → IsProp (IsWeighted table)
+IsWeighted-prop Transition = Unit-prop
+IsWeighted-prop Observation = Unit-prop
+IsWeighted-prop Reward = λ x y. absurd x
+
 -- each weight is at most that of a whole row of n columns
 abbrev pub AreSmallWeights : ℕ → (ℕ → ℕ) → Type 0
 AreSmallWeights n w = (c : ℕ) → c < n → w c ≤ one * n
@@ -84,10 +92,6 @@ decimal_text n w c = number_text c (pos (w c / n))
 abbrev pub cell_line : Table → ℕ → ℕ → ℕ → ℤ → List ℕ
 cell_line table a s c h = pattern_text table (a ∷ s ∷ c ∷ []) ++ codes " " ++ scaled_text h ++ codes "\n"
 
--- the lines of so many cells that are 0, from this column on
-abbrev pub zero_cells_text : Table → ℕ → ℕ → ℕ → ℕ → List ℕ
-zero_cells_text table a s first count = for_each count (λ i. cell_line table a s (first + i) (pos 0))
-
 -- what stands behind the line of a row's indices
 abbrev pub body_text : Table → ℕ → ℕ → ℕ → (ℕ → ℕ) → List ℕ
 body_text table a s n w =
@@ -95,8 +99,11 @@ body_text table a s n w =
     else (if is_decimal n w then line (values n (λ c. millionths_text (w c / n)))
     else line (codes "uniform" ∷ []) ++ for_each n (cell_text table a s n w))
 
+abbrev pub row_at : Kept → Table → ℕ → ℕ → List ℕ
+row_at d table a s = row_text table a s (columns d.preamble table) (row_of d table a s)
+
 abbrev pub rows_at : Kept → Table → ℕ → List ℕ
-rows_at d table a = for_each (states_of (meaning d)) (λ s. row_text table a s (columns d.preamble table) (row_of d table a s))
+rows_at d table a = for_each (states_of (meaning d)) (row_at d table a)
 
 abbrev pub rows_text : Kept → Table → List ℕ
 rows_text d table = for_each (actions_of (meaning d)) (rows_at d table)

@@ -17,7 +17,10 @@ pub fn one_full_form()
 /// The full form of what a `Model` means is a text of it, and shorter than a text may be, where it is not too large to print. So
 /// is that of whatever a text denotes.
 pub fn full_form_reads_back()
-    ensures short { (c : Contents) → IsPrintable (meaning c).preamble → length (full_form (meaning c)) < text_limit }
-    ensures contents { (c : Contents) → IsPrintable (meaning c).preamble → IsModelText (full_form (meaning c)) (meaning c) }
-    ensures text { (text : List ℕ) (m : Meaning) → IsModelText text m → IsPrintable m.preamble → IsModelText (full_form m) m }
+    ensures short { (c : Contents) → IsPrintable (meaning c).preamble
+        → length (full_form (meaning c)) < text_limit }
+    ensures contents { (c : Contents) → IsPrintable (meaning c).preamble
+        → IsModelText (full_form (meaning c)) (meaning c) }
+    ensures text { (text : List ℕ) (m : Meaning) → IsModelText text m → IsPrintable m.preamble
+        → IsModelText (full_form m) m }
 {}

@@ -7,6 +7,7 @@ mod print_rewards;
 mod print_rows;
 mod print_words;
 mod reward_row;
+mod weight_row;
 
 pub use laws::{full_form_reads_back, one_full_form};
 pub use print::write_model;

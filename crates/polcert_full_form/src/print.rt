@@ -6,8 +6,13 @@ ghost use Rattle.polcert_tables.specs.Kept.{meaning as kept_meaning};
 ghost use Rattle.polcert_cells.specs.Meaning.{states_of};
 ghost use Rattle.polcert_format.specs.Printable.{IsPrintable};
 ghost use Rattle.polcert_format.specs.Text.{IsModelText};
-ghost use Rattle.polcert_format.specs.FullForm.{for_each, all_below, full_form, observations_line, observations_text, preamble_text, start_text};
-ghost use Rattle.polcert_full_form.specs.PrintSteps.{values_line, settings_text, elements_text, elements_line, name_text, share_of, chosen_text, share_text, behind_blank};
+ghost use Rattle.polcert_format.specs.FullForm.{for_each, all_below, full_form, observations_line};
+ghost use Rattle.polcert_format.specs.FullForm.{observations_text, preamble_text, start_text};
+ghost use Rattle.polcert_full_form.specs.PrintSteps.{values_line, settings_text, elements_text};
+ghost use Rattle.polcert_full_form.specs.PrintSteps.{elements_line};
+ghost use Rattle.polcert_full_form.specs.PrintSteps.{name_text, share_of, chosen_text, share_text};
+ghost use Rattle.polcert_full_form.specs.PrintSteps.{behind_blank};
+ghost use Rattle.polcert_full_form.specs.StartForms.{start_word, start_part};
 
 use crate::print_rewards::write_rewards;
 use crate::print_rows::write_rows;
@@ -16,9 +21,18 @@ use polcert_cells::{Elements, Kind, Names, Table};
 use polcert_tables::{Draft, Model};
 use polcert_text::{Sink, SinkFailed, write_all, write_scaled};
 
-/// Writes the full form of a model: the preamble, the start, each row of T and O, and the rewards that are not all 0,
-/// with numbers in their shortest decimal form. Equal models have the same full form. `printable` tells whether a model may be
-/// written.
+/// How the line of a start that is not the same for all states gives them.
+#[derive(Clone, Copy)]
+enum StartForm {
+    /// The states that have a share of 1.
+    Chosen,
+    /// The share of each state.
+    Each,
+}
+
+/// Writes the full form of a model: the preamble, the start, each row of T and O, and the rewards that are
+/// not all 0, with numbers in their shortest decimal form. Equal models have the same full form. `printable`
+/// tells whether a model may be written.
 ///
 /// # Errors
 ///
@@ -60,7 +74,8 @@ fn write_preamble<W: Sink>(model: &Model, out: &mut W) -> Result<(), SinkFailed>
 
 /// Writes the line of observations, which an MDP leaves out.
 fn write_observations<W: Sink>(draft: &Draft, out: &mut W) -> Result<(), SinkFailed>
-    ensures { WritesText W.writes W.failures out.old (observations_line (kept_meaning draft.now).preamble.observations) result out.new }
+    ensures { WritesText W.writes W.failures out.old
+        (observations_line (kept_meaning draft.now).preamble.observations) result out.new }
 {
     match draft.observations_line() {
         Some(elements) => write_elements(b"observations:", elements, out),
@@ -108,7 +123,8 @@ fn write_element_words<W: Sink>(elements: &Elements, out: &mut W) -> Result<(), 
 }
 
 fn write_names<W: Sink>(names: &Names, out: &mut W) -> Result<(), SinkFailed>
-    ensures { WritesText W.writes W.failures out.old (for_each (length names.now) (name_text names.now)) result out.new }
+    ensures { WritesText W.writes W.failures out.old
+        (for_each (length names.now) (name_text names.now)) result out.new }
 {
     for number in 0..names.len() {
         write_name(names, number, out)?;
@@ -143,15 +159,16 @@ fn write_start<W: Sink>(model: &Model, out: &mut W) -> Result<(), SinkFailed>
     if is_whole(model) {
         write_all(out, b"start: uniform\n")
     } else if is_choice(model) {
-        write_chosen_line(model, out)
+        write_start_line(model, StartForm::Chosen, out)
     } else {
-        write_shares_line(model, out)
+        write_start_line(model, StartForm::Each, out)
     }
 }
 
 /// Whether all states have a share of 1.
 fn is_whole(model: &Model) -> bool
-    ensures { result ≡ all_below (states_of (meaning model.now)) (λ s. share_of (meaning model.now).start s == 1) }
+    ensures { result ≡ all_below (states_of (meaning model.now))
+        (λ s. share_of (meaning model.now).start s == 1) }
 {
     for state in 0..model.states() {
         if model.start_weight(state) != 1 {
@@ -174,25 +191,52 @@ fn is_choice(model: &Model) -> bool
     true
 }
 
-/// Writes the line of the states that have a share of 1.
-fn write_chosen_line<W: Sink>(model: &Model, out: &mut W) -> Result<(), SinkFailed>
+/// Writes the line of the states, in this form.
+fn write_start_line<W: Sink>(model: &Model, form: StartForm, out: &mut W) -> Result<(), SinkFailed>
     ensures { WritesText W.writes W.failures out.old
-        (codes "start include:" ++ for_each (states_of (meaning model.now)) (chosen_text (meaning model.now).start) ++ codes "\n")
+        (start_word form ++ for_each (states_of (meaning model.now))
+        (start_part form (meaning model.now).start) ++ codes "\n")
         result out.new }
 {
-    write_all(out, b"start include:")?;
-    write_chosen(model, out)?;
+    write_all(out, start_word(form))?;
+    write_start_parts(model, form, out)?;
     write_all(out, b"\n")
 }
 
-fn write_chosen<W: Sink>(model: &Model, out: &mut W) -> Result<(), SinkFailed>
+fn start_word(form: StartForm) -> &'static [u8]
+    ensures { result.now ≡ start_word form }
+{
+    match form {
+        StartForm::Chosen => b"start include:",
+        StartForm::Each => b"start:",
+    }
+}
+
+fn write_start_parts<W: Sink>(model: &Model, form: StartForm, out: &mut W) -> Result<(), SinkFailed>
     ensures { WritesText W.writes W.failures out.old
-        (for_each (states_of (meaning model.now)) (chosen_text (meaning model.now).start)) result out.new }
+        (for_each (states_of (meaning model.now)) (start_part form (meaning model.now).start)) result
+        out.new }
 {
     for state in 0..model.states() {
-        write_state_if_chosen(model, state, out)?;
+        write_start_part(model, form, state, out)?;
     }
     Ok(())
+}
+
+fn write_start_part<W: Sink>(
+    model: &Model,
+    form: StartForm,
+    state: usize,
+    out: &mut W,
+) -> Result<(), SinkFailed>
+    requires { state < states_of (meaning model.now) }
+    ensures { WritesText W.writes W.failures out.old
+        (start_part form (meaning model.now).start state) result out.new }
+{
+    match form {
+        StartForm::Chosen => write_state_if_chosen(model, state, out),
+        StartForm::Each => write_share(model, state, out),
+    }
 }
 
 fn write_state_if_chosen<W: Sink>(
@@ -201,7 +245,8 @@ fn write_state_if_chosen<W: Sink>(
     out: &mut W,
 ) -> Result<(), SinkFailed>
     requires { state < states_of (meaning model.now) }
-    ensures { WritesText W.writes W.failures out.old (chosen_text (meaning model.now).start state) result out.new }
+    ensures { WritesText W.writes W.failures out.old
+        (chosen_text (meaning model.now).start state) result out.new }
 {
     if model.start_weight(state) == 1 {
         write_number_word(state, out)
@@ -210,30 +255,10 @@ fn write_state_if_chosen<W: Sink>(
     }
 }
 
-/// Writes the line of the shares of all states.
-fn write_shares_line<W: Sink>(model: &Model, out: &mut W) -> Result<(), SinkFailed>
-    ensures { WritesText W.writes W.failures out.old
-        (codes "start:" ++ for_each (states_of (meaning model.now)) (share_text (meaning model.now).start) ++ codes "\n")
-        result out.new }
-{
-    write_all(out, b"start:")?;
-    write_shares(model, out)?;
-    write_all(out, b"\n")
-}
-
-fn write_shares<W: Sink>(model: &Model, out: &mut W) -> Result<(), SinkFailed>
-    ensures { WritesText W.writes W.failures out.old
-        (for_each (states_of (meaning model.now)) (share_text (meaning model.now).start)) result out.new }
-{
-    for state in 0..model.states() {
-        write_share(model, state, out)?;
-    }
-    Ok(())
-}
-
 fn write_share<W: Sink>(model: &Model, state: usize, out: &mut W) -> Result<(), SinkFailed>
     requires { state < states_of (meaning model.now) }
-    ensures { WritesText W.writes W.failures out.old (share_text (meaning model.now).start state) result out.new }
+    ensures { WritesText W.writes W.failures out.old
+        (share_text (meaning model.now).start state) result out.new }
 {
     write_all(out, b" ")?;
     write_scaled(model.start_weight(state) as i64, out)

@@ -1,9 +1,10 @@
 //! Writes the words that lines are made of.
-ghost use Rattle.std.specs.Prelude.{◌≡◌, ◌++◌, ◌+◌, ◌≤◌, pos, length, decimal, codes};
+ghost use Rattle.std.specs.Prelude.{◌≡◌, ◌==◌, ◌++◌, ◌+◌, ◌≤◌, length, decimal, codes, if◌then◌else◌};
 ghost use Rattle.polcert_text.specs.Sink.{WritesText};
 ghost use Rattle.polcert_cells.specs.Elements.{most_elements};
 ghost use Rattle.polcert_format.specs.FullForm.{for_each, table_word};
-ghost use Rattle.polcert_full_form.specs.PrintSteps.{mark_before, index_text, pattern_text, blank_before, number_text, zeros_text};
+ghost use Rattle.polcert_full_form.specs.PrintSteps.{mark_before, index_text, pattern_text};
+ghost use Rattle.polcert_full_form.specs.PrintSteps.{number_text, zeros_text};
 
 use itoa::Buffer;
 use polcert_cells::Table;
@@ -35,7 +36,8 @@ pub(crate) fn write_head<W: Sink>(
     indices: &[usize],
     out: &mut W,
 ) -> Result<(), SinkFailed>
-    ensures { WritesText W.writes W.failures out.old (pattern_text table indices.now ++ codes "\n") result out.new }
+    ensures { WritesText W.writes W.failures out.old
+        (pattern_text table indices.now ++ codes "\n") result out.new }
 {
     write_pattern(table, indices, out)?;
     write_all(out, b"\n")
@@ -52,7 +54,8 @@ fn table_word(table: Table) -> &'static [u8]
 }
 
 fn write_indices<W: Sink>(indices: &[usize], out: &mut W) -> Result<(), SinkFailed>
-    ensures { WritesText W.writes W.failures out.old (for_each (length indices.now) (index_text indices.now)) result out.new }
+    ensures { WritesText W.writes W.failures out.old
+        (for_each (length indices.now) (index_text indices.now)) result out.new }
 {
     for number in 0..indices.len() {
         write_index(number, indices[number], out)?;
@@ -63,15 +66,8 @@ fn write_indices<W: Sink>(indices: &[usize], out: &mut W) -> Result<(), SinkFail
 fn write_index<W: Sink>(number: usize, index: usize, out: &mut W) -> Result<(), SinkFailed>
     ensures { WritesText W.writes W.failures out.old (mark_before number ++ decimal index) result out.new }
 {
-    write_all(out, mark_before(number))?;
+    write_all(out, in_place(number, b" ", b" : "))?;
     write_number(index, out)
-}
-
-/// What stands before the index of this number: a colon before all but the first.
-fn mark_before(number: usize) -> &'static [u8]
-    ensures { result.now ≡ mark_before number }
-{
-    if number == 0 { b" " } else { b" : " }
 }
 
 /// Writes the number in this place of a line, in millionths.
@@ -82,15 +78,8 @@ pub(crate) fn write_number_at<W: Sink>(
 ) -> Result<(), SinkFailed>
     ensures { WritesText W.writes W.failures out.old (number_text place scaled) result out.new }
 {
-    write_all(out, blank_before(place))?;
+    write_all(out, in_place(place, b"", b" "))?;
     write_scaled(scaled, out)
-}
-
-/// A blank before all but the first.
-fn blank_before(place: usize) -> &'static [u8]
-    ensures { result.now ≡ blank_before place }
-{
-    if place == 0 { b"" } else { b" " }
 }
 
 /// Writes so many zeros, from this place of a line on.
@@ -103,14 +92,14 @@ pub(crate) fn write_zeros<W: Sink>(
     ensures { WritesText W.writes W.failures out.old (zeros_text first count) result out.new }
 {
     for number in 0..count {
-        write_all(out, zero_at(first + number))?;
+        write_all(out, in_place(first + number, b"0", b" 0"))?;
     }
     Ok(())
 }
 
-/// A zero, behind a blank before all but the first.
-fn zero_at(place: usize) -> &'static [u8]
-    ensures { result.now ≡ number_text place (pos 0) }
+/// What stands in the first place of a line or in another.
+fn in_place(place: usize, first: &'static [u8], other: &'static [u8]) -> &'static [u8]
+    ensures { result.now ≡ if place == 0 then first.now else other.now }
 {
-    if place == 0 { b"0" } else { b" 0" }
+    if place == 0 { first } else { other }
 }

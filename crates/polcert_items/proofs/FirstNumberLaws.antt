@@ -19,8 +19,8 @@ use Rattle.polcert_format.specs.Wants as wants
 use Rattle.polcert_format.proofs.FirstNumbers.{OfNumerals, same_digits, same_number, digits_are_number, digits_numeral, value_not_refused, no_fraction_numeral}
 use Rattle.polcert_items.specs.declared.number.Refusal.{Refusal}
 use Rattle.polcert_items.specs.declared.number.Sign.{Sign}
-use Rattle.polcert_items.specs.declared.start_reader.FirstNumber.{FirstNumber}
-use Rattle.polcert_items.specs.declared.start_reader.Digits.{Digits}
+use Rattle.polcert_items.specs.declared.start_numbers.FirstNumber.{FirstNumber}
+use Rattle.polcert_items.specs.declared.start_numbers.Digits.{Digits}
 use Rattle.polcert_items.specs.declared.start_reader.StartReader.{StartReader}
 use Rattle.polcert_items.specs.declared.start_reader.StartReader.TheVariants as reader
 use Rattle.polcert_items.specs.declared.stop.ItemEnd.{ItemEnd}

@@ -9,10 +9,10 @@ use Rattle.polcert_text.specs.Cut.{Lexeme}
 use Rattle.polcert_text.specs.Lexemes.{are_digits}
 use Rattle.polcert_text.specs.declared.lexeme.TokenKind.{TokenKind}
 use Rattle.polcert_text.specs.declared.lexeme.TokenKind.TheVariants.{Name, Numeral, Colon, Plus, Minus}
-use Rattle.polcert_items.specs.declared.start_reader.Choice.{Choice}
-use Rattle.polcert_items.specs.declared.start_reader.Choice.TheVariants.{Include, Exclude}
-use Rattle.polcert_items.specs.declared.start_reader.Chosen.{Chosen}
-use Rattle.polcert_items.specs.declared.start_reader.Digits.{Digits}
+use Rattle.polcert_items.specs.declared.chosen.Choice.{Choice}
+use Rattle.polcert_items.specs.declared.chosen.Choice.TheVariants.{Include, Exclude}
+use Rattle.polcert_items.specs.declared.chosen.Chosen.{Chosen}
+use Rattle.polcert_items.specs.declared.start_numbers.Digits.{Digits}
 use Rattle.polcert_items.specs.declared.start_reader.StartReader.{StartReader}
 use Rattle.polcert_items.specs.declared.start_reader.StartReader.TheVariants as reader
 use Rattle.polcert_cells.specs.Words.{IsWord, is_reserved}

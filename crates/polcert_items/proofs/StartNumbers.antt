@@ -11,8 +11,8 @@ use Rattle.polcert_cells.specs.declared.entry.Body.TheVariants as bodies
 use Rattle.polcert_items.specs.declared.entry_reader.Numbers.{Numbers}
 use Rattle.polcert_format.specs.declared.fault.ItemFault.{ItemFault}
 use Rattle.polcert_items.specs.declared.number.Sign.{Sign}
-use Rattle.polcert_items.specs.declared.start_reader.FirstNumber.{FirstNumber}
-use Rattle.polcert_items.specs.declared.start_reader.Digits.{Digits}
+use Rattle.polcert_items.specs.declared.start_numbers.FirstNumber.{FirstNumber}
+use Rattle.polcert_items.specs.declared.start_numbers.Digits.{Digits}
 use Rattle.polcert_items.specs.declared.start_reader.StartReader.{StartReader}
 use Rattle.polcert_items.specs.declared.start_reader.StartReader.TheVariants as reader
 use Rattle.polcert_cells.specs.Numbers.{IsMillionths, AreNumbers, one}

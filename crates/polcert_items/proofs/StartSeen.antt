@@ -11,8 +11,8 @@ use Rattle.polcert_format.specs.declared.fault.ItemFault.TheVariants.{Number, Ba
 use Rattle.polcert_items.specs.declared.number.Sign.{Sign}
 use Rattle.polcert_items.specs.declared.number.Refusal.{Refusal}
 use Rattle.polcert_items.specs.declared.number.Range.TheVariants as ranges
-use Rattle.polcert_items.specs.declared.start_reader.FirstNumber.{FirstNumber}
-use Rattle.polcert_items.specs.declared.start_reader.Digits.{Digits}
+use Rattle.polcert_items.specs.declared.start_numbers.FirstNumber.{FirstNumber}
+use Rattle.polcert_items.specs.declared.start_numbers.Digits.{Digits}
 use Rattle.polcert_items.specs.declared.start_reader.StartReader.{StartReader}
 use Rattle.polcert_items.specs.declared.start_reader.StartReader.TheVariants as reader
 use Rattle.polcert_items.specs.declared.stop.ItemEnd.{ItemEnd}
@@ -31,7 +31,7 @@ use Rattle.polcert_format.specs.FirstNumber as begins
 use Rattle.polcert_format.specs.Wants.{may_be_state}
 use Rattle.polcert_text.specs.Lexemes.{are_digits}
 use Rattle.polcert_cells.proofs.Basics.{cons≢nil, same_head, same_tail, true≢false}
-use Rattle.polcert_items.specs.declared.start_reader.Chosen.{Chosen}
+use Rattle.polcert_items.specs.declared.chosen.Chosen.{Chosen}
 use Rattle.polcert_items.specs.declared.entry_reader.Numbers.{Numbers}
 use Rattle.polcert_items.proofs.StartForms.{test_different}
 use Rattle.polcert_items.specs.EntrySteps.{IsListReason, no_number, no_further}

@@ -14,10 +14,10 @@ use Rattle.polcert_text.specs.declared.lexeme.TokenKind.TheVariants.{Name, Colon
 use Rattle.polcert_format.specs.FirstNumber.{BeginsWithNumber, BeginsWithDigits, IsLate}
 use Rattle.polcert_format.specs.Forms.{IsStartBodyForm, IsStartForm}
 use Rattle.polcert_format.specs.Wants.{may_be_state}
-use Rattle.polcert_items.specs.declared.start_reader.Choice.{Choice}
-use Rattle.polcert_items.specs.declared.start_reader.Choice.TheVariants.{Include, Exclude}
-use Rattle.polcert_items.specs.declared.start_reader.FirstNumber.{FirstNumber}
-use Rattle.polcert_items.specs.declared.start_reader.Digits.{Digits}
+use Rattle.polcert_items.specs.declared.chosen.Choice.{Choice}
+use Rattle.polcert_items.specs.declared.chosen.Choice.TheVariants.{Include, Exclude}
+use Rattle.polcert_items.specs.declared.start_numbers.FirstNumber.{FirstNumber}
+use Rattle.polcert_items.specs.declared.start_numbers.Digits.{Digits}
 use Rattle.polcert_items.specs.declared.start_reader.StartReader.{StartReader}
 use Rattle.polcert_items.specs.declared.start_reader.StartReader.TheVariants as reader
 use Rattle.polcert_items.specs.declared.stop.ItemEnd.{ItemEnd}

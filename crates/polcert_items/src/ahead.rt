@@ -81,7 +81,8 @@ impl EntryReader {
         requires { IsWithinIndices (indices_in known.now self.old.table) self.old }
         ensures fed { IfSome result (λ count. FedAhead known.now self.old bytes.now count self.new) }
         ensures within { IsWithinIndices (indices_in known.now self.new.table) self.new }
-        ensures room { IfSome result (λ _. length self.old.places < length (indices_in known.now self.old.table)) }
+        ensures room { IfSome result
+            (λ _. length self.old.places < length (indices_in known.now self.old.table)) }
         ensures grows { IfSome result (λ _. length self.new.places ≡ length self.old.places + 1) }
         ensures table { self.new.table ≡ self.old.table }
         ensures none { IfNone result (self.new ≡ self.old) }
@@ -127,7 +128,8 @@ impl EntryReader {
     fn index_ahead(&self, known: &Known, bytes: &[u8]) -> Option<FrontNumber>
         requires { length self.now.places < length (indices_in known.now self.now.table) }
         ensures front { IfSome result (λ index. (position : ℕ) →
-            BeginWithPlace (drop (length self.now.places) (named_in known.now self.now.table)) position bytes.now index) }
+            BeginWithPlace (drop (length self.now.places) (named_in known.now self.now.table)) position
+            bytes.now index) }
         ensures small { IfSome result (λ index. index.value < most_elements) }
     {
         let count = self.next_count(known);
@@ -147,7 +149,8 @@ impl EntryReader {
     #[inline(always)]
     fn next_count(&self, known: &Known) -> usize
         requires { length self.now.places < length (indices_in known.now self.now.table) }
-        ensures count { result ≡ count_of (get_or (named_in known.now self.now.table) (length self.now.places) (Count 0)) }
+        ensures count { result ≡ count_of
+            (get_or (named_in known.now self.now.table) (length self.now.places) (Count 0)) }
         ensures few { result ≤ most_elements }
     {
         match known.elements(self.table, self.places.len()) {

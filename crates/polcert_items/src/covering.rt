@@ -47,7 +47,8 @@ impl Covering {
     /// What entries give with one more, or `None` where that is too much of a large table.
     pub(crate) fn with(mut self, sizes: Sizes, entry: &Entry) -> Option<Covering>
         requires { (p : Preamble) × (es : List E) × IsNext p es self sizes entry.now }
-        ensures { (p : Preamble) (es : List E) → IsNext p es self sizes entry.now → IsCoveredWith p es entry.now result }
+        ensures { (p : Preamble) (es : List E) → IsNext p es self sizes entry.now
+            → IsCoveredWith p es entry.now result }
     {
         match entry.table {
             Table::Transition => self.transitions = sizes.covered(
@@ -73,7 +74,8 @@ impl Sizes {
         requires states { self.states ≤ most_states }
         requires columns { columns ≤ most_observations }
         requires count { count ≤ most_cells }
-        requires weighty { weighty entry.now.body self.states (open_cells self.states columns (length entry.now.places)) ≤ self.states * columns }
+        requires weighty { weighty entry.now.body self.states
+            (open_cells self.states columns (length entry.now.places)) ≤ self.states * columns }
         ensures { result ≡ counted (self.actions * self.states * columns) most_cells count
             (covered_by self.actions self.states columns entry.now.places entry.now.body) }
     {
@@ -95,7 +97,8 @@ impl Sizes {
         requires states { self.states ≤ most_states }
         requires rewarded { self.rewarded ≤ most_observations }
         requires count { count ≤ most_reward_entries }
-        ensures { result ≡ counted (self.actions * self.states * self.states * self.rewarded) most_reward_entries count 1 }
+        ensures { result ≡ counted (self.actions * self.states * self.states * self.rewarded)
+            most_reward_entries count 1 }
     {
         if self.actions * self.states * self.states * self.rewarded > MOST_CELLS {
             let paid = count + 1;
@@ -150,7 +153,8 @@ fn covered_by(actions: usize, states: usize, columns: usize, entry: &Entry) -> u
     requires actions { actions ≤ most_actions }
     requires states { states ≤ most_states }
     requires columns { columns ≤ most_observations }
-    requires weighty { weighty entry.now.body states (open_cells states columns (length entry.now.places)) ≤ states * columns }
+    requires weighty { weighty entry.now.body states
+        (open_cells states columns (length entry.now.places)) ≤ states * columns }
     ensures is { result ≡ covered_by actions states columns entry.now.places entry.now.body }
     ensures few { result ≤ most_covered }
 {

@@ -43,13 +43,15 @@ impl ElementsReader {
         requires small { most < 2 ^ 32 }
         ensures within { OnOk result (IsElementsRead most self.new) }
         ensures takes { OnOk result (Takes (ElementsGo most) self.old (lexeme_of token.entry) self.new) }
-        ensures refused { IfErr result (λ stop. IfRefused stop (λ r. CannotTake (ElementsGo most) self.old (lexeme_of token.entry))) }
+        ensures refused { IfErr result
+            (λ stop. IfRefused stop (λ r. CannotTake (ElementsGo most) self.old (lexeme_of token.entry))) }
         ensures reason { IfErr result (λ stop. IfRefused stop (λ r.
             ElementsReason self.old (lexeme_of token.entry) r.kind r.place)) }
         ensures seen { (body : List Lexeme) → AreElementsSeen body self.old
             → OnOk result (AreElementsSeen (body ++ lexeme_of token.entry ∷ []) self.new) }
         ensures sign { OnOk result (is_sign (lexeme_of token.entry).kind ≡ false) }
-        ensures leads { OnOk result (Leads (elements_want most self.old) (lexeme_of token.entry) (elements_want most self.new)) }
+        ensures leads { OnOk result
+            (Leads (elements_want most self.old) (lexeme_of token.entry) (elements_want most self.new)) }
         ensures kind { IfErr result (λ stop. IfRefused stop (λ r.
             IsMisfit (elements_want most self.old []) (lexeme_of token.entry) r.kind)) }
     {
@@ -71,7 +73,8 @@ impl ElementsReader {
     /// The elements, or why the line cannot end here.
     pub fn end(self) -> Result<Elements, ItemFault>
         ensures said { (most : ℕ) → IsElementsRead most self → IfOk result (ElementsGo most self []) }
-        ensures within { (most : ℕ) → IsElementsRead most self → IfOk result (λ e. IsCount most (count_of e)) }
+        ensures within { (most : ℕ) → IsElementsRead most self
+            → IfOk result (λ e. IsCount most (count_of e)) }
         ensures reason { IfErr result (IsEndReason Topic.States) }
         ensures refused { (most : ℕ) → OnErr result (CannotEnd (ElementsGo most) self) }
         ensures kind { (most : ℕ) → IfErr result (λ kind. kind ≡ misfit (elements_want most self []) None) }
@@ -98,8 +101,11 @@ fn begin(alloc: Global, most: usize, token: Token<'_>) -> Result<ElementsReader,
         ElementsReason ElementsReader.First (lexeme_of token.entry) r.kind r.place)) }
     ensures seen { (colon : Lexeme) → IfOk result (AreElementsSeen (colon ∷ lexeme_of token.entry ∷ [])) }
     ensures sign { OnOk result (is_sign (lexeme_of token.entry).kind ≡ false) }
-    ensures leads { IfOk result (λ r. Leads (elements_want most ElementsReader.First) (lexeme_of token.entry) (elements_want most r)) }
-    ensures kind { IfErr result (λ stop. IfRefused stop (λ r. IsMisfit CountOrName (lexeme_of token.entry) r.kind)) }
+    ensures leads { IfOk result
+        (λ r. Leads (elements_want most ElementsReader.First) (lexeme_of token.entry)
+        (elements_want most r)) }
+    ensures kind { IfErr result
+        (λ stop. IfRefused stop (λ r. IsMisfit CountOrName (lexeme_of token.entry) r.kind)) }
 {
     match token.kind {
         TokenKind::Numeral => Ok(ElementsReader::Counted(count(most, token)?)),
@@ -116,8 +122,10 @@ fn count(most: usize, token: Token<'_>) -> Result<usize, Refusal>
     requires numeral { token.kind ≡ TokenKind.Numeral }
     requires small { most < 2 ^ 32 }
     ensures count { IfOk result (IsCountOf most (lexeme_of token.entry)) }
-    ensures refused { OnErr result (CannotTake (ElementsGo most) ElementsReader.First (lexeme_of token.entry)) }
-    ensures reason { IfErr result (λ r. ElementsReason ElementsReader.First (lexeme_of token.entry) r.kind r.place) }
+    ensures refused { OnErr result
+        (CannotTake (ElementsGo most) ElementsReader.First (lexeme_of token.entry)) }
+    ensures reason { IfErr result
+        (λ r. ElementsReason ElementsReader.First (lexeme_of token.entry) r.kind r.place) }
     ensures kind { IfErr result (λ r. r.kind ≡ misfit CountOrName (Some (lexeme_of token.entry))) }
 {
     match whole_number(most + 1, token.bytes) {
@@ -133,7 +141,8 @@ fn add_name(names: &mut Names, alloc: Global, most: usize, token: Token<'_>) -> 
     ensures name { OnOk result (IsName (lexeme_of token.entry)) }
     ensures added { OnOk result (names.new ≡ names.old ++ token.entry.bytes.now ∷ []) }
     ensures within { OnOk result (AreNamesRead most names.new) }
-    ensures refused { IfErr result (λ stop. IfRefused stop (λ r. CannotTake (NamesGo most) names.old (lexeme_of token.entry))) }
+    ensures refused { IfErr result
+        (λ stop. IfRefused stop (λ r. CannotTake (NamesGo most) names.old (lexeme_of token.entry))) }
     ensures reason { IfErr result (λ stop. IfRefused stop (λ r.
         ElementsReason (ElementsReader.Named names.old) (lexeme_of token.entry) r.kind r.place)) }
     ensures kind { IfErr result (λ stop. IfRefused stop (λ r.

@@ -61,7 +61,8 @@ impl<T: Copy> Numbers<T> {
     pub fn end_fault(&self) -> Option<ItemFault>
         ensures full { MatchOption result (IsFull self.now) (λ _. IsFull self.now → ⊥) }
         ensures reason { IfSome result (λ fault. (t : Topic) → IsEndReason t fault) }
-        ensures kind { HasRoom self.now → IfSome result (λ fault. fault ≡ misfit (list_wants self.now []) None) }
+        ensures kind { HasRoom self.now
+            → IfSome result (λ fault. fault ≡ misfit (list_wants self.now []) None) }
     {
         match self.sign {
             Some(_) => Some(ItemFault::BadShape),
@@ -79,11 +80,13 @@ impl Numbers<u32> {
         ensures needed { self.new.needed ≡ self.old.needed }
         ensures room { OnOk result (HasRoom self.new) }
         ensures takes { OnOk result (Takes ProbabilitiesGo self.old (lexeme_of token.entry) self.new) }
-        ensures refused { IfErr result (λ stop. IfRefused stop (λ r. CannotTake ProbabilitiesGo self.old (lexeme_of token.entry))) }
+        ensures refused { IfErr result
+            (λ stop. IfRefused stop (λ r. CannotTake ProbabilitiesGo self.old (lexeme_of token.entry))) }
         ensures reason { IfErr result (λ stop. IfRefused stop (λ r.
             IsListReason Range.Probability self.old.sign (lexeme_of token.entry) r.kind r.place)) }
         ensures sign { OnOk result (SignIs self.new.sign (lexeme_of token.entry)) }
-        ensures leads { OnOk result (Leads (list_wants self.old) (lexeme_of token.entry) (list_wants self.new)) }
+        ensures leads { OnOk result
+            (Leads (list_wants self.old) (lexeme_of token.entry) (list_wants self.new)) }
         ensures kind { IfErr result (λ stop. IfRefused stop (λ r.
             IsMisfit (list_wants self.old []) (lexeme_of token.entry) r.kind)) }
     {
@@ -108,11 +111,13 @@ impl Numbers<i64> {
         requires { HasRoom self.old }
         ensures room { OnOk result (HasRoom self.new) }
         ensures takes { OnOk result (Takes RewardsGo self.old (lexeme_of token.entry) self.new) }
-        ensures refused { IfErr result (λ stop. IfRefused stop (λ r. CannotTake RewardsGo self.old (lexeme_of token.entry))) }
+        ensures refused { IfErr result
+            (λ stop. IfRefused stop (λ r. CannotTake RewardsGo self.old (lexeme_of token.entry))) }
         ensures reason { IfErr result (λ stop. IfRefused stop (λ r.
             IsListReason Range.Reward self.old.sign (lexeme_of token.entry) r.kind r.place)) }
         ensures sign { OnOk result (SignIs self.new.sign (lexeme_of token.entry)) }
-        ensures leads { OnOk result (Leads (list_wants self.old) (lexeme_of token.entry) (list_wants self.new)) }
+        ensures leads { OnOk result
+            (Leads (list_wants self.old) (lexeme_of token.entry) (list_wants self.new)) }
         ensures kind { IfErr result (λ stop. IfRefused stop (λ r.
             IsMisfit (list_wants self.old []) (lexeme_of token.entry) r.kind)) }
     {
@@ -234,12 +239,16 @@ impl EntryReader {
     fn next_place(&self, known: &Known, token: Token<'_>) -> Result<Place, Refusal>
         requires within { length self.now.places < length (indices_in known.now self.now.table) }
         requires text { IsText (lexeme_of token) }
-        ensures place { IfOk result (IsFirstPlace (drop (length self.now.places) (named_in known.now self.now.table)) (lexeme_of token.entry)) }
+        ensures place { IfOk result
+            (IsFirstPlace (drop (length self.now.places) (named_in known.now self.now.table))
+            (lexeme_of token.entry)) }
         ensures refused { OnErr result ((p : Place) →
-            IsFirstPlace (drop (length self.now.places) (named_in known.now self.now.table)) (lexeme_of token.entry) p → ⊥) }
+            IsFirstPlace (drop (length self.now.places) (named_in known.now self.now.table))
+            (lexeme_of token.entry) p → ⊥) }
         ensures reason { IfErr result (λ r. IsPlaceReason (lexeme_of token.entry) r.kind r.place) }
         ensures kind { IfErr result (λ r.
-            r.kind ≡ misfit (place_wants (preamble_in known.now) (length self.now.places)) (Some (lexeme_of token.entry))) }
+            r.kind ≡ misfit (place_wants (preamble_in known.now) (length self.now.places))
+            (Some (lexeme_of token.entry))) }
     {
         let written = self.places.len();
         if known.is_mdp() && written == 3 {
@@ -292,9 +301,11 @@ impl EntryReader {
     /// The entry, or why it cannot end here.
     pub fn end(self, known: &Known) -> Result<Entry, ItemFault>
         ensures said { IfOk result (EntryGoes (preamble_in known.now) self []) }
-        ensures refused { AreSome (indices_in known.now self.table) → OnErr result (CannotEnd (EntryGoes (preamble_in known.now)) self) }
+        ensures refused { AreSome (indices_in known.now self.table)
+            → OnErr result (CannotEnd (EntryGoes (preamble_in known.now)) self) }
         ensures reason { IfErr result (IsEndReason (Topic.Cells self.table)) }
-        ensures kind { AreSome (indices_in known.now self.table) → IsWithinIndices (indices_in known.now self.table) self →
+        ensures kind { AreSome (indices_in known.now self.table) →
+            IsWithinIndices (indices_in known.now self.table) self →
             IfErr result (λ kind. kind ≡ misfit (entry_wants (preamble_in known.now) self []) None) }
     {
         let EntryReader {
@@ -342,7 +353,8 @@ fn begin_numbers(
     token: Token<'_>,
 ) -> Result<EntryState, Stop>
     ensures begun { IfOk result (AreBegun table needed (lexeme_of token.entry)) }
-    ensures refused { IfErr result (λ stop. IfRefused stop (λ r. CannotBegin table needed (lexeme_of token.entry))) }
+    ensures refused { IfErr result
+        (λ stop. IfRefused stop (λ r. CannotBegin table needed (lexeme_of token.entry))) }
     ensures reason { IfErr result (λ stop. IfRefused stop (λ r.
         IsListReason (range_of table) None (lexeme_of token.entry) r.kind r.place)) }
     ensures sign { IfOk result (λ state. SignIs (entry_sign state) (lexeme_of token.entry)) }
@@ -368,7 +380,8 @@ fn begin_rewards(alloc: Global, needed: usize, token: Token<'_>) -> Result<Numbe
     ensures reason { IfErr result (λ stop. IfRefused stop (λ r.
         IsListReason Range.Reward None (lexeme_of token.entry) r.kind r.place)) }
     ensures sign { IfOk result (λ n. SignIs n.sign (lexeme_of token.entry)) }
-    ensures leads { IfOk result (λ n. Leads (numbers_want false needed) (lexeme_of token.entry) (list_wants n)) }
+    ensures leads { IfOk result
+        (λ n. Leads (numbers_want false needed) (lexeme_of token.entry) (list_wants n)) }
     ensures kind { IfErr result (λ stop. IfRefused stop (λ r.
         IsMisfit (numbers_want false needed []) (lexeme_of token.entry) r.kind)) }
     ensures room { IfOk result (λ n. HasRoom n) }
@@ -386,7 +399,8 @@ fn begin_probabilities(alloc: Global, needed: usize, token: Token<'_>) -> Result
     ensures reason { IfErr result (λ stop. IfRefused stop (λ r.
         IsListReason Range.Probability None (lexeme_of token.entry) r.kind r.place)) }
     ensures sign { IfOk result (λ n. SignIs n.sign (lexeme_of token.entry)) }
-    ensures leads { IfOk result (λ n. Leads (numbers_want false needed) (lexeme_of token.entry) (list_wants n)) }
+    ensures leads { IfOk result
+        (λ n. Leads (numbers_want false needed) (lexeme_of token.entry) (list_wants n)) }
     ensures kind { IfErr result (λ stop. IfRefused stop (λ r.
         IsMisfit (numbers_want false needed []) (lexeme_of token.entry) r.kind)) }
     ensures room { IfOk result (λ n. HasRoom n) }
@@ -401,8 +415,10 @@ fn begin_probabilities(alloc: Global, needed: usize, token: Token<'_>) -> Result
 fn place_of(token: Token<'_>, elements: Option<&Elements>) -> Result<Place, Refusal>
     requires few { count_of (unwrap_or (option_copied elements) (Count 0)) ≤ most_elements }
     requires text { IsText (lexeme_of token) }
-    ensures place { IfOk result (IsPlace (unwrap_or (option_copied elements.entry) (Count 0)) (lexeme_of token.entry)) }
-    ensures refused { OnErr result ((p : Place) → IsPlace (unwrap_or (option_copied elements.entry) (Count 0)) (lexeme_of token.entry) p → ⊥) }
+    ensures place { IfOk result
+        (IsPlace (unwrap_or (option_copied elements.entry) (Count 0)) (lexeme_of token.entry)) }
+    ensures refused { OnErr result ((p : Place)
+        → IsPlace (unwrap_or (option_copied elements.entry) (Count 0)) (lexeme_of token.entry) p → ⊥) }
     ensures reason { IfErr result (λ r. IsPlaceReason (lexeme_of token.entry) r.kind r.place) }
     ensures kind { IfErr result (λ r. r.kind ≡ misfit Index (Some (lexeme_of token.entry))) }
 {
@@ -452,7 +468,8 @@ pub(crate) fn takes_numbers(is_mdp: bool, table: Table, written: usize) -> bool
 fn word_of(table: Table, written: usize, token: Token<'_>) -> Option<Word>
     ensures name { IfSome result (λ _. (lexeme_of token.entry).kind ≡ TokenKind.Name) }
     ensures word { (mdp : Bool) → IfSome result (IsWordBehind mdp table written (lexeme_of token.entry)) }
-    ensures none { (mdp : Bool) → IfNone result ((w : Word) → IsWordBehind mdp table written (lexeme_of token.entry) w → ⊥) }
+    ensures none { (mdp : Bool) → IfNone result ((w : Word)
+        → IsWordBehind mdp table written (lexeme_of token.entry) w → ⊥) }
 {
     if is_word(&token, b"uniform") && takes_uniform(table, written) {
         return Some(Word::Uniform);

@@ -76,19 +76,23 @@ impl ItemReader {
             OnOk result (IsSeen (states_known known.now) (body ++ lexeme_of token.entry ∷ []) self.new) }
         ensures refused { IfErr result (λ stop. IfRefused stop (λ r.
             CannotTake (ItemGoes known.now) self.old (lexeme_of token.entry))) }
-        ensures reason { (body : List Lexeme) → IsSeen (states_known known.now) body self.old → IfErr result (λ stop. IfRefused stop (λ r.
+        ensures reason { (body : List Lexeme) → IsSeen (states_known known.now) body self.old
+            → IfErr result (λ stop. IfRefused stop (λ r.
             IsItemReason self.old body (lexeme_of token.entry) r.kind r.place)) }
-        ensures leads { OnOk result (Leads (item_wants known.now self.old) (lexeme_of token.entry) (item_wants known.now self.new)) }
+        ensures leads { OnOk result
+            (Leads (item_wants known.now self.old) (lexeme_of token.entry) (item_wants known.now self.new)) }
         ensures kind { IfErr result (λ stop. IfRefused stop (λ r. IfNotStart (topic_in self.old)
             (IsMisfit (item_wants known.now self.old []) (lexeme_of token.entry) r.kind))) }
-        ensures start { (body : List Lexeme) → IsSeen (states_known known.now) body self.old → IfErr result (λ stop. IfRefused stop (λ r.
+        ensures start { (body : List Lexeme) → IsSeen (states_known known.now) body self.old
+            → IfErr result (λ stop. IfRefused stop (λ r.
             IfStart (topic_in self.old) (StopsStart (pending_in self.old) (states_known known.now) body
             (item_wants known.now self.old []) (lexeme_of token.entry) r.kind r.place))) }
         ensures formed { OnOk result (IfStart (topic_in self.old)
             (Takes (ItemForms known.now) self.old (lexeme_of token.entry) self.new)) }
         ensures formless { IfErr result (λ stop. IfRefused stop (λ r. IfStart (topic_in self.old)
             (CannotTake (ItemForms known.now) self.old (lexeme_of token.entry)))) }
-        ensures late { (body more : List Lexeme) (ends : Bool) (late : Refusal) → IsSeen (states_known known.now) body self.old →
+        ensures late { (body more : List Lexeme) (ends : Bool) (late : Refusal) →
+            IsSeen (states_known known.now) body self.old →
             topic_in self.old ≡ Topic.Start →
             IsLate (states_known known.now) (body ++ lexeme_of token.entry ∷ more) ends late.kind late.place →
             IfErr result (λ stop. IfRefused stop (λ r. (r.kind ≡ late.kind) × (r.place ≡ late.place))) }
@@ -111,19 +115,23 @@ impl ItemReader {
             OnOk result (IsSeen (states_known known.now) (body ++ lexeme_of token.entry ∷ []) self.new) }
         ensures refused { IfErr result (λ stop. IfRefused stop (λ r.
             CannotTake (ItemGoes known.now) self.old (lexeme_of token.entry))) }
-        ensures reason { (body : List Lexeme) → IsSeen (states_known known.now) body self.old → IfErr result (λ stop. IfRefused stop (λ r.
+        ensures reason { (body : List Lexeme) → IsSeen (states_known known.now) body self.old
+            → IfErr result (λ stop. IfRefused stop (λ r.
             IsItemReason self.old body (lexeme_of token.entry) r.kind r.place)) }
-        ensures leads { OnOk result (Leads (item_wants known.now self.old) (lexeme_of token.entry) (item_wants known.now self.new)) }
+        ensures leads { OnOk result
+            (Leads (item_wants known.now self.old) (lexeme_of token.entry) (item_wants known.now self.new)) }
         ensures kind { IfErr result (λ stop. IfRefused stop (λ r. IfNotStart (topic_in self.old)
             (IsMisfit (item_wants known.now self.old []) (lexeme_of token.entry) r.kind))) }
-        ensures start { (body : List Lexeme) → IsSeen (states_known known.now) body self.old → IfErr result (λ stop. IfRefused stop (λ r.
+        ensures start { (body : List Lexeme) → IsSeen (states_known known.now) body self.old
+            → IfErr result (λ stop. IfRefused stop (λ r.
             IfStart (topic_in self.old) (StopsStart (pending_in self.old) (states_known known.now) body
             (item_wants known.now self.old []) (lexeme_of token.entry) r.kind r.place))) }
         ensures formed { OnOk result (IfStart (topic_in self.old)
             (Takes (ItemForms known.now) self.old (lexeme_of token.entry) self.new)) }
         ensures formless { IfErr result (λ stop. IfRefused stop (λ r. IfStart (topic_in self.old)
             (CannotTake (ItemForms known.now) self.old (lexeme_of token.entry)))) }
-        ensures late { (body more : List Lexeme) (ends : Bool) (late : Refusal) → IsSeen (states_known known.now) body self.old →
+        ensures late { (body more : List Lexeme) (ends : Bool) (late : Refusal) →
+            IsSeen (states_known known.now) body self.old →
             topic_in self.old ≡ Topic.Start →
             IsLate (states_known known.now) (body ++ lexeme_of token.entry ∷ more) ends late.kind late.place →
             IfErr result (λ stop. IfRefused stop (λ r. (r.kind ≡ late.kind) × (r.place ≡ late.place))) }
@@ -155,11 +163,14 @@ impl ItemReader {
         ensures said { IfOk result (λ said. ItemGoes known.now self [] (learned known.now said)) }
         ensures within { IfOk result IsSaidWithin }
         ensures topic { IfOk result (IsSaidOf (topic_in self)) }
-        ensures refused { HasElements known.now (topic_in self) → IfErr result (λ e. IfNotMemory e (CannotEnd (ItemGoes known.now) self)) }
+        ensures refused { HasElements known.now (topic_in self)
+            → IfErr result (λ e. IfNotMemory e (CannotEnd (ItemGoes known.now) self)) }
         ensures reason { (body : List Lexeme) → IsSeen (states_known known.now) body self →
             IfErr result (IsItemEndReason (states_known known.now) (topic_in self) body) }
-        ensures late { (body : List Lexeme) (late : Refusal) → IsSeen (states_known known.now) body self → topic_in self ≡ Topic.Start →
-            IsLate (states_known known.now) body true late.kind late.place → IfErr result (λ e. IsLateEnd e late) }
+        ensures late { (body : List Lexeme) (late : Refusal) → IsSeen (states_known known.now) body self →
+            topic_in self ≡ Topic.Start →
+            IsLate (states_known known.now) body true late.kind late.place
+            → IfErr result (λ e. IsLateEnd e late) }
         ensures kind { HasElements known.now (topic_in self) → IfErr result (λ e.
             IfAtEnd e (λ kind. kind ≡ misfit (item_wants known.now self []) None)) }
         ensures unheld { IfErr result (λ e. IfAtEnd e (λ kind. pending_in self ≡ None)) }

@@ -1,9 +1,11 @@
 //! What the items of a text have said so far.
-ghost use Rattle.std.specs.Prelude.{◌≡◌, ◌<◌, ◌≤◌, ◌++◌, ◌∷◌, [], length, drop, get_or, List, Some, None, unwrap_or, OnOk, OnErr, IfOk, IsErrOf, if◌then◌else◌};
+ghost use Rattle.std.specs.Prelude.{◌≡◌, ◌<◌, ◌≤◌, ◌++◌, ◌∷◌, [], length, drop, get_or, List, Some, None};
+ghost use Rattle.std.specs.Prelude.{unwrap_or, OnOk, OnErr, IfOk, IsErrOf, if◌then◌else◌};
 ghost use Rattle.std.specs.Option.{option_copied};
 ghost use Rattle.polcert_cells.specs.declared.elements.Elements.{Elements};
 ghost use Rattle.polcert_cells.specs.declared.elements.Elements.TheVariants.{Count};
-ghost use Rattle.polcert_cells.specs.Elements.{count_of, most_states, most_actions, most_observations, most_elements};
+ghost use Rattle.polcert_cells.specs.Elements.{count_of, most_states, most_actions, most_observations};
+ghost use Rattle.polcert_cells.specs.Elements.{most_elements};
 ghost use Rattle.polcert_cells.specs.Entry.{cells_in};
 ghost use Rattle.polcert_cells.specs.declared.words.Topic.{Topic};
 ghost use Rattle.polcert_cells.specs.Preamble.{is_mdp};
@@ -15,7 +17,8 @@ ghost use Rattle.polcert_items.specs.KnownView.{learned, IsSaidWithin, MayBeLear
 ghost use Rattle.polcert_cells.specs.Meaning.{IsCount};
 ghost use Rattle.polcert_tables.specs.Kept.{IsKeptOf};
 ghost use Rattle.polcert_format.specs.Order.{word_fault};
-ghost use Rattle.polcert_format.specs.Order.{count_in, preamble_fault, is_late, came_before, is_unobserved, pairs_are_too_many};
+ghost use Rattle.polcert_format.specs.Order.{count_in, preamble_fault, is_late, came_before, is_unobserved};
+ghost use Rattle.polcert_format.specs.Order.{pairs_are_too_many};
 ghost use Rattle.polcert_format.specs.Text.{nothing_known};
 ghost use Rattle.polcert_items.specs.KnownView.{IsWholeRead, said};
 ghost use Rattle.polcert_text.specs.Cut.{Lexeme};
@@ -25,7 +28,7 @@ use crate::item::Said;
 use crate::stop::Unlearned;
 use polcert_cells::{Elements, Entries, Entry, Shares, Table, Topic};
 use polcert_format::ItemFault;
-use polcert_tables::{Draft, count_or};
+use polcert_tables::{Draft, Preamble, count_or};
 use std::alloc::{AllocError, Global};
 use std::marker::Model;
 
@@ -56,8 +59,10 @@ impl Model for Known {
 
     ghost view = { λ k. known_of k.discount k.costs k.states k.actions k.observations k.start k.entries };
 
-    ghost invariant = { λ k. IsCountIn most_states k.states × IsCountIn most_actions k.actions × IsCountIn most_observations k.observations
-        × IsCoveringOf (preamble_in (known_of k.discount k.costs k.states k.actions k.observations k.start k.entries)) k.entries k.covering };
+    ghost invariant = { λ k. IsCountIn most_states k.states × IsCountIn most_actions k.actions
+        × IsCountIn most_observations k.observations
+        × IsCoveringOf (preamble_in
+        (known_of k.discount k.costs k.states k.actions k.observations k.start k.entries)) k.entries k.covering };
 }
 
 impl Known {
@@ -77,15 +82,16 @@ impl Known {
         }
     }
 
-    /// Adds what a whole item says, unless it is an entry with which entries give too much of a large table. Where memory is
-    /// wanting, too, all stays as it was.
+    /// Adds what a whole item says, unless it is an entry with which entries give too much of a large table.
+    /// Where memory is wanting, too, all stays as it was.
     pub fn learn(&mut self, said: Said) -> Result<(), Unlearned>
         requires within { IsSaidWithin said }
         requires next { MayBeLearned self.old said }
         ensures ok { OnOk result (self.new ≡ learned self.old said) }
         ensures few { OnOk result (HasFewCells (preamble_in self.old) (learned self.old said).entries) }
         ensures err { OnErr result (self.new ≡ self.old) }
-        ensures many { IsErrOf result Unlearned.TooManyCells → HasFewCells (preamble_in self.old) (learned self.old said).entries → ⊥ }
+        ensures many { IsErrOf result Unlearned.TooManyCells →
+            HasFewCells (preamble_in self.old) (learned self.old said).entries → ⊥ }
     {
         match said {
             Said::Discount(discount) => self.discount = Some(discount),
@@ -105,7 +111,8 @@ impl Known {
         ensures ok { OnOk result (self.new ≡ learned self.old (Said.Entry entry)) }
         ensures few { OnOk result (HasFewCells (preamble_in self.old) (self.old.entries ++ entry ∷ [])) }
         ensures err { OnErr result (self.new ≡ self.old) }
-        ensures many { IsErrOf result Unlearned.TooManyCells → HasFewCells (preamble_in self.old) (self.old.entries ++ entry ∷ []) → ⊥ }
+        ensures many { IsErrOf result Unlearned.TooManyCells →
+            HasFewCells (preamble_in self.old) (self.old.entries ++ entry ∷ []) → ⊥ }
     {
         let Some(covering) = self.covering.with(self.sizes(), &entry) else {
             return Err(Unlearned::TooManyCells);
@@ -144,22 +151,21 @@ impl Known {
             entries,
             covering: _,
         } = self;
-        Draft::of(
-            alloc,
-            discount.unwrap_or(0),
-            costs.unwrap_or(false),
-            states.unwrap_or(Elements::Count(0)),
-            actions.unwrap_or(Elements::Count(0)),
+        let preamble = Preamble {
+            discount: discount.unwrap_or(0),
+            costs: costs.unwrap_or(false),
+            states: states.unwrap_or(Elements::Count(0)),
+            actions: actions.unwrap_or(Elements::Count(0)),
             observations,
-            start,
-            entries,
-        )
+        };
+        Draft::of(alloc, preamble, start, entries)
     }
 
     /// What the place of this number may name in an entry of the table, where it may name anything.
     pub fn elements(&self, table: Table, number: usize) -> Option<&Elements>
         requires { number < length (indices_in self.now table) }
-        ensures elements { get_or (named_in self.now table) number (Count 0) ≡ unwrap_or (option_copied result) (Count 0) }
+        ensures elements { get_or (named_in self.now table) number (Count 0)
+            ≡ unwrap_or (option_copied result) (Count 0) }
         ensures few { count_of (unwrap_or (option_copied result) (Count 0)) ≤ most_elements }
     {
         match (table, number) {
@@ -231,7 +237,8 @@ impl Known {
 
     /// Why the table has no entries: what is observed in an MDP is the end state.
     fn table_fault(&self, table: Table) -> Option<ItemFault>
-        ensures { result ≡ (if is_unobserved self.now (Topic.Cells table) then Some ItemFault.BadShape else None) }
+        ensures { result ≡
+            (if is_unobserved self.now (Topic.Cells table) then Some ItemFault.BadShape else None) }
     {
         match table {
             Table::Observation if self.is_mdp() => Some(ItemFault::BadShape),
@@ -263,7 +270,8 @@ impl Known {
         }
     }
 
-    /// Why the preamble isn't complete: a line is missing, or else there are too many pairs of a state and an observation.
+    /// Why the preamble isn't complete: a line is missing, or else there are too many pairs of a state and an
+    /// observation.
     pub fn preamble_fault(&self) -> Option<ItemFault>
         ensures { result ≡ preamble_fault self.now }
     {

@@ -2,6 +2,7 @@
 #![tactic(auto)]
 
 mod ahead;
+mod chosen;
 mod covering;
 mod elements;
 mod elements_reader;
@@ -10,14 +11,18 @@ mod item;
 mod known;
 mod lines;
 mod number;
+mod start_numbers;
 mod start_reader;
+mod start_shares;
 mod stop;
 
+pub use chosen::{Choice, Chosen};
 pub use elements_reader::ElementsReader;
 pub use entry_reader::{EntryReader, EntryState, Numbers, Word};
 pub use item::{ItemReader, Said};
 pub use known::Known;
 pub use lines::{DiscountReader, ValuesReader};
 pub use number::{Refusal, Sign};
-pub use start_reader::{Choice, Chosen, Digits, FirstNumber, StartReader};
+pub use start_numbers::{Digits, FirstNumber};
+pub use start_reader::StartReader;
 pub use stop::{ItemEnd, Stop, Unlearned};

@@ -29,8 +29,10 @@ impl DiscountReader {
         ensures refused { OnErr result (CannotTake DiscountGoes self.old (lexeme_of token.entry)) }
         ensures reason { IfErr result (λ r. DiscountReason self.old (lexeme_of token.entry) r.kind r.place) }
         ensures sign { OnOk result (SignIs (discount_sign self.new) (lexeme_of token.entry)) }
-        ensures leads { OnOk result (Leads (discount_wants self.old) (lexeme_of token.entry) (discount_wants self.new)) }
-        ensures kind { IfErr result (λ r. IsMisfit (discount_wants self.old []) (lexeme_of token.entry) r.kind) }
+        ensures leads { OnOk result
+            (Leads (discount_wants self.old) (lexeme_of token.entry) (discount_wants self.new)) }
+        ensures kind { IfErr result
+            (λ r. IsMisfit (discount_wants self.old []) (lexeme_of token.entry) r.kind) }
     {
         match *self {
             DiscountReader::Colon => {
@@ -79,7 +81,8 @@ impl ValuesReader {
         ensures refused { OnErr result (CannotTake ValuesGoes self.old (lexeme_of token.entry)) }
         ensures reason { IfErr result (λ r. IsMisplaced (lexeme_of token.entry) r.kind r.place) }
         ensures sign { OnOk result (is_sign (lexeme_of token.entry).kind ≡ false) }
-        ensures leads { OnOk result (Leads (values_want self.old) (lexeme_of token.entry) (values_want self.new)) }
+        ensures leads { OnOk result
+            (Leads (values_want self.old) (lexeme_of token.entry) (values_want self.new)) }
         ensures kind { IfErr result (λ r. IsMisfit (values_want self.old []) (lexeme_of token.entry) r.kind) }
     {
         match *self {

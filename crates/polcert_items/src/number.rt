@@ -1,8 +1,10 @@
 //! A number of an item: a numeral, perhaps behind a sign.
 ghost use Rattle.std.specs.Prelude.{◌≡◌, IfOk, IfErr, MatchOption, Some, false};
 ghost use Rattle.polcert_text.specs.Reading.{lexeme_of};
-ghost use Rattle.polcert_items.specs.NumberSteps.{IsStep, RefusesNumber, IsMisplaced, IsBehindNumbers, IsInRange, IsSignKind, IsRangeFault, is_negative, number_place};
-ghost use Rattle.polcert_format.specs.Misfits.{misfit, IsMisfit, EndOfNumbers, EndOfWord};
+ghost use Rattle.polcert_items.specs.NumberSteps.{IsStep, RefusesNumber, IsMisplaced, IsBehindNumbers};
+ghost use Rattle.polcert_items.specs.NumberSteps.{IsInRange, IsSignKind, IsRangeFault};
+ghost use Rattle.polcert_items.specs.NumberSteps.{is_negative, number_place};
+ghost use Rattle.polcert_format.specs.Misfits.{misfit, IsMisfit, begins_number, EndOfNumbers, EndOfWord};
 ghost use Rattle.polcert_items.specs.WantSteps.{number_wants};
 
 use polcert_cells::is_word;
@@ -122,7 +124,8 @@ pub fn number_place(sign: Option<Sign>, token: Token<'_>) -> u64
 /// Why the number may not stand in such a place, if it may not.
 #[inline(always)]
 fn range_fault(range: Range, value: i64) -> Option<ItemFault>
-    ensures { MatchOption result (IsInRange range value) (λ kind. (IsInRange range value → ⊥) × IsRangeFault range kind) }
+    ensures { MatchOption result (IsInRange range value)
+        (λ kind. (IsInRange range value → ⊥) × IsRangeFault range kind) }
 {
     match range {
         Range::Reward => None,
@@ -153,11 +156,22 @@ pub fn behind_numbers(token: Token<'_>) -> Refusal
     ensures reason { IsBehindNumbers (lexeme_of token.entry) result.kind result.place }
     ensures kind { result.kind ≡ misfit EndOfNumbers (Some (lexeme_of token.entry)) }
 {
-    match token.kind {
-        TokenKind::Numeral | TokenKind::Plus | TokenKind::Minus => Refusal {
+    if begins_number(token.kind) {
+        Refusal {
             kind: ItemFault::WrongNumberCount,
             place: token.place,
-        },
-        _ => misplaced(token),
+        }
+    } else {
+        misplaced(token)
+    }
+}
+
+/// Whether a number may begin so: it is a numeral, or a sign.
+pub fn begins_number(kind: TokenKind) -> bool
+    ensures { result ≡ begins_number kind }
+{
+    match kind {
+        TokenKind::Numeral | TokenKind::Plus | TokenKind::Minus => true,
+        _ => false,
     }
 }

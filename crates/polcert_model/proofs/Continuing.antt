@@ -19,7 +19,7 @@ use Rattle.polcert_items.specs.declared.lines.DiscountReader.TheVariants as disc
 use Rattle.polcert_items.specs.declared.lines.ValuesReader.TheVariants as values
 use Rattle.polcert_items.specs.declared.number.Sign.{Sign}
 use Rattle.polcert_text.specs.declared.number.NumberFault.{NumberFault}
-use Rattle.polcert_items.specs.declared.start_reader.Choice.{Choice}
+use Rattle.polcert_items.specs.declared.chosen.Choice.{Choice}
 use Rattle.polcert_items.specs.declared.start_reader.StartReader.{StartReader}
 use Rattle.polcert_items.specs.declared.start_reader.StartReader.TheVariants as starts
 use Rattle.polcert_cells.specs.declared.elements.Elements.TheVariants.{Count}

@@ -61,7 +61,8 @@ impl TextReader {
         requires few { self.old.number < 2 ^ 63 }
         requires text { IsTextToken (lexeme_of token) }
         ensures number { self.new.number ≤ self.old.number + 1 }
-        ensures read { let l = lexeme_of token.entry in (seen : List Lexeme) → IsTextRead seen self.old → MatchResult result
+        ensures read { let l = lexeme_of token.entry in (seen : List Lexeme) → IsTextRead seen self.old
+            → MatchResult result
             (λ _. IsTextRead (seen ++ l ∷ []) self.new)
             (IsRefusedBehind (seen ++ l ∷ [])) }
     {
@@ -80,7 +81,8 @@ impl TextReader {
         requires read { (seen : List Lexeme) × IsTextRead seen self.old }
         requires text { IsTextToken (lexeme_of token) }
         ensures number { self.new.number ≡ self.old.number }
-        ensures read { let l = lexeme_of token.entry in (seen : List Lexeme) → IsTextRead seen self.old → begins_item l ≡ false → MatchResult result
+        ensures read { let l = lexeme_of token.entry in (seen : List Lexeme) → IsTextRead seen self.old
+            → begins_item l ≡ false → MatchResult result
             (λ _. IsTextRead (seen ++ l ∷ []) self.new)
             (IsRefusedBehind (seen ++ l ∷ [])) }
     {
@@ -135,7 +137,8 @@ impl TextReader {
     fn open(&mut self, about: Topic, place: u64) -> Result<(), ModelFault>
         requires { self.old.number < 2 ^ 63 }
         ensures number { self.new.number ≡ self.old.number + 1 }
-        ensures read { (seen : List Lexeme) (word : Lexeme) → AreItemsRead seen self.old → topic word ≡ Some about → word.place ≡ place → MatchResult result
+        ensures read { (seen : List Lexeme) (word : Lexeme) → AreItemsRead seen self.old
+            → topic word ≡ Some about → word.place ≡ place → MatchResult result
             (λ _. IsTextRead (seen ++ word ∷ []) self.new)
             (IsRefusedBehind (seen ++ word ∷ [])) }
     {
@@ -246,10 +249,12 @@ fn read_items_from<S: Source>(
 ) -> Result<(), SourceFault<ModelFault>>
     requires none { IsTextRead [] reader.old }
     requires first { reader.old.number ≡ 0 }
-    ensures read { IfOk result (λ _. (text : List ℕ) × IsText S.reads source.old text source.new × IsTextOf text reader.new.known) }
+    ensures read { IfOk result (λ _. (text : List ℕ) × IsText S.reads source.old text source.new
+        × IsTextOf text reader.new.known) }
     ensures refused { (fault : ModelFault) → IsErrOf result (SourceFault.Refused fault)
         → EachTextThatFits S.reads source.old source.new (IsRefusedModelText fault) }
-    ensures device { IsErrOf result SourceFault.Device → HasFailed (S.failures source.old) (S.failures source.new) }
+    ensures device { IsErrOf result SourceFault.Device
+        → HasFailed (S.failures source.old) (S.failures source.new) }
     ensures device_last { IsErrOf result SourceFault.Device → EndsInFailure S.reads source.old source.new }
     ensures same_count { (result ≢ Err SourceFault.Device) → S.failures source.new ≡ S.failures source.old }
 {
@@ -283,10 +288,12 @@ fn read_text_from<S: Source>(
     alloc: Global,
     source: &mut S,
 ) -> Result<Known, SourceFault<ModelFault>>
-    ensures read { IfOk result (λ k. (text : List ℕ) × IsText S.reads source.old text source.new × IsTextOf text k) }
+    ensures read { IfOk result (λ k. (text : List ℕ) × IsText S.reads source.old text source.new
+        × IsTextOf text k) }
     ensures refused { (fault : ModelFault) → IsErrOf result (SourceFault.Refused fault)
         → EachTextThatFits S.reads source.old source.new (IsRefusedModelText fault) }
-    ensures device { IsErrOf result SourceFault.Device → HasFailed (S.failures source.old) (S.failures source.new) }
+    ensures device { IsErrOf result SourceFault.Device
+        → HasFailed (S.failures source.old) (S.failures source.new) }
     ensures device_last { IsErrOf result SourceFault.Device → EndsInFailure S.reads source.old source.new }
     ensures same_count { (result ≢ Err SourceFault.Device) → S.failures source.new ≡ S.failures source.old }
 {
@@ -322,8 +329,10 @@ fn model_of(alloc: Global, known: Known) -> Result<Model, ModelFault>
 pub fn read_model(alloc: Global, text: &[u8]) -> Result<Model, ModelFault>
     ensures exactly { MatchResult result (λ m. IsModelText text.now (meaning m)) (IsNoModel text.now) }
     ensures accepted { IfOk result (λ m. IsModelText text.now (meaning m)) }
-    ensures refused { IfErr result (λ fault. (ts : TextTokens) → AreTokensOf text.now ts → IsRefusal ts fault) }
-    ensures placed { IfErr result (λ fault. (ts : TextTokens) → AreTokensOf text.now ts → IsPlacedRight ts fault) }
+    ensures refused { IfErr result (λ fault. (ts : TextTokens) → AreTokensOf text.now ts
+        → IsRefusal ts fault) }
+    ensures placed { IfErr result (λ fault. (ts : TextTokens) → AreTokensOf text.now ts
+        → IsPlacedRight ts fault) }
 {
     let known = read_text(alloc, text)?;
     model_of(alloc, known)
@@ -344,7 +353,8 @@ pub fn read_model_from<S: Source>(
         × IsModelText text (meaning m)) }
     ensures refused { (fault : ModelFault) → IsErrOf result (SourceFault.Refused fault)
         → EachTextThatFits S.reads source.old source.new (IsRefusedModelText fault) }
-    ensures device { IsErrOf result SourceFault.Device → HasFailed (S.failures source.old) (S.failures source.new) }
+    ensures device { IsErrOf result SourceFault.Device
+        → HasFailed (S.failures source.old) (S.failures source.new) }
     ensures device_last { IsErrOf result SourceFault.Device → EndsInFailure S.reads source.old source.new }
     ensures same_count { (result ≢ Err SourceFault.Device) → S.failures source.new ≡ S.failures source.old }
 {

@@ -1,15 +1,17 @@
 -- Rules that begin with places that fit, and what the newest rule of R gives.
 -- Nobody has to believe this file: only private functions cite it.
-use Rattle.std.specs.Prelude.{◌≡◌, ℕ, ◌+◌, ◌-◌, ◌^◌, ◌<◌, ◌≤◌, Bool, true, false, ◌⊎◌, List, [], ◌∷◌, length, Option, Some, None, Contains, slice_get, ℤ}
+use Rattle.std.specs.Prelude.{◌≡◌, ℕ, ◌+◌, ◌-◌, ◌^◌, ◌<◌, ◌≤◌, Bool, true, false, ◌⊎◌, List, [], ◌∷◌, length, Option, Some, None, Contains, slice_get, slice_index_or, ℤ, pos}
 use Rattle.polcert_cells.specs.declared.entry.Table.TheVariants.{Reward}
 use Rattle.polcert_cells.specs.declared.entry.Place.{Place}
 use Rattle.polcert_cells.specs.declared.entry.Entry.{Entry}
-use Rattle.polcert_cells.specs.Cells.{fit_places}
+use Rattle.polcert_cells.specs.Cells.{fit_places, reward}
+use Rattle.polcert_cells.specs.Preamble.{Preamble}
 use Rattle.polcert_rules.specs.declared.rule.Rule.{Rule}
+use Rattle.polcert_rules.specs.declared.reward_parts.Outcome.{Outcome}
 use Rattle.polcert_rules.specs.declared.reward_parts.RewardBody.{RewardBody}
 use Rattle.polcert_rules.specs.Keys.{key_base, key_in}
 use Rattle.polcert_rules.specs.Newest.{IsLastNumber}
-use Rattle.polcert_rules.specs.Rewards.{IsBodyOf}
+use Rattle.polcert_rules.specs.Rewards.{RewardRules, AreRewardsOf, IsBodyOf}
 
 -- The key begins with places, one for each of these indices, that fit them, and goes on with at least so much.
 pub record Begins (levels low : ℕ) (indices : List ℕ) (least key : ℕ) : Type 0 where
@@ -23,6 +25,11 @@ pub record Begins (levels low : ℕ) (indices : List ℕ) (least key : ℕ) : Ty
 abbrev pub IsAnswer : List Rule → (ℕ → Type 0) → Bool → Type 0
 IsAnswer rules P true = (r : Rule) × Contains rules r × P r.key
 IsAnswer rules P false = (r : Rule) → Contains rules r → P r.key → ⊥
+
+-- the rewards of so many observations from this one on are filled in
+abbrev pub AreFilled : RewardRules → Outcome → ℕ → ℕ → List ℤ → Type 0
+AreFilled rewards at first count filled = (p : Preamble) (entries : List Entry) → AreRewardsOf p entries rewards
+    → (i : ℕ) → i < count → slice_index_or filled i (pos 0) ≡ reward p entries (at.action ∷ at.start ∷ at.end ∷ (first + i) ∷ [])
 
 -- as many indices as counts, each below its count
 abbrev pub AreWithin : List ℕ → List ℕ → Type 0

@@ -23,7 +23,8 @@ pub(crate) fn body_row(
     requires within { IsWithin shape }
     requires state { state < shape.states }
     requires fits { FitsShape shape (entry_of entry) }
-    ensures { IfOk result (λ cells. IsRow shape.columns (given shape.columns (entry_of entry.entry) state) cells.items) }
+    ensures { IfOk result
+        (λ cells. IsRow shape.columns (given shape.columns (entry_of entry.entry) state) cells.items) }
 {
     let columns = shape.columns;
     match entry.body {
@@ -47,7 +48,8 @@ fn line_of(numbers: &[u32], columns: usize, state: usize) -> &[u32]
     requires small { All (λ n. n ≤ one) numbers.now }
     ensures length { length result.now ≡ columns }
     ensures small { All (λ n. n ≤ one) result.now }
-    ensures numbers { (c : ℕ) → c < columns → slice_index result.now c ≡ slice_index numbers.now (state * columns + c) }
+    ensures numbers { (c : ℕ) → c < columns
+        → slice_index result.now c ≡ slice_index numbers.now (state * columns + c) }
 {
     let start = state * columns;
     &numbers[start..start + columns]
@@ -57,7 +59,9 @@ fn line_of(numbers: &[u32], columns: usize, state: usize) -> &[u32]
 fn row_of_numbers(alloc: Global, numbers: &[u32]) -> Result<Vec<Cell>, AllocError>
     requires few { length numbers.now ≤ most_elements }
     requires small { All (λ n. n ≤ one) numbers.now }
-    ensures { IfOk result (λ cells. IsRow (length numbers.now) (λ c. slice_index numbers.now c * length numbers.now) cells.items) }
+    ensures { IfOk result
+        (λ cells. IsRow (length numbers.now) (λ c. slice_index numbers.now c * length numbers.now)
+        cells.items) }
 {
     let columns = numbers.len();
     let some = numbers.iter().filter(|number| **number > 0).count();
@@ -89,7 +93,8 @@ fn even_row(alloc: Global, columns: usize, weight: u64) -> Result<Vec<Cell>, All
 fn diagonal_row(alloc: Global, columns: usize, state: usize) -> Result<Vec<Cell>, AllocError>
     requires within { columns ≤ most_elements }
     requires some { 0 < columns }
-    ensures { IfOk result (λ cells. IsRow columns (λ c. if state == c then one * columns else 0) cells.items) }
+    ensures { IfOk result
+        (λ cells. IsRow columns (λ c. if state == c then one * columns else 0) cells.items) }
 {
     if state >= columns {
         return Ok(Vec::new(alloc));

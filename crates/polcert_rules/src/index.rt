@@ -63,7 +63,8 @@ impl Index {
     /// The rules of this table.
     pub(crate) fn of_table(&self, table: Table) -> &[Rule]
         ensures rising { IsRising result.now }
-        ensures kept { (r : R) → Contains result.now r ↔ (Contains self.now r × (table_key table ≤ r.key) × (r.key < table_key table + key_base ^ most_places)) }
+        ensures kept { (r : R) → Contains result.now r ↔ (Contains self.now r × (table_key table ≤ r.key)
+            × (r.key < table_key table + key_base ^ most_places)) }
     {
         let low = table_digit(table) * span(4);
         between(self.rules.as_slice(), low, low + span(4))

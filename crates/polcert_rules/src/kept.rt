@@ -182,7 +182,8 @@ fn whole_row(
     requires within { IsWithin shape }
     requires state { state < shape.states }
     requires whole { IsWhole shape entries.now whole }
-    ensures { IfOk result (λ cells. IsRow shape.columns (given_at shape.columns entries.now whole state) cells.items) }
+    ensures { IfOk result
+        (λ cells. IsRow shape.columns (given_at shape.columns entries.now whole state) cells.items) }
 {
     match whole {
         None => Ok(Vec::new(alloc)),

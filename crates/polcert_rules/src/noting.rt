@@ -11,6 +11,8 @@ use crate::part::{between, from};
 
 /// Notes, for each of so many numbers from `first` on as the last index behind these, the newest rule that fits, where it is later
 /// than what is noted. The places of the rules follow those of the key `low`.
+// (Seven parameters: it goes on with a part of the rules and of the indices, so that a struct of them would be
+// made anew at each step.)
 pub(crate) fn note(
     rules: &[Rule],
     low: u64,
@@ -55,7 +57,8 @@ fn note_last(rules: &[Rule], low: u64, first: usize, count: usize, noted: &mut [
     requires room { low + (first + count + 2) < 2 ^ 64 }
     requires within { count ≤ length noted.old }
     ensures { (i : ℕ) → i < count →
-        IsNoted rules.now (IsLastPlace low (first + i)) (slice_index_or noted.old i None) (slice_index_or noted.new i None) }
+        IsNoted rules.now (IsLastPlace low (first + i)) (slice_index_or noted.old i None)
+        (slice_index_or noted.new i None) }
 {
     let every = low + 1;
     note_all(noted, count, first_at(from(rules, every), every));
@@ -68,7 +71,8 @@ fn note_each(rules: &[Rule], start: u64, noted: &mut [Option<usize>])
     requires from { (r : R) → Contains rules.now r → start ≤ r.key }
     requires to { (r : R) → Contains rules.now r → r.key < start + length noted.old }
     ensures { (i : ℕ) → i < length noted.old →
-        IsNoted rules.now (λ k. k ≡ start + i) (slice_index_or noted.old i None) (slice_index_or noted.new i None) }
+        IsNoted rules.now (λ k. k ≡ start + i) (slice_index_or noted.old i None)
+        (slice_index_or noted.new i None) }
 {
     for rule in rules {
         note_rule(*rule, start, noted);
@@ -79,8 +83,10 @@ fn note_each(rules: &[Rule], start: u64, noted: &mut [Option<usize>])
 fn note_rule(rule: Rule, start: u64, noted: &mut [Option<usize>])
     requires from { start ≤ rule.key }
     requires to { rule.key < start + length noted.old }
-    ensures here { (i : ℕ) → rule.key ≡ start + i → slice_index_or noted.new i None ≡ later (slice_index_or noted.old i None) (Some rule.number) }
-    ensures other { (i : ℕ) → (rule.key ≡ start + i → ⊥) → slice_index_or noted.new i None ≡ slice_index_or noted.old i None }
+    ensures here { (i : ℕ) → rule.key ≡ start + i
+        → slice_index_or noted.new i None ≡ later (slice_index_or noted.old i None) (Some rule.number) }
+    ensures other { (i : ℕ) → (rule.key ≡ start + i → ⊥)
+        → slice_index_or noted.new i None ≡ slice_index_or noted.old i None }
 {
     let place = (rule.key - start) as usize;
     noted[place] = later(noted[place], Some(rule.number));
@@ -89,7 +95,8 @@ fn note_rule(rule: Rule, start: u64, noted: &mut [Option<usize>])
 /// Notes a number, if one, for each of so many.
 pub(crate) fn note_all(noted: &mut [Option<usize>], count: usize, number: Option<usize>)
     requires { count ≤ length noted.old }
-    ensures { (z : ℕ) → z < count → slice_index_or noted.new z None ≡ later (slice_index_or noted.old z None) number }
+    ensures { (z : ℕ) → z < count
+        → slice_index_or noted.new z None ≡ later (slice_index_or noted.old z None) number }
 {
     if number.is_none() {
         return;

@@ -108,7 +108,8 @@ fn before_at(rules: &[Rule], high: u64, place: usize) -> &[Rule]
 fn near(rules: &[Rule], high: u64) -> &[Rule]
     requires { IsRising rules.now }
     ensures rising { IsRising result.now }
-    ensures kept { (r : R) → (Contains result.now r × (r.key < high)) ↔ (Contains rules.now r × (r.key < high)) }
+    ensures kept { (r : R) → (Contains result.now r × (r.key < high)) ↔ (Contains rules.now r
+        × (r.key < high)) }
 {
     if rules.len() <= NEAR {
         return rules;

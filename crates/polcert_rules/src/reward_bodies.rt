@@ -35,7 +35,9 @@ impl RewardBodies {
         rules: &[Rule],
     ) -> Result<RewardBodies, AllocError>
         requires { (r : R) → Contains rules.now r → r.number < length entries.now }
-        ensures { IfOk result (λ kept. AreBodiesOf costs entries.now rules.now kept.first kept.numbers.items kept.bodies.items) }
+        ensures { IfOk result
+            (λ kept. AreBodiesOf costs entries.now rules.now kept.first kept.numbers.items
+            kept.bodies.items) }
     {
         let first = first_number(rules);
         let room = behind_last(rules, entries.len()).saturating_sub(first);
@@ -112,7 +114,8 @@ pub(crate) fn in_half(number: usize) -> Result<u32, AllocError>
 
 /// Puts the rewards of a body behind the others, each as it is worth.
 fn add_numbers(numbers: &mut Vec<i64>, costs: bool, body: BodyRef<'_>) -> Result<(), AllocError>
-    ensures { OnOk result (numbers.new.items ≡ numbers.old.items ++ map (worth costs) (rewards_in (body_of body.entry))) }
+    ensures { OnOk result
+        (numbers.new.items ≡ numbers.old.items ++ map (worth costs) (rewards_in (body_of body.entry))) }
 {
     if let BodyRef::Rewards(written) = body {
         for h in written {

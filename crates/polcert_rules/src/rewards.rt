@@ -1,5 +1,6 @@
 //! The rewards of a model, as rules.
-ghost use Rattle.std.specs.Prelude.{◌≡◌, ◌<◌, ◌≤◌, ◌+◌, ◌^◌, ◌↔◌, ℕ, List, [], ◌∷◌, map, All, Contains, pos, true, false, IfOk, IsTrue, Some, None, slice_get, length, slice_index_or};
+ghost use Rattle.std.specs.Prelude.{◌≡◌, ◌<◌, ◌≤◌, ◌+◌, ◌^◌, ◌↔◌, ℕ, List, [], ◌∷◌, map, All, Contains, pos};
+ghost use Rattle.std.specs.Prelude.{true, false, IfOk, IsTrue, Some, None, slice_get, length, slice_index_or};
 ghost use Rattle.std.specs.Option.{ForSome};
 ghost use Rattle.polcert_rules.specs.declared.rule.Rule.{Rule as R};
 ghost use Rattle.polcert_cells.specs.declared.entry.Entry.{Entry as E};
@@ -12,12 +13,12 @@ ghost use Rattle.polcert_rules.specs.Meeting.{meets_row};
 ghost use Rattle.polcert_rules.specs.Keys.{key_base, AreIndices, Fits, most_places, table_key};
 ghost use Rattle.polcert_rules.specs.Newest.{AreKeyed, IsIndexOf, IsNewest, IsLastNumber, IsRising};
 ghost use Rattle.polcert_rules.specs.Rewards.{IsShapeOf, IsSmall, AreRewardsOf};
-ghost use Rattle.polcert_rules.specs.RewardSearch.{AreWithin, IsLastBody, IsSingle};
+ghost use Rattle.polcert_rules.specs.RewardSearch.{AreFilled, AreWithin, IsLastBody, IsSingle};
 
 use crate::keys::{KEY_BASE, MOST_PLACES, TABLE};
 use crate::newest::newest;
 use crate::reward_bodies::{RewardBodies, behind, cell_in};
-use crate::reward_parts::{RewardBody, RewardShape};
+use crate::reward_parts::{Outcome, RewardBody, RewardShape};
 use crate::reward_search::some_begins;
 use crate::row_rules::RowRules;
 use crate::{Index, Rule};
@@ -40,7 +41,8 @@ const FEW_OBSERVATIONS: usize = 63;
 /// The rewards of so many observations are filled in together.
 const BLOCK: usize = 1000;
 
-/// The rewards that a list of entries gives: of each pattern of R the last entry, and its numbers, each as it is worth.
+/// The rewards that a list of entries gives: of each pattern of R the last entry, and its numbers, each as it
+/// is worth.
 #[derive(Drop)]
 pub struct Rewards {
     shape: RewardShape,
@@ -53,13 +55,16 @@ impl Model for Rewards {
 
     ghost Value = { RewardRules };
 
-    ghost view = { λ r. reward_rules r.shape r.rules.rules.items r.bodies.first r.bodies.bodies.items r.bodies.numbers.items };
+    ghost view = { λ r. reward_rules r.shape
+        r.rules.rules.items r.bodies.first r.bodies.bodies.items r.bodies.numbers.items };
 
-    ghost invariant = { λ r. AreRewardRules (reward_rules r.shape r.rules.rules.items r.bodies.first r.bodies.bodies.items r.bodies.numbers.items) };
+    ghost invariant = { λ r. AreRewardRules (reward_rules r.shape
+        r.rules.rules.items r.bodies.first r.bodies.bodies.items r.bodies.numbers.items) };
 }
 
 impl Rewards {
-    /// The rewards of these entries, of which `index` is the index, in a model of this shape. The index is given up. An error is want of memory.
+    /// The rewards of these entries, of which `index` is the index, in a model of this shape. The index is
+    /// given up. An error is want of memory.
     pub fn of(
         alloc: Global,
         shape: RewardShape,
@@ -70,7 +75,8 @@ impl Rewards {
         requires shape { IsSmall shape }
         requires index { IsIndexOf entries.now index }
         ensures shape { IfOk result (λ rewards. rewards.shape ≡ shape) }
-        ensures rewards { IfOk result (λ rewards. (p : Preamble) → IsShapeOf p shape → p.costs ≡ costs → AreKeyed entries.now →
+        ensures rewards { IfOk result
+            (λ rewards. (p : Preamble) → IsShapeOf p shape → p.costs ≡ costs → AreKeyed entries.now →
             All (IsSoundEntry p) entries.now → AreRewardsOf p entries.now rewards) }
     {
         let rules = rules_of(alloc, index)?;
@@ -90,8 +96,8 @@ impl Rewards {
         self.shape
     }
 
-    /// The reward, in millionths, where this action is taken in the start state, ends in the end state and the
-    /// observation is made.
+    /// The reward, in millionths, where this action is taken in the start state, ends in the end state and
+    /// the observation is made.
     pub fn at(&self, action: usize, start: usize, end: usize, observation: usize) -> i64
         requires action { action < self.now.shape.actions }
         requires start { start < self.now.shape.states }
@@ -105,122 +111,72 @@ impl Rewards {
         self.given(body, &[action, start, end, observation])
     }
 
-    /// Fills in the rewards of observation `first` and of those behind it, in millionths, where this action is taken in the start
-    /// state and ends in the end state: as many as there is room for, or as there are. What stands behind them may change.
+    /// Fills in the rewards of observation `first` and of those behind it, in millionths, where this action
+    /// is taken in the start state and ends in the end state: as many as there is room for, or as there are.
+    /// What stands behind them may change.
     pub fn fill(&self, action: usize, start: usize, end: usize, first: usize, rewards: &mut [i64])
         requires action { action < self.now.shape.actions }
         requires start { start < self.now.shape.states }
         requires end { end < self.now.shape.states }
-        ensures { (p : Preamble) (entries : List E) → AreRewardsOf p entries self.now → (i : ℕ) → i < length rewards.old →
-            first + i < self.now.shape.observations → slice_index_or rewards.new i (pos 0) ≡ reward p entries (action ∷ start ∷ end ∷ (first + i) ∷ []) }
+        ensures { (p : Preamble) (entries : List E) → AreRewardsOf p entries self.now →
+            (i : ℕ) → i < length rewards.old → first + i < self.now.shape.observations →
+            slice_index_or rewards.new i (pos 0)
+            ≡ reward p entries (action ∷ start ∷ end ∷ (first + i) ∷ []) }
     {
         let left = self.shape.observations.saturating_sub(first);
         let count = left.min(rewards.len());
         if count == 0 {
             return;
         }
+        let at = Outcome { action, start, end };
         if count <= FEW_OBSERVATIONS {
-            self.fill_few(action, start, end, first, count, rewards);
+            let mut noted = [None; FEW_OBSERVATIONS + 1];
+            self.fill_noted(at, first, count, rewards, &mut noted);
         } else {
-            self.fill_many(action, start, end, first, count, rewards);
+            self.fill_many(at, first, count, rewards);
         }
     }
 
-    /// The same for so many observations, which are few.
-    fn fill_few(
-        &self,
-        action: usize,
-        start: usize,
-        end: usize,
-        first: usize,
-        count: usize,
-        rewards: &mut [i64],
-    )
-        requires action { action < self.now.shape.actions }
-        requires start { start < self.now.shape.states }
-        requires end { end < self.now.shape.states }
-        requires room { count ≤ length rewards.old }
-        requires within { first + count ≤ self.now.shape.observations }
-        requires few { count ≤ 63 }
-        ensures { (p : Preamble) (entries : List E) → AreRewardsOf p entries self.now → (i : ℕ) → i < count →
-            slice_index_or rewards.new i (pos 0) ≡ reward p entries (action ∷ start ∷ end ∷ (first + i) ∷ []) }
-    {
-        let mut noted = [None; FEW_OBSERVATIONS + 1];
-        self.fill_noted(action, start, end, first, count, rewards, &mut noted);
-    }
-
     /// The same for so many observations, block by block.
-    fn fill_many(
-        &self,
-        action: usize,
-        start: usize,
-        end: usize,
-        first: usize,
-        count: usize,
-        rewards: &mut [i64],
-    )
-        requires action { action < self.now.shape.actions }
-        requires start { start < self.now.shape.states }
-        requires end { end < self.now.shape.states }
+    fn fill_many(&self, at: Outcome, first: usize, count: usize, rewards: &mut [i64])
+        requires action { at.action < self.now.shape.actions }
+        requires start { at.start < self.now.shape.states }
+        requires end { at.end < self.now.shape.states }
         requires room { count ≤ length rewards.old }
         requires within { first + count ≤ self.now.shape.observations }
-        ensures { (p : Preamble) (entries : List E) → AreRewardsOf p entries self.now → (i : ℕ) → i < count →
-            slice_index_or rewards.new i (pos 0) ≡ reward p entries (action ∷ start ∷ end ∷ (first + i) ∷ []) }
+        ensures { AreFilled self.now at first count rewards.new }
     {
         prove!(count <= self.shape.observations);
         let mut done = 0;
         while done < count {
             let size = (count - done).min(BLOCK);
-            self.fill_block(action, start, end, first + done, size, &mut rewards[done..]);
+            let mut noted = [None; BLOCK + 1];
+            self.fill_noted(at, first + done, size, &mut rewards[done..], &mut noted);
             done += size;
         }
     }
 
-    /// The same for so many observations, which are at most a block.
-    fn fill_block(
-        &self,
-        action: usize,
-        start: usize,
-        end: usize,
-        first: usize,
-        count: usize,
-        rewards: &mut [i64],
-    )
-        requires action { action < self.now.shape.actions }
-        requires start { start < self.now.shape.states }
-        requires end { end < self.now.shape.states }
-        requires room { count ≤ length rewards.old }
-        requires within { first + count ≤ self.now.shape.observations }
-        requires few { count ≤ 1000 }
-        ensures { (p : Preamble) (entries : List E) → AreRewardsOf p entries self.now → (i : ℕ) → i < count →
-            slice_index_or rewards.new i (pos 0) ≡ reward p entries (action ∷ start ∷ end ∷ (first + i) ∷ []) }
-    {
-        let mut noted = [None; BLOCK + 1];
-        self.fill_noted(action, start, end, first, count, rewards, &mut noted);
-    }
-
-    /// The same, where nothing is noted yet for any of these observations, nor for one more. What is noted there is a guess at what is
-    /// noted for most of them: behind the last observation stands one that no entry names.
+    /// The same, where nothing is noted yet for any of these observations, nor for one more. What is noted
+    /// there is a guess at what is noted for most of them: behind the last observation stands one that no
+    /// entry names.
     fn fill_noted(
         &self,
-        action: usize,
-        start: usize,
-        end: usize,
+        at: Outcome,
         first: usize,
         count: usize,
         rewards: &mut [i64],
         noted: &mut [Option<usize>],
     )
-        requires action { action < self.now.shape.actions }
-        requires start { start < self.now.shape.states }
-        requires end { end < self.now.shape.states }
+        requires action { at.action < self.now.shape.actions }
+        requires start { at.start < self.now.shape.states }
+        requires end { at.end < self.now.shape.states }
         requires room { count ≤ length rewards.old }
         requires within { first + count ≤ self.now.shape.observations }
         requires room_to_note { count < length noted.old }
         requires nothing { (i : ℕ) → i < length noted.old → slice_index_or noted.old i None ≡ None }
-        ensures { (p : Preamble) (entries : List E) → AreRewardsOf p entries self.now → (i : ℕ) → i < count →
-            slice_index_or rewards.new i (pos 0) ≡ reward p entries (action ∷ start ∷ end ∷ (first + i) ∷ []) }
+        ensures { AreFilled self.now at first count rewards.new }
     {
+        let Outcome { action, start, end } = at;
         self.rules
             .note(LOW, action, start, &[end], first, count + 1, noted);
         let shared = noted[count];
@@ -237,15 +193,16 @@ impl Rewards {
         }
     }
 
-    /// The reward where it is known at once that it is the same for every observation: no entry names an observation
-    /// where this action is taken in the start state and ends in the end state, and the last that covers these has a
-    /// single number.
+    /// The reward where it is known at once that it is the same for every observation: no entry names an
+    /// observation where this action is taken in the start state and ends in the end state, and the last that
+    /// covers these has a single number.
     pub fn alike(&self, action: usize, start: usize, end: usize) -> Option<i64>
         requires action { action < self.now.shape.actions }
         requires start { start < self.now.shape.states }
         requires end { end < self.now.shape.states }
         ensures { (p : Preamble) (entries : List E) → AreRewardsOf p entries self.now →
-            ForSome result (λ h. (z : ℕ) → z < self.now.shape.observations → reward p entries (action ∷ start ∷ end ∷ z ∷ []) ≡ h) }
+            ForSome result (λ h. (z : ℕ) → z < self.now.shape.observations →
+            reward p entries (action ∷ start ∷ end ∷ z ∷ []) ≡ h) }
     {
         if self.rules.some_begins(LOW, action, start, &[end], AN_INDEX) {
             return None;
@@ -253,13 +210,15 @@ impl Rewards {
         self.single(self.newest_body(action, start, &[end, 0]))
     }
 
-    /// The reward where it is known at once that it is the same for every end state and observation: no entry names one of these
-    /// where this action is taken in the start state, and the last that covers them has a single number.
+    /// The reward where it is known at once that it is the same for every end state and observation: no entry
+    /// names one of these where this action is taken in the start state, and the last that covers them has a
+    /// single number.
     pub fn common(&self, action: usize, start: usize) -> Option<i64>
         requires action { action < self.now.shape.actions }
         requires start { start < self.now.shape.states }
         ensures { (p : Preamble) (entries : List E) → AreRewardsOf p entries self.now →
-            ForSome result (λ h. (end observation : ℕ) → end < self.now.shape.states → observation < self.now.shape.observations →
+            ForSome result (λ h. (end observation : ℕ) → end < self.now.shape.states →
+            observation < self.now.shape.observations →
             reward p entries (action ∷ start ∷ end ∷ observation ∷ []) ≡ h) }
     {
         if self
@@ -282,10 +241,12 @@ impl Rewards {
     pub fn is_paid(&self, action: usize, start: usize) -> bool
         requires action { action < self.now.shape.actions }
         requires start { start < self.now.shape.states }
-        ensures unpaid { result ≡ false → (p : Preamble) (entries : List E) → AreRewardsOf p entries self.now →
+        ensures unpaid { result ≡ false → (p : Preamble) (entries : List E) →
+            AreRewardsOf p entries self.now →
             (end observation : ℕ) → reward p entries (action ∷ start ∷ end ∷ observation ∷ []) ≡ pos 0 }
         ensures paid { result ≡ true → (p : Preamble) (entries : List E) → AreRewardsOf p entries self.now →
-            (n : ℕ) × (e : E) × (slice_get entries n ≡ Some e) × (meets_row RewardTable action start e ≡ true) }
+            (n : ℕ) × (e : E) × (slice_get entries n ≡ Some e)
+            × (meets_row RewardTable action start e ≡ true) }
     {
         prove!(action < self.shape.actions);
         match self.newest_number(&[action]) {
@@ -305,7 +266,8 @@ impl Rewards {
         requires { AreIndices most_places indices.now }
         ensures { (p : Preamble) (entries : List E) → AreRewardsOf p entries self.now →
             AreWithin (map count_of (dimensions p RewardTable)) indices.now →
-            IsLastBody p.costs entries self.now.numbers indices.now body → result ≡ reward p entries indices.now }
+            IsLastBody p.costs entries self.now.numbers indices.now body →
+            result ≡ reward p entries indices.now }
     {
         match body {
             Some(body) => {
@@ -319,8 +281,10 @@ impl Rewards {
 
     /// What a body gives each cell that it is the last of, where it has a single number, or there is none.
     fn single(&self, body: Option<RewardBody>) -> Option<i64>
-        ensures { (p : Preamble) (entries : List E) → AreRewardsOf p entries self.now → ForSome result (λ h. (cell : List ℕ) →
-            AreWithin (map count_of (dimensions p RewardTable)) cell → IsLastBody p.costs entries self.now.numbers cell body → reward p entries cell ≡ h) }
+        ensures { (p : Preamble) (entries : List E) → AreRewardsOf p entries self.now →
+            ForSome result (λ h. (cell : List ℕ) →
+            AreWithin (map count_of (dimensions p RewardTable)) cell →
+            IsLastBody p.costs entries self.now.numbers cell body → reward p entries cell ≡ h) }
     {
         match body {
             None => Some(0),
@@ -340,11 +304,14 @@ impl Rewards {
         indices: &[usize],
     ) -> i64
         requires indices { AreIndices most_places indices.now }
-        requires single { (p : Preamble) (entries : List E) → AreRewardsOf p entries self.now → ForSome single (λ h. (cell : List ℕ) →
-            AreWithin (map count_of (dimensions p RewardTable)) cell → IsLastBody p.costs entries self.now.numbers cell body → reward p entries cell ≡ h) }
+        requires single { (p : Preamble) (entries : List E) → AreRewardsOf p entries self.now →
+            ForSome single (λ h. (cell : List ℕ) →
+            AreWithin (map count_of (dimensions p RewardTable)) cell →
+            IsLastBody p.costs entries self.now.numbers cell body → reward p entries cell ≡ h) }
         ensures { (p : Preamble) (entries : List E) → AreRewardsOf p entries self.now →
             AreWithin (map count_of (dimensions p RewardTable)) indices.now →
-            IsLastBody p.costs entries self.now.numbers indices.now body → result ≡ reward p entries indices.now }
+            IsLastBody p.costs entries self.now.numbers indices.now body →
+            result ≡ reward p entries indices.now }
     {
         match single {
             Some(reward) => reward,
@@ -361,7 +328,8 @@ impl Rewards {
         newest(self.rules.rules.as_slice(), LOW, MOST_PLACES, indices)
     }
 
-    /// The body of the last entry that covers the cell at an action, a start state and the indices behind them, if one does.
+    /// The body of the last entry that covers the cell at an action, a start state and the indices behind
+    /// them, if one does.
     fn newest_body(&self, action: usize, start: usize, rest: &[usize]) -> Option<RewardBody>
         requires { AreIndices most_places (action ∷ start ∷ rest.now) }
         ensures { (p : Preamble) (entries : List E) → AreRewardsOf p entries self.now →
@@ -372,7 +340,8 @@ impl Rewards {
 
     /// The body of the rule of this number.
     fn body_of(&self, number: Option<usize>) -> Option<RewardBody>
-        ensures { (indices : List ℕ) (p : Preamble) (entries : List E) → AreIndices most_places indices → AreRewardsOf p entries self.now →
+        ensures { (indices : List ℕ) (p : Preamble) (entries : List E) → AreIndices most_places indices →
+            AreRewardsOf p entries self.now →
             IsNewest self.now.rules (Fits most_places (table_key RewardTable) indices) number →
             IsLastBody p.costs entries self.now.numbers indices result }
     {
@@ -383,7 +352,8 @@ impl Rewards {
     }
 }
 
-/// Whether a body of so many places has one number behind an action and a start state, where there are so many observations.
+/// Whether a body of so many places has one number behind an action and a start state, where there are so
+/// many observations.
 fn is_single(places: usize, observations: usize) -> bool
     ensures { IsTrue result → IsSingle observations places }
 {
@@ -409,7 +379,8 @@ fn is_same(one: Option<usize>, other: Option<usize>) -> bool
 fn rules_of(alloc: Global, index: Index) -> Result<Vec<Rule>, AllocError>
     ensures rising { IfOk result (λ rules. IsRising rules.items) }
     ensures kept { IfOk result (λ rules. (r : R) →
-        Contains rules.items r ↔ (Contains index r × (table_key RewardTable ≤ r.key) × (r.key < table_key RewardTable + key_base ^ most_places))) }
+        Contains rules.items r ↔ (Contains index r × (table_key RewardTable ≤ r.key)
+        × (r.key < table_key RewardTable + key_base ^ most_places))) }
 {
     let rules = index.of_table(Table::Reward).to_vec(alloc)?;
     Ok(rules)

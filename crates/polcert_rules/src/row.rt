@@ -1,5 +1,6 @@
 //! A row of T or O by the numbers of its entries, and its single cells above 0.
-ghost use Rattle.std.specs.Prelude.{◌≡◌, ◌+◌, ◌-◌, ◌*◌, ◌<◌, ◌≤◌, ◌↔◌, ◌⊎◌, ◌++◌, ◌^◌, ℕ, List, All, Contains, IfSome, OnOk, IfOk};
+ghost use Rattle.std.specs.Prelude.{◌≡◌, ◌+◌, ◌-◌, ◌*◌, ◌<◌, ◌≤◌, ◌↔◌, ◌⊎◌, ◌++◌, ◌^◌, ℕ, List, All};
+ghost use Rattle.std.specs.Prelude.{Contains, IfSome, OnOk, IfOk};
 ghost use Rattle.polcert_rules.specs.declared.rule.Rule.{Rule as R};
 ghost use Rattle.polcert_cells.specs.declared.entry.Entry.{Entry as E};
 ghost use Rattle.polcert_rules.specs.Keys.{key_base};
@@ -18,8 +19,8 @@ use crate::zeros::{RowZeros, row_zeros};
 use polcert_cells::Table;
 use std::alloc::{AllocError, Global};
 
-/// A row of T or O by the numbers of its entries: that of what covers the whole row, if anything does, those of
-/// single cells above 0, by column, and its zeros, if there are any.
+/// A row of T or O by the numbers of its entries: that of what covers the whole row, if anything does, those
+/// of single cells above 0, by column, and its zeros, if there are any.
 #[derive(Drop)]
 pub(crate) struct Row<'a> {
     pub whole: Option<usize>,
@@ -29,6 +30,7 @@ pub(crate) struct Row<'a> {
 
 impl<'a> Row<'a> {
     /// The row of a table at this action and state, where the entry of this number covers the whole row.
+    // (Six parameters: three numbers that say which row it is, and what it is made of.)
     pub(crate) fn of(
         alloc: Global,
         whole: Option<usize>,
@@ -54,7 +56,8 @@ impl<'a> Row<'a> {
         })
     }
 
-    /// What lies under the cells above 0 in a column, by its number: what covers the whole row, or a newer zero.
+    /// What lies under the cells above 0 in a column, by its number: what covers the whole row, or a newer
+    /// zero.
     pub(crate) fn under(&self, column: usize) -> Option<usize>
         requires ordered { IfSome self.now.zeros AreOrdered }
         requires column { column + 2 < key_base }
@@ -84,25 +87,6 @@ pub(crate) fn cells(
         IsNewest rules.now (IsSingle low action state c) (at_column cells.items c)) }
     ensures each { IfOk result (λ cells. All (IsCell rules.now low action state) cells.items) }
 {
-    let mut cells = gathered(alloc, rules, low, action, state)?;
-    cells.sort_unstable_by_key(|cell| cell.key);
-    Ok(newest_of_each(alloc, cells.as_slice())?)
-}
-
-/// All single cells of the row, in any order.
-fn gathered(
-    alloc: Global,
-    rules: &[Rule],
-    low: u64,
-    action: usize,
-    state: usize,
-) -> Result<Vec<Rule>, AllocError>
-    requires rising { IsRising rules.now }
-    requires room { low + key_base ^ 4 < 2 ^ 64 }
-    requires action { action + 2 < key_base }
-    requires state { state + 2 < key_base }
-    ensures { IfOk result (λ cells. (x : R) → Contains cells.items x ↔ IsCell rules.now low action state x) }
-{
     let mut cells = Vec::new(alloc);
     let action = action as u64 + 2;
     let state = state as u64 + 2;
@@ -110,14 +94,16 @@ fn gathered(
     add_columns(&mut cells, rules, first_column(low, 1, state))?;
     add_columns(&mut cells, rules, first_column(low, action, 1))?;
     add_columns(&mut cells, rules, first_column(low, action, state))?;
-    Ok(cells)
+    cells.sort_unstable_by_key(|cell| cell.key);
+    Ok(newest_of_each(alloc, cells.as_slice())?)
 }
 
 /// Puts the single cells that begin at this key behind the others.
 fn add_columns(cells: &mut Vec<Rule>, rules: &[Rule], start: u64) -> Result<(), AllocError>
     requires rising { IsRising rules.now }
     requires room { start + (key_base - 2) * key_base < 2 ^ 64 }
-    ensures { OnOk result ((x : R) → Contains cells.new.items x ↔ (Contains cells.old.items x ⊎ IsColumn rules.now start x)) }
+    ensures { OnOk result ((x : R) →
+        Contains cells.new.items x ↔ (Contains cells.old.items x ⊎ IsColumn rules.now start x)) }
 {
     add_part(cells, between(rules, start, start + COLUMN_KEYS), start)?;
     Ok(())

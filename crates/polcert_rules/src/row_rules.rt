@@ -121,6 +121,7 @@ impl RowRules {
 
     /// Notes, for each of so many numbers from `first` on as the last index behind an action, a start state and an end state, the
     /// newest rule that fits, where it is later than what is noted. The places of the rules follow those of the key `low`.
+    // (Seven parameters: those of `note` of a list of rules, where the first two indices are digits of their own.)
     pub(crate) fn note(
         &self,
         low: u64,
@@ -137,7 +138,8 @@ impl RowRules {
         requires last { length rest.now ≡ 1 }
         requires within { count ≤ length noted.old }
         requires small { first + count + 2 ≤ key_base }
-        ensures { AreNoted self.now.rules.items 4 low (action ∷ start ∷ rest.now) first count noted.old noted.new }
+        ensures { AreNoted self.now.rules.items 4 low (action ∷ start ∷ rest.now) first count noted.old
+            noted.new }
     {
         let step = span(3);
         let only = low + (action as u64 + 2) * step;
@@ -151,6 +153,7 @@ impl RowRules {
     }
 
     /// The same behind a first place, which has this digit.
+    // (Seven parameters: those of `note`, but a digit in place of the action.)
     fn note_behind(
         &self,
         digit: usize,
@@ -242,7 +245,8 @@ impl RowRules {
         requires rising { IsRising self.now.rules.items }
         requires room { low + key_base ^ 2 < 2 ^ 64 }
         ensures rising { IsRising result.now }
-        ensures kept { (r : R) → Contains result.now r ↔ (Contains self.now.rules.items r × (low ≤ r.key) × (r.key < low + key_base ^ 2)) }
+        ensures kept { (r : R) → Contains result.now r ↔ (Contains self.now.rules.items r × (low ≤ r.key)
+            × (r.key < low + key_base ^ 2)) }
     {
         let place = first.wrapping_mul(self.seconds).wrapping_add(second);
         let high = low + span(PLACES_LEFT);

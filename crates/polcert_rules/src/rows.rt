@@ -62,7 +62,8 @@ impl Rows {
         requires weighted { IsWeighted table }
         requires sound { (p : Preamble) × IsShapeOf p table shape × AreSound p entries.now }
         requires index { IsIndexOf entries.now index.now }
-        ensures { IfOk result (λ rows. (p : Preamble) → IsShapeOf p table shape → AreRowsOf p entries.now table rows) }
+        ensures { IfOk result (λ rows. (p : Preamble) → IsShapeOf p table shape
+            → AreRowsOf p entries.now table rows) }
     {
         let split = SplitRules::of(alloc, index.of_table(table), entries)?;
         let mut numbers = Vec::with_capacity(alloc, shape.actions * shape.states)?;

@@ -1,21 +1,37 @@
 -- What is kept of a text, as contracts see it, and what is known of it.
--- Nobody has to believe this: only contracts of private functions cite it.
-use Rattle.std.specs.Prelude.{◌≡◌, ℕ, ◌≤◌, Bool, Option, length, is_none}
+-- Nobody has to believe this: no contract of `polcert_model` or above it rests on it.
+use Rattle.std.specs.Prelude.{◌≡◌, ℕ, ◌≤◌, Option, List, length, is_none}
 use Rattle.std.specs.Option.{ForSome}
-use Rattle.polcert_cells.specs.declared.elements.Elements.{Elements}
+use Rattle.polcert_cells.specs.declared.entry.Entry.{Entry}
 use Rattle.polcert_cells.specs.declared.shares.Shares.{Shares}
 use Rattle.polcert_cells.specs.Numbers.{one}
 use Rattle.polcert_cells.specs.Elements.{count_of, most_states, most_actions, most_observations}
-use Rattle.polcert_cells.specs.Preamble.{observed, is_mdp}
+use Rattle.polcert_cells.specs.Preamble.{Preamble, observed, is_mdp}
 use Rattle.polcert_cells.specs.Meaning.{IsCount}
 use Rattle.polcert_rules.specs.RowTables.{RowTable}
 use Rattle.polcert_rules.specs.Rewards.{RewardRules, IsShapeOf}
 use Rattle.polcert_cells.specs.Drafts.{Draft}
+use Rattle.polcert_cells.specs.Sound.{draft_of}
+use Rattle.polcert_tables.specs.declared.preamble.Preamble.{Preamble as Lines}
 use Rattle.polcert_tables.specs.Kept.{Kept, IsKeptOf}
 
-abbrev pub kept_of : ℕ → Bool → Elements → Elements → Option Elements → Option Shares → RowTable → Option RowTable → RewardRules → Kept
-kept_of discount costs states actions observations start transitions observed rewards = record {
-  preamble = record { discount = discount; costs = costs; states = states; actions = actions; observations = observations };
+-- the preamble, as the definitions have it
+abbrev pub preamble_of : Lines → Preamble
+preamble_of p = record {
+  discount = p.discount;
+  costs = p.costs;
+  states = p.states;
+  actions = p.actions;
+  observations = p.observations;
+}
+
+-- what a text with this preamble, this start item or none, and these entries says
+abbrev pub draft_with : Lines → Option Shares → List Entry → Draft
+draft_with p start entries = draft_of p.discount p.costs p.states p.actions p.observations start entries
+
+abbrev pub kept_of : Lines → Option Shares → RowTable → Option RowTable → RewardRules → Kept
+kept_of p start transitions observed rewards = record {
+  preamble = preamble_of p;
   start = start;
   transitions = transitions;
   observations = observed;

@@ -175,7 +175,9 @@ fn push_rewards(
     requires action { a < actions_of (meaning model.now) }
     requires start { s < states_of (meaning model.now) }
     requires end { e < states_of (meaning model.now) }
-    ensures { OnOk result (AddsCells ((meaning model.now).r a s e) (observations_of (meaning model.now)) cells.old.items cells.new.items) }
+    ensures { OnOk result
+        (AddsCells ((meaning model.now).r a s e) (observations_of (meaning model.now)) cells.old.items
+        cells.new.items) }
 {
     let observations = model.observations();
     match model.r_alike(a, s, e) {

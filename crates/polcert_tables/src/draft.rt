@@ -1,18 +1,22 @@
 //! A model whose rows aren't tested yet.
-ghost use Rattle.std.specs.Prelude.{◌≡◌, ◌+◌, ◌<◌, ◌≤◌, option_map, false, pos, ℕ, IfOk, IsTrue, length, slice_index_or};
+ghost use Rattle.std.specs.Prelude.{◌≡◌, ◌+◌, ◌<◌, false, pos, ℕ, IfOk, length, slice_index_or};
 ghost use Rattle.std.specs.Option.{ForSome, option_copied};
 ghost use Rattle.polcert_cells.specs.LentRows.{IsRowOf};
 ghost use Rattle.polcert_cells.specs.Rows.{IsWeighted};
-ghost use Rattle.polcert_cells.specs.Elements.{most_states, most_actions, most_observations, most_elements, count_of, name_of};
+ghost use Rattle.polcert_cells.specs.Elements.{most_states, most_actions, most_observations, most_elements};
+ghost use Rattle.polcert_cells.specs.Elements.{count_of};
 ghost use Rattle.polcert_cells.specs.declared.entry.Table.TheVariants.{Transition};
-ghost use Rattle.polcert_cells.specs.Preamble.{Preamble, is_mdp, rewarded, columns as columns_in};
-ghost use Rattle.polcert_cells.specs.Meaning.{IsCount, reward_index, states_of, actions_of, observations_of, t_scale, o_scale, start_weight, start_total, elements_of, sum_below};
+ghost use Rattle.polcert_cells.specs.Preamble.{Preamble as P, is_mdp, rewarded, columns as columns_in};
+ghost use Rattle.polcert_cells.specs.Meaning.{IsCount, reward_index, states_of, actions_of, observations_of};
+ghost use Rattle.polcert_cells.specs.Meaning.{t_scale, o_scale, start_weight, start_total, elements_of};
+ghost use Rattle.polcert_cells.specs.Meaning.{sum_below};
 ghost use Rattle.polcert_tables.specs.Kept.{meaning, IsKeptOf, AreObservationsOf};
 ghost use Rattle.polcert_format.specs.Order.{count_or};
 ghost use Rattle.polcert_rules.specs.Newest.{IsIndexOf};
 ghost use Rattle.polcert_rules.specs.Shapes.{IsShapeOf, AreSound};
 ghost use Rattle.polcert_tables.specs.RowSums.{row_of};
 
+use crate::Preamble;
 use polcert_cells::{Cell, Elements, Entries, Kind, Row, Shares, Table};
 use polcert_rules::{Index, RewardShape, Rewards, Rows, Shape};
 use std::alloc::{AllocError, Global};
@@ -27,15 +31,11 @@ const ONE_THING: usize = 1;
 /// The share of each state in a start where all states are alike.
 const ALIKE: u64 = 1;
 
-/// What the items of a text say: a model whose rows aren't tested yet. Its readers answer as those of `Model` do. Rows of T
-/// and O are sparse, and rewards are rules. An MDP has no observations, and no rows of O.
+/// What the items of a text say: a model whose rows aren't tested yet. Its readers answer as those of `Model`
+/// do. Rows of T and O are sparse, and rewards are rules. An MDP has no observations, and no rows of O.
 #[derive(Drop)]
 pub struct Draft {
-    discount: u32,
-    costs: bool,
-    states: Elements,
-    actions: Elements,
-    observations: Option<Elements>,
+    preamble: Preamble,
     start: Option<Shares>,
     transitions: Rows,
     observed: Option<Rows>,
@@ -48,49 +48,42 @@ impl marker::Model for Draft {
 
     ghost Value = { Kept };
 
-    ghost view = { λ d. kept_of d.discount d.costs d.states d.actions d.observations d.start d.transitions d.observed d.rewards };
+    ghost view = { λ d. kept_of d.preamble d.start d.transitions d.observed d.rewards };
 
-    ghost invariant = { λ d. IsDraft (kept_of d.discount d.costs d.states d.actions d.observations d.start d.transitions d.observed d.rewards) };
+    ghost invariant = { λ d. IsDraft (kept_of d.preamble d.start d.transitions d.observed d.rewards) };
 }
 
 impl Draft {
-    ghost use Rattle.polcert_cells.specs.Sound.{draft_of, IsSound};
+    ghost use Rattle.polcert_cells.specs.Sound.{IsSound};
+    ghost use Rattle.polcert_tables.specs.DraftView.{draft_with, preamble_of};
 
-    /// The draft of a text that has these lines in its preamble, this start item or none, and these entries.
+    /// The draft of a text that has this preamble, this start item or none, and these entries.
     pub fn of(
         alloc: Global,
-        discount: u32,
-        costs: bool,
-        states: Elements,
-        actions: Elements,
-        observations: Option<Elements>,
+        preamble: Preamble,
         start: Option<Shares>,
         entries: Entries,
     ) -> Result<Draft, AllocError>
-        requires { IsSound (draft_of discount costs states actions observations start entries) }
-        ensures { IfOk result (IsKeptOf (draft_of discount costs states actions observations start entries)) }
+        requires { IsSound (draft_with preamble start entries) }
+        ensures { IfOk result (IsKeptOf (draft_with preamble start entries)) }
     {
         let entries = &entries;
         let index = Index::of(alloc, entries)?;
         let shape = Shape {
-            actions: actions.count(),
-            states: states.count(),
-            columns: states.count(),
+            actions: preamble.actions.count(),
+            states: preamble.states.count(),
+            columns: preamble.states.count(),
         };
         let transitions = Rows::of(alloc, shape, Table::Transition, entries, &index)?;
-        let observed = observed_rows(alloc, shape, &observations, entries, &index)?;
+        let observed = observed_rows(alloc, shape, &preamble.observations, entries, &index)?;
         let shape = RewardShape {
-            actions: actions.count(),
-            states: states.count(),
-            observations: count_or(ONE_THING, &observations),
+            actions: preamble.actions.count(),
+            states: preamble.states.count(),
+            observations: count_or(ONE_THING, &preamble.observations),
         };
-        let rewards = Rewards::of(alloc, shape, costs, entries, index)?;
+        let rewards = Rewards::of(alloc, shape, preamble.costs, entries, index)?;
         Ok(Draft {
-            discount,
-            costs,
-            states,
-            actions,
-            observations,
+            preamble,
             start,
             transitions,
             observed,
@@ -103,7 +96,7 @@ impl Draft {
         ensures elements { result ≡ states_of (meaning self.now) }
         ensures count { IsCount most_states result }
     {
-        self.states.count()
+        self.preamble.states.count()
     }
 
     /// How many actions there are: 1 to 1,000.
@@ -111,7 +104,7 @@ impl Draft {
         ensures elements { result ≡ actions_of (meaning self.now) }
         ensures count { IsCount most_actions result }
     {
-        self.actions.count()
+        self.preamble.actions.count()
     }
 
     /// How many observations there are: 1 to 10,000.
@@ -119,23 +112,23 @@ impl Draft {
         ensures elements { result ≡ observations_of (meaning self.now) }
         ensures count { IsCount most_observations result }
     {
-        count_or(self.states.count(), &self.observations)
+        count_or(self.preamble.states.count(), &self.preamble.observations)
     }
 
-    /// How many things a reward depends on beside the action and the states: in an MDP one, else as many as there are observations.
+    /// How many things a reward depends on beside the action and the states: in an MDP one, else as many as
+    /// there are observations.
     pub fn rewarded(&self) -> usize
         ensures elements { result ≡ count_of (rewarded (meaning self.now).preamble) }
         ensures count { IsCount most_observations result }
     {
-        count_or(ONE_THING, &self.observations)
+        count_or(ONE_THING, &self.preamble.observations)
     }
 
-    /// The name of the element of this number, where the text gives names and not a count.
-    pub fn name_of(&self, kind: Kind, index: usize) -> Option<&str>
-        requires { index < count_of (elements_of (meaning self.now) kind) }
-        ensures { option_map (λ name. name.now) result ≡ name_of (elements_of (meaning self.now) kind) index }
+    /// The preamble of the text.
+    pub fn preamble(&self) -> &Preamble
+        ensures { preamble_of result.now ≡ (meaning self.now).preamble }
     {
-        self.elements(kind).name_of(index)
+        &self.preamble
     }
 
     /// The elements of this kind.
@@ -143,9 +136,13 @@ impl Draft {
         ensures { result.now ≡ elements_of (meaning self.now) kind }
     {
         match kind {
-            Kind::State => &self.states,
-            Kind::Action => &self.actions,
-            Kind::Observation => self.observations.as_ref().unwrap_or(&self.states),
+            Kind::State => &self.preamble.states,
+            Kind::Action => &self.preamble.actions,
+            Kind::Observation => self
+                .preamble
+                .observations
+                .as_ref()
+                .unwrap_or(&self.preamble.states),
         }
     }
 
@@ -153,28 +150,14 @@ impl Draft {
     pub fn is_mdp(&self) -> bool
         ensures { result ≡ is_mdp (meaning self.now).preamble }
     {
-        self.observations.is_none()
+        self.preamble.observations.is_none()
     }
 
     /// The observations' line, where there is one.
     pub fn observations_line(&self) -> Option<&Elements>
         ensures { option_copied result ≡ (meaning self.now).preamble.observations }
     {
-        self.observations.as_ref()
-    }
-
-    /// Whether the text gives costs in place of rewards.
-    pub fn is_cost(&self) -> bool
-        ensures { result ≡ (meaning self.now).preamble.costs }
-    {
-        self.costs
-    }
-
-    /// The discount, in millionths: 0 to 1,000,000.
-    pub fn discount(&self) -> u32
-        ensures { result ≡ (meaning self.now).preamble.discount }
-    {
-        self.discount
+        self.preamble.observations.as_ref()
     }
 
     /// What each row of T should sum to: 1,000,000 for each state.
@@ -233,7 +216,8 @@ impl Draft {
         }
     }
 
-    /// R: the reward, in millionths, where action `a` is taken in state `s`, ends in state `e` and observation `z` is made.
+    /// R: the reward, in millionths, where action `a` is taken in state `s`, ends in state `e` and
+    /// observation `z` is made.
     pub fn r(&self, a: usize, s: usize, e: usize, z: usize) -> i64
         requires action { a < actions_of (meaning self.now) }
         requires start { s < states_of (meaning self.now) }
@@ -244,40 +228,44 @@ impl Draft {
         self.rewards.at(a, s, e, self.reward_index(z))
     }
 
-    /// The last index of a reward where observation `z` is made: in an MDP a reward has nothing to do with it.
+    /// The last index of a reward where observation `z` is made: in an MDP a reward has nothing to do with
+    /// it.
     fn reward_index(&self, z: usize) -> usize
         ensures { result ≡ reward_index (meaning self.now).preamble z }
     {
         if self.is_mdp() { 0 } else { z }
     }
 
-    /// The reward where action `a` is taken in state `s` and ends in state `e`, where it is known at once that it is the
-    /// same for every observation.
+    /// The reward where action `a` is taken in state `s` and ends in state `e`, where it is known at once
+    /// that it is the same for every observation.
     pub fn r_alike(&self, a: usize, s: usize, e: usize) -> Option<i64>
         requires action { a < actions_of (meaning self.now) }
         requires start { s < states_of (meaning self.now) }
         requires end { e < states_of (meaning self.now) }
-        ensures { ForSome result (λ h. (z : ℕ) → z < observations_of (meaning self.now) → (meaning self.now).r a s e z ≡ h) }
+        ensures { ForSome result (λ h. (z : ℕ) → z < observations_of (meaning self.now) →
+            (meaning self.now).r a s e z ≡ h) }
     {
-        match &self.observations {
+        match &self.preamble.observations {
             None => Some(self.r(a, s, e, 0)),
             Some(_) => self.rewards.alike(a, s, e),
         }
     }
 
-    /// The reward where action `a` is taken in state `s`, where it is known at once that it is the same for every end state and
-    /// every observation.
+    /// The reward where action `a` is taken in state `s`, where it is known at once that it is the same for
+    /// every end state and every observation.
     pub fn r_common(&self, a: usize, s: usize) -> Option<i64>
         requires action { a < actions_of (meaning self.now) }
         requires start { s < states_of (meaning self.now) }
-        ensures { ForSome result (λ h. (e z : ℕ) → e < states_of (meaning self.now) → z < observations_of (meaning self.now) →
+        ensures { ForSome result (λ h. (e z : ℕ) → e < states_of (meaning self.now) →
+            z < observations_of (meaning self.now) →
             (meaning self.now).r a s e z ≡ h) }
     {
         self.rewards.common(a, s)
     }
 
-    /// Fills in the rewards of observation `first` and of those behind it, in millionths, where action `a` is taken in state `s` and
-    /// ends in state `e`: as many as there is room for, or as there are. What stands behind them may change.
+    /// Fills in the rewards of observation `first` and of those behind it, in millionths, where action `a` is
+    /// taken in state `s` and ends in state `e`: as many as there is room for, or as there are. What stands
+    /// behind them may change.
     pub fn fill_rewards(&self, a: usize, s: usize, e: usize, first: usize, rewards: &mut [i64])
         requires action { a < actions_of (meaning self.now) }
         requires start { s < states_of (meaning self.now) }
@@ -285,7 +273,7 @@ impl Draft {
         ensures { (i : ℕ) → i < length rewards.old → first + i < observations_of (meaning self.now) →
             slice_index_or rewards.new i (pos 0) ≡ (meaning self.now).r a s e (first + i) }
     {
-        match &self.observations {
+        match &self.preamble.observations {
             None => self.fill_each(a, s, e, first, rewards),
             Some(_) => self.rewards.fill(a, s, e, first, rewards),
         }
@@ -309,7 +297,8 @@ impl Draft {
     pub fn is_paid(&self, a: usize, s: usize) -> bool
         requires action { a < actions_of (meaning self.now) }
         requires start { s < states_of (meaning self.now) }
-        ensures { result ≡ false → (e z : ℕ) → e < states_of (meaning self.now) → z < observations_of (meaning self.now) →
+        ensures { result ≡ false → (e z : ℕ) → e < states_of (meaning self.now) →
+            z < observations_of (meaning self.now) →
             (meaning self.now).r a s e z ≡ pos 0 }
     {
         self.rewards.is_paid(a, s)
@@ -404,9 +393,12 @@ fn observed_rows(
     entries: &Entries,
     index: &Index,
 ) -> Result<Option<Rows>, AllocError>
-    requires sound { (p : Preamble) × (p.observations ≡ observations.now) × IsShapeOf p Transition shape × AreSound p entries.now }
+    requires sound { (p : P) × (p.observations ≡ observations.now) × IsShapeOf p Transition shape
+        × AreSound p entries.now }
     requires index { IsIndexOf entries.now index.now }
-    ensures rows { IfOk result (λ rows. (p : Preamble) → p.observations ≡ observations.now → IsShapeOf p Transition shape → AreObservationsOf p entries.now rows) }
+    ensures rows { IfOk result
+        (λ rows. (p : P) → p.observations ≡ observations.now → IsShapeOf p Transition shape →
+        AreObservationsOf p entries.now rows) }
 {
     let Some(elements) = observations else {
         return Ok(None);

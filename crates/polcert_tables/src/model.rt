@@ -1,7 +1,10 @@
 //! A model, as it was read.
 ghost use Rattle.std.specs.Prelude.{◌≡◌, ◌<◌, ◌↔◌, option_map, IsTrue};
-ghost use Rattle.polcert_cells.specs.Elements.{most_states, most_actions, most_observations, count_of, name_of};
-ghost use Rattle.polcert_cells.specs.Meaning.{HasProperRows, IsWithinLimits, IsCount, states_of, actions_of, observations_of, t_scale, o_scale, start_weight, start_total, elements_of};
+ghost use Rattle.polcert_cells.specs.Elements.{most_states, most_actions, most_observations, count_of};
+ghost use Rattle.polcert_cells.specs.Elements.{name_of};
+ghost use Rattle.polcert_cells.specs.Meaning.{HasProperRows, IsWithinLimits, IsCount, states_of, actions_of};
+ghost use Rattle.polcert_cells.specs.Meaning.{observations_of, t_scale, o_scale, start_weight, start_total};
+ghost use Rattle.polcert_cells.specs.Meaning.{elements_of};
 ghost use Rattle.polcert_cells.specs.Preamble.{is_mdp};
 ghost use Rattle.polcert_tables.specs.Kept as kept;
 ghost use Rattle.polcert_tables.specs.Contents.{meaning};
@@ -12,16 +15,16 @@ use crate::Draft;
 use polcert_cells::Kind;
 use std::marker;
 
-/// A table is large where it has more cells than these. One that is printed or filled is not large, and of a large one entries may
-/// cover as many cells with a weight above 0.
+/// A table is large where it has more cells than these. One that is printed or filled is not large, and of a
+/// large one entries may cover as many cells with a weight above 0.
 pub const MOST_CELLS: usize = 16_777_216;
 
-/// A model of a partially observable Markov decision process, or of one whose states are observed (an MDP): what its text
-/// says.
+/// A model of a partially observable Markov decision process, or of one whose states are observed (an MDP):
+/// what its text says.
 ///
-/// States, actions and observations go by their numbers, counted from 0 in the order of the text. Probabilities are
-/// weights over a scale, so that each row of T sums to `t_scale` and each row of O to `o_scale`, exactly. The discount
-/// and rewards are in millionths.
+/// States, actions and observations go by their numbers, counted from 0 in the order of the text.
+/// Probabilities are weights over a scale, so that each row of T sums to `t_scale` and each row of O to
+/// `o_scale`, exactly. The discount and rewards are in millionths.
 ///
 /// Source: the POMDP file format page at pomdp.org.
 pub struct Model {
@@ -88,16 +91,17 @@ impl Model {
         self.draft.observations()
     }
 
-    /// The name of the state, action or observation of this number, where the text gives names and not a count.
+    /// The name of the state, action or observation of this number, where the text gives names and not a
+    /// count.
     pub fn name_of(&self, kind: Kind, index: usize) -> Option<&str>
         requires { index < count_of (elements_of (meaning self.now) kind) }
         ensures { option_map (λ name. name.now) result ≡ name_of (elements_of (meaning self.now) kind) index }
     {
-        self.draft.name_of(kind, index)
+        self.draft.elements(kind).name_of(index)
     }
 
-    /// Whether the text has no line of observations, so that the model is an MDP: the end state is observed. Observations are then
-    /// the states, and a reward does not depend on the observation.
+    /// Whether the text has no line of observations, so that the model is an MDP: the end state is observed.
+    /// Observations are then the states, and a reward does not depend on the observation.
     pub fn is_mdp(&self) -> bool
         ensures { result ≡ is_mdp (meaning self.now).preamble }
     {
@@ -108,17 +112,18 @@ impl Model {
     pub fn is_cost(&self) -> bool
         ensures { result ≡ (meaning self.now).preamble.costs }
     {
-        self.draft.is_cost()
+        self.draft.preamble().costs
     }
 
     /// The discount, in millionths: 0 to 1,000,000.
     pub fn discount(&self) -> u32
         ensures { result ≡ (meaning self.now).preamble.discount }
     {
-        self.draft.discount()
+        self.draft.preamble().discount
     }
 
-    /// Whether the model may be printed, and its tables filled: neither T nor O nor R has more than 16,777,216 cells.
+    /// Whether the model may be printed, and its tables filled: neither T nor O nor R has more than
+    /// 16,777,216 cells.
     pub fn printable(&self) -> bool
         ensures { IsTrue result ↔ IsPrintable (meaning self.now).preamble }
     {
@@ -143,8 +148,8 @@ impl Model {
         self.draft.o_scale()
     }
 
-    /// The share of state `s` in the start, out of `start_total`: each state has a share of 1 where the text has no
-    /// start item. `s` is a state's number.
+    /// The share of state `s` in the start, out of `start_total`: each state has a share of 1 where the text
+    /// has no start item. `s` is a state's number.
     pub fn start_weight(&self, s: usize) -> u64
         requires { s < states_of (meaning self.now) }
         ensures { result ≡ start_weight (meaning self.now) s }
@@ -159,8 +164,8 @@ impl Model {
         self.draft.start_total()
     }
 
-    /// T: the weight of the end state `e` where action `a` is taken in state `s`, out of `t_scale`. `a` is an action's
-    /// number, and `s` and `e` are states' numbers.
+    /// T: the weight of the end state `e` where action `a` is taken in state `s`, out of `t_scale`. `a` is an
+    /// action's number, and `s` and `e` are states' numbers.
     pub fn t(&self, a: usize, s: usize, e: usize) -> u64
         requires action { a < actions_of (meaning self.now) }
         requires start { s < states_of (meaning self.now) }
@@ -170,8 +175,8 @@ impl Model {
         self.draft.t(a, s, e)
     }
 
-    /// O: the weight of observation `z` where action `a` ends in state `e`, out of `o_scale`. `a`, `e` and `z` are the
-    /// numbers of an action, a state and an observation.
+    /// O: the weight of observation `z` where action `a` ends in state `e`, out of `o_scale`. `a`, `e` and
+    /// `z` are the numbers of an action, a state and an observation.
     pub fn o(&self, a: usize, e: usize, z: usize) -> u64
         requires action { a < actions_of (meaning self.now) }
         requires end { e < states_of (meaning self.now) }
@@ -181,9 +186,9 @@ impl Model {
         self.draft.o(a, e, z)
     }
 
-    /// R: the reward, in millionths, where action `a` is taken in state `s`, ends in state `e` and observation `z` is
-    /// made: minus what is written where the text gives costs. `a`, `s`, `e` and `z` are the numbers of an action, two
-    /// states and an observation.
+    /// R: the reward, in millionths, where action `a` is taken in state `s`, ends in state `e` and
+    /// observation `z` is made: minus what is written where the text gives costs. `a`, `s`, `e` and `z` are
+    /// the numbers of an action, two states and an observation.
     pub fn r(&self, a: usize, s: usize, e: usize, z: usize) -> i64
         requires action { a < actions_of (meaning self.now) }
         requires start { s < states_of (meaning self.now) }

@@ -4,4 +4,4 @@ use Rattle.polcert_full_form.proofs.RewardBlocks.{row_unpaid}
 use Rattle.polcert_full_form.proofs.print_rewards.write_reward_row.Goals as goal
 
 pub returns-in-None : goal.returns-in-None
-returns-in-None g c = wrote_nothing (row_unpaid (meaning c.args.model.now) c.args.action c.args.start c.args.end c.in-None.ensures.paid)
+returns-in-None g c = wrote_nothing (row_unpaid (meaning c.args.row.now.model.now) c.args.row.now.action c.args.row.now.start c.args.row.now.end c.in-None.ensures.paid)

@@ -1,54 +1,53 @@
 use Rattle.std.proofs.Common.{refl, arith}
-use Rattle.polcert_cells.specs.Preamble.{columns}
-use Rattle.polcert_tables.specs.RowSums.{row_of}
+use Rattle.polcert_full_form.specs.PrintedRows.{row_weights}
 use Rattle.polcert_full_form.proofs.WalkedRows.{at_start, uniform_gap, uniform_other, uniform_more, uniform_end}
 use Rattle.polcert_full_form.proofs.print_rows.is_uniform.Goals as goal
 
 pub loop-step-init : goal.loop-step-init
-loop-step-init c = record { reached = at_start c.row-row.result; within = omega arith; ones = refl }
+loop-step-init c = record { reached = at_start c.weights-weights.result; within = omega arith; ones = refl }
 
 pub returns-then-step-column : goal.returns-then-step-column
 returns-then-step-column c =
-    let n = columns c.args.draft.now.preamble c.args.table in
-    let w = row_of c.args.draft.now c.args.table c.args.action c.args.state in
-    let next = rw c.loop-step.invariant.reached at (c.in-Some.ensures w n c.row-row.ensures).0 in
+    let n = c.args.row.now.columns in
+    let w = row_weights c.args.row.now in
+    let next = rw c.loop-step.invariant.reached at (c.in-Some.ensures w n c.weights-weights.ensures).0 in
     uniform_gap n w c.loop-step.column c.in-Some.step.column c.in-Some.step.weight next c.if-step-column.true
 
 pub returns-then-step-ne-ONE : goal.returns-then-step-ne-ONE
 returns-then-step-ne-ONE c =
-    let n = columns c.args.draft.now.preamble c.args.table in
-    let w = row_of c.args.draft.now c.args.table c.args.action c.args.state in
-    let next = rw c.loop-step.invariant.reached at (c.in-Some.ensures w n c.row-row.ensures).0 in
+    let n = c.args.row.now.columns in
+    let w = row_weights c.args.row.now in
+    let next = rw c.loop-step.invariant.reached at (c.in-Some.ensures w n c.weights-weights.ensures).0 in
     uniform_other n w c.loop-step.column c.in-Some.step.column c.in-Some.step.weight next c.if-step-ne-ONE.true
 
 pub overflow_add-column : goal.overflow_add-column
 overflow_add-column c =
-    let n = columns c.args.draft.now.preamble c.args.table in
-    let w = row_of c.args.draft.now c.args.table c.args.action c.args.state in
-    let next = rw c.loop-step.invariant.reached at (c.in-Some.ensures w n c.row-row.ensures).0 in
-    omega (arith, next.1, c.columns-columns.ensures.columns, c.columns-columns.ensures.count.1)
+    let n = c.args.row.now.columns in
+    let w = row_weights c.args.row.now in
+    let next = rw c.loop-step.invariant.reached at (c.in-Some.ensures w n c.weights-weights.ensures).0 in
+    omega (arith, next.1, c.args.row.now.count.1)
 
 pub loop-step-smaller : goal.loop-step-smaller
 loop-step-smaller c =
-    let n = columns c.args.draft.now.preamble c.args.table in
-    let w = row_of c.args.draft.now c.args.table c.args.action c.args.state in
-    let next = rw c.loop-step.invariant.reached at (c.in-Some.ensures w n c.row-row.ensures).0 in
+    let n = c.args.row.now.columns in
+    let w = row_weights c.args.row.now in
+    let next = rw c.loop-step.invariant.reached at (c.in-Some.ensures w n c.weights-weights.ensures).0 in
     omega (arith, next.0, next.1)
 
 pub loop-step-preserved : goal.loop-step-preserved
 loop-step-preserved c =
-    let n = columns c.args.draft.now.preamble c.args.table in
-    let w = row_of c.args.draft.now c.args.table c.args.action c.args.state in
-    let next = rw c.loop-step.invariant.reached at (c.in-Some.ensures w n c.row-row.ensures).0 in
+    let n = c.args.row.now.columns in
+    let w = row_weights c.args.row.now in
+    let next = rw c.loop-step.invariant.reached at (c.in-Some.ensures w n c.weights-weights.ensures).0 in
     record {
-      reached = (c.in-Some.ensures w n c.row-row.ensures).1;
+      reached = (c.in-Some.ensures w n c.weights-weights.ensures).1;
       within = omega (arith, next.1);
       ones = uniform_more n w c.loop-step.column c.in-Some.step.column c.in-Some.step.weight next c.if-step-column.false c.if-step-ne-ONE.false c.loop-step.invariant.ones;
     }
 
 pub returns : goal.returns
 returns c =
-    let n = columns c.args.draft.now.preamble c.args.table in
-    let w = row_of c.args.draft.now c.args.table c.args.action c.args.state in
-    let end = rw c.loop-step.invariant.reached at c.in_default.ensures w n c.row-row.ensures in
-    rw c.columns-columns.ensures.columns (uniform_end n w c.loop-step.column c.loop-step.invariant.within end c.loop-step.invariant.ones)
+    let n = c.args.row.now.columns in
+    let w = row_weights c.args.row.now in
+    let end = rw c.loop-step.invariant.reached at c.in_default.ensures w n c.weights-weights.ensures in
+    uniform_end n w c.loop-step.column c.loop-step.invariant.within end c.loop-step.invariant.ones

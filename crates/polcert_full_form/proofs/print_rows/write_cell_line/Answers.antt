@@ -9,7 +9,7 @@ use Rattle.polcert_full_form.proofs.print_rows.write_cell_line.Goals as goal
 
 pub returns-in_err-write_pattern : goal.returns-in_err-write_pattern
 returns-in_err-write_pattern g c =
-    let p1 : List ℕ = pattern_text c.args.table (c.args.action ∷ c.args.state ∷ c.args.column ∷ []) in
+    let p1 : List ℕ = pattern_text c.args.row.now.table (c.args.row.now.action ∷ c.args.row.now.state ∷ c.args.column ∷ []) in
     let p2 : List ℕ = codes " " in
     let p3 : List ℕ = scaled_text c.args.scaled in
     let p4 : List ℕ = codes "\n" in
@@ -17,7 +17,7 @@ returns-in_err-write_pattern g c =
 
 pub returns-in_err-write_all : goal.returns-in_err-write_all
 returns-in_err-write_all g c =
-    let p1 : List ℕ = pattern_text c.args.table (c.args.action ∷ c.args.state ∷ c.args.column ∷ []) in
+    let p1 : List ℕ = pattern_text c.args.row.now.table (c.args.row.now.action ∷ c.args.row.now.state ∷ c.args.column ∷ []) in
     let p2 : List ℕ = codes " " in
     let p3 : List ℕ = scaled_text c.args.scaled in
     let p4 : List ℕ = codes "\n" in
@@ -25,7 +25,7 @@ returns-in_err-write_all g c =
 
 pub returns-in_err-write_scaled : goal.returns-in_err-write_scaled
 returns-in_err-write_scaled g c =
-    let p1 : List ℕ = pattern_text c.args.table (c.args.action ∷ c.args.state ∷ c.args.column ∷ []) in
+    let p1 : List ℕ = pattern_text c.args.row.now.table (c.args.row.now.action ∷ c.args.row.now.state ∷ c.args.column ∷ []) in
     let p2 : List ℕ = codes " " in
     let p3 : List ℕ = scaled_text c.args.scaled in
     let p4 : List ℕ = codes "\n" in
@@ -33,7 +33,7 @@ returns-in_err-write_scaled g c =
 
 pub returns : goal.returns
 returns g c =
-    let p1 : List ℕ = pattern_text c.args.table (c.args.action ∷ c.args.state ∷ c.args.column ∷ []) in
+    let p1 : List ℕ = pattern_text c.args.row.now.table (c.args.row.now.action ∷ c.args.row.now.state ∷ c.args.column ∷ []) in
     let p2 : List ℕ = codes " " in
     let p3 : List ℕ = scaled_text c.args.scaled in
     let p4 : List ℕ = codes "\n" in

@@ -1,22 +1,19 @@
 use Rattle.std.proofs.Common.{ℕ, List, rules, codes}
 use Rattle.polcert_text.proofs.Taking.{wrote_front}
 use Rattle.polcert_text.proofs.Written.{wrote, fails_before, ends_with}
-use Rattle.polcert_cells.specs.Preamble.{columns}
-use Rattle.polcert_tables.specs.RowSums.{row_of}
 use Rattle.polcert_format.specs.FullForm.{for_each}
-use Rattle.polcert_full_form.specs.PrintSteps.{decimal_text}
+use Rattle.polcert_full_form.specs.declared.weight_row.ColumnForm.TheVariants.{Decimals}
+use Rattle.polcert_full_form.specs.PrintedRows.{column_text}
 use Rattle.polcert_full_form.proofs.print_rows.write_decimals_line.Goals as goal
 
-pub returns-in_err-write_decimals : goal.returns-in_err-write_decimals
-returns-in_err-write_decimals g c =
-    let n = columns c.args.draft.now.preamble c.args.table in
-    let p1 : List ℕ = for_each n (decimal_text n (row_of c.args.draft.now c.args.table c.args.action c.args.state)) in
+pub returns-in_err-write_columns : goal.returns-in_err-write_columns
+returns-in_err-write_columns g c =
+    let p1 : List ℕ = for_each c.args.row.now.columns (column_text Decimals c.args.row.now) in
     let p2 : List ℕ = codes "\n" in
-    fails_before (p1) p2 _ (search rules) (wrote_front p1 _ (search rules) c.in_err-write_decimals.ensures.err c.in_err-write_decimals.ensures.count)
+    fails_before (p1) p2 _ (search rules) (wrote_front p1 _ (search rules) c.in_err-write_columns.ensures.err c.in_err-write_columns.ensures.count)
 
 pub returns : goal.returns
 returns g c =
-    let n = columns c.args.draft.now.preamble c.args.table in
-    let p1 : List ℕ = for_each n (decimal_text n (row_of c.args.draft.now c.args.table c.args.action c.args.state)) in
+    let p1 : List ℕ = for_each c.args.row.now.columns (column_text Decimals c.args.row.now) in
     let p2 : List ℕ = codes "\n" in
-    ends_with (p1) p2 _ (wrote c.in_ok-write_decimals.ensures.ok c.in_ok-write_decimals.ensures.same_count) c.write_all.ensures
+    ends_with (p1) p2 _ (wrote c.in_ok-write_columns.ensures.ok c.in_ok-write_columns.ensures.same_count) c.write_all.ensures

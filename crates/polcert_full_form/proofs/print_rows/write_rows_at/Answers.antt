@@ -2,9 +2,7 @@ use Rattle.std.proofs.Common.{◌∙◌, ℕ, List, refl, rules}
 use Rattle.polcert_text.specs.Sink.{nothing}
 use Rattle.polcert_tables.specs.Contents.{meaning}
 use Rattle.polcert_cells.specs.Meaning.{states_of}
-use Rattle.polcert_cells.specs.Preamble.{columns}
-use Rattle.polcert_tables.specs.RowSums.{row_of}
-use Rattle.polcert_format.specs.FullForm.{row_text}
+use Rattle.polcert_full_form.specs.PrintSteps.{row_at}
 use Rattle.polcert_full_form.proofs.Parts.{parts_fail, one_more_part}
 use Rattle.polcert_full_form.proofs.print_rows.write_rows_at.Goals as goal
 
@@ -13,13 +11,13 @@ loop-state-init g c = record { took = nothing; same_count = refl }
 
 pub returns-in_err-write_row : goal.returns-in_err-write_row
 returns-in_err-write_row g c =
-    let part : ℕ → List ℕ = λ s. row_text c.args.table c.args.action s (columns c.args.model.now.draft.preamble c.args.table) (row_of c.args.model.now.draft c.args.table c.args.action s) in
+    let part : ℕ → List ℕ = row_at c.args.model.now.draft c.args.table c.args.action in
     let now = c.in_err-write_row.ensures in
     parts_fail part c.loop-state.state (states_of (meaning c.args.model.now)) (search rules) _ (search rules) c.loop-state.invariant.took c.loop-state.invariant.same_count now.err now.count
 
 pub loop-state-preserved : goal.loop-state-preserved
 loop-state-preserved g c =
-    let part : ℕ → List ℕ = λ s. row_text c.args.table c.args.action s (columns c.args.model.now.draft.preamble c.args.table) (row_of c.args.model.now.draft c.args.table c.args.action s) in
+    let part : ℕ → List ℕ = row_at c.args.model.now.draft c.args.table c.args.action in
     let now = c.in_ok-write_row.ensures in
     record {
       took = one_more_part part c.loop-state.state c.loop-state.invariant.took now.ok;

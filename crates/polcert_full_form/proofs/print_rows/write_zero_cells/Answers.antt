@@ -9,13 +9,13 @@ loop-number-init g c = record { took = nothing; same_count = refl }
 
 pub returns-in_err-write_cell_line : goal.returns-in_err-write_cell_line
 returns-in_err-write_cell_line g c =
-    let part : ℕ → List ℕ = λ i. cell_line c.args.table c.args.action c.args.state (c.args.first + i) (pos 0) in
+    let part : ℕ → List ℕ = λ i. cell_line c.args.row.now.table c.args.row.now.action c.args.row.now.state (c.args.first + i) (pos 0) in
     let now = c.in_err-write_cell_line.ensures in
     parts_fail part c.loop-number.number c.args.count (search rules) _ (search rules) c.loop-number.invariant.took c.loop-number.invariant.same_count now.err now.count
 
 pub loop-number-preserved : goal.loop-number-preserved
 loop-number-preserved g c =
-    let part : ℕ → List ℕ = λ i. cell_line c.args.table c.args.action c.args.state (c.args.first + i) (pos 0) in
+    let part : ℕ → List ℕ = λ i. cell_line c.args.row.now.table c.args.row.now.action c.args.row.now.state (c.args.first + i) (pos 0) in
     let now = c.in_ok-write_cell_line.ensures in
     record {
       took = one_more_part part c.loop-number.number c.loop-number.invariant.took now.ok;

@@ -6,6 +6,6 @@ use Rattle.polcert_full_form.proofs.print_rows.write_zero_cells.Given as goal
 
 abbrev pub invariant-loop-number : goal.invariant-loop-number
 invariant-loop-number g l = record {
-  took : Takes g.W.Sink.writes l.fn.out (for_each l.number (λ i. cell_line l.table l.action l.state (l.first + i) (pos 0))) l.out;
+  took : Takes g.W.Sink.writes l.fn.out (for_each l.number (λ i. cell_line l.row.table l.row.action l.row.state (l.first + i) (pos 0))) l.out;
   same_count : g.W.Sink.failures l.out ≡ g.W.Sink.failures l.fn.out;
 }

@@ -8,10 +8,10 @@ pub returns-in_err-write_all : goal.returns-in_err-write_all
 returns-in_err-write_all g c =
     let p1 : List ℕ = mark_before c.args.number in
     let p2 : List ℕ = decimal c.args.index in
-    fails_before (p1) p2 _ (search rules) (wrote_front p1 _ (search rules) (as_text c.mark_before.ensures c.in_err-write_all.ensures).err (as_text c.mark_before.ensures c.in_err-write_all.ensures).count)
+    fails_before (p1) p2 _ (search rules) (wrote_front p1 _ (search rules) (as_text c.in_place.ensures c.in_err-write_all.ensures).err (as_text c.in_place.ensures c.in_err-write_all.ensures).count)
 
 pub returns : goal.returns
 returns g c =
     let p1 : List ℕ = mark_before c.args.number in
     let p2 : List ℕ = decimal c.args.index in
-    ends_with (p1) p2 _ (wrote (as_text c.mark_before.ensures c.in_ok-write_all.ensures).ok (as_text c.mark_before.ensures c.in_ok-write_all.ensures).same_count) c.write_number.ensures
+    ends_with (p1) p2 _ (wrote (as_text c.in_place.ensures c.in_ok-write_all.ensures).ok (as_text c.in_place.ensures c.in_ok-write_all.ensures).same_count) c.write_number.ensures

@@ -1,4 +1,5 @@
-use Rattle.std.proofs.Common.{◌≡◌, ◌+◌, [], ◌∷◌, get_or, pos, subst, arith}
+use Rattle.std.proofs.Common.{◌≡◌, ◌+◌, [], ◌∷◌, None, get_or, pos, subst, arith}
+use Rattle.std.proofs.lemmas.List.{get_or-replicate}
 use Rattle.polcert_cells.specs.Cells.{reward}
 use Rattle.polcert_rules.proofs.FilledParts.{filled_part}
 use Rattle.polcert_rules.proofs.rewards.Rewards.fill_many.Goals as goal
@@ -7,10 +8,13 @@ pub loop-done-preserved : goal.loop-done-preserved
 loop-done-preserved c = record {
   within = omega (arith, c.min-size.ensures, c.loop-done.invariant.within);
   filled = λ p entries are. filled_part
-      (λ i h. h ≡ reward p entries (c.args.action ∷ c.args.start ∷ c.args.end ∷ (c.args.first + i) ∷ []))
-      c.loop-done.done c.min-size.result _ c.loop-done.rewards c.fill_block.new.rewards (pos 0) (omega arith) (omega arith)
+      (λ i h. h ≡ reward p entries (c.args.at.action ∷ c.args.at.start ∷ c.args.at.end ∷ (c.args.first + i) ∷ []))
+      c.loop-done.done c.min-size.result _ c.loop-done.rewards c.fill_noted.new.rewards (pos 0) (omega arith) (omega arith)
       (c.loop-done.invariant.filled p entries are)
       (λ i l.
       let place : c.args.first + c.loop-done.done + i ≡ c.args.first + (c.loop-done.done + i) = omega arith in
-      subst (λ z. get_or c.fill_block.new.rewards i (pos 0) ≡ reward p entries (c.args.action ∷ c.args.start ∷ c.args.end ∷ z ∷ [])) place (c.fill_block.ensures p entries are i l));
+      subst (λ z. get_or c.fill_noted.new.rewards i (pos 0) ≡ reward p entries (c.args.at.action ∷ c.args.at.start ∷ c.args.at.end ∷ z ∷ [])) place (c.fill_noted.ensures p entries are i l));
 }
+
+pub fill_noted-requires-clause-nothing : goal.fill_noted-requires-clause-nothing
+fill_noted-requires-clause-nothing c = λ i l. get_or-replicate 1001 i None None l

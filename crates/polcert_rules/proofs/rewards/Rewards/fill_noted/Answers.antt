@@ -18,7 +18,7 @@ pub loop-i-preserved : goal.loop-i-preserved
 loop-i-preserved c = λ p entries are.
     let i = c.loop-i.i in
     let z = c.args.first + i in
-    let cell = λ (y : ℕ). c.args.action ∷ c.args.start ∷ c.args.end ∷ y ∷ [] in
+    let cell = λ (y : ℕ). c.args.at.action ∷ c.args.at.start ∷ c.args.at.end ∷ y ∷ [] in
     let IsLast : Option RewardBody → Type 0 = IsLastBody p.costs entries c.args.self.now.numbers (cell z) in
     let IsHere : Option ℕ → Type 0 = IsNewest c.args.self.now.rules (Fits most_places (table_key Reward) (cell z)) in
     let here : z < c.args.self.now.shape.observations = omega (arith, c.loop-i-test.true, c.requires.within) in

@@ -1,6 +1,6 @@
 use Rattle.std.proofs.Common.{◌∙◌, refl, sym}
 use Rattle.polcert_cells.specs.Drafts.{Draft}
-use Rattle.polcert_cells.specs.Sound.{draft_of}
+use Rattle.polcert_tables.specs.DraftView.{draft_with}
 use Rattle.polcert_rules.proofs.SoundRows.{sound_keyed}
 use Rattle.polcert_cells.specs.declared.elements.Elements.TheVariants.{Count}
 use Rattle.polcert_format.proofs.OrderLaws.{count_of_line}
@@ -9,12 +9,12 @@ use Rattle.polcert_tables.proofs.draft.Draft.of.Goals as goal
 
 pub of-requires : goal.of-requires
 of-requires c =
-    let d : Draft = draft_of c.args.discount c.args.costs c.args.states c.args.actions c.args.observations c.args.start c.args.entries in
+    let d : Draft = draft_with c.args.preamble c.args.start c.args.entries in
     sound_keyed d.preamble c.args.entries (are_sound d c.requires)
 
 pub of-requires-2-clause-sound : goal.of-requires-2-clause-sound
 of-requires-2-clause-sound c =
-    let d : Draft = draft_of c.args.discount c.args.costs c.args.states c.args.actions c.args.observations c.args.start c.args.entries in (
+    let d : Draft = draft_with c.args.preamble c.args.start c.args.entries in (
       d.preamble,
       record { actions = c.count.ensures; states = c.count-2.ensures; columns = c.count-3.ensures },
       are_sound d c.requires,
@@ -22,7 +22,7 @@ of-requires-2-clause-sound c =
 
 pub observed_rows-requires-clause-sound : goal.observed_rows-requires-clause-sound
 observed_rows-requires-clause-sound c =
-    let d : Draft = draft_of c.args.discount c.args.costs c.args.states c.args.actions c.args.observations c.args.start c.args.entries in (
+    let d : Draft = draft_with c.args.preamble c.args.start c.args.entries in (
       d.preamble,
       refl,
       record { actions = c.count.ensures; states = c.count-2.ensures; columns = c.count-3.ensures },
@@ -31,22 +31,22 @@ observed_rows-requires-clause-sound c =
 
 pub invariant_of-result : goal.invariant_of-result
 invariant_of-result c =
-    let d : Draft = draft_of c.args.discount c.args.costs c.args.states c.args.actions c.args.observations c.args.start c.args.entries in
+    let d : Draft = draft_with c.args.preamble c.args.start c.args.entries in
     let sound = are_sound d c.requires in
     let keyed = sound_keyed d.preamble c.args.entries sound in
     is_draft d c.requires c.in_ok-transitions.transitions c.in_ok-observed.observed c.in_ok-rewards.rewards
     (c.in_ok-transitions.ensures d.preamble (record { actions = c.count.ensures; states = c.count-2.ensures; columns = c.count-3.ensures }))
     (c.in_ok-observed.ensures.rows d.preamble refl (record { actions = c.count.ensures; states = c.count-2.ensures; columns = c.count-3.ensures }))
-    (c.in_ok-rewards.ensures.rewards d.preamble (record { actions = sym c.count-4.ensures; states = sym c.count-5.ensures; observations = sym (c.count_or.ensures ∙ count_of_line c.args.observations (Count 1)) }) refl
+    (c.in_ok-rewards.ensures.rewards d.preamble (record { actions = sym c.count-4.ensures; states = sym c.count-5.ensures; observations = sym (c.count_or.ensures ∙ count_of_line c.args.preamble.observations (Count 1)) }) refl
     keyed sound.each)
 
 pub returns : goal.returns
 returns c =
-    let d : Draft = draft_of c.args.discount c.args.costs c.args.states c.args.actions c.args.observations c.args.start c.args.entries in
+    let d : Draft = draft_with c.args.preamble c.args.start c.args.entries in
     let sound = are_sound d c.requires in
     let keyed = sound_keyed d.preamble c.args.entries sound in
     is_kept d c.requires c.in_ok-transitions.transitions c.in_ok-observed.observed c.in_ok-rewards.rewards
     (c.in_ok-transitions.ensures d.preamble (record { actions = c.count.ensures; states = c.count-2.ensures; columns = c.count-3.ensures }))
     (c.in_ok-observed.ensures.rows d.preamble refl (record { actions = c.count.ensures; states = c.count-2.ensures; columns = c.count-3.ensures }))
-    (c.in_ok-rewards.ensures.rewards d.preamble (record { actions = sym c.count-4.ensures; states = sym c.count-5.ensures; observations = sym (c.count_or.ensures ∙ count_of_line c.args.observations (Count 1)) }) refl
+    (c.in_ok-rewards.ensures.rewards d.preamble (record { actions = sym c.count-4.ensures; states = sym c.count-5.ensures; observations = sym (c.count_or.ensures ∙ count_of_line c.args.preamble.observations (Count 1)) }) refl
     keyed sound.each)

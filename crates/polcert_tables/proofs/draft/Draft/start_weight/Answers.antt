@@ -9,7 +9,7 @@ use Rattle.polcert_tables.proofs.draft.Draft.start_weight.Goals as goal
 pub returns-in-None : goal.returns-in-None
 returns-in-None c =
     let i = c.self.inside in
-    let same : count_of i.states ≡ states_of (meaning c.args.self.now) = ap (λ (k : Kept). states_of (meaning k)) c.self.view_is in
-    alike_weight (count_of i.states) c.args.s (omega (arith, same, c.requires))
-    ∙ ap (λ o. start_weight (meaning (kept_of i.discount i.costs i.states i.actions i.observations o i.transitions i.observed i.rewards)) c.args.s) (sym c.in-None.is)
+    let same : count_of i.preamble.states ≡ states_of (meaning c.args.self.now) = ap (λ (k : Kept). states_of (meaning k)) c.self.view_is in
+    alike_weight (count_of i.preamble.states) c.args.s (omega (arith, same, c.requires))
+    ∙ ap (λ o. start_weight (meaning (kept_of i.preamble o i.transitions i.observed i.rewards)) c.args.s) (sym c.in-None.is)
     ∙ ap (λ (k : Kept). start_weight (meaning k) c.args.s) c.self.view_is

@@ -1,0 +1,49 @@
+//! A row of T or O that is written.
+ghost use Rattle.std.specs.Prelude.{◌≡◌, ◌<◌};
+ghost use Rattle.polcert_cells.specs.Elements.{most_elements};
+ghost use Rattle.polcert_cells.specs.Meaning.{IsCount, states_of, actions_of};
+ghost use Rattle.polcert_cells.specs.Preamble.{columns as columns_in};
+ghost use Rattle.polcert_cells.specs.Rows.{IsWeighted};
+ghost use Rattle.polcert_tables.specs.Kept.{meaning};
+ghost use Rattle.polcert_tables.specs.RowSums.{row_of};
+ghost use Rattle.polcert_full_form.specs.PrintSteps.{AreSmallWeights, IsWeighted-prop};
+
+use polcert_cells::{Row, Table};
+use polcert_tables::Draft;
+
+/// The row of a table of weights at an action and a state.
+#[derive(Drop)]
+pub(crate) struct WeightRow<'a> {
+    pub draft: &'a Draft,
+    pub table: Table,
+    pub action: usize,
+    pub state: usize,
+    pub columns: usize,
+    ghost weighted: { IsWeighted table } by { IsWeighted-prop table },
+    ghost at_action: { action < actions_of (meaning draft.now) },
+    ghost at_state: { state < states_of (meaning draft.now) },
+    ghost width: { columns ≡ columns_in draft.now.preamble table },
+    ghost count: { IsCount most_elements columns },
+    ghost small: { AreSmallWeights columns (row_of draft.now table action state) },
+}
+
+/// How the columns of a row are written.
+#[derive(Clone, Copy)]
+pub(crate) enum ColumnForm {
+    /// Their probabilities, in one line.
+    Decimals,
+    /// A line for each that has not one part in as many as there are columns.
+    Cells,
+}
+
+impl<'a> WeightRow<'a> {
+    ghost use Rattle.polcert_cells.specs.LentRows.{IsRowOf};
+    ghost use Rattle.polcert_full_form.specs.PrintedRows.{row_weights};
+
+    /// Its weights, by column.
+    pub(crate) fn weights(&self) -> Row<'a>
+        ensures { IsRowOf (row_weights self.now) self.now.columns result }
+    {
+        self.draft.row(self.table, self.action, self.state)
+    }
+}

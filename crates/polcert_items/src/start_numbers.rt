@@ -1,0 +1,182 @@
+//! The first number of a start item, and digits that may be a state's number in its place.
+ghost use Rattle.std.specs.Prelude.{◌≡◌, ◌-◌, [], true, false, List, Some, None, IfOk, IfErr};
+ghost use Rattle.polcert_text.specs.Cut.{Lexeme};
+ghost use Rattle.polcert_text.specs.Reading.{lexeme_of};
+ghost use Rattle.polcert_cells.specs.Elements.{count_of, most_states};
+ghost use Rattle.polcert_cells.specs.Meaning.{IsCount};
+ghost use Rattle.polcert_format.specs.Misfits.{misfit, begins_number};
+ghost use Rattle.polcert_format.specs.Wants.{number_end, numbers_want};
+ghost use Rattle.polcert_items.specs.declared.start_reader.StartReader.TheVariants as reader;
+ghost use Rattle.polcert_items.specs.EntrySteps.{IfRefused};
+ghost use Rattle.polcert_items.specs.LineSteps.{Takes, CannotTake, CannotEnd};
+ghost use Rattle.polcert_items.specs.NumberSteps.{SignIs};
+ghost use Rattle.polcert_items.specs.StartSteps.{StartGoes, StartGives, IsStartWithin, IsStartSeen};
+ghost use Rattle.polcert_items.specs.StartSteps.{IsStartEndReason, IfNotMemory, IsInside, IsOutside};
+ghost use Rattle.polcert_items.specs.StartSteps.{IsDueNumber, IsDueValue, IsAtEnd, IsEndDue, IsStop, refused};
+ghost use Rattle.polcert_items.specs.WantSteps.{Leads, list_wants, IfAtEnd};
+
+use crate::chosen::{every_state, one_state};
+use crate::entry_reader::Numbers;
+use crate::number::{Refusal, begins_number, behind_numbers, misplaced};
+use crate::start_shares::ONE;
+use crate::stop::{ItemEnd, Stop};
+use polcert_cells::{Elements, Shares};
+use polcert_format::ItemFault;
+use polcert_text::{NumberFault, Token};
+use std::alloc::Global;
+
+/// The first of some numbers, in millionths, and the offset where it stands: at its sign, if it has one.
+#[derive(Clone, Copy, Debug, PartialEq, Eq)]
+pub struct FirstNumber {
+    pub value: i64,
+    pub place: u64,
+}
+
+/// Digits alone, and the offset where they stand: the state of this number, if there are so many, and the
+/// value.
+#[derive(Clone, Copy, Debug, PartialEq, Eq)]
+pub struct Digits {
+    pub state: Option<usize>,
+    pub value: Result<i64, NumberFault>,
+    pub place: u64,
+}
+
+impl FirstNumber {
+    /// The numbers, where one more token follows the first of them.
+    pub(crate) fn go_on(
+        self,
+        alloc: Global,
+        states: &Elements,
+        token: Token<'_>,
+    ) -> Result<Numbers<u32>, Stop>
+        requires { IsCount most_states (count_of states.now) }
+        ensures takes { IfOk result (λ n. Takes (StartGoes states.now)
+            (reader.Number self) (lexeme_of token.entry) (reader.Probabilities n)) }
+        ensures within { IfOk result (λ n. IsStartWithin states.now (reader.Probabilities n)) }
+        ensures refused { IfErr result (λ stop. IfRefused stop (λ r.
+            CannotTake (StartGoes states.now) (reader.Number self) (lexeme_of token.entry))) }
+        ensures kept { IfOk result (λ n. SignIs n.sign (lexeme_of token.entry)) }
+        ensures inside { IfOk result (λ n. IsOutside self.value → ⊥) }
+        ensures leads { IfOk result (λ n. Leads
+            (numbers_want false (count_of states.now - 1)) (lexeme_of token.entry) (list_wants n)) }
+        ensures stops { IfErr result (λ stop. IfRefused stop (λ r.
+            IsStop (IsDueNumber self.value self.place (lexeme_of token.entry)) None
+            (number_end false (count_of states.now - 1)) (lexeme_of token.entry) r.kind r.place)) }
+        ensures late { IsOutside self.value → begins_number (lexeme_of token.entry).kind ≡ true →
+            result ≡ Err (Stop.Refused (refused ItemFault.ProbabilityRange self.place)) }
+    {
+        if !begins_number(token.kind) {
+            return Err(Stop::Refused(misplaced(token)));
+        }
+        if self.value < 0 || self.value > ONE as i64 {
+            return Err(self.out_of_range());
+        }
+        let count = states.count();
+        if count == 1 {
+            return Err(Stop::Refused(behind_numbers(token)));
+        }
+        let mut numbers = Numbers::new(alloc, count);
+        numbers.read.push(self.value as u32)?;
+        numbers.feed_probability(token)?;
+        Ok(numbers)
+    }
+
+    /// The refusal of this number where another follows it, and it is out of range.
+    fn out_of_range(self) -> Stop
+        ensures { result ≡ Stop.Refused (refused ItemFault.ProbabilityRange self.place) }
+    {
+        Stop::Refused(Refusal {
+            kind: ItemFault::ProbabilityRange,
+            place: self.place,
+        })
+    }
+
+    /// The shares where this number is all there is, behind `start:`.
+    pub(crate) fn end(self, alloc: Global, states: &Elements) -> Result<Shares, ItemEnd>
+        requires { IsCount most_states (count_of states.now) }
+        ensures said { IfOk result (StartGives states.now (reader.Number self) []) }
+        ensures refused { IfErr result (λ e.
+            IfNotMemory e (CannotEnd (StartGives states.now) (reader.Number self))) }
+        ensures reason { (body : List Lexeme) → IfErr result (IsStartEndReason body) }
+        ensures kind { IfErr result (λ e. IfAtEnd e (λ kind.
+            kind ≡ misfit (number_end false (count_of states.now - 1)) None)) }
+        ensures at_end { IfErr result IsAtEnd }
+    {
+        let count = states.count();
+        if count != 1 {
+            return Err(ItemEnd::AtEnd(ItemFault::WrongNumberCount));
+        }
+        if self.value != 0 && self.value != ONE as i64 {
+            return Err(ItemEnd::AtEnd(ItemFault::StartSum));
+        }
+        Ok(every_state(alloc, count)?)
+    }
+}
+
+impl Digits {
+    /// The numbers, where one more token follows the digits.
+    pub(crate) fn go_on(
+        self,
+        alloc: Global,
+        states: &Elements,
+        token: Token<'_>,
+    ) -> Result<Numbers<u32>, Stop>
+        requires { IsCount most_states (count_of states.now) }
+        ensures takes { IfOk result (λ n. Takes (StartGoes states.now)
+            (reader.Digits self) (lexeme_of token.entry) (reader.Probabilities n)) }
+        ensures within { IfOk result (λ n. IsStartWithin states.now (reader.Probabilities n)) }
+        ensures refused { IfErr result (λ stop. IfRefused stop (λ r.
+            CannotTake (StartGoes states.now) (reader.Digits self) (lexeme_of token.entry))) }
+        ensures kept { IfOk result (λ n. SignIs n.sign (lexeme_of token.entry)) }
+        ensures inside { IfOk result (λ n. IsInside self.value) }
+        ensures leads { IfOk result (λ n. Leads
+            (numbers_want false (count_of states.now - 1)) (lexeme_of token.entry) (list_wants n)) }
+        ensures stops { IfErr result (λ stop. IfRefused stop (λ r.
+            IsStop (IsDueValue self.value self.place (lexeme_of token.entry)) None
+            (number_end false (count_of states.now - 1)) (lexeme_of token.entry) r.kind r.place)) }
+        ensures late { (r : Refusal) →
+            IsDueValue self.value self.place (lexeme_of token.entry) r.kind r.place →
+            result ≡ Err (Stop.Refused r) }
+    {
+        match self.value {
+            Ok(value) => {
+                let first = FirstNumber {
+                    value,
+                    place: self.place,
+                };
+                first.go_on(alloc, states, token)
+            }
+            Err(fault) => Err(Stop::Refused(self.without_value(fault))),
+        }
+    }
+
+    /// The refusal of the digits where something follows them, and they have no value, for this reason.
+    pub(crate) fn without_value(self, fault: NumberFault) -> Refusal
+        ensures { result ≡ refused (ItemFault.Number fault) self.place }
+    {
+        Refusal {
+            kind: ItemFault::Number(fault),
+            place: self.place,
+        }
+    }
+
+    /// The shares where the digits stand alone: they are a state's number.
+    pub(crate) fn end(self, alloc: Global, states: &Elements) -> Result<Shares, ItemEnd>
+        requires count { IsCount most_states (count_of states.now) }
+        requires within { IsStartWithin states.now (reader.Digits self) }
+        ensures said { IfOk result (StartGives states.now (reader.Digits self) []) }
+        ensures refused { IfErr result (λ e.
+            IfNotMemory e (CannotEnd (StartGives states.now) (reader.Digits self))) }
+        ensures reason { (body : List Lexeme) → IsStartSeen (count_of states.now) body (reader.Digits self) →
+            IfErr result (IsStartEndReason body) }
+        ensures due { IfErr result (IsEndDue (reader.Digits self)) }
+    {
+        match self.state {
+            Some(state) => Ok(one_state(alloc, states.count(), state)?),
+            None => Err(ItemEnd::At(Refusal {
+                kind: ItemFault::IndexOutOfRange,
+                place: self.place,
+            })),
+        }
+    }
+}
