@@ -79,9 +79,11 @@ pub fn check_above<C: Cells>(cells: &C, graph: &Graph, vectors: &Vectors) -> Abo
     ensures small { NamesSmallAmountAbove (controller_of (C.table cells.now) graph.now vectors.now) result }
 
     // Where the discount is below 1, vectors that pass from below are nowhere above these.
-    ensures interval { (result ≡ AboveVerdict.Yes) → (C.table cells.now).discount < one → (low : PolicyVectors) →
+    ensures interval { (result ≡ AboveVerdict.Yes) → (C.table cells.now).discount < one →
+        (low : PolicyVectors) →
         Fits (C.table cells.now) graph.now low → Passes (controller_of (C.table cells.now) graph.now low) →
-        (n s : ℕ) → n < nodes graph.now → s < (C.table cells.now).states → value_of low n s ≤ℤ value_of vectors.now n s }
+        (n s : ℕ) → n < nodes graph.now → s < (C.table cells.now).states
+        → value_of low n s ≤ℤ value_of vectors.now n s }
 {
     check_above_watched(cells, graph, vectors, &mut Unwatched)
 }
@@ -97,9 +99,11 @@ pub fn check_above_watched<C: Cells, W: Watch>(
     ensures verdict { IsAboveVerdict (controller_of (C.table cells.now) graph.now vectors.now) result }
     ensures horizon { MeetsHorizonAbove (controller_of (C.table cells.now) graph.now vectors.now) result }
     ensures small { NamesSmallAmountAbove (controller_of (C.table cells.now) graph.now vectors.now) result }
-    ensures interval { (result ≡ AboveVerdict.Yes) → (C.table cells.now).discount < one → (low : PolicyVectors) →
+    ensures interval { (result ≡ AboveVerdict.Yes) → (C.table cells.now).discount < one →
+        (low : PolicyVectors) →
         Fits (C.table cells.now) graph.now low → Passes (controller_of (C.table cells.now) graph.now low) →
-        (n s : ℕ) → n < nodes graph.now → s < (C.table cells.now).states → value_of low n s ≤ℤ value_of vectors.now n s }
+        (n s : ℕ) → n < nodes graph.now → s < (C.table cells.now).states
+        → value_of low n s ≤ℤ value_of vectors.now n s }
 {
     let certificate = Certificate::new(Side::Above, cells, graph, vectors);
     above_of(survey(&certificate, Aim::Check, watch).first)

@@ -29,7 +29,8 @@ impl<'a, C: Cells> Certificate<'a, C> {
     pub(crate) fn new(side: Side, cells: &'a C, graph: &'a Graph, vectors: &'a Vectors) -> Self
         requires { Fits (C.table cells.now) graph.now vectors.now }
         ensures controller { controller result ≡ controller_of (C.table cells.now) graph.now vectors.now }
-        ensures judged { judged result ≡ sided side (controller_of (C.table cells.now) graph.now vectors.now) }
+        ensures judged { judged result ≡ sided side
+            (controller_of (C.table cells.now) graph.now vectors.now) }
         ensures side { result.side ≡ side }
         ensures vectors { result.vectors.now ≡ vectors.now }
     {

@@ -32,31 +32,6 @@ fn is_crowded<C: Cells>(cells: &C, a: usize, e: usize) -> bool
     }
 }
 
-/// The reward of one observation, filled in together with others or asked for alone.
-#[inline(always)]
-fn reward_of<C: Cells>(
-    cells: &C,
-    a: usize,
-    s: usize,
-    sight: Sight,
-    crowded: bool,
-    filled: &mut Filled,
-) -> i64
-    requires action { a < (C.table cells.now).actions }
-    requires start { s < (C.table cells.now).states }
-    requires end { sight.end < (C.table cells.now).states }
-    requires observation { sight.observation < (C.table cells.now).observations }
-    requires filled { AreFilled (C.table cells.now) a s sight.end filled.old.first filled.old.count filled.old.rewards }
-    ensures reward { result ≡ (C.table cells.now).r a s sight.end sight.observation }
-    ensures filled { AreFilled (C.table cells.now) a s sight.end filled.new.first filled.new.count filled.new.rewards }
-{
-    if crowded {
-        filled.reward(cells, a, s, sight)
-    } else {
-        cells.r(a, s, sight.end, sight.observation)
-    }
-}
-
 /// What all observations earn behind end state `e`, where they needn't earn the same. Mostly there are few, of which many can be made:
 /// then their rewards are filled in at once.
 fn each_reward<C: Cells>(cells: &C, a: usize, s: usize, e: usize, filled: &mut Filled) -> i128
@@ -69,7 +44,7 @@ fn each_reward<C: Cells>(cells: &C, a: usize, s: usize, e: usize, filled: &mut F
     if crowded && cells.observations() <= OBSERVATIONS_AT_ONCE {
         return filled.reward_behind(cells, a, s, e);
     }
-    filled.clear();
+    filled.clear(crowded);
     let mut sum: i128 = 0;
     let row = cells.o_row(a, e);
     let mut at = 0;
@@ -79,7 +54,7 @@ fn each_reward<C: Cells>(cells: &C, a: usize, s: usize, e: usize, filled: &mut F
             observation: seen.column,
             weight: seen.weight,
         };
-        let reward = reward_of(cells, a, s, sight, crowded, filled);
+        let reward = filled.reward(cells, a, s, sight);
         sum += weighed(seen.weight, reward as i128);
         at = seen.next;
     }

@@ -39,7 +39,8 @@ fn one_end<C: Cells>(certificate: &Certificate<'_, C>, n: usize, sight: Sight) -
     requires node { n < (controller certificate.now).nodes }
     requires end { sight.end < (controller certificate.now).cells.states }
     requires observation { sight.observation < (controller certificate.now).cells.observations }
-    requires weight { sight.weight ≡ (controller certificate.now).cells.o ((controller certificate.now).action n) sight.end sight.observation }
+    requires weight { sight.weight ≡ (controller certificate.now).cells.o
+        ((controller certificate.now).action n) sight.end sight.observation }
     requires some { 0 < sight.weight }
     ensures worth { result.worth ≡ value_term (controller certificate.now) n sight.end sight.observation
         ((controller certificate.now).next n sight.observation) }
@@ -65,7 +66,9 @@ pub(crate) fn end_of<C: Cells>(certificate: &Certificate<'_, C>, n: usize, e: us
     requires node { n < (controller certificate.now).nodes }
     requires end { e < (controller certificate.now).cells.states }
     ensures worth { result.worth ≡ value_behind (controller certificate.now) n e }
-    ensures missing { IsLeastOf (Misses (controller certificate.now) n e (controller certificate.now).cells.observations) result.missing }
+    ensures missing { IsLeastOf
+        (Misses (controller certificate.now) n e (controller certificate.now).cells.observations)
+        result.missing }
 {
     let a = certificate.graph.action(n);
     let mut worth: i128 = 0;

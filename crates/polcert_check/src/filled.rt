@@ -17,6 +17,8 @@ pub(crate) struct Filled {
     pub first: usize,
     /// The rewards of so many are filled in.
     pub count: usize,
+    /// Whether so many are asked for that it pays to fill in those behind one together with it.
+    pub crowded: bool,
     pub rewards: [i64; OBSERVATIONS_AT_ONCE],
     ghost few: { count ≤ OBSERVATIONS_AT_ONCE },
     ghost room: { length rewards ≡ OBSERVATIONS_AT_ONCE },
@@ -28,15 +30,17 @@ impl Filled {
         Filled {
             first: 0,
             count: 0,
+            crowded: false,
             rewards: [0; OBSERVATIONS_AT_ONCE],
         }
     }
 
-    /// Goes on to another action or state, for which nothing is filled in.
-    pub(crate) fn clear(&mut self)
+    /// Goes on to another action or state, for which nothing is filled in. How many rewards are asked for there matters to speed alone.
+    pub(crate) fn clear(&mut self, crowded: bool)
         ensures { (m : Table) (a s e : ℕ) → AreFilled m a s e self.new.first self.new.count self.new.rewards }
     {
         self.count = 0;
+        self.crowded = crowded;
     }
 
     /// What every observation earns behind end state `e`, weighed, where they are so few that their rewards are filled in at once.
@@ -53,7 +57,7 @@ impl Filled {
         requires few { (C.table cells.now).observations ≤ OBSERVATIONS_AT_ONCE }
         ensures { result ≡ reward_behind (C.table cells.now) a s e }
     {
-        self.clear();
+        self.clear(true);
         cells.fill_rewards(a, s, e, 0, &mut self.rewards);
         let mut sum: i128 = 0;
         let row = cells.o_row(a, e);
@@ -66,18 +70,23 @@ impl Filled {
         sum
     }
 
-    /// The reward of one observation, filled in with those behind it where it isn't yet.
+    /// The reward of one observation: asked for alone, or filled in with those behind it where it isn't yet.
     #[inline(always)]
     pub(crate) fn reward<C: Cells>(&mut self, cells: &C, a: usize, s: usize, sight: Sight) -> i64
         requires action { a < (C.table cells.now).actions }
         requires start { s < (C.table cells.now).states }
         requires end { sight.end < (C.table cells.now).states }
         requires observation { sight.observation < (C.table cells.now).observations }
-        requires filled { AreFilled (C.table cells.now) a s sight.end self.old.first self.old.count self.old.rewards }
+        requires filled { AreFilled (C.table cells.now) a s sight.end self.old.first self.old.count
+            self.old.rewards }
         ensures reward { result ≡ (C.table cells.now).r a s sight.end sight.observation }
-        ensures filled { AreFilled (C.table cells.now) a s sight.end self.new.first self.new.count self.new.rewards }
+        ensures filled { AreFilled (C.table cells.now) a s sight.end self.new.first self.new.count
+            self.new.rewards }
     {
         let observation = sight.observation;
+        if !self.crowded {
+            return cells.r(a, s, sight.end, observation);
+        }
         if observation < self.first || observation - self.first >= self.count {
             self.fill(cells, a, s, sight);
         }
@@ -91,7 +100,8 @@ impl Filled {
         requires end { sight.end < (C.table cells.now).states }
         ensures first { self.new.first ≡ sight.observation }
         ensures count { self.new.count ≡ OBSERVATIONS_AT_ONCE }
-        ensures filled { AreFilled (C.table cells.now) a s sight.end self.new.first self.new.count self.new.rewards }
+        ensures filled { AreFilled (C.table cells.now) a s sight.end self.new.first self.new.count
+            self.new.rewards }
     {
         self.first = sight.observation;
         self.count = OBSERVATIONS_AT_ONCE;

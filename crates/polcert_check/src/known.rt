@@ -58,7 +58,8 @@ impl Ends {
     /// Goes on to a block of end states, of which nothing is known yet.
     fn clear(&mut self, block: EndBlock)
         ensures block { self.new.block ≡ block }
-        ensures known { (c : Controller) (n : ℕ) → AreKnown c n self.new.block self.new.known self.new.worths }
+        ensures known { (c : Controller) (n : ℕ)
+            → AreKnown c n self.new.block self.new.known self.new.worths }
     {
         self.block = block;
         for i in 0..block.until - block.first {
@@ -78,7 +79,8 @@ impl Ends {
         requires end { first < (controller certificate.now).cells.states }
         ensures first { self.new.block.first ≡ first }
         ensures within { self.new.block.until ≤ (controller certificate.now).cells.states }
-        ensures known { AreKnown (controller certificate.now) n self.new.block self.new.known self.new.worths }
+        ensures known { AreKnown (controller certificate.now) n self.new.block self.new.known
+            self.new.worths }
     {
         let block = EndBlock::from(first, certificate.cells.states());
         self.clear(block);
@@ -94,7 +96,8 @@ impl Ends {
     pub(crate) fn fill<C: Cells>(&mut self, certificate: &Certificate<'_, C>, n: usize) -> bool
         requires node { n < (controller certificate.now).nodes }
         requires few { (controller certificate.now).cells.states ≤ ENDS_AT_ONCE }
-        ensures { IsTrue result → AreFollowed (controller certificate.now) n (controller certificate.now).cells.states self.new.worths }
+        ensures { IsTrue result → AreFollowed (controller certificate.now) n
+            (controller certificate.now).cells.states self.new.worths }
     {
         for e in 0..certificate.cells.states() {
             let end = end_of(certificate, n, e);
@@ -118,11 +121,15 @@ impl Ends {
         requires within { self.old.block.until ≤ (controller certificate.now).cells.states }
         requires from { self.old.block.first ≤ e }
         requires until { e < self.old.block.until }
-        requires known { AreKnown (controller certificate.now) n self.old.block self.old.known self.old.worths }
+        requires known { AreKnown (controller certificate.now) n self.old.block self.old.known
+            self.old.worths }
         ensures worth { result.worth ≡ value_behind (controller certificate.now) n e }
-        ensures missing { IsLeastOf (Misses (controller certificate.now) n e (controller certificate.now).cells.observations) result.missing }
+        ensures missing { IsLeastOf
+            (Misses (controller certificate.now) n e (controller certificate.now).cells.observations)
+            result.missing }
         ensures block { self.new.block ≡ self.old.block }
-        ensures known { AreKnown (controller certificate.now) n self.new.block self.new.known self.new.worths }
+        ensures known { AreKnown (controller certificate.now) n self.new.block self.new.known
+            self.new.worths }
     {
         let i = e - self.block.first;
         match self.known[i] {
@@ -145,11 +152,15 @@ impl Ends {
         requires within { self.old.block.until ≤ (controller certificate.now).cells.states }
         requires from { self.old.block.first ≤ e }
         requires until { e < self.old.block.until }
-        requires known { AreKnown (controller certificate.now) n self.old.block self.old.known self.old.worths }
+        requires known { AreKnown (controller certificate.now) n self.old.block self.old.known
+            self.old.worths }
         ensures worth { result.worth ≡ value_behind (controller certificate.now) n e }
-        ensures missing { IsLeastOf (Misses (controller certificate.now) n e (controller certificate.now).cells.observations) result.missing }
+        ensures missing { IsLeastOf
+            (Misses (controller certificate.now) n e (controller certificate.now).cells.observations)
+            result.missing }
         ensures block { self.new.block ≡ self.old.block }
-        ensures known { AreKnown (controller certificate.now) n self.new.block self.new.known self.new.worths }
+        ensures known { AreKnown (controller certificate.now) n self.new.block self.new.known
+            self.new.worths }
     {
         self.asked.note(e);
         let end = end_of(certificate, n, e);

@@ -16,15 +16,18 @@ ghost use Rattle.polcert_check.specs.StartMost.{IsStartMost, StartPromiseAbove};
 /// Where every pair passes from above, the promise from above holds for every number of steps, with the vectors at the end and
 /// without; and where that of one step holds at a pair, the pair passes.
 pub fn promise_above_for_every_horizon()
-    ensures promised { (x : Table) (graph : PolicyGraph) (vectors : PolicyVectors) → IsProper x → IsProperGraph graph →
-        Fits x graph vectors → PassesAbove (controller_of x graph vectors) → MeetsEveryHorizonAbove (controller_of x graph vectors) }
+    ensures promised { (x : Table) (graph : PolicyGraph) (vectors : PolicyVectors) → IsProper x →
+        IsProperGraph graph →
+        Fits x graph vectors → PassesAbove (controller_of x graph vectors)
+        → MeetsEveryHorizonAbove (controller_of x graph vectors) }
     ensures only_then { (c : Controller) (n s : ℕ) → PromiseAbove c 1 n s → PairPassesAbove c n s }
 {}
 
 /// Where the discount is below 1, vectors that pass from below are nowhere above vectors that pass from above: the two bound what
 /// the graph earns from both sides.
 pub fn bounds_are_an_interval()
-    ensures { (x : Table) (graph : PolicyGraph) (low high : PolicyVectors) → IsProper x → IsWithinLimits x → IsProperGraph graph →
+    ensures { (x : Table) (graph : PolicyGraph) (low high : PolicyVectors) → IsProper x → IsWithinLimits x →
+        IsProperGraph graph →
         Fits x graph low → Fits x graph high → x.discount < one →
         Passes (controller_of x graph low) → PassesAbove (controller_of x graph high) →
         (n s : ℕ) → n < nodes graph → s < x.states → value_of low n s ≤ℤ value_of high n s }
@@ -34,17 +37,21 @@ pub fn bounds_are_an_interval()
 pub fn same_cells_same_answers_above()
     ensures verdict { (x y : Table) (graph : PolicyGraph) (vectors : PolicyVectors) → HasSameCells x y →
         IsProperGraph graph → Fits x graph vectors → (answer : AboveVerdict) →
-        IsAboveVerdict (controller_of x graph vectors) answer → IsAboveVerdict (controller_of y graph vectors) answer }
+        IsAboveVerdict (controller_of x graph vectors) answer
+        → IsAboveVerdict (controller_of y graph vectors) answer }
     ensures promise { (x y : Table) (graph : PolicyGraph) (vectors : PolicyVectors) → HasSameCells x y →
         IsProperGraph graph → Fits x graph vectors → (k n s : ℕ) → n < nodes graph → s < x.states →
-        PromiseAbove (controller_of x graph vectors) k n s → PromiseAbove (controller_of y graph vectors) k n s }
+        PromiseAbove (controller_of x graph vectors) k n s
+        → PromiseAbove (controller_of y graph vectors) k n s }
     ensures rewards { (x y : Table) (graph : PolicyGraph) (vectors : PolicyVectors) → HasSameCells x y →
         IsProperGraph graph → Fits x graph vectors → (k n s : ℕ) → n < nodes graph → s < x.states →
-        RewardPromiseAbove (controller_of x graph vectors) k n s → RewardPromiseAbove (controller_of y graph vectors) k n s }
+        RewardPromiseAbove (controller_of x graph vectors) k n s
+        → RewardPromiseAbove (controller_of y graph vectors) k n s }
     ensures horizon { (x y : Table) (graph : PolicyGraph) (vectors : PolicyVectors) → HasSameCells x y →
         IsProperGraph graph → Fits x graph vectors → (answer : AboveVerdict) →
         IsAboveVerdict (controller_of x graph vectors) answer →
-        MeetsHorizonAbove (controller_of x graph vectors) answer → MeetsHorizonAbove (controller_of y graph vectors) answer }
+        MeetsHorizonAbove (controller_of x graph vectors) answer
+        → MeetsHorizonAbove (controller_of y graph vectors) answer }
     ensures passes { (x y : Table) (graph : PolicyGraph) (vectors : PolicyVectors) → HasSameCells x y →
         IsProperGraph graph → Fits x graph vectors →
         PassesAbove (controller_of x graph vectors) → PassesAbove (controller_of y graph vectors) }
@@ -86,5 +93,6 @@ pub fn one_raising()
 
 /// A start has one number that no node is worth more than, rounded up.
 pub fn one_start_most()
-    ensures { (m : Meaning) (vectors : PolicyVectors) (x y : ℤ) → IsStartMost m vectors x → IsStartMost m vectors y → x ≡ y }
+    ensures { (m : Meaning) (vectors : PolicyVectors) (x y : ℤ) → IsStartMost m vectors x
+        → IsStartMost m vectors y → x ≡ y }
 {}

@@ -130,7 +130,8 @@ pub fn least_constant<C: Cells>(
         (IsLeastConstant (controller_of (C.table cells.now) graph.now vectors.now) vectors.now) }
     ensures refused { IfErr result
         (IsNotLowered (controller_of (C.table cells.now) graph.now vectors.now) vectors.now) }
-    ensures small { IfErr result (RefusesSmallAmount (controller_of (C.table cells.now) graph.now vectors.now)) }
+    ensures small { IfErr result
+        (RefusesSmallAmount (controller_of (C.table cells.now) graph.now vectors.now)) }
 {
     least_watched(cells, graph, vectors, &mut Unwatched)
 }
@@ -167,7 +168,8 @@ fn least_watched<C: Cells, W: Watch>(
         (IsLeastConstant (controller_of (C.table cells.now) graph.now vectors.now) vectors.now) }
     ensures refused { IfErr result
         (IsNotLowered (controller_of (C.table cells.now) graph.now vectors.now) vectors.now) }
-    ensures small { IfErr result (RefusesSmallAmount (controller_of (C.table cells.now) graph.now vectors.now)) }
+    ensures small { IfErr result
+        (RefusesSmallAmount (controller_of (C.table cells.now) graph.now vectors.now)) }
 {
     least_of(&Certificate::new(Side::Below, cells, graph, vectors), watch)
 }
@@ -195,9 +197,11 @@ pub fn lowered<C: Cells>(
 
     // Want of memory is answered only where there is such a constant.
     ensures refused { IfErr result (λ fault.
-        ((fault ≡ Memory) × HasLeastConstant (controller_of (C.table cells.now) graph.now vectors.now) vectors.now)
+        ((fault ≡ Memory) × HasLeastConstant (controller_of (C.table cells.now) graph.now vectors.now)
+        vectors.now)
         ⊎ IsNotLowered (controller_of (C.table cells.now) graph.now vectors.now) vectors.now fault) }
-    ensures small { IfErr result (RefusesSmallAmount (controller_of (C.table cells.now) graph.now vectors.now)) }
+    ensures small { IfErr result
+        (RefusesSmallAmount (controller_of (C.table cells.now) graph.now vectors.now)) }
 {
     lowered_watched(alloc, cells, graph, vectors, &mut Unwatched)
 }
@@ -217,9 +221,11 @@ pub fn lowered_watched<C: Cells, W: Watch>(
     ensures fits_still { IfOk result (λ lowered. Fits (C.table cells.now) graph.now lowered.1) }
     ensures passes { IfOk result (λ lowered. Passes (controller_of (C.table cells.now) graph.now lowered.1)) }
     ensures refused { IfErr result (λ fault.
-        ((fault ≡ Memory) × HasLeastConstant (controller_of (C.table cells.now) graph.now vectors.now) vectors.now)
+        ((fault ≡ Memory) × HasLeastConstant (controller_of (C.table cells.now) graph.now vectors.now)
+        vectors.now)
         ⊎ IsNotLowered (controller_of (C.table cells.now) graph.now vectors.now) vectors.now fault) }
-    ensures small { IfErr result (RefusesSmallAmount (controller_of (C.table cells.now) graph.now vectors.now)) }
+    ensures small { IfErr result
+        (RefusesSmallAmount (controller_of (C.table cells.now) graph.now vectors.now)) }
 {
     let nodes = graph.nodes();
     let vector_count = vectors.nodes();

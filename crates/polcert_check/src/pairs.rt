@@ -25,8 +25,10 @@ fn scaled_value(t_scale: u64, o_scale: u64, value: i64) -> i128
 /// How far a value is above what it is backed by: what its action earns, and what its node expects.
 pub(crate) fn amount_above<C: Cells>(cells: &C, value: i64, earned: i128, expected: i128) -> i128
     requires value { unsigned_abs value ≤ largest }
-    requires earned { unsigned_abs earned ≤ (C.table cells.now).t_scale * ((C.table cells.now).o_scale * largest) }
-    requires expected { unsigned_abs expected ≤ (C.table cells.now).t_scale * ((C.table cells.now).o_scale * largest) }
+    requires earned { unsigned_abs
+        earned ≤ (C.table cells.now).t_scale * ((C.table cells.now).o_scale * largest) }
+    requires expected { unsigned_abs
+        expected ≤ (C.table cells.now).t_scale * ((C.table cells.now).o_scale * largest) }
     ensures { result ≡ pos ((C.table cells.now).t_scale * (C.table cells.now).o_scale * one) *ℤ value
         -ℤ (pos one *ℤ earned +ℤ pos (C.table cells.now).discount *ℤ expected) }
 {
@@ -45,8 +47,10 @@ pub(crate) fn at_pair<C: Cells>(
 ) -> Verdict
     requires node { n < (controller certificate.now).nodes }
     requires start { s < (controller certificate.now).cells.states }
-    requires earned { earned ≡ reward_ahead (controller certificate.now).cells ((controller certificate.now).action n) s }
-    requires steps { AreSteps (controller certificate.now) n s (controller certificate.now).cells.states steps }
+    requires earned { earned ≡ reward_ahead (controller certificate.now).cells
+        ((controller certificate.now).action n) s }
+    requires steps { AreSteps (controller certificate.now) n s (controller certificate.now).cells.states
+        steps }
     ensures { IsPairVerdict (judged certificate.now) n s result }
 {
     if let Some(observation) = steps.missing {

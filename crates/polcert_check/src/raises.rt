@@ -52,9 +52,12 @@ fn raise_of(fault: LowerFault) -> RaiseFault
 /// least constant takes a value out of range. It takes no memory.
 pub fn least_raise<C: Cells>(cells: &C, graph: &Graph, vectors: &Vectors) -> Result<i64, RaiseFault>
     requires fits { Fits (C.table cells.now) graph.now vectors.now }
-    ensures least { IfOk result (IsLeastRaise (controller_of (C.table cells.now) graph.now vectors.now) vectors.now) }
-    ensures refused { IfErr result (IsNotRaised (controller_of (C.table cells.now) graph.now vectors.now) vectors.now) }
-    ensures small { IfErr result (RefusesSmallRaise (controller_of (C.table cells.now) graph.now vectors.now)) }
+    ensures least { IfOk result
+        (IsLeastRaise (controller_of (C.table cells.now) graph.now vectors.now) vectors.now) }
+    ensures refused { IfErr result
+        (IsNotRaised (controller_of (C.table cells.now) graph.now vectors.now) vectors.now) }
+    ensures small { IfErr result
+        (RefusesSmallRaise (controller_of (C.table cells.now) graph.now vectors.now)) }
 {
     least_watched(cells, graph, vectors, &mut Unwatched)
 }
@@ -67,9 +70,12 @@ fn least_watched<C: Cells, W: Watch>(
     watch: &mut W,
 ) -> Result<i64, RaiseFault>
     requires fits { Fits (C.table cells.now) graph.now vectors.now }
-    ensures least { IfOk result (IsLeastRaise (controller_of (C.table cells.now) graph.now vectors.now) vectors.now) }
-    ensures refused { IfErr result (IsNotRaised (controller_of (C.table cells.now) graph.now vectors.now) vectors.now) }
-    ensures small { IfErr result (RefusesSmallRaise (controller_of (C.table cells.now) graph.now vectors.now)) }
+    ensures least { IfOk result
+        (IsLeastRaise (controller_of (C.table cells.now) graph.now vectors.now) vectors.now) }
+    ensures refused { IfErr result
+        (IsNotRaised (controller_of (C.table cells.now) graph.now vectors.now) vectors.now) }
+    ensures small { IfErr result
+        (RefusesSmallRaise (controller_of (C.table cells.now) graph.now vectors.now)) }
 {
     let certificate = Certificate::new(Side::Above, cells, graph, vectors);
     match least_of(&certificate, watch) {
@@ -91,18 +97,23 @@ pub fn raised<C: Cells>(
     vectors: &Vectors,
 ) -> Result<(i64, Vectors), RaiseFault>
     requires fits { Fits (C.table cells.now) graph.now vectors.now }
-    ensures least { IfOk result (λ raised. IsLeastRaise (controller_of (C.table cells.now) graph.now vectors.now) vectors.now raised.0) }
+    ensures least { IfOk result
+        (λ raised. IsLeastRaise (controller_of (C.table cells.now) graph.now vectors.now) vectors.now
+        raised.0) }
     ensures shifted { IfOk result (λ raised. raised.1 ≡ shifted_by vectors.now raised.0) }
 
     // With the raised vectors every pair passes from above.
     ensures fits_still { IfOk result (λ raised. Fits (C.table cells.now) graph.now raised.1) }
-    ensures passes { IfOk result (λ raised. PassesAbove (controller_of (C.table cells.now) graph.now raised.1)) }
+    ensures passes { IfOk result
+        (λ raised. PassesAbove (controller_of (C.table cells.now) graph.now raised.1)) }
 
     // Want of memory is answered only where there is such a constant.
     ensures refused { IfErr result (λ fault.
-        ((fault ≡ Memory) × HasLeastRaise (controller_of (C.table cells.now) graph.now vectors.now) vectors.now)
+        ((fault ≡ Memory) × HasLeastRaise (controller_of (C.table cells.now) graph.now vectors.now)
+        vectors.now)
         ⊎ IsNotRaised (controller_of (C.table cells.now) graph.now vectors.now) vectors.now fault) }
-    ensures small { IfErr result (RefusesSmallRaise (controller_of (C.table cells.now) graph.now vectors.now)) }
+    ensures small { IfErr result
+        (RefusesSmallRaise (controller_of (C.table cells.now) graph.now vectors.now)) }
 {
     raised_watched(alloc, cells, graph, vectors, &mut Unwatched)
 }
@@ -116,14 +127,19 @@ pub fn raised_watched<C: Cells, W: Watch>(
     watch: &mut W,
 ) -> Result<(i64, Vectors), RaiseFault>
     requires fits { Fits (C.table cells.now) graph.now vectors.now }
-    ensures least { IfOk result (λ raised. IsLeastRaise (controller_of (C.table cells.now) graph.now vectors.now) vectors.now raised.0) }
+    ensures least { IfOk result
+        (λ raised. IsLeastRaise (controller_of (C.table cells.now) graph.now vectors.now) vectors.now
+        raised.0) }
     ensures shifted { IfOk result (λ raised. raised.1 ≡ shifted_by vectors.now raised.0) }
     ensures fits_still { IfOk result (λ raised. Fits (C.table cells.now) graph.now raised.1) }
-    ensures passes { IfOk result (λ raised. PassesAbove (controller_of (C.table cells.now) graph.now raised.1)) }
+    ensures passes { IfOk result
+        (λ raised. PassesAbove (controller_of (C.table cells.now) graph.now raised.1)) }
     ensures refused { IfErr result (λ fault.
-        ((fault ≡ Memory) × HasLeastRaise (controller_of (C.table cells.now) graph.now vectors.now) vectors.now)
+        ((fault ≡ Memory) × HasLeastRaise (controller_of (C.table cells.now) graph.now vectors.now)
+        vectors.now)
         ⊎ IsNotRaised (controller_of (C.table cells.now) graph.now vectors.now) vectors.now fault) }
-    ensures small { IfErr result (RefusesSmallRaise (controller_of (C.table cells.now) graph.now vectors.now)) }
+    ensures small { IfErr result
+        (RefusesSmallRaise (controller_of (C.table cells.now) graph.now vectors.now)) }
 {
     let nodes = graph.nodes();
     let vector_count = vectors.nodes();

@@ -23,7 +23,8 @@ fn small_quotient(amount: u128, scale: u128) -> i64
 /// `t_scale` times `o_scale` times 1,000,000.
 pub fn millionths_short<C: Cells>(cells: &C, amount: i128) -> i64
     requires short { pos 0 <ℤ amount }
-    requires small { unsigned_abs amount ≤ 3 * ((C.table cells.now).t_scale * (C.table cells.now).o_scale * one) * largest }
+    requires small { unsigned_abs
+        amount ≤ 3 * ((C.table cells.now).t_scale * (C.table cells.now).o_scale * one) * largest }
     ensures { IsCeilQuotient amount ((C.table cells.now).t_scale * (C.table cells.now).o_scale * one) result }
 {
     let scale = (cells.t_scale() * cells.o_scale()) as u128 * 1_000_000;

@@ -22,7 +22,8 @@ use polcert_policy::{Graph, Vectors};
 fn followed_reward<C: Cells>(certificate: &Certificate<'_, C>, n: usize, s: usize) -> i128
     requires node { n < (controller certificate.now).nodes }
     requires start { s < (controller certificate.now).cells.states }
-    ensures { result ≡ reward_ahead (followed (controller certificate.now) n) ((controller certificate.now).action n) s }
+    ensures { result ≡ reward_ahead (followed (controller certificate.now) n)
+        ((controller certificate.now).action n) s }
 {
     reward_ahead(
         &Followed { certificate, n },
@@ -78,7 +79,8 @@ pub fn amount_short<C: Cells>(
     requires node { n < nodes graph.now }
     requires start { s < (C.table cells.now).states }
     ensures is { result ≡ short (controller_of (C.table cells.now) graph.now vectors.now) n s }
-    ensures small { unsigned_abs result ≤ most_short (controller_of (C.table cells.now) graph.now vectors.now) }
+    ensures small { unsigned_abs result ≤ most_short
+        (controller_of (C.table cells.now) graph.now vectors.now) }
 {
     amount_at(&Certificate::new(Side::Below, cells, graph, vectors), n, s)
 }

@@ -34,8 +34,10 @@ pub fn start_most(model: &Model, graph: &Graph, vectors: &Vectors) -> i64
     ensures most { IsStartMost (meaning model.now) vectors.now result }
 
     // Where every pair passes from above, the promise from the start for every node and every number of steps.
-    ensures promise { PassesAbove (controller_of (table_of (meaning model.now)) graph.now vectors.now) → (k n : ℕ) → n < nodes graph.now →
-        StartPromiseAbove (meaning model.now) (controller_of (table_of (meaning model.now)) graph.now vectors.now) k n result }
+    ensures promise { PassesAbove (controller_of (table_of (meaning model.now)) graph.now vectors.now) →
+        (k n : ℕ) → n < nodes graph.now →
+        StartPromiseAbove (meaning model.now)
+        (controller_of (table_of (meaning model.now)) graph.now vectors.now) k n result }
 {
     let nodes = graph.nodes();
     let (node, sum) = best_start(model, vectors);

@@ -13,11 +13,13 @@ use crate::walks::Walks;
 use crate::watch::Watch;
 use polcert_model::Cells;
 
-/// Room for what is found at the states of a block, made once for all blocks: what the action earns, and what a node expects.
+/// What is found at the pairs so far, and room for what is known at the states of a block, made once for all blocks: what the action
+/// earns, and what a node expects.
 #[derive(Drop)]
-struct Buffers {
+struct Surveyed {
     earnings: Earnings,
     walks: Walks,
+    findings: Findings,
 }
 
 /// Notes what is found at each state of a block and node `n`.
@@ -25,26 +27,29 @@ fn survey_states<C: Cells>(
     certificate: &Certificate<'_, C>,
     n: usize,
     block: StartBlock,
-    buffers: &mut Buffers,
-    findings: &mut Findings,
+    survey: &mut Surveyed,
 )
     requires node { n < (controller certificate.now).nodes }
     requires within { block.until ≤ (controller certificate.now).cells.states }
-    requires first { buffers.old.earnings.first ≡ block.first }
-    requires kept { AreKept (controller certificate.now).cells ((controller certificate.now).action n) block.first buffers.old.earnings.sums buffers.old.earnings.count }
-    requires found { IsFoundBefore (judged certificate.now) ((controller certificate.now).action n) block.first block.until n block.first findings.old }
-    ensures first { buffers.new.earnings.first ≡ block.first }
-    ensures kept { AreKept (controller certificate.now).cells ((controller certificate.now).action n) block.first buffers.new.earnings.sums buffers.new.earnings.count }
-    ensures found { IsFoundBefore (judged certificate.now) ((controller certificate.now).action n) block.first block.until (n + 1) block.first findings.new }
-    ensures aim { findings.new.aim ≡ findings.old.aim }
+    requires first { survey.old.earnings.first ≡ block.first }
+    requires kept { AreKept (controller certificate.now).cells ((controller certificate.now).action n)
+        block.first survey.old.earnings.sums survey.old.earnings.count }
+    requires found { IsFoundBefore (judged certificate.now) ((controller certificate.now).action n)
+        block.first block.until n block.first survey.old.findings }
+    ensures first { survey.new.earnings.first ≡ block.first }
+    ensures kept { AreKept (controller certificate.now).cells ((controller certificate.now).action n)
+        block.first survey.new.earnings.sums survey.new.earnings.count }
+    ensures found { IsFoundBefore (judged certificate.now) ((controller certificate.now).action n)
+        block.first block.until (n + 1) block.first survey.new.findings }
+    ensures aim { survey.new.findings.aim ≡ survey.old.findings.aim }
 {
     let a = certificate.graph.action(n);
-    buffers.walks.walk(certificate, n, block);
+    survey.walks.walk(certificate, n, block);
     for s in block.first..block.until {
-        let earned = buffers.earnings.earned(certificate.cells, a, s);
-        let steps = buffers.walks.walks[s - block.first].steps;
+        let earned = survey.earnings.earned(certificate.cells, a, s);
+        let steps = survey.walks.walks[s - block.first].steps;
         let found = at_pair(certificate, n, s, earned, steps);
-        if findings.note(n, found) {
+        if survey.findings.note(n, found) {
             return;
         }
     }
@@ -56,25 +61,28 @@ fn survey_node<C: Cells, W: Watch>(
     certificate: &Certificate<'_, C>,
     n: usize,
     block: StartBlock,
-    buffers: &mut Buffers,
-    findings: &mut Findings,
+    survey: &mut Surveyed,
     watch: &mut W,
 )
     requires node { n < (controller certificate.now).nodes }
     requires within { block.until ≤ (controller certificate.now).cells.states }
-    requires first { buffers.old.earnings.first ≡ block.first }
-    requires kept { AreKept (controller certificate.now).cells ((controller certificate.now).action n) block.first buffers.old.earnings.sums buffers.old.earnings.count }
-    requires found { IsFoundBefore (judged certificate.now) ((controller certificate.now).action n) block.first block.until n block.first findings.old }
-    ensures first { buffers.new.earnings.first ≡ block.first }
-    ensures kept { AreKept (controller certificate.now).cells ((controller certificate.now).action n) block.first buffers.new.earnings.sums buffers.new.earnings.count }
-    ensures found { IsFoundBefore (judged certificate.now) ((controller certificate.now).action n) block.first block.until (n + 1) block.first findings.new }
-    ensures aim { findings.new.aim ≡ findings.old.aim }
+    requires first { survey.old.earnings.first ≡ block.first }
+    requires kept { AreKept (controller certificate.now).cells ((controller certificate.now).action n)
+        block.first survey.old.earnings.sums survey.old.earnings.count }
+    requires found { IsFoundBefore (judged certificate.now) ((controller certificate.now).action n)
+        block.first block.until n block.first survey.old.findings }
+    ensures first { survey.new.earnings.first ≡ block.first }
+    ensures kept { AreKept (controller certificate.now).cells ((controller certificate.now).action n)
+        block.first survey.new.earnings.sums survey.new.earnings.count }
+    ensures found { IsFoundBefore (judged certificate.now) ((controller certificate.now).action n)
+        block.first block.until (n + 1) block.first survey.new.findings }
+    ensures aim { survey.new.findings.aim ≡ survey.old.findings.aim }
 {
-    if findings.is_settled(n) {
+    if survey.findings.is_settled(n) {
         return;
     }
-    survey_states(certificate, n, block, buffers, findings);
-    if block.until == certificate.cells.states() && !findings.is_settled(n) {
+    survey_states(certificate, n, block, survey);
+    if block.until == certificate.cells.states() && !survey.findings.is_settled(n) {
         watch.node_done();
     }
 }
@@ -84,20 +92,19 @@ fn survey_block<C: Cells, W: Watch>(
     certificate: &Certificate<'_, C>,
     a: usize,
     block: StartBlock,
-    buffers: &mut Buffers,
-    findings: &mut Findings,
+    survey: &mut Surveyed,
     watch: &mut W,
 )
     requires within { block.until ≤ (controller certificate.now).cells.states }
-    requires found { IsFoundUpTo (judged certificate.now) a block.first findings.old }
-    ensures found { IsFoundUpTo (judged certificate.now) a block.until findings.new }
-    ensures aim { findings.new.aim ≡ findings.old.aim }
+    requires found { IsFoundUpTo (judged certificate.now) a block.first survey.old.findings }
+    ensures found { IsFoundUpTo (judged certificate.now) a block.until survey.new.findings }
+    ensures aim { survey.new.findings.aim ≡ survey.old.findings.aim }
 {
-    buffers.walks.forget(certificate.cells.states());
-    buffers.earnings.begin(block.first);
+    survey.walks.forget(certificate.cells.states());
+    survey.earnings.begin(block.first);
     for n in 0..certificate.graph.nodes() {
         if certificate.graph.action(n) == a {
-            survey_node(certificate, n, block, buffers, findings, watch);
+            survey_node(certificate, n, block, survey, watch);
         }
     }
 }
@@ -106,19 +113,18 @@ fn survey_block<C: Cells, W: Watch>(
 fn survey_action<C: Cells, W: Watch>(
     certificate: &Certificate<'_, C>,
     a: usize,
-    buffers: &mut Buffers,
-    findings: &mut Findings,
+    survey: &mut Surveyed,
     watch: &mut W,
 )
-    requires found { IsFoundUpTo (judged certificate.now) a 0 findings.old }
-    ensures found { IsFoundUpTo (judged certificate.now) (a + 1) 0 findings.new }
-    ensures aim { findings.new.aim ≡ findings.old.aim }
+    requires found { IsFoundUpTo (judged certificate.now) a 0 survey.old.findings }
+    ensures found { IsFoundUpTo (judged certificate.now) (a + 1) 0 survey.new.findings }
+    ensures aim { survey.new.findings.aim ≡ survey.old.findings.aim }
 {
     let states = certificate.cells.states();
     let mut first = 0;
     while first < states {
         let block = StartBlock::from(first, states);
-        survey_block(certificate, a, block, buffers, findings, watch);
+        survey_block(certificate, a, block, survey, watch);
         first = block.until;
     }
 }
@@ -141,14 +147,15 @@ pub(crate) fn survey<C: Cells, W: Watch>(
         side: certificate.side,
     };
     watch.begin(own.graph.nodes());
-    let mut buffers = Buffers {
+    let findings = Findings::new(aim);
+    let mut survey = Surveyed {
         earnings: Earnings::new(),
         walks: Walks::new(),
+        findings,
     };
-    let mut findings = Findings::new(aim);
     for a in 0..own.cells.actions() {
-        survey_action(&own, a, &mut buffers, &mut findings, watch);
+        survey_action(&own, a, &mut survey, watch);
     }
     watch.end();
-    findings
+    survey.findings
 }

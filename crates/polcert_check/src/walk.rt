@@ -8,7 +8,8 @@ use polcert_cells::{Cells, Row, Step};
 
 /// The place where a walk over a row begins that goes over the columns from this one on. Where no row is lent, places are columns.
 pub(crate) fn place_from(row: Option<Row<'_>>, column: usize) -> usize
-    ensures { (f : ℕ → ℕ) (count : ℕ) → column ≤ count → ForSome row.entry (IsRowOf f count) → IsPlace f row.entry column result }
+    ensures { (f : ℕ → ℕ) (count : ℕ) → column ≤ count → ForSome row.entry (IsRowOf f count)
+        → IsPlace f row.entry column result }
 {
     match row {
         Some(row) => place_in(row, column),
@@ -18,7 +19,8 @@ pub(crate) fn place_from(row: Option<Row<'_>>, column: usize) -> usize
 
 /// The same of a row that is lent.
 fn place_in(row: Row<'_>, column: usize) -> usize
-    ensures { (f : ℕ → ℕ) (count : ℕ) → column ≤ count → IsRowOf f count row.entry → IsPlace f (Some row.entry) column result }
+    ensures { (f : ℕ → ℕ) (count : ℕ) → column ≤ count → IsRowOf f count row.entry
+        → IsPlace f (Some row.entry) column result }
 {
     match row {
         Row::Sparse(cells) => cells.partition_point(|cell| cell.column < column),

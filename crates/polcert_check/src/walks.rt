@@ -92,8 +92,10 @@ fn worth_ahead<C: Cells>(
     requires node { n < (controller certificate.now).nodes }
     requires start { s < (controller certificate.now).cells.states }
     requires room { (controller certificate.now).cells.states ≤ length worths.now }
-    requires followed { AreFollowed (controller certificate.now) n (controller certificate.now).cells.states worths.now }
-    ensures { result ≡ value_before (controller certificate.now) n s (controller certificate.now).cells.states }
+    requires followed { AreFollowed (controller certificate.now) n (controller certificate.now).cells.states
+        worths.now }
+    ensures { result ≡ value_before (controller certificate.now) n s
+        (controller certificate.now).cells.states }
 {
     let cells = certificate.cells;
     let a = certificate.graph.action(n);
@@ -169,8 +171,10 @@ impl Walks {
         requires node { n < (controller certificate.now).nodes }
         requires within { block.until ≤ (controller certificate.now).cells.states }
         requires few { (controller certificate.now).cells.states ≤ ENDS_AT_ONCE }
-        requires followed { AreFollowed (controller certificate.now) n (controller certificate.now).cells.states self.old.ends.worths }
-        ensures { AreWalks (controller certificate.now) n block (controller certificate.now).cells.states self.new.walks }
+        requires followed { AreFollowed (controller certificate.now) n
+            (controller certificate.now).cells.states self.old.ends.worths }
+        ensures { AreWalks (controller certificate.now) n block (controller certificate.now).cells.states
+            self.new.walks }
     {
         let states = certificate.cells.states();
         for s in block.first..block.until {
@@ -195,7 +199,8 @@ impl Walks {
     )
         requires node { n < (controller certificate.now).nodes }
         requires within { block.until ≤ (controller certificate.now).cells.states }
-        ensures { AreWalks (controller certificate.now) n block (controller certificate.now).cells.states self.new.walks }
+        ensures { AreWalks (controller certificate.now) n block (controller certificate.now).cells.states
+            self.new.walks }
     {
         let states = certificate.cells.states();
         if states <= ENDS_AT_ONCE && self.ends.fill(certificate, n) {

@@ -9,31 +9,31 @@ use Rattle.polcert_check.proofs.earned.each_reward.Goals as goal
 pub weighed-sum-requires : goal.weighed-sum-requires
 weighed-sum-requires g c =
     let m : Table = g.C.Cells.table c.args.cells.now in
-    let h = c.reward_of-reward.result in
+    let h = c.reward-reward.result in
     let fh : FitsSigned w64 h = search rules in
     let fh2 : FitsSigned w128 (to_z w64 (of_z w64 h)) = search rules in
     let next = c.in-Some.ensures.0 in
-    reward_room m (g.met.C.Cells.is_proper c.args.cells.now) (g.met.C.Cells.is_within_limits c.args.cells.now) c.args.a c.args.s c.args.e c.in-Some.seen.column c.in-Some.seen.weight (to_z w128 (of_z w128 (to_z w64 (of_z w64 h)))) c.requires.action c.requires.start c.requires.end next.1 next.2 (to_z-of_z w128 (to_z w64 (of_z w64 h)) fh2 ∙ to_z-of_z w64 h fh ∙ c.reward_of-reward.ensures.reward)
+    reward_room m (g.met.C.Cells.is_proper c.args.cells.now) (g.met.C.Cells.is_within_limits c.args.cells.now) c.args.a c.args.s c.args.e c.in-Some.seen.column c.in-Some.seen.weight (to_z w128 (of_z w128 (to_z w64 (of_z w64 h)))) c.requires.action c.requires.start c.requires.end next.1 next.2 (to_z-of_z w128 (to_z w64 (of_z w64 h)) fh2 ∙ to_z-of_z w64 h fh ∙ c.reward-reward.ensures.reward)
 
 pub overflow_add-sum : goal.overflow_add-sum
 overflow_add-sum g c =
     let m : Table = g.C.Cells.table c.args.cells.now in
     let fx : FitsSigned w128 c.weighed-sum.result = search rules in
-    let fh : FitsSigned w64 c.reward_of-reward.result = search rules in
-    let fh2 : FitsSigned w128 (to_z w64 (of_z w64 c.reward_of-reward.result)) = search rules in
+    let fh : FitsSigned w64 c.reward-reward.result = search rules in
+    let fh2 : FitsSigned w128 (to_z w64 (of_z w64 c.reward-reward.result)) = search rules in
     let next = c.in-Some.ensures.0 in
-    (reward_step m (g.met.C.Cells.is_proper c.args.cells.now) (g.met.C.Cells.is_within_limits c.args.cells.now) c.args.a c.args.s c.args.e (reached c.o_row-row.result c.loop-seen.at) c.in-Some.seen.column c.in-Some.seen.weight (to_z w128 c.loop-seen.sum-bits) c.weighed-sum.result c.reward_of-reward.result c.requires.action c.requires.start c.requires.end next.0 next.1 next.2 next.4 c.loop-seen.invariant.sum fx fh fh2 c.weighed-sum.ensures c.reward_of-reward.ensures.reward).0
+    (reward_step m (g.met.C.Cells.is_proper c.args.cells.now) (g.met.C.Cells.is_within_limits c.args.cells.now) c.args.a c.args.s c.args.e (reached c.o_row-row.result c.loop-seen.at) c.in-Some.seen.column c.in-Some.seen.weight (to_z w128 c.loop-seen.sum-bits) c.weighed-sum.result c.reward-reward.result c.requires.action c.requires.start c.requires.end next.0 next.1 next.2 next.4 c.loop-seen.invariant.sum fx fh fh2 c.weighed-sum.ensures c.reward-reward.ensures.reward).0
 
 pub loop-seen-preserved : goal.loop-seen-preserved
 loop-seen-preserved g c =
     let m : Table = g.C.Cells.table c.args.cells.now in
     let fx : FitsSigned w128 c.weighed-sum.result = search rules in
-    let fh : FitsSigned w64 c.reward_of-reward.result = search rules in
-    let fh2 : FitsSigned w128 (to_z w64 (of_z w64 c.reward_of-reward.result)) = search rules in
+    let fh : FitsSigned w64 c.reward-reward.result = search rules in
+    let fh2 : FitsSigned w128 (to_z w64 (of_z w64 c.reward-reward.result)) = search rules in
     let next = c.in-Some.ensures.0 in
     rw c.in-Some.ensures.1 (record {
-      sum = (reward_step m (g.met.C.Cells.is_proper c.args.cells.now) (g.met.C.Cells.is_within_limits c.args.cells.now) c.args.a c.args.s c.args.e (reached c.o_row-row.result c.loop-seen.at) c.in-Some.seen.column c.in-Some.seen.weight (to_z w128 c.loop-seen.sum-bits) c.weighed-sum.result c.reward_of-reward.result c.requires.action c.requires.start c.requires.end next.0 next.1 next.2 next.4 c.loop-seen.invariant.sum fx fh fh2 c.weighed-sum.ensures c.reward_of-reward.ensures.reward).1;
-      filled = c.reward_of-reward.ensures.filled;
+      sum = (reward_step m (g.met.C.Cells.is_proper c.args.cells.now) (g.met.C.Cells.is_within_limits c.args.cells.now) c.args.a c.args.s c.args.e (reached c.o_row-row.result c.loop-seen.at) c.in-Some.seen.column c.in-Some.seen.weight (to_z w128 c.loop-seen.sum-bits) c.weighed-sum.result c.reward-reward.result c.requires.action c.requires.start c.requires.end next.0 next.1 next.2 next.4 c.loop-seen.invariant.sum fx fh fh2 c.weighed-sum.ensures c.reward-reward.ensures.reward).1;
+      filled = c.reward-reward.ensures.filled;
       within = omega (arith, c.in-Some.ensures.0.1);
     })
 

@@ -12,4 +12,4 @@ loop-a-init g c = record {
 
 pub returns-clause-found : goal.returns-clause-found
 returns-clause-found g c =
-    all_walked (judged c.args.certificate.now) (sided_proper c.args.certificate.now.side (controller c.args.certificate.now) c.args.certificate.now.proper).closed c.loop-a.a c.loop-a.findings c.loop-a.invariant.found (omega (arith, c.actions-a-end.ensures))
+    all_walked (judged c.args.certificate.now) (sided_proper c.args.certificate.now.side (controller c.args.certificate.now) c.args.certificate.now.proper).closed c.loop-a.a c.loop-a.survey.findings c.loop-a.invariant.found (omega (arith, c.actions-a-end.ensures))

@@ -5,8 +5,8 @@ use Rattle.polcert_check.proofs.survey.survey_action.Given as goal
 
 abbrev pub invariant-loop-first : goal.invariant-loop-first
 invariant-loop-first g l = record {
-  found : IsFoundUpTo (judged l.certificate) l.a l.first l.findings;
-  aim : l.findings.aim ≡ l.fn.findings.aim;
+  found : IsFoundUpTo (judged l.certificate) l.a l.first l.survey.findings;
+  aim : l.survey.findings.aim ≡ l.fn.survey.findings.aim;
 }
 
 abbrev pub decreases-loop-first : goal.decreases-loop-first

@@ -6,8 +6,8 @@ use Rattle.polcert_check.proofs.survey.survey_block.Given as goal
 
 abbrev pub invariant-loop-n : goal.invariant-loop-n
 invariant-loop-n g l = record {
-  first : l.buffers.earnings.first ≡ l.block.first;
-  kept : AreKept (controller l.certificate).cells l.a l.block.first l.buffers.earnings.sums l.buffers.earnings.count;
-  found : IsFoundBefore (judged l.certificate) l.a l.block.first l.block.until l.n l.block.first l.findings;
-  aim : l.findings.aim ≡ l.fn.findings.aim;
+  first : l.survey.earnings.first ≡ l.block.first;
+  kept : AreKept (controller l.certificate).cells l.a l.block.first l.survey.earnings.sums l.survey.earnings.count;
+  found : IsFoundBefore (judged l.certificate) l.a l.block.first l.block.until l.n l.block.first l.survey.findings;
+  aim : l.survey.findings.aim ≡ l.fn.survey.findings.aim;
 }

@@ -10,7 +10,7 @@ use Rattle.polcert_check.proofs.survey.survey_states.Goals as goal
 pub at_pair-found-requires-clause-steps : goal.at_pair-found-requires-clause-steps
 at_pair-found-requires-clause-steps g c =
     let k : Controller = controller c.args.certificate.now in
-    walk_over k c.args.n c.loop-s.s (walk_at c.loop-s.buffers.walks.walks (c.loop-s.s - c.args.block.first)) (at_state k c.args.n c.args.block.first c.loop-s.s k.cells.states c.loop-s.buffers.walks.walks c.loop-s.auto.s (λ i e. c.loop-s.invariant.walks i (omega (arith, e, c.loop-s-test.true))))
+    walk_over k c.args.n c.loop-s.s (walk_at c.loop-s.survey.walks.walks (c.loop-s.s - c.args.block.first)) (at_state k c.args.n c.args.block.first c.loop-s.s k.cells.states c.loop-s.survey.walks.walks c.loop-s.auto.s (λ i e. c.loop-s.invariant.walks i (omega (arith, e, c.loop-s-test.true))))
 
 pub loop-s-preserved : goal.loop-s-preserved
 loop-s-preserved g c =
@@ -34,4 +34,4 @@ returns-then-note-clause-found g c =
 pub returns-clause-found : goal.returns-clause-found
 returns-clause-found g c =
     let j : Controller = judged c.args.certificate.now in
-    node_done j (j.action c.args.n) c.args.block.first c.args.block.until c.args.n c.loop-s.s c.loop-s.findings c.loop-s.invariant.found (omega (arith, c.loop-s-test.false, c.loop-s.auto.s-end, c.args.block.some))
+    node_done j (j.action c.args.n) c.args.block.first c.args.block.until c.args.n c.loop-s.s c.loop-s.survey.findings c.loop-s.invariant.found (omega (arith, c.loop-s-test.false, c.loop-s.auto.s-end, c.args.block.some))

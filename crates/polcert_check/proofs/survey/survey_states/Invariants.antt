@@ -7,10 +7,10 @@ use Rattle.polcert_check.proofs.survey.survey_states.Given as goal
 
 abbrev pub invariant-loop-s : goal.invariant-loop-s
 invariant-loop-s g l = record {
-  first : l.buffers.earnings.first ≡ l.block.first;
-  before : l.s ≤ l.block.first + l.buffers.earnings.count;
-  kept : AreKept (controller l.certificate).cells ((controller l.certificate).action l.n) l.block.first l.buffers.earnings.sums l.buffers.earnings.count;
-  walks : AreWalks (controller l.certificate) l.n l.block (controller l.certificate).cells.states l.buffers.walks.walks;
-  found : IsFoundBefore (judged l.certificate) ((controller l.certificate).action l.n) l.block.first l.block.until l.n l.s l.findings;
-  aim : l.findings.aim ≡ l.fn.findings.aim;
+  first : l.survey.earnings.first ≡ l.block.first;
+  before : l.s ≤ l.block.first + l.survey.earnings.count;
+  kept : AreKept (controller l.certificate).cells ((controller l.certificate).action l.n) l.block.first l.survey.earnings.sums l.survey.earnings.count;
+  walks : AreWalks (controller l.certificate) l.n l.block (controller l.certificate).cells.states l.survey.walks.walks;
+  found : IsFoundBefore (judged l.certificate) ((controller l.certificate).action l.n) l.block.first l.block.until l.n l.s l.survey.findings;
+  aim : l.survey.findings.aim ≡ l.fn.survey.findings.aim;
 }
