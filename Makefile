@@ -2,9 +2,10 @@
 # output is that of the verdict. Nothing is proved by it.
 # `make program`: proves the program and all that it rests on, builds crates/polcert/out/polcert, and checks the same files with it.
 # `make install`: puts the proved program and its man page below PREFIX (/usr/local where none is named), and all that below DESTDIR.
-# `make test`: each test of each crate and each case of the program, in minutes, before any proof. The last line is `N passed, M failed`.
-# `make gate`: the gate of the proofs: every proof from nothing, the tests, the must-fail edits, the refused allocations, and the cases
-# over the proved program. The last line is `N passed, M failed`.
+# `make test`: each test of each crate, each allocation refused, and each case of the program, in minutes, before any proof. The last line
+# is `N passed, M failed`.
+# `make gate`: the gate of the proofs: every proof from nothing, the tests, the must-fail edits, bodies that the tests have to refuse, and
+# the cases over the proved program. The last line is `N passed, M failed`.
 # `make edits CRATE=polcert_text`: the must-fail edits of one crate, or of each, over what the tree has proved before.
 .PHONY: run program install test gate edits
 

@@ -134,6 +134,7 @@ pub fn printed_lines()
     ensures uniform { start_text (shares (1 ∷ 1 ∷ []) 2) ≡ codes "start: uniform\n" }
     ensures include { start_text (shares (0 ∷ 1 ∷ []) 1) ≡ codes "start include: 1\n" }
     ensures millionths { start_text (shares (250_000 ∷ 750_000 ∷ []) 1_000_000) ≡ codes "start: 0.25 0.75\n" }
-    ensures costs { rewards_row true (reward_words 0 0 0) 1 (λ z. pos 1_500_000) ≡ codes "R: 0 : 0 : 0\n-1.5\n" }
+    ensures costs { rewards_row true (reward_words 0 0 0) 1 (λ z. pos 1_500_000) ≡ codes
+        "R: 0 : 0 : 0\n-1.5\n" }
     ensures nothing { rewards_row true (reward_words 0 0 0) 1 (λ z. pos 0) ≡ [] }
 {}

@@ -41,7 +41,8 @@ pub fn one_division()
 
 /// A lexeme stands for at most one element.
 pub fn one_element()
-    ensures { (elements : Elements) (l : Lexeme) (i j : ℕ) → StandsFor elements l i → StandsFor elements l j → i ≡ j }
+    ensures { (elements : Elements) (l : Lexeme) (i j : ℕ) → StandsFor elements l i → StandsFor elements l j
+        → i ≡ j }
 {}
 
 /// Lexemes are at most one list of numbers.
@@ -63,7 +64,8 @@ pub fn one_start()
 
 /// A cell has one value: that of the last entry that covers it.
 pub fn one_value()
-    ensures { (entries : List Entry) (table : Table) (indices : List ℕ) → GivesLastCovering entries table indices }
+    ensures { (entries : List Entry) (table : Table) (indices : List ℕ)
+        → GivesLastCovering entries table indices }
 {}
 
 /// A cell that no entry covers is 0.
@@ -76,7 +78,8 @@ pub fn uncovered_is_zero()
 
 /// A further entry gives its value to the cells that it covers, and the others keep theirs.
 pub fn one_more_entry()
-    ensures weight { (p : Preamble) (entries : List Entry) (entry : Entry) (table : Table) (indices : List ℕ) →
+    ensures weight { (p : Preamble) (entries : List Entry) (entry : Entry) (table : Table)
+        (indices : List ℕ) →
         OneMoreWeight p entries entry table indices }
     ensures reward { (p : Preamble) (entries : List Entry) (entry : Entry) (indices : List ℕ) →
         OneMoreReward p entries entry indices }
@@ -84,12 +87,14 @@ pub fn one_more_entry()
 
 /// A row that one `uniform` covers sums to its scale.
 pub fn uniform_sums_to_scale()
-    ensures { (p : Preamble) (entries : List Entry) (entry : Entry) (table : Table) (row : List ℕ) → UniformRowSums p entries entry table row }
+    ensures { (p : Preamble) (entries : List Entry) (entry : Entry) (table : Table) (row : List ℕ)
+        → UniformRowSums p entries entry table row }
 {}
 
 /// Lexemes denote at most one model, and so does a text.
 pub fn one_model()
-    ensures lexemes { (lexemes : List Lexeme) (m n : Meaning) → Denotes lexemes m → Denotes lexemes n → IsSame m n }
+    ensures lexemes { (lexemes : List Lexeme) (m n : Meaning) → Denotes lexemes m → Denotes lexemes n
+        → IsSame m n }
     ensures text { (text : List ℕ) (m n : Meaning) → IsModelText text m → IsModelText text n → IsSame m n }
 {}
 
@@ -123,8 +128,10 @@ pub fn first_wrong_stays()
     ensures within { (seen body : List Lexeme) (k : Known) (t : Topic) (w : IsWithinItem seen k t body) →
         CannotGoOn k t body → (more : List Lexeme) (ending : Option TokenFault) (stop : ℕ) →
         IsFirstWrong (tokens_of (seen ++ more) ending stop) (length w.items.items + 1) }
-    ensures at_word { (seen body : List Lexeme) (k : Known) (t : Topic) (next : Lexeme) (w : IsWithinItem seen k t body) →
-        IsWrong k t body → begins_item next ≡ true → (more : List Lexeme) (ending : Option TokenFault) (stop : ℕ) →
+    ensures at_word { (seen body : List Lexeme) (k : Known) (t : Topic) (next : Lexeme)
+        (w : IsWithinItem seen k t body) →
+        IsWrong k t body → begins_item next ≡ true →
+        (more : List Lexeme) (ending : Option TokenFault) (stop : ℕ) →
         IsFirstWrong (tokens_of (seen ++ next ∷ more) ending stop) (length w.items.items + 1) }
     ensures at_end { (seen body : List Lexeme) (k : Known) (t : Topic) (w : IsWithinItem seen k t body) →
         IsWrong k t body → (ending : Option TokenFault) (stop : ℕ) →
@@ -137,7 +144,8 @@ pub fn first_wrong_stays()
 /// What stands before the first item word is item 0, and the end is one more than the last item.
 pub fn first_wrong_outside_items()
     ensures before { (l : Lexeme) → begins_item l ≡ false →
-        (more : List Lexeme) (ending : Option TokenFault) (stop : ℕ) → IsFirstWrong (tokens_of (l ∷ more) ending stop) 0 }
+        (more : List Lexeme) (ending : Option TokenFault) (stop : ℕ)
+        → IsFirstWrong (tokens_of (l ∷ more) ending stop) 0 }
     ensures at_once { (fault : TokenFault) (stop : ℕ) → IsFirstWrong (tokens_of [] (Some fault) stop) 0 }
     ensures behind { (seen : List Lexeme) (k : Known) (r : AreRightItems seen k) →
         ((p : Preamble) → IsComplete k p → ⊥) → (stop : ℕ) →
@@ -160,7 +168,8 @@ pub fn one_first_wrong()
 pub fn order_is_decided()
     ensures at_word { (k : Known) (t : Topic) (fault : ItemFault) (body : List Lexeme) →
         word_fault k t ≡ Some fault → IsWrong k t body }
-    ensures incomplete { (k : Known) (p : Preamble) (fault : ItemFault) → preamble_fault k ≡ Some fault → IsComplete k p → ⊥ }
+    ensures incomplete { (k : Known) (p : Preamble) (fault : ItemFault) → preamble_fault k ≡ Some fault
+        → IsComplete k p → ⊥ }
     ensures complete { (k : Known) → preamble_fault k ≡ None → ((p : Preamble) × IsComplete k p) }
 {}
 
@@ -169,8 +178,10 @@ pub fn order_is_decided()
 pub fn one_decision()
     ensures one { (ts : TextTokens) (n : ℕ) (f g : ItemFault) (p q : ℕ) →
         IsDecided ts n f p → IsDecided ts n g q → (f ≡ g) × (p ≡ q) }
-    ensures nothing { (ts : TextTokens) (before : List Item) (item : Item) (after : List Item) (k : Known) (t : Topic)
-        (f : ItemFault) (p : ℕ) → IsDivided ts.lexemes [] (before ++ item ∷ after) → AreRight nothing_known before k →
+    ensures nothing { (ts : TextTokens) (before : List Item) (item : Item) (after : List Item) (k : Known)
+        (t : Topic)
+        (f : ItemFault) (p : ℕ) → IsDivided ts.lexemes [] (before ++ item ∷ after) →
+        AreRight nothing_known before k →
         topic item.word ≡ Some t → word_fault k t ≡ None → IsDecided ts (length before + 1) f p → ⊥ }
 {}
 
@@ -179,17 +190,21 @@ pub fn one_decision()
 pub fn one_late_refusal()
     ensures one { (ts : TextTokens) (n : ℕ) (f g : ItemFault) (p q : ℕ) →
         IsLateIn ts n f p → IsLateIn ts n g q → (f ≡ g) × (p ≡ q) }
-    ensures undecided { (ts : TextTokens) (n : ℕ) (f g : ItemFault) (p q : ℕ) → IsLateIn ts n f p → IsDecided ts n g q → ⊥ }
+    ensures undecided { (ts : TextTokens) (n : ℕ) (f g : ItemFault) (p q : ℕ) → IsLateIn ts n f p
+        → IsDecided ts n g q → ⊥ }
 {}
 
 /// An entry that gives too many cells isn't right, though all of its body is possible; nothing is decided before its body, and no
 /// refusal of it has another kind or place.
 pub fn one_refusal_of_cells()
     ensures wrong { (k : Known) (t : Topic) (body : List Lexeme) → IsTooMuch k t body → IsWrong k t body }
-    ensures possible { (k : Known) (t : Topic) (body : List Lexeme) → IsTooMuch k t body → IsPossible k t body }
+    ensures possible { (k : Known) (t : Topic) (body : List Lexeme) → IsTooMuch k t body
+        → IsPossible k t body }
     ensures one { (ts : TextTokens) (n p q : ℕ) → PassesLimit ts n p → PassesLimit ts n q → p ≡ q }
-    ensures undecided { (ts : TextTokens) (n p q : ℕ) (g : ItemFault) → PassesLimit ts n p → IsDecided ts n g q → ⊥ }
-    ensures only { (ts : TextTokens) (kind : ItemFault) (n p q : ℕ) → PassesLimit ts n p → IsReason ts n q kind → StandsRight ts kind n q →
+    ensures undecided { (ts : TextTokens) (n p q : ℕ) (g : ItemFault) → PassesLimit ts n p
+        → IsDecided ts n g q → ⊥ }
+    ensures only { (ts : TextTokens) (kind : ItemFault) (n p q : ℕ) → PassesLimit ts n p →
+        IsReason ts n q kind → StandsRight ts kind n q →
         (kind ≡ ItemFault.TooManyCells) × (q ≡ p) }
 {}
 
@@ -211,11 +226,14 @@ pub fn refused_is_not_accepted()
 pub fn places_lie_in_items()
     ensures in_body { (text : List ℕ) (ts : TextTokens) (before : List Item) (item : Item) (after : List Item)
         (taken rest : List Lexeme) → AreTokensOf text ts → IsDivided ts.lexemes [] (before ++ item ∷ after) →
-        item.body ≡ taken ++ rest → LiesIn ts (length before + 1) (place_or rest (word_place after ts.end 0)) }
-    ensures at_word { (text : List ℕ) (ts : TextTokens) (before : List Item) (item : Item) (after : List Item) →
+        item.body ≡ taken ++ rest → LiesIn ts (length before + 1)
+        (place_or rest (word_place after ts.end 0)) }
+    ensures at_word { (text : List ℕ) (ts : TextTokens) (before : List Item) (item : Item)
+        (after : List Item) →
         AreTokensOf text ts → IsDivided ts.lexemes [] (before ++ item ∷ after) →
         LiesIn ts (length before + 1) item.word.place }
-    ensures before_items { (text : List ℕ) (ts : TextTokens) (l : Lexeme) (ls : List Lexeme) (items : List Item) →
+    ensures before_items { (text : List ℕ) (ts : TextTokens) (l : Lexeme) (ls : List Lexeme)
+        (items : List Item) →
         AreTokensOf text ts → IsDivided ts.lexemes (l ∷ ls) items → LiesIn ts 0 l.place }
     ensures at_end { (ts : TextTokens) (items : List Item) →
         IsDivided ts.lexemes [] items → LiesIn ts (length items + 1) ts.end }

@@ -27,7 +27,8 @@ const MOST_NODES: usize = 10_000;
 impl MinusSign {
     /// Whether a numeral follows directly.
     fn is_joined(self, token: Token<'_>) -> bool
-        ensures { (s : Lexeme) → minus_kind s.kind ≡ true → self.stop ≡ s.place + length s.bytes → result ≡ is_joined s (lexeme_of token.entry) }
+        ensures { (s : Lexeme) → minus_kind s.kind ≡ true → self.stop ≡ s.place + length s.bytes
+            → result ≡ is_joined s (lexeme_of token.entry) }
     {
         match token.kind {
             TokenKind::Numeral => token.place == self.stop,
@@ -163,7 +164,8 @@ impl GraphReading {
 
     /// Refuses a numeral directly behind a `-`.
     fn check_apart(&self, token: Token<'_>) -> Result<(), GraphFault>
-        ensures { let t = lexeme_of token.entry in (seen : List Lexeme) → IsRead seen self.now → MatchResult result
+        ensures { let t = lexeme_of token.entry in (seen : List Lexeme) → IsRead seen self.now
+            → MatchResult result
             (λ _. IsApartFrom seen t)
             (IsTokenRefusal self.now.actions self.now.observations (seen ++ t ∷ [])) }
     {
@@ -182,7 +184,8 @@ impl GraphReading {
     /// Reads one more token.
     fn take(&mut self, token: Token<'_>) -> Result<(), GraphFault>
         requires { token.stop ≡ token.place + length token.bytes.now }
-        ensures read { let t = lexeme_of token.entry in (seen : List Lexeme) → IsRead seen self.old → MatchResult result
+        ensures read { let t = lexeme_of token.entry in (seen : List Lexeme) → IsRead seen self.old
+            → MatchResult result
             (λ _. IsRead (seen ++ t ∷ []) self.new)
             (IsTokenRefusal self.old.actions self.old.observations (seen ++ t ∷ [])) }
         ensures counts { HasCounts self.old.actions self.old.observations self.new }
@@ -253,7 +256,8 @@ pub fn read_graph(
     requires few_actions { actions ≤ most_actions }
     requires some_observations { 1 ≤ observations }
     requires few_observations { observations ≤ most_observations }
-    ensures accepted { MatchResult result (IsGraphText actions observations text.now) (IsNoGraphText actions observations text.now) }
+    ensures accepted { MatchResult result (IsGraphText actions observations text.now)
+        (IsNoGraphText actions observations text.now) }
     ensures refused { IfErr result (IsGraphRefusal actions observations text.now) }
 
     // Where only the bound on successors fails, the first that breaks it by node and observation is named.
@@ -292,7 +296,8 @@ pub fn read_graph_from<S: Source>(
         × IsGraphText actions observations text g) }
     ensures refused { (fault : GraphFault) → IsErrOf result (SourceFault.Refused fault)
         → EachTextThatFits S.reads source.old source.new (IsRefusedGraphText actions observations fault) }
-    ensures device { IsErrOf result SourceFault.Device → HasFailed (S.failures source.old) (S.failures source.new) }
+    ensures device { IsErrOf result SourceFault.Device
+        → HasFailed (S.failures source.old) (S.failures source.new) }
 
     // The source isn't read again behind the read that failed.
     ensures device_last { IsErrOf result SourceFault.Device → EndsInFailure S.reads source.old source.new }

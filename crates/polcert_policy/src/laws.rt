@@ -45,8 +45,10 @@ pub fn graph_within_limits()
 pub fn one_vectors()
     ensures down { (graph : PolicyGraph) (states : ℕ) (text : List ℕ) (v w : PolicyVectors) →
         IsVectorsText graph states text v → IsVectorsText graph states text w → v ≡ w }
-    ensures either_way { (rounding : Rounding) (graph : PolicyGraph) (states : ℕ) (text : List ℕ) (v w : PolicyVectors) →
-        IsRoundedVectorsText rounding graph states text v → IsRoundedVectorsText rounding graph states text w → v ≡ w }
+    ensures either_way { (rounding : Rounding) (graph : PolicyGraph) (states : ℕ) (text : List ℕ)
+        (v w : PolicyVectors) →
+        IsRoundedVectorsText rounding graph states text v → IsRoundedVectorsText rounding graph states text w
+        → v ≡ w }
 {}
 
 /// A text is refused as vectors of a graph for at most one reason, and at one place, want of memory aside.
@@ -54,9 +56,11 @@ pub fn one_vectors_refusal()
     ensures down { (graph : PolicyGraph) (states : ℕ) (text : List ℕ) (f g : VectorFault) →
         f ≢ VectorFault.Memory → g ≢ VectorFault.Memory →
         IsVectorsRefusal graph states text f → IsVectorsRefusal graph states text g → f ≡ g }
-    ensures either_way { (rounding : Rounding) (graph : PolicyGraph) (states : ℕ) (text : List ℕ) (f g : VectorFault) →
+    ensures either_way { (rounding : Rounding) (graph : PolicyGraph) (states : ℕ) (text : List ℕ)
+        (f g : VectorFault) →
         f ≢ VectorFault.Memory → g ≢ VectorFault.Memory →
-        IsRoundedVectorsRefusal rounding graph states text f → IsRoundedVectorsRefusal rounding graph states text g → f ≡ g }
+        IsRoundedVectorsRefusal rounding graph states text f
+        → IsRoundedVectorsRefusal rounding graph states text g → f ≡ g }
 {}
 
 /// The vectors that a text denotes are within their limits: there is one for each node of the graph, each has a value for
@@ -65,7 +69,8 @@ pub fn vectors_within_limits()
     ensures counts { (graph : PolicyGraph) (states : ℕ) (text : List ℕ) (v : PolicyVectors) →
         IsVectorsText graph states text v → (v.nodes ≡ nodes graph) × (v.states ≡ states) }
     ensures values { (graph : PolicyGraph) (states : ℕ) (text : List ℕ) (v : PolicyVectors) →
-        IsVectorsText graph states text v → (n s : ℕ) → n < nodes graph → s < states → IsInRange (value_of v n s) }
+        IsVectorsText graph states text v → (n s : ℕ) → n < nodes graph → s < states
+        → IsInRange (value_of v n s) }
 
     // So, where the counts are within theirs, they are what is true of all vectors.
     ensures proper { (graph : PolicyGraph) (states : ℕ) (text : List ℕ) (v : PolicyVectors) →
@@ -73,7 +78,8 @@ pub fn vectors_within_limits()
         IsVectorsText graph states text v → AreProperVectors v }
 
     // The same where each value is rounded up.
-    ensures either_way { (rounding : Rounding) (graph : PolicyGraph) (states : ℕ) (text : List ℕ) (v : PolicyVectors) →
+    ensures either_way { (rounding : Rounding) (graph : PolicyGraph) (states : ℕ) (text : List ℕ)
+        (v : PolicyVectors) →
         1 ≤ nodes graph → nodes graph ≤ most_nodes → 1 ≤ states → states ≤ most_states →
         IsRoundedVectorsText rounding graph states text v →
         (v.nodes ≡ nodes graph) × (v.states ≡ states) × AreProperVectors v }
@@ -83,6 +89,7 @@ pub fn vectors_within_limits()
 pub fn full_form_reads_back()
     ensures down { (graph : PolicyGraph) (v : PolicyVectors) → IsProperGraph graph → AreProperVectors v →
         v.nodes ≡ nodes graph → IsVectorsText graph v.states (vectors_text graph v) v }
-    ensures either_way { (rounding : Rounding) (graph : PolicyGraph) (v : PolicyVectors) → IsProperGraph graph → AreProperVectors v →
+    ensures either_way { (rounding : Rounding) (graph : PolicyGraph) (v : PolicyVectors) →
+        IsProperGraph graph → AreProperVectors v →
         v.nodes ≡ nodes graph → IsRoundedVectorsText rounding graph v.states (vectors_text graph v) v }
 {}

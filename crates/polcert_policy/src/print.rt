@@ -22,14 +22,17 @@ pub fn write_vectors<W: Sink>(
     out: &mut W,
 ) -> Result<(), SinkFailed>
     requires { nodes graph.now ≡ vectors.now.nodes }
-    ensures written { WritesText W.writes W.failures out.old (vectors_text graph.now vectors.now) result out.new }
+    ensures written { WritesText W.writes W.failures out.old (vectors_text graph.now vectors.now) result
+        out.new }
 
     // Read with the same graph and number of states, the text is accepted and gives the same vectors.
-    ensures reads_back { IsVectorsText graph.now vectors.now.states (vectors_text graph.now vectors.now) vectors.now }
+    ensures reads_back { IsVectorsText graph.now vectors.now.states (vectors_text graph.now vectors.now)
+        vectors.now }
 
     // So it is whichever way values are rounded.
     ensures either_way { (rounding : Rounding) →
-        IsRoundedVectorsText rounding graph.now vectors.now.states (vectors_text graph.now vectors.now) vectors.now }
+        IsRoundedVectorsText rounding graph.now vectors.now.states (vectors_text graph.now vectors.now)
+        vectors.now }
 {
     let nodes = graph.nodes();
     let vector_count = vectors.nodes();
@@ -65,7 +68,8 @@ fn write_action<W: Sink>(graph: &Graph, node: usize, out: &mut W) -> Result<(), 
 
 fn write_values<W: Sink>(vectors: &Vectors, node: usize, out: &mut W) -> Result<(), SinkFailed>
     requires { node < vectors.now.nodes }
-    ensures { WritesText W.writes W.failures out.old (values_text vectors.now node vectors.now.states) result out.new }
+    ensures { WritesText W.writes W.failures out.old (values_text vectors.now node vectors.now.states) result
+        out.new }
 {
     for state in 0..vectors.states() {
         write_value(vectors, node, state, out)?;

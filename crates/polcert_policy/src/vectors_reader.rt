@@ -28,7 +28,8 @@ impl VectorsReading {
     fn new(alloc: Global, states: usize) -> Self
         requires some_states { 1 ≤ states }
         requires few_states { states ≤ most_states }
-        ensures read { (rounding : Rounding) (graph : PolicyGraph) → IsProperGraph graph → HasVectors rounding graph [] result }
+        ensures read { (rounding : Rounding) (graph : PolicyGraph) → IsProperGraph graph
+            → HasVectors rounding graph [] result }
         ensures states { result.states ≡ states }
     {
         VectorsReading {
@@ -61,7 +62,8 @@ impl VectorsReading {
 
     fn take_action(&mut self, graph: &Graph, token: Token<'_>) -> Result<(), VectorFault>
         requires { self.old.column ≡ 0 }
-        ensures takes { (rounding : Rounding) → TakesPart rounding graph.now (lexeme_of token.entry) self.old result self.new }
+        ensures takes { (rounding : Rounding)
+            → TakesPart rounding graph.now (lexeme_of token.entry) self.old result self.new }
         ensures states { self.new.states ≡ self.old.states }
     {
         self.check_action(graph, token)?;
@@ -103,7 +105,8 @@ impl VectorsReading {
 
     fn take_sign(&mut self, sign: OpenSign) -> Result<(), VectorFault>
         requires { 0 < self.old.column }
-        ensures takes { (rounding : Rounding) (graph : PolicyGraph) (t : Lexeme) → sign_kind t.kind ≡ true → sign.place ≡ t.place →
+        ensures takes { (rounding : Rounding) (graph : PolicyGraph) (t : Lexeme) → sign_kind t.kind ≡ true →
+            sign.place ≡ t.place →
             sign.is_negative ≡ minus_kind t.kind → TakesPart rounding graph t self.old result self.new }
         ensures states { self.new.states ≡ self.old.states }
     {
@@ -119,7 +122,8 @@ impl VectorsReading {
     fn take_numeral(&mut self, rounding: Rounding, token: Token<'_>) -> Result<(), VectorFault>
         requires column { 0 < self.old.column }
         requires numeral { numeral_kind token.kind ≡ true }
-        ensures takes { (graph : PolicyGraph) → TakesPart rounding graph (lexeme_of token.entry) self.old result self.new }
+        ensures takes { (graph : PolicyGraph)
+            → TakesPart rounding graph (lexeme_of token.entry) self.old result self.new }
         ensures states { self.new.states ≡ self.old.states }
     {
         match rounded_of(rounding, self.is_negative(), token.bytes) {
@@ -138,7 +142,8 @@ impl VectorsReading {
 
     fn take_value(&mut self, rounding: Rounding, token: Token<'_>) -> Result<(), VectorFault>
         requires { 0 < self.old.column }
-        ensures takes { (graph : PolicyGraph) → TakesPart rounding graph (lexeme_of token.entry) self.old result self.new }
+        ensures takes { (graph : PolicyGraph)
+            → TakesPart rounding graph (lexeme_of token.entry) self.old result self.new }
         ensures states { self.new.states ≡ self.old.states }
     {
         match token.kind {
@@ -175,7 +180,8 @@ impl VectorsReading {
     /// The vectors, where the text ends here.
     fn finish(self, graph: &Graph, end: u64) -> Result<Vectors, VectorFault>
         requires { (rounding : Rounding) × ((seen : List Lexeme) × HasVectors rounding graph.now seen self) }
-        ensures { (rounding : Rounding) (seen : List Lexeme) → HasVectors rounding graph.now seen self → MatchResult result
+        ensures { (rounding : Rounding) (seen : List Lexeme) → HasVectors rounding graph.now seen self
+            → MatchResult result
             (IsRoundedVectors rounding graph.now self.states seen)
             (AreEndRefusal rounding graph.now self.states seen end) }
     {
@@ -284,7 +290,8 @@ pub fn read_vectors_from<S: Source>(
         × IsVectorsText graph.now states text v) }
     ensures refused { (fault : VectorFault) → IsErrOf result (SourceFault.Refused fault)
         → EachTextThatFits S.reads source.old source.new (IsRefusedVectorsText graph.now states fault) }
-    ensures device { IsErrOf result SourceFault.Device → HasFailed (S.failures source.old) (S.failures source.new) }
+    ensures device { IsErrOf result SourceFault.Device
+        → HasFailed (S.failures source.old) (S.failures source.new) }
 
     // The source isn't read again behind the read that failed.
     ensures device_last { IsErrOf result SourceFault.Device → EndsInFailure S.reads source.old source.new }
@@ -310,8 +317,10 @@ pub fn read_vectors_up_from<S: Source>(
     ensures accepted { IfOk result (λ v. (text : List ℕ) × IsText S.reads source.old text source.new
         × IsRoundedVectorsText Rounding.Up graph.now states text v) }
     ensures refused { (fault : VectorFault) → IsErrOf result (SourceFault.Refused fault)
-        → EachTextThatFits S.reads source.old source.new (IsRefusedRoundedVectorsText Rounding.Up graph.now states fault) }
-    ensures device { IsErrOf result SourceFault.Device → HasFailed (S.failures source.old) (S.failures source.new) }
+        → EachTextThatFits S.reads source.old source.new
+        (IsRefusedRoundedVectorsText Rounding.Up graph.now states fault) }
+    ensures device { IsErrOf result SourceFault.Device
+        → HasFailed (S.failures source.old) (S.failures source.new) }
 
     // The source isn't read again behind the read that failed.
     ensures device_last { IsErrOf result SourceFault.Device → EndsInFailure S.reads source.old source.new }
@@ -338,8 +347,10 @@ pub fn read_rounded_vectors_from<S: Source>(
     ensures accepted { IfOk result (λ v. (text : List ℕ) × IsText S.reads source.old text source.new
         × IsRoundedVectorsText rounding graph.now states text v) }
     ensures refused { (fault : VectorFault) → IsErrOf result (SourceFault.Refused fault)
-        → EachTextThatFits S.reads source.old source.new (IsRefusedRoundedVectorsText rounding graph.now states fault) }
-    ensures device { IsErrOf result SourceFault.Device → HasFailed (S.failures source.old) (S.failures source.new) }
+        → EachTextThatFits S.reads source.old source.new
+        (IsRefusedRoundedVectorsText rounding graph.now states fault) }
+    ensures device { IsErrOf result SourceFault.Device
+        → HasFailed (S.failures source.old) (S.failures source.new) }
 
     // The source isn't read again behind the read that failed.
     ensures device_last { IsErrOf result SourceFault.Device → EndsInFailure S.reads source.old source.new }

@@ -37,7 +37,8 @@ impl<'a, W> BufferedSink<'a, W> {
 impl<W: Sink> BufferedSink<'_, W> {
     /// Writes what is held to the sink below. Nothing is held then, also where that failed.
     pub fn flush(&mut self) -> Result<(), SinkFailed>
-        ensures written { WritesText W.writes W.failures self.old.sink.now self.old.held result self.new.sink.now }
+        ensures written { WritesText W.writes W.failures self.old.sink.now self.old.held result
+            self.new.sink.now }
         ensures held { self.new.held ≡ [] }
         ensures count { CountsFailures self.old.failures self.new.failures result }
         ensures same_reference { self.new.sink.ghost_name ≡ self.old.sink.ghost_name }

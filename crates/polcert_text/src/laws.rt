@@ -37,7 +37,8 @@ pub fn one_end()
 
 /// After a refusal or the clean end every further call of `Tokens::next_token` answers the same.
 pub fn same_answer_again()
-    ensures refusal { (old new later : Rest) (fault : TokenFault) (answer : Option (Result Token TokenFault)) →
+    ensures refusal { (old new later : Rest) (fault : TokenFault)
+        (answer : Option (Result Token TokenFault)) →
         GivesNext old (Some (Err fault)) new → GivesNext new answer later →
         (answer ≡ Some (Err fault)) × (later ≡ new) }
     ensures clean_end { (old new later : Rest) (answer : Option (Result Token TokenFault)) →

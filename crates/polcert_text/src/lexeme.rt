@@ -402,7 +402,8 @@ fn class_goes_on_name(byte: u8) -> bool
 fn digits_end(bytes: &[u8], from: usize) -> usize
     requires { from ≤ length bytes.now }
     ensures within { (from ≤ result) × (result ≤ length bytes.now) }
-    ensures same { (state : State) → GoesOnWithDigits state → state_through State.Start (take from bytes.now) ≡ state
+    ensures same { (state : State) → GoesOnWithDigits state
+        → state_through State.Start (take from bytes.now) ≡ state
         → state_through State.Start (take result bytes.now) ≡ state }
 {
     let mut at = from;

@@ -227,7 +227,8 @@ impl Scaling {
     fn after(self, digit: u8) -> Scaling
         requires digit { is_digit digit ≡ true }
         requires small { self.floor ≤ cap }
-        ensures scaled { (kept : ℕ) (front : List ℕ) → IsScaled kept front self → IsScaled kept (front ++ digit ∷ []) result }
+        ensures scaled { (kept : ℕ) (front : List ℕ) → IsScaled kept front self
+            → IsScaled kept (front ++ digit ∷ []) result }
         ensures small { result.floor ≤ cap }
     {
         if self.left == 0 {
@@ -248,7 +249,8 @@ impl Scaling {
     fn through(self, digits: &[u8]) -> Scaling
         requires digits { list_all is_digit digits.now ≡ true }
         requires small { self.floor ≤ cap }
-        ensures scaled { (kept : ℕ) (front : List ℕ) → IsScaled kept front self → IsScaled kept (front ++ digits.now) result }
+        ensures scaled { (kept : ℕ) (front : List ℕ) → IsScaled kept front self
+            → IsScaled kept (front ++ digits.now) result }
         ensures small { result.floor ≤ cap }
     {
         let mut scaling = self;

@@ -37,7 +37,8 @@ impl StreamBytes {
 
     /// No bytes, at the start of a text.
     pub fn new(limit: u64) -> StreamBytes
-        ensures { result ≡ (let a : Ahead = record { place = 0; kept = []; limit = limit; is_whole = false } in a) }
+        ensures { result ≡ (let a : Ahead = record { place = 0; kept = []; limit = limit; is_whole = false }
+            in a) }
     {
         StreamBytes {
             window: Window::new(),
@@ -95,7 +96,8 @@ impl StreamBytes {
     /// Reads once. False at the true end.
     fn fill<S: Source>(&mut self, source: &mut S) -> Result<bool, SourceFailed>
         requires { length self.old.kept < 4096 }
-        ensures ok { IfOk result (λ is_more. Fills S.reads S.failures self.old source.old is_more self.new source.new) }
+        ensures ok { IfOk result
+            (λ is_more. Fills S.reads S.failures self.old source.old is_more self.new source.new) }
         ensures err { OnErr result (FailsAt S.reads S.failures source.old source.new) }
     {
         match self.window.fill(source) {
@@ -126,7 +128,8 @@ impl StreamBytes {
         ensures below { self.old.place ≤ self.old.limit }
         ensures skipped { (n : ℕ) × (n ≤ length (visible self.old)) × (self.new ≡ skip n self.old)
             × (gap_through gap (take n self.old.kept) ≡ result) × (result ≡ Gap.Ended → ⊥)
-            × (n < length (visible self.old) → gap_after result (class_of (slice_index self.old.kept n)) ≡ Gap.Ended) }
+            × (n < length (visible self.old)
+            → gap_after result (class_of (slice_index self.old.kept n)) ≡ Gap.Ended) }
     {
         let (count, next) = seen_gap(gap, self.visible());
         self.consume(count);

@@ -93,7 +93,8 @@ impl StreamTokens {
     ) -> Result<Option<Token<'t>>, StreamFault>
         ensures* next { sem 𝓛 (follows_so the_row the_row self.entry.ghost_name none (λ _ _. ⊤)
             (λ new. AnswersNext S.reads S.failures lexeme_of self.old source.old result new source.new)) }
-        ensures stop { IfOk result (λ next. IfSome next (λ token. token.stop ≡ token.place + length token.bytes.now)) }
+        ensures stop { IfOk result
+            (λ next. IfSome next (λ token. token.stop ≡ token.place + length token.bytes.now)) }
     {
         match self.advance(source) {
             Ok(Some(kind)) => Ok(Some(self.current(kind))),
@@ -149,7 +150,8 @@ impl StreamTokens {
     /// Takes the next token, and answers its kind.
     #[inline(always)]
     fn advance<S: Source>(&mut self, source: &mut S) -> Result<Option<TokenKind>, StreamFault>
-        ensures { AnswersNext S.reads S.failures (lent_lexeme self.new) self.old source.old result self.new source.new }
+        ensures { AnswersNext S.reads S.failures (lent_lexeme self.new) self.old source.old result self.new
+            source.new }
     {
         if let Some(stop) = self.stop {
             return stop.answer();

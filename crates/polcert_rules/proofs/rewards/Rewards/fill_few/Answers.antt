@@ -1,6 +1,0 @@
-use Rattle.std.proofs.Common.{None}
-use Rattle.std.proofs.lemmas.List.{get_or-replicate}
-use Rattle.polcert_rules.proofs.rewards.Rewards.fill_few.Goals as goal
-
-pub fill_noted-requires-clause-nothing : goal.fill_noted-requires-clause-nothing
-fill_noted-requires-clause-nothing c = λ i l. get_or-replicate 64 i None None l
