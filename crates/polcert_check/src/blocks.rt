@@ -4,12 +4,11 @@ ghost use Rattle.std.specs.Prelude.{◌≡◌, ◌+◌, ◌<◌, ◌≤◌};
 // How many are gone through at once has nothing to do with how many a model may have: nothing that is proved rests on how large
 // these numbers are.
 
-/// No more start states than this are gone through at once. They are more than the end states: what is behind an end state is found
-/// once for each block of start states.
+/// No more start states than this are gone through at once. What is behind an end state is found once for each block of them.
 pub(crate) const STARTS_AT_ONCE: usize = 4_096;
 
 /// No more end states than this are gone through at once.
-pub(crate) const ENDS_AT_ONCE: usize = 1_024;
+pub(crate) const ENDS_AT_ONCE: usize = 4_096;
 
 /// It is noted of so many end states whether they were asked for. Those behind them are as if they never were.
 pub(crate) const ENDS_NOTED: usize = 16_384;

@@ -462,12 +462,12 @@ fn then_zeros(alloc: Global, values: &[u8], zeros: usize) -> Result<Vec<u8>, All
 #[test]
 fn behind_the_first_thousands(rt: HostRuntime) -> Result<(), Fail> {
     let alloc = rt.alloc();
-    let mut last_low = then_zeros(alloc, b"0", 2499)?;
+    let mut last_low = then_zeros(alloc, b"0", 4999)?;
     last_low.extend_from_slice(b" -2500")?;
-    let answer = short_at_once(2_500_000_000_000_000_000_000_000_000);
-    let uniform =
-        b"discount: 1 values: reward states: 2500 actions: 1 observations: 1 T: 0 uniform O: 0 uniform";
-    assert_eq!(rt; verdict(alloc, uniform, b"0 0 0", &last_low), answer);
+    let answer = short_at_once(12_500_000_000_000_000_000_000_000_000_000);
+    let to_the_last =
+        b"discount: 1 values: reward states: 5000 actions: 1 observations: 1 T: 0 identity T: 0 : 0 : 0 0 T: 0 : 0 : 4999 1 O: 0 uniform";
+    assert_eq!(rt; verdict(alloc, to_the_last, b"0 0 0", &last_low), answer);
     Ok(())
 }
 
