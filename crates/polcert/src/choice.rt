@@ -2,7 +2,7 @@
 ghost use Rattle.std.specs.Prelude.{◌≡◌, ℕ, List, false, IfOk, map, option_map};
 ghost use Rattle.clap.specs.Words.{FailsBy, app_of, fault_of, found_of, first_of, rows_of, rule_of, subcommand_of, subcommand_rows_of};
 ghost use Rattle.clap.specs.declared.builder.Command.TheViews.{out-Command};
-ghost use Rattle.polcert.specs.Words.{the_app, at_most_rule, check_app, file_rule, one_file, three_files, bounds_above, chosen, chosen_of, names_in, names_view, view_of};
+ghost use Rattle.polcert.specs.CommandLine.{the_app, at_most_rule, check_app, file_rule, one_file, three_files, bounds_above, chosen, chosen_of, names_in, names_view, view_of};
 
 use clap::{Arg, ArgAction, ArgMatches, Command, Error};
 use std::alloc::{AllocError, Global};

@@ -17,10 +17,10 @@ use Rattle.polcert_check.specs.Lower.{HasLeastConstant, IsLeastConstant, IsNotLo
 use Rattle.polcert_check.specs.Shortfall.{Passes}
 use Rattle.polcert_check.specs.StartWorth.{IsBestStart}
 use Rattle.polcert_check.specs.Verdict.{IsVerdict}
-use Rattle.polcert_check.proofs.OneAnswer as checks
+use Rattle.polcert_check.proofs.Agreements.OneAnswer as checks
 use Rattle.polcert_answer.specs.Headline.{Certificate, controller}
 use Rattle.polcert_answer.specs.Lines.{IsVerdictLine}
-use Rattle.polcert_answer.specs.Reading.{AreDenoted, IsAnswerLine, AreLowered}
+use Rattle.polcert_answer.specs.Steps.Reading.{AreDenoted, IsAnswerLine, AreLowered}
 use Rattle.polcert_answer.specs.Answer.{IsAnswer}
 use Rattle.polcert_answer.specs.Run.{HasVerdict, HavePromise, HasStartPromise, HasLowered, IsNotLowerable, IsWhy}
 use Rattle.polcert_answer.proofs.Denoted.{of_parts, certificate_of, verdict_of_each, line_of_each, best_of_each, worth_of_each, constant_of_each, reason_of_each, text_of_each, yes_certified, yes_rewarded, yes_started}

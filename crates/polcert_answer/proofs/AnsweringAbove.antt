@@ -15,11 +15,11 @@ use Rattle.polcert_check.specs.declared.above.AboveVerdict.TheVariants.{Yes}
 use Rattle.polcert_check.specs.Horizon.{Controller}
 use Rattle.polcert_check.specs.Raise.{HasLeastRaise, IsLeastRaise, IsNotRaised}
 use Rattle.polcert_check.specs.Above.{PassesAbove, IsAboveVerdict}
-use Rattle.polcert_check.proofs.OneAbove.{one_above_verdict}
+use Rattle.polcert_check.proofs.Mirrors.OneAbove.{one_above_verdict}
 use Rattle.polcert_answer.specs.Headline.{controller}
 use Rattle.polcert_answer.specs.HeadlineAbove.{CertificateAbove}
 use Rattle.polcert_answer.specs.Lines.{IsAboveVerdictLine}
-use Rattle.polcert_answer.specs.Reading.{AreDenoted, IsAnswerLine, AreRaised}
+use Rattle.polcert_answer.specs.Steps.Reading.{AreDenoted, IsAnswerLine, AreRaised}
 use Rattle.polcert_answer.specs.Answer.{IsAnswerAbove}
 use Rattle.polcert_answer.specs.RunAbove.{HasVerdictAbove, HavePromiseAbove, HasStartPromiseAbove, HasRaised, IsNotRaisable, IsWhyNotRaised}
 use Rattle.polcert_answer.proofs.Denoted.{of_parts, certificate_of, text_of_each}

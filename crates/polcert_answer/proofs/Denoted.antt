@@ -24,13 +24,13 @@ use Rattle.polcert_check.specs.Horizon.{Controller, controller_of, Fits, MeetsHo
 use Rattle.polcert_check.specs.Lower.{IsLeastConstant, IsNotLowered}
 use Rattle.polcert_check.specs.declared.fault.LowerFault.{LowerFault}
 use Rattle.polcert_check.specs.StartWorth.{IsCeilQuotient, IsBestStart, IsStartWorth, StartPromise}
-use Rattle.polcert_check.specs.Ranges.{IsController}
+use Rattle.polcert_check.specs.Steps.Ranges.{IsController}
 use Rattle.polcert_check.specs.Verdict.{IsVerdict}
 use Rattle.polcert_check.proofs.Certificates.{controller_is}
-use Rattle.polcert_check.proofs.EveryHorizon.{promised}
-use Rattle.polcert_check.proofs.SameAnswers as answers
-use Rattle.polcert_check.proofs.SameModels as models_same
-use Rattle.polcert_check.proofs.StartSums.{start_promise}
+use Rattle.polcert_check.proofs.Horizons.EveryHorizon.{promised}
+use Rattle.polcert_check.proofs.Agreements.SameAnswers as answers
+use Rattle.polcert_check.proofs.Agreements.SameModels as models_same
+use Rattle.polcert_check.proofs.Horizons.StartSums.{start_promise}
 use Rattle.polcert_answer.specs.Headline.{RoundedCertificate, Certificate, controller, IsCertified, AreRewardsCertified}
 use Rattle.polcert_answer.specs.Lines.{IsVerdictLine}
 use Rattle.polcert_answer.specs.Answer.{HasGraph, IsGraphRefused, AreRoundedVectorsRefused, IsAnswer}

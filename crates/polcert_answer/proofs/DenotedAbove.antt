@@ -17,13 +17,13 @@ use Rattle.polcert_check.specs.Above.{IsAboveVerdict, MeetsHorizonAbove}
 use Rattle.polcert_check.specs.Raise.{IsLeastRaise, IsNotRaised}
 use Rattle.polcert_check.specs.StartMost.{IsStartMost, StartPromiseAbove}
 use Rattle.polcert_check.specs.StartWorth.{IsCeilQuotient}
-use Rattle.polcert_check.proofs.FromAbove.{horizons_above}
-use Rattle.polcert_check.proofs.Interval.{never_above}
-use Rattle.polcert_check.proofs.SameAbove as answers
-use Rattle.polcert_check.proofs.SameModels as models_same
-use Rattle.polcert_check.proofs.Scales.{scales}
-use Rattle.polcert_check.proofs.StartMosts.{start_above}
-use Rattle.polcert_check.proofs.Verdicts.{positive_product}
+use Rattle.polcert_check.proofs.Mirrors.FromAbove.{horizons_above}
+use Rattle.polcert_check.proofs.Mirrors.Interval.{never_above}
+use Rattle.polcert_check.proofs.Mirrors.SameAbove as answers
+use Rattle.polcert_check.proofs.Agreements.SameModels as models_same
+use Rattle.polcert_check.proofs.Sums.Scales.{scales}
+use Rattle.polcert_check.proofs.Mirrors.StartMosts.{start_above}
+use Rattle.polcert_check.proofs.Walking.Verdicts.{positive_product}
 use Rattle.polcert_answer.specs.Headline.{Certificate, controller}
 use Rattle.polcert_answer.specs.HeadlineAbove.{CertificateAbove, IsCertifiedAbove, AreRewardsCertifiedAbove}
 use Rattle.polcert_answer.specs.Lines.{IsAboveVerdictLine}

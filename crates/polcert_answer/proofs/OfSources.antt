@@ -7,7 +7,7 @@ use Rattle.polcert_policy.specs.Vectors.{PolicyVectors}
 use Rattle.polcert_check.specs.Horizon.{Controller}
 use Rattle.polcert_answer.specs.declared.fault.RunFault.{RunFault}
 use Rattle.polcert_answer.specs.Headline.{RoundedCertificate, controller}
-use Rattle.polcert_answer.specs.Reading.{AreDenoted}
+use Rattle.polcert_answer.specs.Steps.Reading.{AreDenoted}
 use Rattle.polcert_answer.specs.Run.{AreRoundedCertified, HasRoundedVerdict}
 use Rattle.polcert_answer.proofs.Denoted.{certificate_of}
 

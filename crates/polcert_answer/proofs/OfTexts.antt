@@ -15,7 +15,7 @@ use Rattle.polcert_answer.specs.declared.fault.RunFault.{RunFault}
 use Rattle.polcert_answer.specs.declared.fault.RunFault.TheVariants.{Text}
 use Rattle.polcert_answer.specs.Answer.{HasGraph, IsModelFault, IsGraphRefused, AreRoundedVectorsRefused, IsFault, IsRoundedAnswer}
 use Rattle.polcert_answer.specs.Run.{text_of, RefusesRightly}
-use Rattle.polcert_answer.specs.Reading.{AreDenoted}
+use Rattle.polcert_answer.specs.Steps.Reading.{AreDenoted}
 
 -- ---- a slice as a source
 module _ {S : Type 0} (rest : S → List ℕ) (old new : S) where

@@ -8,7 +8,7 @@ use Rattle.polcert_answer.specs.declared.fault.Fault.TheVariants.{Model, Graph, 
 use Rattle.polcert_answer.specs.declared.fault.RunFault.{RunFault}
 use Rattle.polcert_answer.specs.declared.fault.RunFault.TheVariants.{Text, ReadModel, ReadGraph, ReadVectors, Write, Lower, Raise, TooLargeToPrint}
 use Rattle.polcert_answer.specs.Run.{IsNamedRightly, RefusesRightly, NamesSourcesRightly, StopsRightly, ReadsInOrder, IsCheckRunFault, IsLowerRunFault, IsRaiseRunFault}
-use Rattle.polcert_answer.specs.Reading.{IsReadFault, IsNoReadFault}
+use Rattle.polcert_answer.specs.Steps.Reading.{IsReadFault, IsNoReadFault}
 
 pub is_err : {T : Type 0} (r : Result T RunFault) (given : RunFault) → IsErrAnd r (λ f. f ≡ given) → r ≡ Err given
 is_err (Ok v) given is = absurd is

@@ -11,7 +11,7 @@ use Rattle.polcert_answer.specs.declared.fault.RunFault.{RunFault}
 use Rattle.polcert_answer.specs.declared.fault.RunFault.TheVariants.{Text, ReadModel, ReadGraph, ReadVectors}
 use Rattle.polcert_answer.specs.Answer.{IsModelFault, IsGraphRefused, AreRoundedVectorsRefused}
 use Rattle.polcert_answer.specs.Run.{IsNamedRightly, RefusesRightly, NamesSourcesRightly}
-use Rattle.polcert_answer.specs.Reading.{IsModelReadFault, IsGraphReadFault, IsVectorsReadFault}
+use Rattle.polcert_answer.specs.Steps.Reading.{IsModelReadFault, IsGraphReadFault, IsVectorsReadFault}
 use Rattle.polcert_answer.proofs.Passing.{of_read, named_again, none_else}
 
 -- the call answered, and named no source

@@ -11,7 +11,7 @@ use Rattle.polcert_answer.specs.declared.fault.RunFault.{RunFault}
 use Rattle.polcert_answer.specs.declared.fault.RunFault.TheVariants as runs
 use Rattle.polcert_answer.specs.Answer.{IsRefused, IsModelFault}
 use Rattle.polcert_answer.specs.Run.{ReadsInOrder}
-use Rattle.polcert_answer.specs.Reading.{IsGraphReadFault}
+use Rattle.polcert_answer.specs.Steps.Reading.{IsGraphReadFault}
 
 -- what is promised of a refused text of a model
 pub model_refused : (fault : ModelFault) (text : List ℕ) → IsRefusedModelText fault text → IsModelFault text fault

@@ -6,4 +6,4 @@ pub mod Lines
 pub mod Status
 pub mod Run
 pub mod RunAbove
-pub mod Reading
+pub mod Steps

@@ -12,7 +12,7 @@ ghost use Rattle.polcert_check.specs.Horizon.{Fits, controller_of};
 ghost use Rattle.polcert_check.specs.Verdict.{IsVerdict};
 ghost use Rattle.polcert_answer.specs.Lines.{IsVerdictLine};
 ghost use Rattle.polcert_answer.specs.Answer.{IsRefused, IsModelFault};
-ghost use Rattle.polcert_answer.specs.Reading.{IsAnswerLine, AreLowered, IsNoReadFault};
+ghost use Rattle.polcert_answer.specs.Steps.Reading.{IsAnswerLine, AreLowered, IsNoReadFault};
 ghost use Rattle.polcert_answer.specs.Run.{SumsUp, BeginsToSumUp, Prints, BeginsToPrint, IsTooLargeToPrint, IsModelRunFault, IsPrintRunFault, IsNamedRightly, StopsRightly, IsCheckRunFault, IsLowerRunFault, text_of, HasVerdict, HavePromise, HasStartPromise, HasLowered, IsWhy, IsNotLowerable};
 
 use crate::controller::{Controller, model_of_run, read_controller};

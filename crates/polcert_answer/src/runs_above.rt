@@ -6,7 +6,7 @@ ghost use Rattle.polcert_model.specs.Contents.{meaning};
 ghost use Rattle.polcert_check.specs.Horizon.{Fits, controller_of};
 ghost use Rattle.polcert_check.specs.Above.{IsAboveVerdict};
 ghost use Rattle.polcert_answer.specs.Lines.{IsAboveVerdictLine};
-ghost use Rattle.polcert_answer.specs.Reading.{IsAnswerLine, AreRaised, IsNoReadFault};
+ghost use Rattle.polcert_answer.specs.Steps.Reading.{IsAnswerLine, AreRaised, IsNoReadFault};
 ghost use Rattle.polcert_answer.specs.Run.{IsNamedRightly, StopsRightly, IsCheckRunFault, IsRaiseRunFault, text_of};
 ghost use Rattle.polcert_answer.specs.RunAbove.{HasVerdictAbove, HavePromiseAbove, HasStartPromiseAbove, HasRaised, IsWhyNotRaised, IsNotRaisable};
 

@@ -10,7 +10,7 @@ use Rattle.polcert_cells.specs.declared.entries.Pools.{Pools}
 use Rattle.polcert_cells.specs.declared.entries.Span.{Span}
 use Rattle.polcert_cells.specs.declared.entry.Body.TheVariants as bodies
 use Rattle.polcert_cells.specs.declared.entry.Entry.{Entry}
-use Rattle.polcert_cells.specs.EntryLists.{part, places_of, body_in, entry_in, LiesIn, HasNumbers, IsWithin, GoesOn, GoOn}
+use Rattle.polcert_cells.specs.Steps.EntryLists.{part, places_of, body_in, entry_in, LiesIn, HasNumbers, IsWithin, GoesOn, GoOn}
 
 -- ---- a part of a list
 pub goes_nowhere : {X : Type 0} (xs : List X) → GoesOn xs xs

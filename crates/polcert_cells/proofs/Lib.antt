@@ -8,4 +8,4 @@ pub mod NameLaws
 pub mod SoundLaws
 pub mod EntryListLaws
 pub mod SparseLaws
-pub mod StepLaws
+pub mod RowSteps

@@ -10,7 +10,7 @@ use Rattle.std.proofs.lemmas.List.{map-append, length-map}
 use Rattle.std.proofs.lemmas.Map.Text.{btree_map_updates_text}
 use Rattle.std.proofs.lemmas.Option.{slice_get-map}
 use Rattle.std.proofs.lemmas.Slice.Eq.{bytes_eq-Decides}
-use Rattle.polcert_cells.specs.NameNumbers.{AreNumbered}
+use Rattle.polcert_cells.specs.Steps.NameNumbers.{AreNumbered}
 
 -- ---- the first place where a test passes
 

@@ -2,8 +2,8 @@ pub mod Words
 pub mod Numbers
 pub mod Elements
 pub mod Preamble
-pub mod Sequences
 pub mod Entry
+pub mod EntryRefs
 pub mod Cells
 pub mod Start
 pub mod Meaning
@@ -11,10 +11,7 @@ pub mod Rows
 pub mod Cursors
 pub mod Sparse
 pub mod LentRows
-pub mod Sound
 pub mod Tables
-pub mod Drafts
 pub mod Laws
 pub mod SameCells
-pub mod EntryLists
-pub mod NameNumbers
+pub mod Steps

@@ -93,7 +93,7 @@ abbrev pub IsCount : ℕ → ℕ → Type 0
 IsCount most n = (1 ≤ n) × (n ≤ most)
 
 -- what callers may rely on: counts, and how large numbers are
-pub record IsWithinLimits (m : Meaning) : Type 0 where
+pub record HasLimitedNumbers (m : Meaning) : Type 0 where
   pub states : IsCount most_states (states_of m)
   pub actions : IsCount most_actions (actions_of m)
   pub observations : IsCount most_observations (observations_of m)

@@ -1,9 +1,9 @@
 -- Two tables that say the same as far as indices are in range. Our own: the file format speaks of one model at a time.
 use Rattle.std.specs.Prelude.{◌≡◌, ℕ, ◌<◌}
-use Rattle.polcert_cells.specs.Tables.{Table}
+use Rattle.polcert_cells.specs.Tables.{CellTable}
 
 -- the same counts, discount and scales, and the same cells
-pub record HasSameCells (x y : Table) : Type 0 where
+pub record HasSameCells (x y : CellTable) : Type 0 where
   pub states : x.states ≡ y.states
   pub actions : x.actions ≡ y.actions
   pub observations : x.observations ≡ y.observations

@@ -7,7 +7,7 @@ use Rattle.polcert_cells.specs.Elements.{most_states, most_actions, most_observa
 use Rattle.polcert_cells.specs.Numbers.{one}
 use Rattle.polcert_cells.specs.Meaning.{Meaning, states_of, actions_of, observations_of, t_scale, o_scale, sum_below, IsCount}
 
-pub record Table : Type 0 where
+pub record CellTable : Type 0 where
   pub states : ℕ
   pub actions : ℕ
   pub observations : ℕ
@@ -24,7 +24,7 @@ pub record Table : Type 0 where
   pub r : ℕ → ℕ → ℕ → ℕ → ℤ
 
 -- the table of what a model means
-abbrev pub table_of : Meaning → Table
+abbrev pub table_of : Meaning → CellTable
 table_of m = record {
   states = states_of m;
   actions = actions_of m;
@@ -38,12 +38,12 @@ table_of m = record {
 }
 
 -- each row sums to its scale, exactly
-pub record IsProper (m : Table) : Type 0 where
+pub record IsProper (m : CellTable) : Type 0 where
   pub t_rows : (a s : ℕ) → a < m.actions → s < m.states → sum_below (m.t a s) m.states ≡ m.t_scale
   pub o_rows : (a e : ℕ) → a < m.actions → e < m.states → sum_below (m.o a e) m.observations ≡ m.o_scale
 
 -- counts, scales, discount and rewards lie within their limits
-pub record IsWithinLimits (m : Table) : Type 0 where
+pub record IsWithinLimits (m : CellTable) : Type 0 where
   pub states : IsCount most_states m.states
   pub actions : IsCount most_actions m.actions
   pub observations : IsCount most_observations m.observations

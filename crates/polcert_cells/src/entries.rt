@@ -1,6 +1,7 @@
 //! The entries of a model, kept close: the places of all in one list, and their numbers in two.
 ghost use Rattle.std.specs.Prelude.{◌≡◌, ◌<◌, ◌≤◌, ◌+◌, ◌++◌, ◌∷◌, [], length, slice_get, Some, List, IfOk, OnOk, OnErr};
-ghost use Rattle.polcert_cells.specs.EntryLists.{part, entry_of, entry_in, places_in, body_in, HasNumbers, IsWithin, GoesOn, GoOn};
+ghost use Rattle.polcert_cells.specs.Steps.EntryLists.{part, entry_in, places_in, body_in, HasNumbers, IsWithin, GoesOn, GoOn};
+ghost use Rattle.polcert_cells.specs.EntryRefs.{entry_of};
 
 use crate::entry::{Body, Entry, Place, Table};
 use std::alloc::{AllocError, Global};
@@ -148,7 +149,7 @@ pub struct Entries {
 impl Model for Entries {
     ghost use Rattle.std.specs.Prelude.{List, All, map};
     ghost use Rattle.polcert_cells.specs.declared.entry.Entry.{Entry as E};
-    ghost use Rattle.polcert_cells.specs.EntryLists.{entry_in, IsWithin};
+    ghost use Rattle.polcert_cells.specs.Steps.EntryLists.{entry_in, IsWithin};
 
     ghost Value = { List E };
 

@@ -42,7 +42,7 @@ pub struct Sequence<T: Drop> {
 
 impl<T: Drop> Model for Sequence<T> {
     ghost use Rattle.std.specs.Prelude.{List, IfSome, ◌≡◌, []};
-    ghost use Rattle.polcert_cells.specs.Sequences.{items_of};
+    ghost use Rattle.polcert_cells.specs.Steps.Sequences.{items_of};
 
     ghost Value = { List T };
 

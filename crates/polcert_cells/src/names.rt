@@ -23,7 +23,7 @@ pub struct Names {
 
 impl Model for Names {
     ghost use Rattle.std.specs.Prelude.{List, ℕ, map, string_bytes};
-    ghost use Rattle.polcert_cells.specs.NameNumbers.{AreNumbered};
+    ghost use Rattle.polcert_cells.specs.Steps.NameNumbers.{AreNumbered};
 
     ghost Value = { List (List ℕ) };
 

@@ -1,7 +1,7 @@
 //! What a check asks of a model.
 ghost use Rattle.std.specs.Prelude.{◌≡◌, ℕ, ◌<◌, ◌+◌, length, pos, slice_index_or};
 ghost use Rattle.std.specs.Option.{ForSome};
-ghost use Rattle.polcert_cells.specs.Tables.{Table, IsProper, IsWithinLimits};
+ghost use Rattle.polcert_cells.specs.Tables.{CellTable, IsProper, IsWithinLimits};
 ghost use Rattle.polcert_cells.specs.LentRows.{IsRowOf};
 
 use crate::Row;
@@ -12,7 +12,7 @@ use crate::Row;
 /// rewards are in millionths.
 pub trait Cells {
     // What the readers answer.
-    ghost table: { Self → Table };
+    ghost table: { Self → CellTable };
 
     /// How many states there are: 1 to 10,000.
     fn states(&self) -> usize

@@ -5,7 +5,7 @@ ghost use Rattle.polcert_policy.specs.Vectors.{PolicyVectors, value_of};
 ghost use Rattle.polcert_check.specs.Horizon.{Fits, controller_of, one};
 ghost use Rattle.polcert_check.specs.Shortfall.{Passes};
 ghost use Rattle.polcert_check.specs.Above.{MeetsHorizonAbove, IsAboveVerdict, NamesSmallAmountAbove};
-ghost use Rattle.polcert_check.specs.Mirrored.{above_of};
+ghost use Rattle.polcert_check.specs.Steps.Mirrored.{above_of};
 
 use crate::certificate::Certificate;
 use crate::findings::Aim;

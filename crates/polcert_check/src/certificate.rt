@@ -2,7 +2,7 @@
 ghost use Rattle.std.specs.Prelude.{◌≡◌};
 ghost use Rattle.polcert_policy.specs.Vectors.{AreProperVectors};
 ghost use Rattle.polcert_check.specs.Horizon.{Fits, controller_of};
-ghost use Rattle.polcert_check.specs.Ranges.{IsController, ValuesAreWithin};
+ghost use Rattle.polcert_check.specs.Steps.Ranges.{IsController, ValuesAreWithin};
 
 use crate::side::Side;
 use polcert_model::Cells;
@@ -22,8 +22,8 @@ pub(crate) struct Certificate<'a, C: Cells> {
 }
 
 impl<'a, C: Cells> Certificate<'a, C> {
-    ghost use Rattle.polcert_check.specs.Certificate.{controller, judged};
-    ghost use Rattle.polcert_check.specs.Mirrored.{sided};
+    ghost use Rattle.polcert_check.specs.Steps.Certificate.{controller, judged};
+    ghost use Rattle.polcert_check.specs.Steps.Mirrored.{sided};
 
     /// Of parts that fit, whose values are bounds from this side.
     pub(crate) fn new(side: Side, cells: &'a C, graph: &'a Graph, vectors: &'a Vectors) -> Self

@@ -1,7 +1,7 @@
 //! What an action earns at a state, added up once for all nodes that take it.
 ghost use Rattle.std.specs.Prelude.{◌≡◌, ◌*◌, ◌<◌, ◌≤◌, pos, ◌*ℤ◌, unsigned_abs};
-ghost use Rattle.polcert_check.specs.Ranges.{most_sum};
-ghost use Rattle.polcert_check.specs.Factored.{reward_behind, reward_ahead, AreFilled};
+ghost use Rattle.polcert_check.specs.Steps.Ranges.{most_sum};
+ghost use Rattle.polcert_check.specs.Steps.Factored.{reward_behind, reward_ahead, AreFilled};
 
 use crate::blocks::OBSERVATIONS_AT_ONCE;
 use crate::ends::Sight;

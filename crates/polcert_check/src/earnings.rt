@@ -1,6 +1,6 @@
 //! What an action earns at the states of a block, kept for all nodes that take it.
 ghost use Rattle.std.specs.Prelude.{◌≡◌, ◌+◌, ◌<◌, ◌≤◌, length};
-ghost use Rattle.polcert_check.specs.Factored.{reward_ahead, AreKept};
+ghost use Rattle.polcert_check.specs.Steps.Factored.{reward_ahead, AreKept};
 ghost use Rattle.polcert_check.specs.declared.blocks.TheConstants.{STARTS_AT_ONCE};
 
 use crate::blocks::STARTS_AT_ONCE;

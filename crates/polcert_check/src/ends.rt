@@ -1,7 +1,7 @@
 //! What a node expects behind an end state.
 ghost use Rattle.std.specs.Prelude.{◌≡◌, ◌<◌};
-ghost use Rattle.polcert_check.specs.Certificate.{controller};
-ghost use Rattle.polcert_check.specs.Factored.{value_term, value_behind, IsLeastOf, Misses, IsMissedAt, IsLesser};
+ghost use Rattle.polcert_check.specs.Steps.Certificate.{controller};
+ghost use Rattle.polcert_check.specs.Steps.Factored.{value_term, value_behind, IsLeastOf, Misses, IsMissedAt, IsLesser};
 
 use crate::certificate::Certificate;
 use crate::earned::weighed;

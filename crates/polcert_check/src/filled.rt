@@ -1,7 +1,7 @@
 //! The rewards of observations in a row, filled in together.
 ghost use Rattle.std.specs.Prelude.{◌≡◌, ◌<◌, ◌≤◌, ℕ, length};
-ghost use Rattle.polcert_cells.specs.Tables.{Table};
-ghost use Rattle.polcert_check.specs.Factored.{AreFilled, reward_behind};
+ghost use Rattle.polcert_cells.specs.Tables.{CellTable};
+ghost use Rattle.polcert_check.specs.Steps.Factored.{AreFilled, reward_behind};
 ghost use Rattle.polcert_check.specs.declared.blocks.TheConstants.{OBSERVATIONS_AT_ONCE};
 
 use crate::blocks::OBSERVATIONS_AT_ONCE;
@@ -37,7 +37,8 @@ impl Filled {
 
     /// Goes on to another action or state, for which nothing is filled in. How many rewards are asked for there matters to speed alone.
     pub(crate) fn clear(&mut self, crowded: bool)
-        ensures { (m : Table) (a s e : ℕ) → AreFilled m a s e self.new.first self.new.count self.new.rewards }
+        ensures { (m : CellTable) (a s e : ℕ)
+            → AreFilled m a s e self.new.first self.new.count self.new.rewards }
     {
         self.count = 0;
         self.crowded = crowded;

@@ -1,8 +1,8 @@
 //! What a walk over the pairs of a node and a state has found.
 ghost use Rattle.std.specs.Prelude.{◌≡◌, ◌≤◌, ◌+◌, ◌⊎◌, ◌↔◌, ℕ, IsTrue};
 ghost use Rattle.polcert_check.specs.Horizon.{Controller};
-ghost use Rattle.polcert_check.specs.Factored.{IsPairVerdict};
-ghost use Rattle.polcert_check.specs.Findings.{IsEarlier, IsFoundBefore, IsPair, NamesUntil};
+ghost use Rattle.polcert_check.specs.Steps.Factored.{IsPairVerdict};
+ghost use Rattle.polcert_check.specs.Steps.Findings.{IsEarlier, IsFoundBefore, IsPair, NamesUntil};
 ghost use Rattle.polcert_check.specs.declared.verdict.Verdict.TheVariants.{Yes};
 
 use crate::verdict::Verdict;

@@ -1,7 +1,7 @@
 //! The cells of a model, as far as the successors of a node reach.
 ghost use Rattle.std.specs.Prelude.{◌<◌};
-ghost use Rattle.polcert_check.specs.Certificate.{controller};
-ghost use Rattle.polcert_check.specs.Followed.{followed, followed_is_proper, followed_is_within};
+ghost use Rattle.polcert_check.specs.Steps.Certificate.{controller};
+ghost use Rattle.polcert_check.specs.Steps.Followed.{followed, followed_is_proper, followed_is_within};
 
 use crate::certificate::Certificate;
 use polcert_model::Cells;

@@ -1,9 +1,9 @@
 //! What a node expects behind the end states of a block: of each it is found where it is first asked for.
 ghost use Rattle.std.specs.Prelude.{◌≡◌, ◌<◌, ◌≤◌, ℕ, IsTrue, length};
-ghost use Rattle.polcert_check.specs.Certificate.{controller};
+ghost use Rattle.polcert_check.specs.Steps.Certificate.{controller};
 ghost use Rattle.polcert_check.specs.Horizon.{Controller};
-ghost use Rattle.polcert_check.specs.Factored.{value_behind, IsLeastOf, Misses};
-ghost use Rattle.polcert_check.specs.Walks.{AreFollowed, AreKnown, IsKnownAs};
+ghost use Rattle.polcert_check.specs.Steps.Factored.{value_behind, IsLeastOf, Misses};
+ghost use Rattle.polcert_check.specs.Steps.Walks.{AreFollowed, AreKnown, IsKnownAs};
 ghost use Rattle.polcert_check.specs.declared.blocks.TheConstants.{ENDS_AT_ONCE};
 
 use crate::asked::Asked;

@@ -2,7 +2,7 @@
 ghost use Rattle.std.specs.Prelude.{◌≡◌, ◌<◌, ◌≤ℤ◌, ℕ, ℤ};
 ghost use Rattle.polcert_cells.specs.Meaning.{Meaning, IsSame};
 ghost use Rattle.polcert_cells.specs.SameCells.{HasSameCells};
-ghost use Rattle.polcert_cells.specs.Tables.{Table, IsProper, IsWithinLimits, table_of};
+ghost use Rattle.polcert_cells.specs.Tables.{CellTable, IsProper, IsWithinLimits, table_of};
 ghost use Rattle.polcert_policy.specs.Graphs.{PolicyGraph, IsProperGraph, nodes};
 ghost use Rattle.polcert_policy.specs.Vectors.{PolicyVectors, value_of};
 ghost use Rattle.polcert_check.specs.declared.above.AboveVerdict.{AboveVerdict};
@@ -16,7 +16,7 @@ ghost use Rattle.polcert_check.specs.StartMost.{IsStartMost, StartPromiseAbove};
 /// Where every pair passes from above, the promise from above holds for every number of steps, with the vectors at the end and
 /// without; and where that of one step holds at a pair, the pair passes.
 pub fn promise_above_for_every_horizon()
-    ensures promised { (x : Table) (graph : PolicyGraph) (vectors : PolicyVectors) → IsProper x →
+    ensures promised { (x : CellTable) (graph : PolicyGraph) (vectors : PolicyVectors) → IsProper x →
         IsProperGraph graph →
         Fits x graph vectors → PassesAbove (controller_of x graph vectors)
         → MeetsEveryHorizonAbove (controller_of x graph vectors) }
@@ -26,8 +26,8 @@ pub fn promise_above_for_every_horizon()
 /// Where the discount is below 1, vectors that pass from below are nowhere above vectors that pass from above: the two bound what
 /// the graph earns from both sides.
 pub fn bounds_are_an_interval()
-    ensures { (x : Table) (graph : PolicyGraph) (low high : PolicyVectors) → IsProper x → IsWithinLimits x →
-        IsProperGraph graph →
+    ensures { (x : CellTable) (graph : PolicyGraph) (low high : PolicyVectors) → IsProper x →
+        IsWithinLimits x → IsProperGraph graph →
         Fits x graph low → Fits x graph high → x.discount < one →
         Passes (controller_of x graph low) → PassesAbove (controller_of x graph high) →
         (n s : ℕ) → n < nodes graph → s < x.states → value_of low n s ≤ℤ value_of high n s }
@@ -35,31 +35,31 @@ pub fn bounds_are_an_interval()
 
 /// What a check from above says over one table it says over every table with the same counts and the same cells in range.
 pub fn same_cells_same_answers_above()
-    ensures verdict { (x y : Table) (graph : PolicyGraph) (vectors : PolicyVectors) → HasSameCells x y →
+    ensures verdict { (x y : CellTable) (graph : PolicyGraph) (vectors : PolicyVectors) → HasSameCells x y →
         IsProperGraph graph → Fits x graph vectors → (answer : AboveVerdict) →
         IsAboveVerdict (controller_of x graph vectors) answer
         → IsAboveVerdict (controller_of y graph vectors) answer }
-    ensures promise { (x y : Table) (graph : PolicyGraph) (vectors : PolicyVectors) → HasSameCells x y →
+    ensures promise { (x y : CellTable) (graph : PolicyGraph) (vectors : PolicyVectors) → HasSameCells x y →
         IsProperGraph graph → Fits x graph vectors → (k n s : ℕ) → n < nodes graph → s < x.states →
         PromiseAbove (controller_of x graph vectors) k n s
         → PromiseAbove (controller_of y graph vectors) k n s }
-    ensures rewards { (x y : Table) (graph : PolicyGraph) (vectors : PolicyVectors) → HasSameCells x y →
+    ensures rewards { (x y : CellTable) (graph : PolicyGraph) (vectors : PolicyVectors) → HasSameCells x y →
         IsProperGraph graph → Fits x graph vectors → (k n s : ℕ) → n < nodes graph → s < x.states →
         RewardPromiseAbove (controller_of x graph vectors) k n s
         → RewardPromiseAbove (controller_of y graph vectors) k n s }
-    ensures horizon { (x y : Table) (graph : PolicyGraph) (vectors : PolicyVectors) → HasSameCells x y →
+    ensures horizon { (x y : CellTable) (graph : PolicyGraph) (vectors : PolicyVectors) → HasSameCells x y →
         IsProperGraph graph → Fits x graph vectors → (answer : AboveVerdict) →
         IsAboveVerdict (controller_of x graph vectors) answer →
         MeetsHorizonAbove (controller_of x graph vectors) answer
         → MeetsHorizonAbove (controller_of y graph vectors) answer }
-    ensures passes { (x y : Table) (graph : PolicyGraph) (vectors : PolicyVectors) → HasSameCells x y →
+    ensures passes { (x y : CellTable) (graph : PolicyGraph) (vectors : PolicyVectors) → HasSameCells x y →
         IsProperGraph graph → Fits x graph vectors →
         PassesAbove (controller_of x graph vectors) → PassesAbove (controller_of y graph vectors) }
-    ensures least_raise { (x y : Table) (graph : PolicyGraph) (vectors : PolicyVectors) → HasSameCells x y →
-        IsProperGraph graph → Fits x graph vectors → (constant : ℤ) →
+    ensures least_raise { (x y : CellTable) (graph : PolicyGraph) (vectors : PolicyVectors) →
+        HasSameCells x y → IsProperGraph graph → Fits x graph vectors → (constant : ℤ) →
         IsLeastRaise (controller_of x graph vectors) vectors constant →
         IsLeastRaise (controller_of y graph vectors) vectors constant }
-    ensures refused { (x y : Table) (graph : PolicyGraph) (vectors : PolicyVectors) → HasSameCells x y →
+    ensures refused { (x y : CellTable) (graph : PolicyGraph) (vectors : PolicyVectors) → HasSameCells x y →
         IsProperGraph graph → Fits x graph vectors → (fault : RaiseFault) →
         IsNotRaised (controller_of x graph vectors) vectors fault →
         IsNotRaised (controller_of y graph vectors) vectors fault }

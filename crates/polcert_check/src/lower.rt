@@ -1,12 +1,12 @@
 //! The least constant by which all vectors can be lowered to pass.
 ghost use Rattle.std.specs.Prelude.{◌≡◌, ℕ, ◌+◌, ◌*◌, ◌^◌, ◌<◌, ◌≤◌, pos, neg_ℤ, ◌+ℤ◌, ◌⊎◌, ◌↔◌, IsTrue, IfOk, IfErr};
 ghost use Rattle.polcert_policy.specs.Vectors.{IsInRange, shifted_by};
-ghost use Rattle.polcert_check.specs.Certificate.{judged};
+ghost use Rattle.polcert_check.specs.Steps.Certificate.{judged};
 ghost use Rattle.polcert_check.specs.Horizon.{Fits, controller_of, one};
 ghost use Rattle.polcert_check.specs.Shortfall.{Passes};
 ghost use Rattle.polcert_check.specs.Lower.{NoneLacks, IsLeast, IsLeastConstant, HasLeastConstant, IsNotMended, IsNotLowered, RefusesSmallAmount};
-ghost use Rattle.polcert_check.specs.Mirrored.{CanMove, IsLeastMove};
-ghost use Rattle.polcert_check.specs.Findings.{IsFound, IsPair, IsRefused, IsWorstOf};
+ghost use Rattle.polcert_check.specs.Steps.Mirrored.{CanMove, IsLeastMove};
+ghost use Rattle.polcert_check.specs.Steps.Findings.{IsFound, IsPair, IsRefused, IsWorstOf};
 ghost use Rattle.polcert_check.specs.declared.fault.LowerFault.TheVariants.{Memory};
 ghost use Rattle.polcert_check.specs.declared.findings.Aim.TheVariants.{Lowering};
 ghost use Rattle.polcert_check.specs.declared.verdict.Verdict.TheVariants.{Yes};

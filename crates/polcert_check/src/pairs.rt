@@ -1,11 +1,11 @@
 //! Whether a pair of a node and a state passes, from what was added up for its action and its node.
 ghost use Rattle.std.specs.Prelude.{◌≡◌, ◌*◌, ◌<◌, ◌≤◌, pos, ◌+ℤ◌, ◌-ℤ◌, ◌*ℤ◌, unsigned_abs};
 ghost use Rattle.polcert_text.specs.Numbers.{largest};
-ghost use Rattle.polcert_check.specs.Certificate.{controller, judged};
+ghost use Rattle.polcert_check.specs.Steps.Certificate.{controller, judged};
 ghost use Rattle.polcert_check.specs.Horizon.{one};
-ghost use Rattle.polcert_check.specs.Ranges.{most_scales};
-ghost use Rattle.polcert_check.specs.Factored.{reward_ahead, IsPairVerdict};
-ghost use Rattle.polcert_check.specs.Walks.{AreSteps};
+ghost use Rattle.polcert_check.specs.Steps.Ranges.{most_scales};
+ghost use Rattle.polcert_check.specs.Steps.Factored.{reward_ahead, IsPairVerdict};
+ghost use Rattle.polcert_check.specs.Steps.Walks.{AreSteps};
 
 use crate::certificate::Certificate;
 use crate::earned::weighed;

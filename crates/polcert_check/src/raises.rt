@@ -4,7 +4,7 @@ ghost use Rattle.polcert_policy.specs.Vectors.{shifted_by};
 ghost use Rattle.polcert_check.specs.Horizon.{Fits, controller_of};
 ghost use Rattle.polcert_check.specs.Above.{PassesAbove};
 ghost use Rattle.polcert_check.specs.Raise.{IsLeastRaise, HasLeastRaise, IsNotRaised, RefusesSmallRaise};
-ghost use Rattle.polcert_check.specs.Mirrored.{raise_of};
+ghost use Rattle.polcert_check.specs.Steps.Mirrored.{raise_of};
 ghost use Rattle.polcert_check.specs.declared.fault.RaiseFault.TheVariants.{Memory};
 
 use crate::certificate::Certificate;

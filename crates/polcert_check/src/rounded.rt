@@ -2,7 +2,7 @@
 ghost use Rattle.std.specs.Prelude.{◌*◌, ◌<◌, ◌≤◌, pos, ◌<ℤ◌, unsigned_abs};
 ghost use Rattle.polcert_text.specs.Numbers.{largest};
 ghost use Rattle.polcert_check.specs.Horizon.{one};
-ghost use Rattle.polcert_check.specs.Ranges.{most_scales};
+ghost use Rattle.polcert_check.specs.Steps.Ranges.{most_scales};
 ghost use Rattle.polcert_check.specs.StartWorth.{IsCeilQuotient};
 
 use crate::lower::ceil_quotient;

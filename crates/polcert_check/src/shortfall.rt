@@ -1,11 +1,11 @@
 //! How far a value is above what the next step backs.
 ghost use Rattle.std.specs.Prelude.{◌≡◌, ◌<◌, ◌≤◌, unsigned_abs};
 ghost use Rattle.polcert_policy.specs.Graphs.{nodes};
-ghost use Rattle.polcert_check.specs.Certificate.{controller};
+ghost use Rattle.polcert_check.specs.Steps.Certificate.{controller};
 ghost use Rattle.polcert_check.specs.Horizon.{Fits, controller_of};
 ghost use Rattle.polcert_check.specs.Shortfall.{most_short, short};
-ghost use Rattle.polcert_check.specs.Factored.{reward_ahead, value_ahead};
-ghost use Rattle.polcert_check.specs.Followed.{followed};
+ghost use Rattle.polcert_check.specs.Steps.Factored.{reward_ahead, value_ahead};
+ghost use Rattle.polcert_check.specs.Steps.Followed.{followed};
 
 use crate::certificate::Certificate;
 use crate::earned::{reward_ahead, weighed};

@@ -1,7 +1,7 @@
 //! From which side vectors bound what a graph earns.
 ghost use Rattle.std.specs.Prelude.{◌≡◌, ◌<◌, ◌^◌, unsigned_abs};
 ghost use Rattle.polcert_policy.specs.Vectors.{IsInRange};
-ghost use Rattle.polcert_check.specs.Mirrored.{turned};
+ghost use Rattle.polcert_check.specs.Steps.Mirrored.{turned};
 
 /// From which side the values are bounds of what the graph earns.
 #[derive(Clone, Copy, Debug, PartialEq, Eq)]

@@ -1,8 +1,8 @@
 //! The walk over all pairs of a node and a state, action by action: nodes that take the same action have its rewards in common.
 ghost use Rattle.std.specs.Prelude.{◌≡◌, ◌+◌, ◌<◌, ◌≤◌};
-ghost use Rattle.polcert_check.specs.Certificate.{controller, judged};
-ghost use Rattle.polcert_check.specs.Factored.{AreKept};
-ghost use Rattle.polcert_check.specs.Findings.{IsFound, IsFoundBefore, IsFoundUpTo, IsPair};
+ghost use Rattle.polcert_check.specs.Steps.Certificate.{controller, judged};
+ghost use Rattle.polcert_check.specs.Steps.Factored.{AreKept};
+ghost use Rattle.polcert_check.specs.Steps.Findings.{IsFound, IsFoundBefore, IsFoundUpTo, IsPair};
 
 use crate::blocks::StartBlock;
 use crate::certificate::Certificate;

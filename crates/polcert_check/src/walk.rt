@@ -2,7 +2,7 @@
 ghost use Rattle.std.specs.Prelude.{◌≡◌, ℕ, ◌<◌, ◌≤◌, None};
 ghost use Rattle.std.specs.Option.{ForSome, option_copied};
 ghost use Rattle.polcert_cells.specs.LentRows.{IsRowOf, IsStep};
-ghost use Rattle.polcert_check.specs.Walks.{IsPlace};
+ghost use Rattle.polcert_check.specs.Steps.Walks.{IsPlace};
 
 use polcert_cells::{Cells, Row, Step};
 

@@ -1,7 +1,7 @@
 //! Walks over the end states that a node may reach: from all states of a block, over one block of end states after another.
 ghost use Rattle.std.specs.Prelude.{◌≡◌, ℕ, ◌+◌, ◌<◌, ◌≤◌, length};
-ghost use Rattle.polcert_check.specs.Certificate.{controller};
-ghost use Rattle.polcert_check.specs.Walks.{AreFollowed, AreKnown, AreWalks, IsWalk, begun, value_before, walk_at};
+ghost use Rattle.polcert_check.specs.Steps.Certificate.{controller};
+ghost use Rattle.polcert_check.specs.Steps.Walks.{AreFollowed, AreKnown, AreWalks, IsWalk, begun, value_before, walk_at};
 ghost use Rattle.polcert_check.specs.declared.blocks.TheConstants.{ENDS_AT_ONCE, STARTS_AT_ONCE};
 
 use crate::blocks::{ENDS_AT_ONCE, STARTS_AT_ONCE, StartBlock};

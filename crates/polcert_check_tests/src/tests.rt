@@ -1,4 +1,4 @@
-ghost use Rattle.polcert_check_tests.specs.Examples.{even_table, even_is_proper, even_is_within};
+ghost use Rattle.polcert_check_tests.specs.Worked.Examples.{even_table, even_is_proper, even_is_within};
 
 use polcert_check::{LowerFault, Verdict, amount_short, check, fits, least_constant, lowered};
 use polcert_model::Cells;

@@ -2,12 +2,12 @@
 use Rattle.std.proofs.Common.{◌≡◌, ◌∙◌, ◌++◌, [], ◌∷◌, codes, decimal, true, false, pos, refl, ap, arith}
 use Rattle.std.proofs.lemmas.Fmt.{decimal_digit, decimal_step}
 use Rattle.polcert_text.specs.Millionths.{decimals}
-use Rattle.polcert_examples.specs.Tiger.{tiger_model}
-use Rattle.polcert_examples.specs.First.{first_model}
-use Rattle.polcert_examples.specs.Examples.{sixths, thirds}
-use Rattle.polcert_examples.specs.StartExamples.{shares}
+use Rattle.polcert_examples.specs.Worked.Tiger.{tiger_model}
+use Rattle.polcert_examples.specs.Worked.FirstText.{first_model}
+use Rattle.polcert_examples.specs.Worked.Examples.{sixths, thirds}
+use Rattle.polcert_examples.specs.Worked.StartExamples.{shares}
 use Rattle.polcert_format.specs.FullForm.{full_form, start_text, reward_words, rewards_row}
-use Rattle.polcert_examples.specs.FullFormExamples.{tiger_form, first_form, sixths_form, thirds_form, two_states, two_states_form}
+use Rattle.polcert_examples.specs.Worked.FullFormExamples.{tiger_form, first_form, sixths_form, thirds_form, two_states, two_states_form}
 
 zero_is : decimal 0 ≡ 48 ∷ []
 zero_is = decimal_digit 0 (omega arith)

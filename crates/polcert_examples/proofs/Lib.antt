@@ -1,4 +1,4 @@
-pub mod First
+pub mod FirstText
 pub mod FormExamples
 pub mod RefusedExamples
 pub mod StartExamples

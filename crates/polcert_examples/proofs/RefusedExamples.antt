@@ -19,11 +19,11 @@ use Rattle.polcert_format.specs.FirstWrong.{wrong_front, wrong_item, wrong_last,
 use Rattle.polcert_format.specs.Reasons.{unsigned as unsigned_number}
 use Rattle.polcert_format.specs.Misfits.{of_value}
 use Rattle.polcert_format.specs.Refusals.{IsItemRefusal, StopsInBody, at_lexeme}
-use Rattle.polcert_examples.specs.RefusedExamples.{name_at, numeral_at, colon_at, empty_text, hello, twice, above_one, glued}
+use Rattle.polcert_examples.specs.Worked.RefusedExamples.{name_at, numeral_at, colon_at, empty_text, hello, twice, above_one, glued}
 use Rattle.polcert_cells.proofs.Basics.{one_some, same_head}
 use Rattle.polcert_cells.proofs.NumberLaws.{one_list}
-use Rattle.polcert_format.proofs.GoOnLaws.{numbers_go_on}
-use Rattle.polcert_format.proofs.Possible.{a_zero, zero_is}
+use Rattle.polcert_format.proofs.FurtherNumbers.{numbers_go_on}
+use Rattle.polcert_format.proofs.StillPossible.{a_zero, zero_is}
 use Rattle.polcert_format.proofs.Dividing.{empty_division}
 use Rattle.polcert_format.proofs.OrderLaws.{not_complete, wrong_at_word}
 use Rattle.polcert_format.proofs.PlaceLaws.{lies_before_items, lies_at_word, lies_in_item, lies_at_end, lies_at_fault}

@@ -8,9 +8,9 @@ use Rattle.polcert_cells.specs.Numbers.{IsWhole, IsMillionths, AreNumbers, none,
 use Rattle.polcert_cells.specs.Elements.{StandsFor, by_name}
 use Rattle.polcert_cells.specs.declared.shares.Shares.{Shares}
 use Rattle.polcert_cells.specs.Start.{IsStart, IsStartBody, plain, include, exclude, uniform, name, number, only_state, probabilities, alike, excluded}
-use Rattle.polcert_examples.specs.Examples as examples
-use Rattle.polcert_examples.specs.Examples.{numeral}
-use Rattle.polcert_examples.specs.StartExamples.{a_b, shares, uniform_start, halves_start, quarters_start, name_start, number_start, include_start, exclude_start, exclude_none, exclude_all, unsummed_start, third_start, pointed_start, alone, zero_start}
+use Rattle.polcert_examples.specs.Worked.Examples as examples
+use Rattle.polcert_examples.specs.Worked.Examples.{numeral}
+use Rattle.polcert_examples.specs.Worked.StartExamples.{a_b, shares, uniform_start, halves_start, quarters_start, name_start, number_start, include_start, exclude_start, exclude_none, exclude_all, unsummed_start, third_start, pointed_start, alone, zero_start}
 use Rattle.polcert_cells.proofs.Basics.{true≢false, cons≢nil, same_head, same_tail}
 use Rattle.polcert_cells.proofs.NumberLaws.{one_list, one_whole as one_whole_number}
 use Rattle.polcert_cells.proofs.EntryLaws.{pos_once}

@@ -30,8 +30,8 @@ use Rattle.polcert_format.specs.Text as texts
 use Rattle.polcert_format.specs.Limits.{IsLarge, HasFewCells}
 use Rattle.polcert_format.proofs.CellLimits.{few_cells, not_large}
 use Rattle.polcert_format.specs.Text.{Known, nothing_known, IsInPreamble, IsComplete, IsRight, AreRight, Denotes}
-use Rattle.polcert_examples.specs.Examples.{name, numeral, colon, observation, rewards, whole}
-use Rattle.polcert_examples.specs.Tiger.{star, minus, tiger, tiger_states, tiger_actions, tiger_preamble, tiger_entries, tiger_known, tiger_model, minus_whole}
+use Rattle.polcert_examples.specs.Worked.Examples.{name, numeral, colon, observation, rewards, whole}
+use Rattle.polcert_examples.specs.Worked.Tiger.{star, minus, tiger, tiger_states, tiger_actions, tiger_preamble, tiger_entries, tiger_known, tiger_model, minus_whole}
 
 -- ---- items
 

@@ -1,6 +1,1 @@
-pub mod Examples
-pub mod First
-pub mod FullFormExamples
-pub mod RefusedExamples
-pub mod StartExamples
-pub mod Tiger
+pub mod Worked

@@ -1,19 +1,19 @@
 //! Rows and tables computed from small models.
 ghost use Rattle.std.specs.Prelude.{codes, true, false, Some, None, ◌≡◌, ◌∷◌, [], sum, pos, neg_ℤ};
 ghost use Rattle.polcert_cells.specs.Meaning.{t_scale, HasProperRows, sum_below, states_of, actions_of, observations_of, start_total};
-ghost use Rattle.polcert_examples.specs.Examples.{first_row, thirds, decimal_thirds, sixths, patterns, reward_table, whole, reward_cells, general_first, general_last, name, numeral};
+ghost use Rattle.polcert_examples.specs.Worked.Examples.{first_row, thirds, decimal_thirds, sixths, patterns, reward_table, whole, reward_cells, general_first, general_last, name, numeral};
 ghost use Rattle.polcert_cells.specs.declared.shares.Shares.{Shares};
 ghost use Rattle.polcert_cells.specs.Start.{IsStart};
-ghost use Rattle.polcert_examples.specs.StartExamples.{a_b, shares, uniform_start, halves_start, quarters_start, name_start, number_start, include_start, exclude_start, exclude_none, exclude_all, unsummed_start, third_start, pointed_start, alone, zero_start};
+ghost use Rattle.polcert_examples.specs.Worked.StartExamples.{a_b, shares, uniform_start, halves_start, quarters_start, name_start, number_start, include_start, exclude_start, exclude_none, exclude_all, unsummed_start, third_start, pointed_start, alone, zero_start};
 ghost use Rattle.polcert_format.specs.Text.{Denotes, IsRightText};
-ghost use Rattle.polcert_examples.specs.Tiger.{tiger, tiger_model, star};
+ghost use Rattle.polcert_examples.specs.Worked.Tiger.{tiger, tiger_model, star};
 ghost use Rattle.polcert_text.specs.declared.tokens.TokenFault.TheVariants.{Glued};
 ghost use Rattle.polcert_format.specs.declared.fault.ItemFault.TheVariants.{Token, BadShape, WrongNumberCount, Reset, MissingLine, BeforeFirstItem, DuplicateLine, DiscountRange};
 ghost use Rattle.polcert_format.specs.Refusals.{IsItemRefusal, StopsInBody};
-ghost use Rattle.polcert_examples.specs.RefusedExamples.{empty_text, hello, twice, above_one, glued};
-ghost use Rattle.polcert_examples.specs.First.{first, first_preamble, first_entries, first_known, first_model};
+ghost use Rattle.polcert_examples.specs.Worked.RefusedExamples.{empty_text, hello, twice, above_one, glued};
+ghost use Rattle.polcert_examples.specs.Worked.FirstText.{first, first_preamble, first_entries, first_known, first_model};
 ghost use Rattle.polcert_format.specs.FullForm.{full_form, start_text, reward_words, rewards_row};
-ghost use Rattle.polcert_examples.specs.FullFormExamples.{tiger_form, first_form, sixths_form, thirds_form, two_states, two_states_form};
+ghost use Rattle.polcert_examples.specs.Worked.FullFormExamples.{tiger_form, first_form, sixths_form, thirds_form, two_states, two_states_form};
 ghost use Rattle.polcert_format.specs.Misfits.{misfit, Mark, Index, Number, Digits, EndOfNumbers};
 
 /// `uniform` over three states is exactly a third each.

@@ -6,7 +6,7 @@ use Rattle.polcert_text.specs.Lexemes.{kind_of}
 use Rattle.polcert_text.specs.declared.tokens.TokenFault.{TokenFault}
 use Rattle.polcert_text.specs.declared.tokens.TokenFault.TheVariants.{TextTooLong}
 use Rattle.polcert_text.specs.TakenTokens.{Taken, nothing, token}
-use Rattle.polcert_text.proofs.TakenTokens.{cut_taken}
+use Rattle.polcert_text.proofs.Taken.TakenTokens.{cut_taken}
 use Rattle.polcert_text.proofs.TextLaws.{one_cut}
 use Rattle.polcert_format.specs.FirstWrong.{TextTokens, AreTokensOf}
 use Rattle.polcert_format.proofs.PlaceLaws.{token_leaves}

@@ -19,7 +19,7 @@ use Rattle.polcert_cells.specs.declared.entry.Entry.{Entry}
 use Rattle.polcert_cells.specs.Entry.{IsBody, IsEntry}
 use Rattle.polcert_cells.specs.Entry as entries
 use Rattle.polcert_cells.specs.Cells.{last_covering, reward, reward_of, reward_in, value_or, row_major, IsLastCovering, last, none}
-use Rattle.polcert_cells.specs.Meaning.{Meaning, reward_index, sum_below, IsCount, IsWithinLimits, states_of, observations_of}
+use Rattle.polcert_cells.specs.Meaning.{Meaning, reward_index, sum_below, IsCount, HasLimitedNumbers, states_of, observations_of}
 use Rattle.polcert_format.specs.Text as texts
 use Rattle.polcert_format.specs.Text.{Known, nothing_known, IsInPreamble, IsComplete, IsRight, AreRight, Denotes}
 use Rattle.polcert_cells.proofs.NumberLaws.{millionth_pos}
@@ -179,7 +179,7 @@ start_within : (e : Elements) (start : Option Shares) → IsCount most_states (c
 start_within e None count w = no_start_fair (count_of e) count.0 count.1
 start_within e (Some weights) count w = w
 
-pub within_limits : (ls : List Lexeme) (m : Meaning) → Denotes ls m → IsWithinLimits m
+pub within_limits : (ls : List Lexeme) (m : Meaning) → Denotes ls m → HasLimitedNumbers m
 within_limits ls m d =
     let w = all_within nothing_known d.right.items d.known nothing_within d.right.right in
     let c = d.right.complete in

@@ -1,7 +1,7 @@
 -- A text has one list of tokens.
 use Rattle.std.proofs.Common.{◌≡◌, ◌∙◌, ℕ, List, refl, sym}
 use Rattle.polcert_text.specs.Cut.{text_rest, end_place, text_limit}
-use Rattle.polcert_text.proofs.SomeCut.{some_cut}
+use Rattle.polcert_text.proofs.Scanning.SomeCut.{some_cut}
 use Rattle.polcert_text.proofs.TextLaws.{one_cut}
 use Rattle.polcert_format.specs.FirstWrong.{TextTokens, tokens_of, AreTokensOf, HasTokens}
 

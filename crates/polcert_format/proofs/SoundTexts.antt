@@ -25,7 +25,7 @@ use Rattle.polcert_cells.specs.Entry as entries
 use Rattle.polcert_format.specs.Text as texts
 use Rattle.polcert_format.specs.Text.{Known, nothing_known, HasLines, IsComplete, IsInPreamble, IsRight, AreRight, IsRightText, Denotes}
 use Rattle.polcert_cells.specs.declared.shares.Shares.{Shares}
-use Rattle.polcert_cells.specs.Sound.{IsPlaceIn, ArePlacesIn, Fills, IsSoundEntry, IsSound}
+use Rattle.polcert_cells.specs.Steps.Sound.{IsPlaceIn, ArePlacesIn, Fills, IsSoundEntry, IsSound}
 use Rattle.polcert_cells.proofs.Basics.{one_some, some≢none}
 use Rattle.polcert_format.proofs.LimitLaws.{line_within, number_within, CountWithin, DiscountWithin, StartWithin, all_within}
 

@@ -1,7 +1,7 @@
 -- A text denotes at most one model.
 use Rattle.std.proofs.Common.{◌≡◌, ◌∙◌, ℕ, ◌<◌, Some, None, List, [], ◌∷◌, ◌++◌, pos, codes, refl, sym, ap, subst, arith}
 use Rattle.polcert_text.specs.Cut.{Lexeme, text_rest, text_limit}
-use Rattle.polcert_text.proofs.CutLaws.{one_cut}
+use Rattle.polcert_text.proofs.Scanning.CutLaws.{one_cut}
 use Rattle.polcert_cells.specs.declared.words.Topic.{Topic}
 use Rattle.polcert_cells.specs.Words.{IsWord, IsName}
 use Rattle.polcert_cells.specs.Numbers.{IsWhole, IsNumber}

@@ -12,7 +12,7 @@ ghost use Rattle.polcert_cells.specs.Entry.{IsEntry};
 ghost use Rattle.polcert_cells.specs.declared.entry.Entry.{Entry};
 ghost use Rattle.polcert_cells.specs.declared.shares.Shares.{Shares};
 ghost use Rattle.polcert_cells.specs.Start.{IsStart};
-ghost use Rattle.polcert_cells.specs.Meaning.{Meaning, IsSame, IsWithinLimits};
+ghost use Rattle.polcert_cells.specs.Meaning.{Meaning, IsSame, HasLimitedNumbers};
 ghost use Rattle.polcert_format.specs.Text.{Denotes, IsModelText, Known, nothing_known, IsComplete, IsRight, AreRight, IsRightText};
 ghost use Rattle.polcert_cells.specs.declared.entry.Table.TheVariants.{Reward};
 ghost use Rattle.polcert_cells.specs.Cells.{covers, weight, reward};
@@ -112,7 +112,7 @@ pub fn one_right_text()
 
 /// What lexemes denote is within its limits.
 pub fn within_limits()
-    ensures { (lexemes : List Lexeme) (m : Meaning) → Denotes lexemes m → IsWithinLimits m }
+    ensures { (lexemes : List Lexeme) (m : Meaning) → Denotes lexemes m → HasLimitedNumbers m }
 {}
 
 /// An item that is right with its lexemes so far makes them right items.

@@ -2,7 +2,7 @@
 #![tactic(auto)]
 
 mod laws;
-mod print;
+mod print_model;
 mod print_rewards;
 mod print_rows;
 mod print_words;
@@ -10,4 +10,4 @@ mod reward_row;
 mod weight_row;
 
 pub use laws::{full_form_reads_back, one_full_form};
-pub use print::write_model;
+pub use print_model::write_model;

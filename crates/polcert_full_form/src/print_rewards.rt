@@ -6,9 +6,9 @@ ghost use Rattle.polcert_cells.specs.Elements.{most_elements};
 ghost use Rattle.polcert_tables.specs.Contents.{meaning};
 ghost use Rattle.polcert_cells.specs.Meaning.{states_of, actions_of};
 ghost use Rattle.polcert_format.specs.FullForm.{for_each, written, rewards_from, rewards_text};
-ghost use Rattle.polcert_full_form.specs.PrintSteps.{reward_head, block_text, reward_rows, rewards_at};
-ghost use Rattle.polcert_full_form.specs.PrintSteps.{IsFilled, IsPaidFrom};
-ghost use Rattle.polcert_full_form.specs.PrintedRows.{row_width, row_rewards, rewarded_text, paid_row_text};
+ghost use Rattle.polcert_full_form.specs.Steps.Printing.{reward_head, block_text, reward_rows, rewards_at};
+ghost use Rattle.polcert_full_form.specs.Steps.Printing.{IsFilled, IsPaidFrom};
+ghost use Rattle.polcert_full_form.specs.Steps.PrintedRows.{row_width, row_rewards, rewarded_text, paid_row_text};
 
 use crate::print_words::{write_head, write_number_at, write_zeros};
 use crate::reward_row::RewardRow;

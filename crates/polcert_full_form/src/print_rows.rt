@@ -6,8 +6,8 @@ ghost use Rattle.polcert_cells.specs.Meaning.{states_of, actions_of};
 ghost use Rattle.polcert_cells.specs.Numbers.{one};
 ghost use Rattle.polcert_cells.specs.Rows.{IsWeighted};
 ghost use Rattle.polcert_format.specs.FullForm.{for_each, is_uniform, is_decimal};
-ghost use Rattle.polcert_full_form.specs.PrintSteps.{cell_line, row_at, rows_at, rows_text};
-ghost use Rattle.polcert_full_form.specs.PrintedRows.{row_weights, row_body, column_text, zeros_from};
+ghost use Rattle.polcert_full_form.specs.Steps.Printing.{cell_line, row_at, rows_at, rows_text};
+ghost use Rattle.polcert_full_form.specs.Steps.PrintedRows.{row_weights, row_body, column_text, zeros_from};
 
 use crate::print_words::{write_head, write_number_at, write_pattern, write_zeros};
 use crate::weight_row::{ColumnForm, WeightRow};

@@ -3,8 +3,7 @@ ghost use Rattle.std.specs.Prelude.{◌≡◌, ◌==◌, ◌++◌, ◌+◌, ◌�
 ghost use Rattle.polcert_text.specs.Sink.{WritesText};
 ghost use Rattle.polcert_cells.specs.Elements.{most_elements};
 ghost use Rattle.polcert_format.specs.FullForm.{for_each, table_word};
-ghost use Rattle.polcert_full_form.specs.PrintSteps.{mark_before, index_text, pattern_text};
-ghost use Rattle.polcert_full_form.specs.PrintSteps.{number_text, zeros_text};
+ghost use Rattle.polcert_full_form.specs.Steps.Printing.{mark_before, index_text, pattern_text, number_text, zeros_text};
 
 use itoa::Buffer;
 use polcert_cells::Table;

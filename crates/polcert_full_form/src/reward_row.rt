@@ -6,7 +6,7 @@ ghost use Rattle.polcert_cells.specs.Elements.{most_elements};
 ghost use Rattle.polcert_cells.specs.Meaning.{IsCount, states_of, actions_of};
 ghost use Rattle.polcert_tables.specs.Contents.{meaning};
 ghost use Rattle.polcert_format.specs.FullForm.{all_below, is_zero};
-ghost use Rattle.polcert_full_form.specs.PrintSteps.{IsFilled, IsPaidFrom};
+ghost use Rattle.polcert_full_form.specs.Steps.Printing.{IsFilled, IsPaidFrom};
 
 use polcert_tables::Model;
 
@@ -23,7 +23,7 @@ pub(crate) struct RewardRow<'a> {
 }
 
 impl RewardRow<'_> {
-    ghost use Rattle.polcert_full_form.specs.PrintedRows.{row_width, row_rewards};
+    ghost use Rattle.polcert_full_form.specs.Steps.PrintedRows.{row_width, row_rewards};
 
     /// How many columns the row has.
     pub(crate) fn columns(&self) -> usize

@@ -5,8 +5,8 @@ ghost use Rattle.polcert_cells.specs.Meaning.{IsCount, states_of, actions_of};
 ghost use Rattle.polcert_cells.specs.Preamble.{columns as columns_in};
 ghost use Rattle.polcert_cells.specs.Rows.{IsWeighted};
 ghost use Rattle.polcert_tables.specs.Kept.{meaning};
-ghost use Rattle.polcert_tables.specs.RowSums.{row_of};
-ghost use Rattle.polcert_full_form.specs.PrintSteps.{AreSmallWeights, IsWeighted-prop};
+ghost use Rattle.polcert_tables.specs.Steps.RowSums.{row_of};
+ghost use Rattle.polcert_full_form.specs.Steps.Printing.{AreSmallWeights, IsWeighted-prop};
 
 use polcert_cells::{Row, Table};
 use polcert_tables::Draft;
@@ -38,7 +38,7 @@ pub(crate) enum ColumnForm {
 
 impl<'a> WeightRow<'a> {
     ghost use Rattle.polcert_cells.specs.LentRows.{IsRowOf};
-    ghost use Rattle.polcert_full_form.specs.PrintedRows.{row_weights};
+    ghost use Rattle.polcert_full_form.specs.Steps.PrintedRows.{row_weights};
 
     /// Its weights, by column.
     pub(crate) fn weights(&self) -> Row<'a>

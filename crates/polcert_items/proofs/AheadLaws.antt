@@ -6,15 +6,15 @@ use Rattle.polcert_text.specs.Cut.{Lexeme}
 use Rattle.polcert_text.specs.declared.beginning.FrontNumber.{FrontNumber}
 use Rattle.polcert_text.specs.declared.lexeme.TokenKind.{TokenKind}
 use Rattle.polcert_text.specs.declared.lexeme.TokenKind.TheVariants.{Numeral}
-use Rattle.polcert_text.proofs.BeginLaws.{begin_none, begin_then}
+use Rattle.polcert_text.proofs.Taken.BeginLaws.{begin_none, begin_then}
 use Rattle.polcert_cells.specs.Numbers.{IsMillionths, one}
 use Rattle.polcert_cells.specs.Words.{begins_item}
 use Rattle.polcert_cells.specs.declared.entry.Table.TheVariants.{Reward}
 use Rattle.polcert_format.specs.KnownPreamble.{preamble_in}
 use Rattle.polcert_format.specs.Reasons.{is_sign}
 use Rattle.polcert_format.specs.Text.{Known}
-use Rattle.polcert_items.specs.AheadSteps.{IsFed, AreFed, none, more, FedAhead, with_probabilities}
-use Rattle.polcert_items.specs.NumberSteps.{is_negative}
+use Rattle.polcert_items.specs.Steps.Ahead.{IsFed, AreFed, none, more, FedAhead, with_probabilities}
+use Rattle.polcert_items.specs.Steps.Numbers.{is_negative}
 use Rattle.polcert_items.specs.declared.entry_reader.EntryReader.{EntryReader}
 use Rattle.polcert_items.specs.declared.entry_reader.EntryState.TheVariants as states
 use Rattle.polcert_items.specs.declared.entry_reader.Numbers.{Numbers}

@@ -5,7 +5,7 @@ use Rattle.polcert_text.specs.Cut.{Lexeme}
 use Rattle.polcert_text.specs.declared.beginning.FrontNumber.{FrontNumber}
 use Rattle.polcert_text.specs.declared.lexeme.TokenKind.{TokenKind}
 use Rattle.polcert_text.specs.declared.lexeme.TokenKind.TheVariants.{Colon, Numeral}
-use Rattle.polcert_text.proofs.BeginLaws.{begin_then}
+use Rattle.polcert_text.proofs.Taken.BeginLaws.{begin_then}
 use Rattle.polcert_cells.specs.Elements.{count_of, by_number}
 use Rattle.polcert_cells.specs.Entry.{cells_in, IsPlace}
 use Rattle.polcert_cells.specs.Numbers.{IsMillionths, IsWhole}
@@ -23,10 +23,10 @@ use Rattle.polcert_format.specs.Reasons.{is_sign}
 use Rattle.polcert_format.specs.Text.{Known}
 use Rattle.polcert_format.specs.Wants.{least_written, numbers_want}
 use Rattle.polcert_format.specs.Wants as wants
-use Rattle.polcert_items.specs.AheadSteps.{IsFed, none, more, FedAhead, BeginWithPlace, AwaitsColon, AreBegunWith}
-use Rattle.polcert_items.specs.EntrySteps.{StateGoes, IsFirstPlace, IsEntryBehind, IsStateWithin, IsWithinIndices, AreBegun, no_numbers, entry_sign}
-use Rattle.polcert_items.specs.NumberSteps.{SignIs}
-use Rattle.polcert_items.specs.WantSteps.{Leads, state_wants, entry_wants}
+use Rattle.polcert_items.specs.Steps.Ahead.{IsFed, none, more, FedAhead, BeginWithPlace, AwaitsColon, AreBegunWith}
+use Rattle.polcert_items.specs.Steps.Entries.{StateGoes, IsFirstPlace, IsEntryBehind, IsStateWithin, IsWithinIndices, AreBegun, no_numbers, entry_sign}
+use Rattle.polcert_items.specs.Steps.Numbers.{SignIs}
+use Rattle.polcert_items.specs.Steps.Wants.{Leads, state_wants, entry_wants}
 use Rattle.polcert_items.specs.declared.entry_reader.EntryReader.{EntryReader}
 use Rattle.polcert_items.specs.declared.entry_reader.EntryState.{EntryState}
 use Rattle.polcert_items.specs.declared.entry_reader.EntryState.TheVariants as states

@@ -18,10 +18,10 @@ use Rattle.polcert_cells.specs.Entry.{cells_in, forms}
 use Rattle.polcert_cells.specs.Meaning.{sum_below}
 use Rattle.polcert_cells.specs.Numbers.{one}
 use Rattle.polcert_cells.specs.Preamble.{Preamble, is_mdp, observed, dimensions, columns}
-use Rattle.polcert_cells.specs.Sound.{ArePlacesIn, Fills, IsSoundEntry}
+use Rattle.polcert_cells.specs.Steps.Sound.{ArePlacesIn, Fills, IsSoundEntry}
 use Rattle.polcert_cells.proofs.CellLaws.{sum_of_same}
 use Rattle.polcert_format.specs.Limits.{count_cells, gives_weight}
-use Rattle.polcert_items.specs.Covering.{chosen, weighty, covered_by}
+use Rattle.polcert_items.specs.Steps.Covering.{chosen, weighty, covered_by}
 
 -- ---- sums
 

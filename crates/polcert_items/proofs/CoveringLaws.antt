@@ -16,11 +16,11 @@ use Rattle.polcert_cells.specs.declared.entry.Table.TheVariants.{Transition, Obs
 use Rattle.polcert_cells.specs.Cells.{is_table}
 use Rattle.polcert_cells.specs.Entry.{cells_in, forms}
 use Rattle.polcert_cells.specs.Preamble.{Preamble, is_mdp, observed, rewarded, dimensions}
-use Rattle.polcert_cells.specs.Sound.{ArePlacesIn, Fills}
+use Rattle.polcert_cells.specs.Steps.Sound.{ArePlacesIn, Fills}
 use Rattle.polcert_format.specs.Limits.{IsLarge, HasFewCells, count_cells, gives_weight, covered, most_cells, most_reward_entries}
 use Rattle.polcert_items.specs.declared.covering.Covering.{Covering}
 use Rattle.polcert_items.specs.declared.covering.Sizes.{Sizes}
-use Rattle.polcert_items.specs.Covering.{chosen, open_cells, weighty, covered_by, most_covered, counted, IsCoveringOf, IsNext}
+use Rattle.polcert_items.specs.Steps.Covering.{chosen, open_cells, weighty, covered_by, most_covered, counted, IsCoveringOf, IsNext}
 use Rattle.polcert_items.proofs.CountedCells.{covered_transitions, covered_observations, not_covered, nothing_written}
 
 chosen_few : (place : Option Place) (count most : ℕ) → 1 ≤ most → count ≤ most → chosen place count ≤ most

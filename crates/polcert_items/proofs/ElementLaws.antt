@@ -20,10 +20,10 @@ use Rattle.polcert_cells.specs.declared.elements.Elements.{Elements}
 use Rattle.polcert_cells.specs.declared.elements.Elements.TheVariants.{Count, Names}
 use Rattle.polcert_cells.specs.Elements.{AreElements, counted, named}
 use Rattle.polcert_format.specs.Reasons.{IsRepeated}
-use Rattle.polcert_items.specs.LineSteps.{Takes, CannotTake}
-use Rattle.polcert_items.specs.ElementSteps.{names_with, NamesGo, ElementsGo, AreNamesRead, IsElementsRead, ElementsReason, AreElementsSeen, IsCountOf}
+use Rattle.polcert_items.specs.Steps.Lines.{Takes, CannotTake}
+use Rattle.polcert_items.specs.Steps.Elements.{names_with, NamesGo, ElementsGo, AreNamesRead, IsElementsRead, ElementsReason, AreElementsSeen, IsCountOf}
 use Rattle.polcert_cells.proofs.Basics.{true≢false, same_head, same_tail}
-use Rattle.polcert_format.proofs.Possible.{a_colon}
+use Rattle.polcert_format.proofs.StillPossible.{a_colon}
 
 -- ---- a count
 

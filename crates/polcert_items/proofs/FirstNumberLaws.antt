@@ -17,17 +17,17 @@ use Rattle.polcert_format.specs.Misfits.{Wanted, begins_number}
 use Rattle.polcert_format.specs.Reasons.{IsRefusedNumber, IsNoFraction, is_sign}
 use Rattle.polcert_format.specs.Wants as wants
 use Rattle.polcert_format.proofs.FirstNumbers.{OfNumerals, same_digits, same_number, digits_are_number, digits_numeral, value_not_refused, no_fraction_numeral}
-use Rattle.polcert_items.specs.declared.number.Refusal.{Refusal}
-use Rattle.polcert_items.specs.declared.number.Sign.{Sign}
+use Rattle.polcert_items.specs.declared.signed_number.Refusal.{Refusal}
+use Rattle.polcert_items.specs.declared.signed_number.Sign.{Sign}
 use Rattle.polcert_items.specs.declared.start_numbers.FirstNumber.{FirstNumber}
 use Rattle.polcert_items.specs.declared.start_numbers.Digits.{Digits}
 use Rattle.polcert_items.specs.declared.start_reader.StartReader.{StartReader}
 use Rattle.polcert_items.specs.declared.start_reader.StartReader.TheVariants as reader
 use Rattle.polcert_items.specs.declared.stop.ItemEnd.{ItemEnd}
 use Rattle.polcert_items.specs.declared.stop.ItemEnd.TheVariants as ends_of
-use Rattle.polcert_items.specs.NumberSteps.{IsSignAt, SignEnds}
-use Rattle.polcert_items.specs.NumberSteps as steps
-use Rattle.polcert_items.specs.StartSteps.{start_sign, pending, pending_of, IsValue, IsState, IsOutside, IsFraction, IsBehindColon, IsListBegun, IsWordBody, IsNumberBody, IsDigitsKept, IsFurtherBody, IsStartSeen, IsDue, IsDueNumber, IsDueValue, IsHeld, IsStop, due, at_once, IsEndDue, IsLateEnd, StopsStart, first_number, token}
+use Rattle.polcert_items.specs.Steps.Numbers.{IsSignAt, SignEnds}
+use Rattle.polcert_items.specs.Steps.Numbers as steps
+use Rattle.polcert_items.specs.Steps.Start.{start_sign, pending, pending_of, IsValue, IsState, IsOutside, IsFraction, IsBehindColon, IsListBegun, IsWordBody, IsNumberBody, IsDigitsKept, IsFurtherBody, IsStartSeen, IsDue, IsDueNumber, IsDueValue, IsHeld, IsStop, due, at_once, IsEndDue, IsLateEnd, StopsStart, first_number, token}
 use Rattle.polcert_items.proofs.StartSeen.{begins_map, begins_more, digits_begin, digits_more}
 
 -- ---- what is due stands so in the whole body

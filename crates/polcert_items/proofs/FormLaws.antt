@@ -13,9 +13,9 @@ use Rattle.polcert_format.specs.Forms as shapes
 use Rattle.polcert_format.specs.Text.{Known}
 use Rattle.polcert_items.specs.declared.item.ItemReader.{ItemReader}
 use Rattle.polcert_items.specs.declared.item.ItemReader.TheVariants as items
-use Rattle.polcert_items.specs.LineSteps.{Takes, CannotTake}
-use Rattle.polcert_items.specs.ItemSteps.{ItemGoes, ItemForms, topic_in, pending_in}
-use Rattle.polcert_items.specs.WantSteps.{IfStart}
+use Rattle.polcert_items.specs.Steps.Lines.{Takes, CannotTake}
+use Rattle.polcert_items.specs.Steps.Items.{ItemGoes, ItemForms, topic_in, pending_in}
+use Rattle.polcert_items.specs.Steps.Wants.{IfStart}
 use Rattle.polcert_items.proofs.StartNumbers.{small_ones}
 
 pub is_start : (t : Topic) → (t ≡ Start) ⊎ (t ≡ Start → ⊥)

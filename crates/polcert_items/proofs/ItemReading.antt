@@ -6,7 +6,7 @@ use Rattle.polcert_format.specs.declared.fault.ItemFault.{ItemFault}
 use Rattle.polcert_format.specs.declared.fault.ItemFault.TheVariants.{BadShape, BadCount, DuplicateName, Reset, WrongNumberCount, StartSum, StartEmpty}
 use Rattle.polcert_items.specs.declared.item.ItemReader.{ItemReader}
 use Rattle.polcert_items.specs.declared.item.ItemReader.TheVariants as items
-use Rattle.polcert_items.specs.declared.number.Sign.{Sign}
+use Rattle.polcert_items.specs.declared.signed_number.Sign.{Sign}
 use Rattle.polcert_items.specs.declared.stop.ItemEnd.{ItemEnd}
 use Rattle.polcert_items.specs.declared.stop.ItemEnd.TheVariants as ends
 use Rattle.polcert_items.specs.declared.start_reader.StartReader.{StartReader}
@@ -16,22 +16,22 @@ use Rattle.polcert_cells.specs.declared.elements.Elements.{Elements}
 use Rattle.polcert_cells.specs.declared.elements.Elements.TheVariants.{Count}
 use Rattle.polcert_cells.specs.Elements.{count_of}
 use Rattle.polcert_format.specs.Misfits.{misfit}
-use Rattle.polcert_items.specs.WantSteps.{Leads, start_wants, item_wants, IfAtEnd, IfStart}
+use Rattle.polcert_items.specs.Steps.Wants.{Leads, start_wants, item_wants, IfAtEnd, IfStart}
 use Rattle.polcert_items.specs.declared.stop.Stop.{Stop}
 use Rattle.polcert_items.specs.declared.stop.Stop.TheVariants as stops
-use Rattle.polcert_items.specs.declared.number.Refusal.{Refusal}
+use Rattle.polcert_items.specs.declared.signed_number.Refusal.{Refusal}
 use Rattle.polcert_format.specs.FirstNumber.{IsLate, states_known}
 use Rattle.polcert_items.proofs.FirstNumberLaws as laws
 use Rattle.polcert_items.proofs.PatternLaws.{if_err_map, each_refused_map}
 use Rattle.polcert_format.specs.Text.{Known}
-use Rattle.polcert_items.specs.LineSteps.{Takes, CannotTake, CannotEnd}
+use Rattle.polcert_items.specs.Steps.Lines.{Takes, CannotTake, CannotEnd}
 use Rattle.polcert_format.specs.KnownPreamble.{preamble_in}
-use Rattle.polcert_items.specs.EntrySteps.{IfRefused}
+use Rattle.polcert_items.specs.Steps.Entries.{IfRefused}
 use Rattle.polcert_format.specs.Reasons.{is_sign, ends_in_sign, IsOfElements}
-use Rattle.polcert_items.specs.NumberSteps.{SignIs, SignEnds}
-use Rattle.polcert_items.specs.ElementSteps.{ElementsReason, AreElementsSeen}
-use Rattle.polcert_items.specs.StartSteps.{StartGoes, StartGives, IfNotMemory, start_sign, pending, IsStartSeen, IsStartReason, IsStartEndReason, IsStop, IsDue, IsHeld, IsEndDue, IsLateEnd, StopsStart}
-use Rattle.polcert_items.specs.ItemSteps.{ItemGoes, ItemForms, IsSeen, topic_in, pending_in, IsItemReason, of_token, of_start, IsItemEndReason}
+use Rattle.polcert_items.specs.Steps.Numbers.{SignIs, SignEnds}
+use Rattle.polcert_items.specs.Steps.Elements.{ElementsReason, AreElementsSeen}
+use Rattle.polcert_items.specs.Steps.Start.{StartGoes, StartGives, IfNotMemory, start_sign, pending, IsStartSeen, IsStartReason, IsStartEndReason, IsStop, IsDue, IsHeld, IsEndDue, IsLateEnd, StopsStart}
+use Rattle.polcert_items.specs.Steps.Items.{ItemGoes, ItemForms, IsSeen, topic_in, pending_in, IsItemReason, of_token, of_start, IsItemEndReason}
 use Rattle.polcert_items.proofs.ElementLaws.{repeated_name}
 
 -- ---- what is seen of the body

@@ -6,7 +6,7 @@ pub mod ElementLaws
 pub mod FirstNumberLaws
 pub mod FormLaws
 pub mod ItemReading
-pub mod LineLaws
+pub mod PreambleLines
 pub mod ListLaws
 pub mod MisfitLaws
 pub mod PatternLaws
@@ -15,7 +15,7 @@ pub mod StartNumbers
 pub mod StartReading
 pub mod StartSeen
 pub mod StartShares
-pub mod StepLaws
+pub mod SignedNumbers
 pub mod TokenTexts
 pub mod WantLaws
 pub mod WholeItems

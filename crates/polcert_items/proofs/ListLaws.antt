@@ -6,22 +6,22 @@ use Rattle.polcert_text.specs.Cut.{Lexeme}
 use Rattle.polcert_cells.specs.declared.entry.Body.TheVariants as bodies
 use Rattle.polcert_cells.specs.declared.entry.Body.{Body}
 use Rattle.polcert_items.specs.declared.entry_reader.Numbers.{Numbers}
-use Rattle.polcert_items.specs.declared.number.Sign.{Sign}
-use Rattle.polcert_items.specs.declared.number.Range.TheVariants.{Probability, Reward}
+use Rattle.polcert_items.specs.declared.signed_number.Sign.{Sign}
+use Rattle.polcert_items.specs.declared.signed_number.Range.TheVariants.{Probability, Reward}
 use Rattle.polcert_text.specs.declared.lexeme.TokenKind.{TokenKind}
 use Rattle.polcert_text.specs.declared.lexeme.TokenKind.TheVariants.{Plus, Minus}
 use Rattle.polcert_cells.specs.Numbers.{IsMillionths, AreNumbers, one}
 use Rattle.polcert_cells.specs.Numbers as numbers
 use Rattle.polcert_cells.proofs.Basics.{true≢false}
 use Rattle.polcert_format.specs.Reasons.{is_sign}
-use Rattle.polcert_format.proofs.Possible.{a_zero, zero_is}
-use Rattle.polcert_items.specs.StartSteps.{IsNumberHeld}
-use Rattle.polcert_items.specs.NumberSteps.{AreNumbersBehind, IsInRange, is_negative, IsSignAt, IsNoNumber}
-use Rattle.polcert_items.specs.LineSteps.{Takes, CannotTake}
-use Rattle.polcert_items.specs.EntrySteps.{ProbabilitiesGo, RewardsGo, IfRefused}
+use Rattle.polcert_format.proofs.StillPossible.{a_zero, zero_is}
+use Rattle.polcert_items.specs.Steps.Start.{IsNumberHeld}
+use Rattle.polcert_items.specs.Steps.Numbers.{AreNumbersBehind, IsInRange, is_negative, IsSignAt, IsNoNumber}
+use Rattle.polcert_items.specs.Steps.Lines.{Takes, CannotTake}
+use Rattle.polcert_items.specs.Steps.Entries.{ProbabilitiesGo, RewardsGo, IfRefused}
 use Rattle.polcert_items.specs.declared.stop.Stop.{Stop}
 use Rattle.polcert_items.specs.declared.stop.Stop.TheVariants.{Refused, Memory}
-use Rattle.polcert_items.proofs.StepLaws.{sign_back, sign_on, value_back, value_on}
+use Rattle.polcert_items.proofs.SignedNumbers.{sign_back, sign_on, value_back, value_on}
 
 pub all_none : {X : Type 0} (P : X → Type 0) → All P []
 all_none P = λ k d h. absurd (omega arith)

@@ -8,7 +8,7 @@ use Rattle.polcert_format.specs.declared.fault.ItemFault.{ItemFault}
 use Rattle.polcert_format.specs.declared.fault.ItemFault.TheVariants.{BadShape, BadCount, DuplicateName, UnknownName, Reset}
 use Rattle.polcert_cells.specs.Words.{topic_of, is_reserved, IsName}
 use Rattle.polcert_items.specs.declared.elements_reader.ElementsReader.TheVariants.{Named}
-use Rattle.polcert_items.specs.ElementSteps.{ElementsReason}
+use Rattle.polcert_items.specs.Steps.Elements.{ElementsReason}
 use Rattle.polcert_format.specs.Misfits.{misfit, no_index, no_name, no_count, is_reset, Index, FurtherName, CountOrName, IsMisfit, of_place}
 
 or_right : (a b : Bool) → a || b ≡ false → b ≡ false

@@ -23,9 +23,9 @@ use Rattle.polcert_items.specs.declared.entry_reader.EntryState.TheVariants as s
 use Rattle.polcert_items.specs.declared.entry_reader.Numbers.{Numbers}
 use Rattle.polcert_items.specs.declared.entry_reader.EntryReader.{EntryReader}
 use Rattle.polcert_format.specs.declared.fault.ItemFault.{ItemFault}
-use Rattle.polcert_items.specs.declared.number.Refusal.{Refusal}
-use Rattle.polcert_items.specs.declared.number.Sign.{Sign}
-use Rattle.polcert_items.specs.declared.number.Range.TheVariants.{Probability}
+use Rattle.polcert_items.specs.declared.signed_number.Refusal.{Refusal}
+use Rattle.polcert_items.specs.declared.signed_number.Sign.{Sign}
+use Rattle.polcert_items.specs.declared.signed_number.Range.TheVariants.{Probability}
 use Rattle.polcert_items.specs.declared.stop.Stop.{Stop}
 use Rattle.polcert_items.specs.declared.stop.Stop.TheVariants.{Refused, Memory}
 use Rattle.polcert_cells.specs.Words.{IsWord}
@@ -37,16 +37,16 @@ use Rattle.polcert_cells.specs.Entry.{cells_in, IsPlace, ArePlaces, IsBody}
 use Rattle.polcert_cells.specs.Entry as entries
 use Rattle.polcert_format.specs.Text.{Known}
 use Rattle.polcert_format.specs.Wants.{least_written}
-use Rattle.polcert_items.specs.LineSteps.{Takes, CannotTake, CannotEnd}
-use Rattle.polcert_items.specs.NumberSteps.{AreNumbersBehind}
-use Rattle.polcert_items.specs.EntrySteps as reasons
+use Rattle.polcert_items.specs.Steps.Lines.{Takes, CannotTake, CannotEnd}
+use Rattle.polcert_items.specs.Steps.Numbers.{AreNumbersBehind}
+use Rattle.polcert_items.specs.Steps.Entries as reasons
 use Rattle.polcert_items.proofs.ListLaws.{all_none}
 use Rattle.polcert_cells.specs.Preamble.{Preamble, is_mdp, dimensions, named}
 use Rattle.polcert_format.specs.KnownPreamble.{preamble_in, indices_in}
-use Rattle.polcert_items.specs.EntrySteps.{IsEntryBehind, IsFirstPlace, PlaceRest, entry_with, ProbabilitiesGo, RewardsGo, StateGoes, EntryGoes, IfRefused, body_of, word_text, MayStand, IsWordBehind, no_numbers, AreBegun, CannotBegin, IsFull, IsListReason, IsEntryReason, entry_sign, AreSome}
+use Rattle.polcert_items.specs.Steps.Entries.{IsEntryBehind, IsFirstPlace, PlaceRest, entry_with, ProbabilitiesGo, RewardsGo, StateGoes, EntryGoes, IfRefused, body_of, word_text, MayStand, IsWordBehind, no_numbers, AreBegun, CannotBegin, IsFull, IsListReason, IsEntryReason, entry_sign, AreSome}
 use Rattle.polcert_cells.proofs.Basics.{cons≢nil, same_head, same_tail}
 use Rattle.polcert_cells.proofs.EntryLaws.{NoColonFirst, body_no_colon, uniform_not_identity}
-use Rattle.polcert_format.proofs.GoOnLaws.{begins_no_number}
+use Rattle.polcert_format.proofs.FurtherNumbers.{begins_no_number}
 
 module _ (preamble : Preamble) (table : Table) (before : List Place) where
   -- behind a colon

@@ -25,15 +25,15 @@ use Rattle.polcert_cells.specs.Start.{alike, all_states, single, included, IsSta
 use Rattle.polcert_cells.specs.Start as forms
 use Rattle.polcert_format.specs.Forms.{IsStartBodyForm, IsStartForm}
 use Rattle.polcert_format.specs.Forms as shapes
-use Rattle.polcert_items.specs.LineSteps.{Takes, CannotTake, BehindColon}
-use Rattle.polcert_items.specs.StartSteps.{marked, picks, chosen_with, listed, AreAsked, AreLeft, ListGoes, AreShares, AreFormed, AreGiven, NumbersGo, DigitsGo, state_number, first_of_more, BodyGoes, FormGoes, StartGoes, StartGives, Begins, AreDigits, IsState, IsValue}
-use Rattle.polcert_items.specs.StartSteps as steps
+use Rattle.polcert_items.specs.Steps.Lines.{Takes, CannotTake, BehindColon}
+use Rattle.polcert_items.specs.Steps.Start.{marked, picks, chosen_with, listed, AreAsked, AreLeft, ListGoes, AreShares, AreFormed, AreGiven, NumbersGo, DigitsGo, state_number, first_of_more, BodyGoes, FormGoes, StartGoes, StartGives, Begins, AreDigits, IsState, IsValue}
+use Rattle.polcert_items.specs.Steps.Start as steps
 use Rattle.polcert_cells.proofs.Basics.{true≢false}
 use Rattle.polcert_cells.proofs.EntryLaws.{one_element}
-use Rattle.polcert_format.proofs.GoOnLaws.{begins_no_number}
+use Rattle.polcert_format.proofs.FurtherNumbers.{begins_no_number}
 use Rattle.polcert_cells.proofs.NumberLaws.{one_whole, one_millionths}
 use Rattle.polcert_cells.proofs.StartLaws.{name_not_colon, include_not_exclude, uniform_is_reserved}
-use Rattle.polcert_items.proofs.StepLaws.{first_number}
+use Rattle.polcert_items.proofs.SignedNumbers.{first_number}
 use Rattle.polcert_items.proofs.StartNumbers.{value_begins}
 use Rattle.polcert_text.proofs.TextLaws.{exact_not_refused}
 use Rattle.polcert_text.specs.declared.number.NumberFault.{NumberFault}

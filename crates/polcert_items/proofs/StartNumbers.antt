@@ -10,26 +10,26 @@ use Rattle.polcert_text.specs.declared.number.NumberFault.{NumberFault}
 use Rattle.polcert_cells.specs.declared.entry.Body.TheVariants as bodies
 use Rattle.polcert_items.specs.declared.entry_reader.Numbers.{Numbers}
 use Rattle.polcert_format.specs.declared.fault.ItemFault.{ItemFault}
-use Rattle.polcert_items.specs.declared.number.Sign.{Sign}
+use Rattle.polcert_items.specs.declared.signed_number.Sign.{Sign}
 use Rattle.polcert_items.specs.declared.start_numbers.FirstNumber.{FirstNumber}
 use Rattle.polcert_items.specs.declared.start_numbers.Digits.{Digits}
 use Rattle.polcert_items.specs.declared.start_reader.StartReader.{StartReader}
 use Rattle.polcert_items.specs.declared.start_reader.StartReader.TheVariants as reader
 use Rattle.polcert_cells.specs.Numbers.{IsMillionths, AreNumbers, one}
 use Rattle.polcert_cells.specs.Numbers as numbers
-use Rattle.polcert_items.specs.NumberSteps.{AreNumbersBehind, is_negative, IsSignAt}
+use Rattle.polcert_items.specs.Steps.Numbers.{AreNumbersBehind, is_negative, IsSignAt}
 use Rattle.polcert_cells.specs.declared.elements.Elements.{Elements}
 use Rattle.polcert_cells.specs.Elements.{count_of}
 use Rattle.polcert_cells.specs.declared.shares.Shares.{Shares}
 use Rattle.polcert_cells.specs.Start.{all_states, shares_of}
-use Rattle.polcert_items.specs.LineSteps.{Takes, CannotTake}
-use Rattle.polcert_items.specs.EntrySteps.{ProbabilitiesGo, IsFull, no_numbers}
-use Rattle.polcert_items.specs.StartSteps.{only_state, probabilities, alone, each, AreGiven, NumbersGo, DigitsGo, state_number, first_of_more, AreWhole, SharesGo, StartGoes, StartGives, Begins, IsOutside, IsDueNumber, IsDueValue, IsStop, due, at_once}
+use Rattle.polcert_items.specs.Steps.Lines.{Takes, CannotTake}
+use Rattle.polcert_items.specs.Steps.Entries.{ProbabilitiesGo, IsFull, no_numbers}
+use Rattle.polcert_items.specs.Steps.Start.{only_state, probabilities, alone, each, AreGiven, NumbersGo, DigitsGo, state_number, first_of_more, AreWhole, SharesGo, StartGoes, StartGives, Begins, IsOutside, IsDueNumber, IsDueValue, IsStop, due, at_once}
 use Rattle.polcert_format.specs.Misfits.{Wanted}
 use Rattle.polcert_cells.proofs.Basics.{true≢false, cons≢nil, same_head, same_tail}
 use Rattle.polcert_items.proofs.ListLaws.{all_none}
 use Rattle.polcert_items.proofs.PatternLaws.{full_probabilities}
-use Rattle.polcert_items.proofs.StepLaws.{sign_back, sign_on, value_back, value_on}
+use Rattle.polcert_items.proofs.SignedNumbers.{sign_back, sign_on, value_back, value_on}
 
 -- ---- one token more
 

@@ -4,7 +4,7 @@ use Rattle.polcert_text.specs.Cut.{Lexeme}
 use Rattle.polcert_cells.specs.declared.elements.Elements.{Elements}
 use Rattle.polcert_cells.specs.declared.shares.Shares.{Shares}
 use Rattle.polcert_cells.specs.Start.{IsStart}
-use Rattle.polcert_items.specs.StartSteps.{StartGives, new_start, IsStartWithin, IsStartSeen}
+use Rattle.polcert_items.specs.Steps.Start.{StartGives, new_start, IsStartWithin, IsStartSeen}
 
 pub new_start_on : (states : Elements) (ls : List Lexeme) (found : Shares) → IsStart states ls found → StartGives states new_start ls found
 new_start_on states ls found a = a

@@ -8,9 +8,9 @@ use Rattle.polcert_format.proofs.FirstNumbers.{digits_numeral}
 use Rattle.polcert_text.specs.declared.number.NumberFault.{NumberFault}
 use Rattle.polcert_format.specs.declared.fault.ItemFault.{ItemFault}
 use Rattle.polcert_format.specs.declared.fault.ItemFault.TheVariants.{Number, BadShape, BadCount, UnknownName, IndexOutOfRange, WrongNumberCount, ProbabilityRange, DiscountRange, Reset, StartSum, StartEmpty}
-use Rattle.polcert_items.specs.declared.number.Sign.{Sign}
-use Rattle.polcert_items.specs.declared.number.Refusal.{Refusal}
-use Rattle.polcert_items.specs.declared.number.Range.TheVariants as ranges
+use Rattle.polcert_items.specs.declared.signed_number.Sign.{Sign}
+use Rattle.polcert_items.specs.declared.signed_number.Refusal.{Refusal}
+use Rattle.polcert_items.specs.declared.signed_number.Range.TheVariants as ranges
 use Rattle.polcert_items.specs.declared.start_numbers.FirstNumber.{FirstNumber}
 use Rattle.polcert_items.specs.declared.start_numbers.Digits.{Digits}
 use Rattle.polcert_items.specs.declared.start_reader.StartReader.{StartReader}
@@ -18,13 +18,13 @@ use Rattle.polcert_items.specs.declared.start_reader.StartReader.TheVariants as 
 use Rattle.polcert_items.specs.declared.stop.ItemEnd.{ItemEnd}
 use Rattle.polcert_cells.specs.Numbers.{IsMillionths}
 use Rattle.polcert_cells.specs.declared.elements.Elements.{Elements}
-use Rattle.polcert_items.specs.LineSteps.{CannotEnd}
+use Rattle.polcert_items.specs.Steps.Lines.{CannotEnd}
 use Rattle.polcert_cells.specs.declared.words.Topic.TheVariants.{Start}
 use Rattle.polcert_cells.specs.Words.{IsWord, IsName}
-use Rattle.polcert_items.specs.ItemSteps.{IsEndReason}
+use Rattle.polcert_items.specs.Steps.Items.{IsEndReason}
 use Rattle.polcert_format.specs.Reasons.{StandsIn, NumberStandsIn, unsigned, plus, minus, IsRefusedNumber, IsNoFraction, IsDigits, is_sign, ends_in_sign}
-use Rattle.polcert_items.specs.NumberSteps.{is_negative, number_place, IsSignAt, SignIs, SignEnds}
-use Rattle.polcert_items.specs.NumberSteps as steps
+use Rattle.polcert_items.specs.Steps.Numbers.{is_negative, number_place, IsSignAt, SignIs, SignEnds}
+use Rattle.polcert_items.specs.Steps.Numbers as steps
 use Rattle.polcert_format.specs.Misfits.{Wanted}
 use Rattle.polcert_format.specs.FirstNumber.{BeginsWithNumber, BeginsWithDigits}
 use Rattle.polcert_format.specs.FirstNumber as begins
@@ -34,8 +34,8 @@ use Rattle.polcert_cells.proofs.Basics.{cons≢nil, same_head, same_tail, true�
 use Rattle.polcert_items.specs.declared.chosen.Chosen.{Chosen}
 use Rattle.polcert_items.specs.declared.entry_reader.Numbers.{Numbers}
 use Rattle.polcert_items.proofs.StartForms.{test_different}
-use Rattle.polcert_items.specs.EntrySteps.{IsListReason, no_number, no_further}
-use Rattle.polcert_items.specs.StartSteps.{start_sign, pending_of, pending, IsValue, AreDigits, IsFormed, IsKept, IsNumberKept, IsBehindColon, IsListBegun, IsWordBody, IsFraction, IsStartSeen, IsReasonAt, IsInside, IsOutside, IsDueNumber, IsDueValue, IsStop, due, at_once, IsReasonIn, IsStartReason, IsStartEndKind, IfNotMemory, StartGives}
+use Rattle.polcert_items.specs.Steps.Entries.{IsListReason, no_number, no_further}
+use Rattle.polcert_items.specs.Steps.Start.{start_sign, pending_of, pending, IsValue, AreDigits, IsFormed, IsKept, IsNumberKept, IsBehindColon, IsListBegun, IsWordBody, IsFraction, IsStartSeen, IsReasonAt, IsInside, IsOutside, IsDueNumber, IsDueValue, IsStop, due, at_once, IsReasonIn, IsStartReason, IsStartEndKind, IfNotMemory, StartGives}
 
 none≢some : {A : Type 0} {x : A} → None ≡ Some x → ⊥
 none≢some e = cc

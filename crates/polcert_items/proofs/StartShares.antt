@@ -13,7 +13,7 @@ use Rattle.polcert_cells.specs.declared.elements.Elements.{Elements}
 use Rattle.polcert_cells.specs.Elements.{count_of}
 use Rattle.polcert_cells.specs.declared.shares.Shares.{Shares}
 use Rattle.polcert_cells.specs.Start.{alike, single, shares_of, is_level, is_positive}
-use Rattle.polcert_items.specs.StartSteps.{marked, AreUnmarked, picks, first_above_0, is_level_at, level_share}
+use Rattle.polcert_items.specs.Steps.Start.{marked, AreUnmarked, picks, first_above_0, is_level_at, level_share}
 use Rattle.polcert_items.proofs.StartForms.{marked_more}
 
 -- ---- marks

@@ -10,7 +10,7 @@ use Rattle.polcert_text.specs.Cut.{Lexeme, Rest, IsTokenAt, TakesToken}
 use Rattle.polcert_text.specs.declared.bytes.ByteClass.{ByteClass}
 use Rattle.polcert_text.specs.declared.bytes.ByteClass.TheVariants as classes
 use Rattle.polcert_text.specs.declared.lexeme.TokenKind.TheVariants.{Name, Numeral}
-use Rattle.polcert_items.specs.ElementSteps.{IsText}
+use Rattle.polcert_items.specs.Steps.Elements.{IsText}
 use Rattle.polcert_cells.proofs.Basics.{and_true}
 
 -- among the tests of `class_of`, in their order, one for a byte of a name passed

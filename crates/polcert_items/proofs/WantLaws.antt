@@ -13,19 +13,17 @@ use Rattle.polcert_cells.specs.declared.entry.Table.{Table}
 use Rattle.polcert_items.specs.declared.entry_reader.Numbers.{Numbers}
 use Rattle.polcert_items.specs.declared.entry_reader.EntryReader.{EntryReader}
 use Rattle.polcert_items.specs.declared.entry_reader.EntryState.TheVariants as states
-use Rattle.polcert_items.specs.declared.number.Sign.{Sign}
+use Rattle.polcert_items.specs.declared.signed_number.Sign.{Sign}
 use Rattle.polcert_cells.specs.Preamble.{Preamble, is_mdp, dimensions}
 use Rattle.polcert_cells.specs.Entry.{cells_in}
-use Rattle.polcert_format.specs.Wants.{least_written}
+use Rattle.polcert_format.specs.Wants.{least_written, number_end, numbers_want, by_kind, entry_wants, may_be_state, start_body_wants}
 use Rattle.polcert_format.specs.Reasons.{is_sign}
-use Rattle.polcert_items.specs.NumberSteps.{IsSignAt}
-use Rattle.polcert_items.specs.NumberSteps as steps
-use Rattle.polcert_items.specs.EntrySteps.{awaited, HasRoom, IsFull, no_numbers}
+use Rattle.polcert_items.specs.Steps.Numbers.{IsSignAt}
+use Rattle.polcert_items.specs.Steps.Numbers as steps
+use Rattle.polcert_items.specs.Steps.Entries.{awaited, HasRoom, IsFull, no_numbers}
 use Rattle.polcert_format.specs.Misfits.{Wanted, Mark, NumberOrEnd, Number, EndOfNumbers, EndOfWord, misfit, is_reset, begins_number, tests_value, IsMisfit, of_place}
-use Rattle.polcert_format.specs.Wants.{number_end, numbers_want, by_kind, entry_wants, may_be_state, start_body_wants}
 use Rattle.polcert_items.proofs.PatternLaws.{BeginsNumber}
-use Rattle.polcert_items.specs.WantSteps.{Leads, number_wants, list_wants, state_wants, IfAtEnd}
-use Rattle.polcert_items.specs.WantSteps.{entry_wants as reader_wants}
+use Rattle.polcert_items.specs.Steps.Wants.{Leads, number_wants, list_wants, state_wants, IfAtEnd, entry_wants as reader_wants}
 
 true≢false : true ≡ false → ⊥
 true≢false e = cc

@@ -5,13 +5,13 @@ use Rattle.polcert_cells.specs.declared.elements.Elements.{Elements}
 use Rattle.polcert_cells.specs.declared.elements.Elements.TheVariants.{Count}
 use Rattle.polcert_cells.specs.declared.entry.Entry.{Entry}
 use Rattle.polcert_cells.specs.declared.shares.Shares.{Shares}
-use Rattle.polcert_cells.specs.Sound.{IsSound, draft_of}
+use Rattle.polcert_cells.specs.Steps.Sound.{IsSound, draft_of}
 use Rattle.polcert_format.specs.KnownPreamble.{preamble_in}
 use Rattle.polcert_format.specs.Text.{Known, IsComplete, IsRightText}
 use Rattle.polcert_format.proofs.KnownLaws.{same_preamble}
 use Rattle.polcert_format.proofs.OrderLaws.{is_complete}
 use Rattle.polcert_format.proofs.SoundTexts.{right_text_sound}
-use Rattle.polcert_items.specs.KnownView.{known_of, IsWholeRead, said}
+use Rattle.polcert_items.specs.Steps.Known.{known_of, IsWholeRead, said}
 
 -- its items are right, with the preamble that is known
 pub whole_right : (seen : List Lexeme) (k : Known) → IsWholeRead seen k → IsRightText seen (preamble_in k) k

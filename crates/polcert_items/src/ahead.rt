@@ -4,9 +4,9 @@ ghost use Rattle.polcert_cells.specs.Elements.{count_of, most_elements};
 ghost use Rattle.polcert_cells.specs.declared.elements.Elements.TheVariants.{Count};
 ghost use Rattle.polcert_format.specs.KnownPreamble.{indices_in, named_in};
 ghost use Rattle.polcert_format.specs.Text.{Known as K};
-ghost use Rattle.polcert_items.specs.AheadSteps.{FedAhead, ItemFedAhead, BeginWithPlace, AwaitsColon, AreBegunWith, with_probabilities};
-ghost use Rattle.polcert_items.specs.EntrySteps.{IsWithinIndices};
-ghost use Rattle.polcert_items.specs.ItemSteps.{IsItemWithin};
+ghost use Rattle.polcert_items.specs.Steps.Ahead.{FedAhead, ItemFedAhead, BeginWithPlace, AwaitsColon, AreBegunWith, with_probabilities};
+ghost use Rattle.polcert_items.specs.Steps.Entries.{IsWithinIndices};
+ghost use Rattle.polcert_items.specs.Steps.Items.{IsItemWithin};
 ghost use Rattle.polcert_items.specs.declared.entry_reader.EntryReader.{EntryReader as R};
 
 use crate::entry_reader::{EntryReader, EntryState, Numbers, indices_of, takes_numbers};

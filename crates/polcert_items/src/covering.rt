@@ -4,7 +4,7 @@ ghost use Rattle.polcert_cells.specs.Elements.{most_states, most_actions, most_o
 ghost use Rattle.polcert_format.specs.Limits.{most_cells, most_reward_entries};
 ghost use Rattle.polcert_cells.specs.declared.entry.Entry.{Entry as E};
 ghost use Rattle.polcert_cells.specs.Preamble.{Preamble};
-ghost use Rattle.polcert_items.specs.Covering.{IsNext, IsCoveredWith, chosen, covered_by, open_cells, weighty, counted, most_covered};
+ghost use Rattle.polcert_items.specs.Steps.Covering.{IsNext, IsCoveredWith, chosen, covered_by, open_cells, weighty, counted, most_covered};
 
 use polcert_cells::{Body, Entry, Place, Table};
 use polcert_tables::MOST_CELLS;

@@ -2,11 +2,11 @@
 ghost use Rattle.std.specs.Prelude.{◌≡◌, ◌≤◌, ℕ, Some, IfOk, IfErr, OnErr};
 ghost use Rattle.polcert_text.specs.Reading.{lexeme_of};
 ghost use Rattle.polcert_cells.specs.Elements.{count_of, StandsFor, most_elements};
-ghost use Rattle.polcert_items.specs.ElementSteps.{IsText};
-ghost use Rattle.polcert_items.specs.EntrySteps.{IsPlaceReason};
+ghost use Rattle.polcert_items.specs.Steps.Elements.{IsText};
+ghost use Rattle.polcert_items.specs.Steps.Entries.{IsPlaceReason};
 ghost use Rattle.polcert_format.specs.Misfits.{misfit, Index};
 
-use crate::number::{Refusal, misplaced};
+use crate::signed_number::{Refusal, misplaced};
 use polcert_cells::{Elements, is_reserved};
 use polcert_format::ItemFault;
 use polcert_text::{Token, TokenKind, whole_number};

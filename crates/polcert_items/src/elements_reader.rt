@@ -3,18 +3,18 @@ ghost use Rattle.std.specs.Prelude.{◌≡◌, ◌<◌, ◌≤◌, ◌^◌, ◌�
 ghost use Rattle.polcert_text.specs.Cut.{Lexeme};
 ghost use Rattle.polcert_text.specs.Reading.{lexeme_of};
 ghost use Rattle.polcert_cells.specs.Elements.{count_of};
-ghost use Rattle.polcert_items.specs.ElementSteps.{IsText, NamesGo, ElementsGo, AreNamesRead, IsElementsRead, ElementsReason, AreElementsSeen, IsCountOf};
-ghost use Rattle.polcert_items.specs.EntrySteps.{IfRefused};
-ghost use Rattle.polcert_items.specs.ItemSteps.{IsEndReason};
-ghost use Rattle.polcert_items.specs.LineSteps.{Takes, CannotTake, CannotEnd};
+ghost use Rattle.polcert_items.specs.Steps.Elements.{IsText, NamesGo, ElementsGo, AreNamesRead, IsElementsRead, ElementsReason, AreElementsSeen, IsCountOf};
+ghost use Rattle.polcert_items.specs.Steps.Entries.{IfRefused};
+ghost use Rattle.polcert_items.specs.Steps.Items.{IsEndReason};
+ghost use Rattle.polcert_items.specs.Steps.Lines.{Takes, CannotTake, CannotEnd};
 ghost use Rattle.polcert_cells.specs.Meaning.{IsCount};
 ghost use Rattle.polcert_format.specs.Reasons.{is_sign};
 ghost use Rattle.polcert_format.specs.Misfits.{misfit, IsMisfit, CountOrName, FurtherName};
-ghost use Rattle.polcert_items.specs.WantSteps.{Leads, elements_want};
+ghost use Rattle.polcert_items.specs.Steps.Wants.{Leads, elements_want};
 ghost use Rattle.polcert_cells.specs.Words.{IsName};
 
-use crate::lines::colon;
-use crate::number::{Refusal, misplaced};
+use crate::preamble_lines::colon;
+use crate::signed_number::{Refusal, misplaced};
 use crate::stop::Stop;
 use polcert_cells::{Elements, Names, Topic, is_reserved};
 use polcert_format::ItemFault;

@@ -2,21 +2,21 @@
 ghost use Rattle.std.specs.Prelude.{◌≡◌, Bool, true, None, List, [], ◌∷◌, ◌++◌, IfOk, OnOk, IfErr};
 ghost use Rattle.polcert_text.specs.Cut.{Lexeme};
 ghost use Rattle.polcert_text.specs.Reading.{lexeme_of};
-ghost use Rattle.polcert_items.specs.ElementSteps.{IsText};
-ghost use Rattle.polcert_items.specs.EntrySteps.{IfRefused};
-ghost use Rattle.polcert_items.specs.ItemSteps.{ItemGoes, ItemForms, IsItemWithin, IsItemReason, IsItemEndReason, topic_in, IsSeen, new_item, HasElements, pending_in};
-ghost use Rattle.polcert_items.specs.KnownView.{learned, IsSaidOf, IsSaidWithin};
-ghost use Rattle.polcert_items.specs.LineSteps.{Takes, CannotTake, CannotEnd};
+ghost use Rattle.polcert_items.specs.Steps.Elements.{IsText};
+ghost use Rattle.polcert_items.specs.Steps.Entries.{IfRefused};
+ghost use Rattle.polcert_items.specs.Steps.Items.{ItemGoes, ItemForms, IsItemWithin, IsItemReason, IsItemEndReason, topic_in, IsSeen, new_item, HasElements, pending_in};
+ghost use Rattle.polcert_items.specs.Steps.Known.{learned, IsSaidOf, IsSaidWithin};
+ghost use Rattle.polcert_items.specs.Steps.Lines.{Takes, CannotTake, CannotEnd};
 ghost use Rattle.polcert_format.specs.Misfits.{misfit, IsMisfit};
-ghost use Rattle.polcert_items.specs.StartSteps.{IfNotMemory, IsLateEnd, StopsStart};
+ghost use Rattle.polcert_items.specs.Steps.Start.{IfNotMemory, IsLateEnd, StopsStart};
 ghost use Rattle.polcert_format.specs.FirstNumber.{IsLate, states_known};
-ghost use Rattle.polcert_items.specs.WantSteps.{Leads, item_wants, IfNotStart, IfStart, IfAtEnd};
+ghost use Rattle.polcert_items.specs.Steps.Wants.{Leads, item_wants, IfNotStart, IfStart, IfAtEnd};
 
 use crate::elements_reader::ElementsReader;
 use crate::entry_reader::EntryReader;
 use crate::known::Known;
-use crate::lines::{DiscountReader, ValuesReader};
-use crate::number::Refusal;
+use crate::preamble_lines::{DiscountReader, ValuesReader};
+use crate::signed_number::Refusal;
 use crate::start_reader::StartReader;
 use crate::stop::{ItemEnd, Stop};
 use polcert_cells::{Elements, Entry, MOST_ACTIONS, MOST_OBSERVATIONS, MOST_STATES, Shares, Topic};
@@ -38,7 +38,7 @@ pub enum ItemReader {
 
 /// What a whole item says.
 #[derive(Drop)]
-pub enum Said {
+pub enum ItemContents {
     Discount(u32),
     Costs(bool),
     States(Elements),
@@ -158,7 +158,7 @@ impl ItemReader {
     }
 
     /// What the item says, or why it cannot end here.
-    pub fn end(self, alloc: Global, known: &Known) -> Result<Said, ItemEnd>
+    pub fn end(self, alloc: Global, known: &Known) -> Result<ItemContents, ItemEnd>
         requires { IsItemWithin known.now self }
         ensures said { IfOk result (λ said. ItemGoes known.now self [] (learned known.now said)) }
         ensures within { IfOk result IsSaidWithin }
@@ -176,13 +176,16 @@ impl ItemReader {
         ensures unheld { IfErr result (λ e. IfAtEnd e (λ kind. pending_in self ≡ None)) }
     {
         match self {
-            ItemReader::Discount(reader) => Ok(Said::Discount(reader.end()?)),
-            ItemReader::Values(reader) => Ok(Said::Costs(reader.end()?)),
-            ItemReader::States(reader) => Ok(Said::States(reader.end()?)),
-            ItemReader::Actions(reader) => Ok(Said::Actions(reader.end()?)),
-            ItemReader::Observations(reader) => Ok(Said::Observations(reader.end()?)),
-            ItemReader::Start(reader) => Ok(Said::Start(reader.end(alloc, known.states())?)),
-            ItemReader::Entry(reader) => Ok(Said::Entry(reader.end(known)?)),
+            ItemReader::Discount(reader) => Ok(ItemContents::Discount(reader.end()?)),
+            ItemReader::Values(reader) => Ok(ItemContents::Costs(reader.end()?)),
+            ItemReader::States(reader) => Ok(ItemContents::States(reader.end()?)),
+            ItemReader::Actions(reader) => Ok(ItemContents::Actions(reader.end()?)),
+            ItemReader::Observations(reader) => Ok(ItemContents::Observations(reader.end()?)),
+            ItemReader::Start(reader) => Ok(ItemContents::Start(reader.end(
+                alloc,
+                known.states(),
+            )?)),
+            ItemReader::Entry(reader) => Ok(ItemContents::Entry(reader.end(known)?)),
         }
     }
 }

@@ -4,27 +4,24 @@ ghost use Rattle.std.specs.Prelude.{unwrap_or, OnOk, OnErr, IfOk, IsErrOf, if◌
 ghost use Rattle.std.specs.Option.{option_copied};
 ghost use Rattle.polcert_cells.specs.declared.elements.Elements.{Elements};
 ghost use Rattle.polcert_cells.specs.declared.elements.Elements.TheVariants.{Count};
-ghost use Rattle.polcert_cells.specs.Elements.{count_of, most_states, most_actions, most_observations};
-ghost use Rattle.polcert_cells.specs.Elements.{most_elements};
+ghost use Rattle.polcert_cells.specs.Elements.{count_of, most_states, most_actions, most_observations, most_elements};
 ghost use Rattle.polcert_cells.specs.Entry.{cells_in};
 ghost use Rattle.polcert_cells.specs.declared.words.Topic.{Topic};
 ghost use Rattle.polcert_cells.specs.Preamble.{is_mdp};
 ghost use Rattle.polcert_format.specs.KnownPreamble.{preamble_in, indices_in, named_in};
 ghost use Rattle.polcert_format.specs.Wants.{least_written};
 ghost use Rattle.polcert_format.specs.Limits.{HasFewCells};
-ghost use Rattle.polcert_items.specs.Covering.{AreSizesOf};
-ghost use Rattle.polcert_items.specs.KnownView.{learned, IsSaidWithin, MayBeLearned};
+ghost use Rattle.polcert_items.specs.Steps.Covering.{AreSizesOf};
+ghost use Rattle.polcert_items.specs.Steps.Known.{learned, IsSaidWithin, MayBeLearned, IsWholeRead, said};
 ghost use Rattle.polcert_cells.specs.Meaning.{IsCount};
-ghost use Rattle.polcert_tables.specs.Kept.{IsKeptOf};
-ghost use Rattle.polcert_format.specs.Order.{word_fault};
-ghost use Rattle.polcert_format.specs.Order.{count_in, preamble_fault, is_late, came_before, is_unobserved};
+ghost use Rattle.polcert_tables.specs.Steps.KeptOf.{IsKeptOf};
+ghost use Rattle.polcert_format.specs.Order.{word_fault, count_in, preamble_fault, is_late, came_before, is_unobserved};
 ghost use Rattle.polcert_format.specs.Order.{pairs_are_too_many};
 ghost use Rattle.polcert_format.specs.Text.{nothing_known};
-ghost use Rattle.polcert_items.specs.KnownView.{IsWholeRead, said};
 ghost use Rattle.polcert_text.specs.Cut.{Lexeme};
 
 use crate::covering::{Covering, Sizes};
-use crate::item::Said;
+use crate::item::ItemContents;
 use crate::stop::Unlearned;
 use polcert_cells::{Elements, Entries, Entry, Shares, Table, Topic};
 use polcert_format::ItemFault;
@@ -52,8 +49,8 @@ impl Model for Known {
     ghost use Rattle.polcert_format.specs.Text as text;
     ghost use Rattle.polcert_cells.specs.Elements.{most_states, most_actions, most_observations};
     ghost use Rattle.polcert_format.specs.KnownPreamble.{preamble_in};
-    ghost use Rattle.polcert_items.specs.Covering.{IsCoveringOf};
-    ghost use Rattle.polcert_items.specs.KnownView.{known_of, IsCountIn};
+    ghost use Rattle.polcert_items.specs.Steps.Covering.{IsCoveringOf};
+    ghost use Rattle.polcert_items.specs.Steps.Known.{known_of, IsCountIn};
 
     ghost Value = { text.Known };
 
@@ -84,7 +81,7 @@ impl Known {
 
     /// Adds what a whole item says, unless it is an entry with which entries give too much of a large table.
     /// Where memory is wanting, too, all stays as it was.
-    pub fn learn(&mut self, said: Said) -> Result<(), Unlearned>
+    pub fn learn(&mut self, said: ItemContents) -> Result<(), Unlearned>
         requires within { IsSaidWithin said }
         requires next { MayBeLearned self.old said }
         ensures ok { OnOk result (self.new ≡ learned self.old said) }
@@ -94,21 +91,21 @@ impl Known {
             HasFewCells (preamble_in self.old) (learned self.old said).entries → ⊥ }
     {
         match said {
-            Said::Discount(discount) => self.discount = Some(discount),
-            Said::Costs(costs) => self.costs = Some(costs),
-            Said::States(states) => self.states = Some(states),
-            Said::Actions(actions) => self.actions = Some(actions),
-            Said::Observations(observations) => self.observations = Some(observations),
-            Said::Start(shares) => self.start = Some(shares),
-            Said::Entry(entry) => self.learn_entry(entry)?,
+            ItemContents::Discount(discount) => self.discount = Some(discount),
+            ItemContents::Costs(costs) => self.costs = Some(costs),
+            ItemContents::States(states) => self.states = Some(states),
+            ItemContents::Actions(actions) => self.actions = Some(actions),
+            ItemContents::Observations(observations) => self.observations = Some(observations),
+            ItemContents::Start(shares) => self.start = Some(shares),
+            ItemContents::Entry(entry) => self.learn_entry(entry)?,
         }
         Ok(())
     }
 
     /// Adds an entry.
     fn learn_entry(&mut self, entry: Entry) -> Result<(), Unlearned>
-        requires { MayBeLearned self.old (Said.Entry entry) }
-        ensures ok { OnOk result (self.new ≡ learned self.old (Said.Entry entry)) }
+        requires { MayBeLearned self.old (ItemContents.Entry entry) }
+        ensures ok { OnOk result (self.new ≡ learned self.old (ItemContents.Entry entry)) }
         ensures few { OnOk result (HasFewCells (preamble_in self.old) (self.old.entries ++ entry ∷ [])) }
         ensures err { OnErr result (self.new ≡ self.old) }
         ensures many { IsErrOf result Unlearned.TooManyCells →

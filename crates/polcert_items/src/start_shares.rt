@@ -7,11 +7,11 @@ ghost use Rattle.polcert_cells.specs.Elements.{most_states};
 ghost use Rattle.polcert_cells.specs.Start.{shares_of, is_level, is_positive};
 ghost use Rattle.polcert_format.specs.Misfits.{misfit};
 ghost use Rattle.polcert_items.specs.declared.start_reader.StartReader.TheVariants as reader;
-ghost use Rattle.polcert_items.specs.EntrySteps.{HasRoom};
-ghost use Rattle.polcert_items.specs.LineSteps.{CannotEnd};
-ghost use Rattle.polcert_items.specs.StartSteps.{StartGives, IsStartEndReason, IfNotMemory, IsAtEnd};
-ghost use Rattle.polcert_items.specs.StartSteps.{first_above_0, is_level_at, level_share};
-ghost use Rattle.polcert_items.specs.WantSteps.{list_wants, IfAtEnd};
+ghost use Rattle.polcert_items.specs.Steps.Entries.{HasRoom};
+ghost use Rattle.polcert_items.specs.Steps.Lines.{CannotEnd};
+ghost use Rattle.polcert_items.specs.Steps.Start.{StartGives, IsStartEndReason, IfNotMemory, IsAtEnd};
+ghost use Rattle.polcert_items.specs.Steps.Start.{first_above_0, is_level_at, level_share};
+ghost use Rattle.polcert_items.specs.Steps.Wants.{list_wants, IfAtEnd};
 
 use crate::entry_reader::Numbers;
 use crate::stop::ItemEnd;

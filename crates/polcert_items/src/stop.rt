@@ -1,7 +1,7 @@
 //! Why the reader of an item stops.
 ghost use Rattle.std.specs.Prelude.{◌≡◌};
 
-use crate::number::Refusal;
+use crate::signed_number::Refusal;
 use polcert_format::ItemFault;
 use std::alloc::AllocError;
 

@@ -1,4 +1,4 @@
-pub mod Continuing
+pub mod ItemsGoOn
 pub mod ModelStreams
 pub mod ReadingAhead
 pub mod Refusing
@@ -13,4 +13,4 @@ pub use Rattle.polcert_format.proofs.LimitLaws
 pub use Rattle.polcert_format.proofs.RefusalLaws
 pub use Rattle.polcert_format.proofs.TextLaws
 pub use Rattle.polcert_tables.proofs.FilledLaws
-pub use Rattle.polcert_full_form.proofs.Parts
+pub use Rattle.polcert_full_form.proofs.Printing.WrittenParts

@@ -3,9 +3,9 @@ use Rattle.std.proofs.Common.{◌≡◌, ◌+◌, ◌∙◌, ℕ, Bool, true, fa
 use Rattle.polcert_text.specs.Cut.{Lexeme, Rest, IsCut, EndsAt, text_rest, end_place, text_limit}
 use Rattle.polcert_text.specs.Source.{IsText, EachTextThatFits}
 use Rattle.polcert_text.specs.Stream.{Ahead, Stream, GivesEnd}
-use Rattle.polcert_text.specs.StreamTaken.{TakenFrom}
+use Rattle.polcert_text.specs.Steps.StreamTaken.{TakenFrom}
 use Rattle.polcert_text.specs.declared.tokens.TokenFault.{TokenFault}
-use Rattle.polcert_text.proofs.StreamTaken.{each_taken, each_cut, text_taken, each_whole}
+use Rattle.polcert_text.proofs.Streams.StreamTaken.{each_taken, each_cut, text_taken, each_whole}
 use Rattle.polcert_cells.specs.declared.entry.Table.{Table}
 use Rattle.polcert_cells.specs.Rows.{IsFirstWrongRow}
 use Rattle.polcert_format.specs.declared.fault.ModelFault.{ModelFault}
@@ -13,11 +13,12 @@ use Rattle.polcert_format.specs.declared.fault.ModelFault.TheVariants.{RowSum}
 use Rattle.polcert_model.specs.declared.reader.TextReader.{TextReader}
 use Rattle.polcert_format.specs.Text.{Known}
 use Rattle.polcert_format.specs.FirstWrong.{TextTokens, AreTokensOf}
-use Rattle.polcert_tables.specs.Kept.{Kept, IsKeptOf, meaning}
+use Rattle.polcert_tables.specs.Kept.{Kept, meaning}
+use Rattle.polcert_tables.specs.Steps.KeptOf.{IsKeptOf}
 use Rattle.polcert_format.specs.Refusals.{IsRefusal, IsPlacedRight, IsNoModel}
 use Rattle.polcert_format.specs.RefusedTexts.{IsRefusedModelText}
-use Rattle.polcert_items.specs.KnownView.{IsWholeRead, said}
-use Rattle.polcert_model.specs.TextSteps.{IsTextRead, IsTextOf, IsRefusedBehind, IsRefusedWhole, Refuses, tokens_end, pending_at}
+use Rattle.polcert_items.specs.Steps.Known.{IsWholeRead, said}
+use Rattle.polcert_model.specs.Steps.Texts.{IsTextRead, IsTextOf, IsRefusedBehind, IsRefusedWhole, Refuses, tokens_end, pending_at}
 use Rattle.polcert_format.proofs.FrontLaws.{tokens_begin, these_tokens, too_long, whole_text}
 use Rattle.polcert_format.proofs.RefusalLaws.{no_model}
 use Rattle.polcert_model.proofs.RefusingEnds.{fault_refused}

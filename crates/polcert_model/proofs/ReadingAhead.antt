@@ -3,24 +3,23 @@ use Rattle.std.proofs.Common.{◌≡◌, ℕ, Option, Some, List, [], ◌∷◌,
 use Rattle.std.proofs.lemmas.List.{append-nil}
 use Rattle.polcert_text.specs.Beginning.{passed}
 use Rattle.polcert_text.specs.Cut.{Lexeme}
-use Rattle.polcert_text.specs.Stream.{Stream}
-use Rattle.polcert_text.specs.Streaming.{visible}
-use Rattle.polcert_text.specs.StreamTaken.{TakenFrom}
-use Rattle.polcert_text.proofs.BeginLaws.{begin_none}
-use Rattle.polcert_text.proofs.PassedTokens.{passed_taken}
+use Rattle.polcert_text.specs.Stream.{Stream, visible}
+use Rattle.polcert_text.specs.Steps.StreamTaken.{TakenFrom}
+use Rattle.polcert_text.proofs.Taken.BeginLaws.{begin_none}
+use Rattle.polcert_text.proofs.Taken.PassedTokens.{passed_taken}
 use Rattle.polcert_cells.specs.declared.words.Topic.TheVariants.{Cells}
 use Rattle.polcert_format.specs.KnownPreamble.{indices_in}
 use Rattle.polcert_format.specs.Text.{Known}
-use Rattle.polcert_items.specs.AheadSteps.{IsFed, AreFed, none, more, FedAhead, ItemFedAhead, nothing, entry}
-use Rattle.polcert_items.specs.EntrySteps.{IsWithinIndices, entry_sign}
-use Rattle.polcert_items.specs.ItemSteps.{ItemGoes}
-use Rattle.polcert_items.specs.LineSteps.{Takes}
-use Rattle.polcert_items.specs.WantSteps.{Leads, item_wants}
+use Rattle.polcert_items.specs.Steps.Ahead.{IsFed, AreFed, none, more, FedAhead, ItemFedAhead, nothing, entry}
+use Rattle.polcert_items.specs.Steps.Entries.{IsWithinIndices, entry_sign}
+use Rattle.polcert_items.specs.Steps.Items.{ItemGoes}
+use Rattle.polcert_items.specs.Steps.Lines.{Takes}
+use Rattle.polcert_items.specs.Steps.Wants.{Leads, item_wants}
 use Rattle.polcert_items.specs.declared.entry_reader.EntryReader.{EntryReader}
 use Rattle.polcert_items.specs.declared.item.ItemReader.{ItemReader}
 use Rattle.polcert_items.specs.declared.item.ItemReader.TheVariants.{Entry}
 use Rattle.polcert_items.proofs.ItemReading.{sign_ends}
-use Rattle.polcert_model.specs.TextSteps.{IsTextRead, IsReadAhead, IsPassed}
+use Rattle.polcert_model.specs.Steps.Texts.{IsTextRead, IsReadAhead, IsPassed}
 use Rattle.polcert_model.specs.declared.reader.TextReader.{TextReader}
 use Rattle.polcert_model.proofs.TextReading.{item_takes}
 

@@ -10,8 +10,8 @@ use Rattle.polcert_format.specs.declared.fault.ItemFault.TheVariants.{Number, Ba
 use Rattle.polcert_format.specs.declared.fault.ModelFault.TheVariants as model_faults
 use Rattle.polcert_items.specs.declared.item.ItemReader.{ItemReader}
 use Rattle.polcert_items.specs.declared.item.ItemReader.TheVariants as items
-use Rattle.polcert_items.specs.declared.number.Refusal.{Refusal}
-use Rattle.polcert_items.specs.declared.number.Sign.{Sign}
+use Rattle.polcert_items.specs.declared.signed_number.Refusal.{Refusal}
+use Rattle.polcert_items.specs.declared.signed_number.Sign.{Sign}
 use Rattle.polcert_model.specs.declared.reader.TextReader.{TextReader}
 use Rattle.polcert_cells.specs.declared.entry.Table.{Table}
 use Rattle.polcert_cells.specs.declared.words.Topic.{Topic}
@@ -27,30 +27,30 @@ use Rattle.polcert_format.specs.Reasons.{IsReason, PassesLimit, InItem, StandsIn
 use Rattle.polcert_format.specs.Reasons as reasons
 use Rattle.polcert_format.specs.Refusals.{place_or, Stops, StopsInBody, in_body, behind_body, of_first_number}
 use Rattle.polcert_format.specs.Refusals as refusals
-use Rattle.polcert_items.specs.NumberSteps.{is_negative, number_place, IsSignAt, SignEnds}
-use Rattle.polcert_items.specs.NumberSteps as steps
-use Rattle.polcert_items.specs.LineSteps.{CannotTake, CannotEnd}
-use Rattle.polcert_items.specs.StartSteps.{IsReasonAt, IsReasonIn, IsStartReason, StopsStart, first_number, token}
+use Rattle.polcert_items.specs.Steps.Numbers.{is_negative, number_place, IsSignAt, SignEnds}
+use Rattle.polcert_items.specs.Steps.Numbers as steps
+use Rattle.polcert_items.specs.Steps.Lines.{CannotTake, CannotEnd}
+use Rattle.polcert_items.specs.Steps.Start.{IsReasonAt, IsReasonIn, IsStartReason, StopsStart, first_number, token}
 use Rattle.polcert_format.specs.FirstNumber.{IsLate, IsLateIn, ends_cleanly, states_known}
 use Rattle.polcert_format.proofs.FirstNumbers.{late_here}
 use Rattle.polcert_items.proofs.FirstNumberLaws.{late_at_fault, pending_is_late}
 use Rattle.polcert_items.proofs.FormLaws.{nothing_pending, forms_stuck}
-use Rattle.polcert_items.specs.ItemSteps.{ItemGoes, ItemForms, topic_in, sign_in, pending_in, IsSeen, IsTokenReason, IsItemReason, IsEndReason}
-use Rattle.polcert_items.specs.ItemSteps as steps_of
+use Rattle.polcert_items.specs.Steps.Items.{ItemGoes, ItemForms, topic_in, sign_in, pending_in, IsSeen, IsTokenReason, IsItemReason, IsEndReason}
+use Rattle.polcert_items.specs.Steps.Items as steps_of
 use Rattle.polcert_format.specs.Misfits.{misfit, IsOfValue, IsMisfit}
 use Rattle.polcert_format.specs.Wants.{wanted}
-use Rattle.polcert_items.specs.WantSteps.{item_wants, IfNotStart, IfStart}
-use Rattle.polcert_model.specs.TextSteps.{IsItemRead, EndsItem, IsRefusedBehind, IsRefusedAt, Refuses}
-use Rattle.polcert_model.specs.TextSteps as texts
+use Rattle.polcert_items.specs.Steps.Wants.{item_wants, IfNotStart, IfStart}
+use Rattle.polcert_model.specs.Steps.Texts.{IsItemRead, EndsItem, IsRefusedBehind, IsRefusedAt, Refuses}
+use Rattle.polcert_model.specs.Steps.Texts as texts
 use Rattle.polcert_cells.proofs.Basics.{one_some, cons≢nil}
 use Rattle.polcert_format.proofs.ItemLaws.{has_division}
 use Rattle.polcert_format.proofs.Dividing.{next_division, empty_division}
 use Rattle.polcert_format.proofs.ReadLaws.{within_division}
 use Rattle.polcert_format.proofs.PlaceLaws.{Rises, tokens_rise, lies_in_item}
 use Rattle.polcert_format.proofs.DecidedLaws.{nothing_decided}
-use Rattle.polcert_format.proofs.Possible.{possible_front}
+use Rattle.polcert_format.proofs.StillPossible.{possible_front}
 use Rattle.polcert_format.proofs.CellLimits.{too_much_wrong}
-use Rattle.polcert_format.proofs.Within.{within_goes_on}
+use Rattle.polcert_format.proofs.BegunItems.{within_goes_on}
 use Rattle.polcert_items.proofs.StartSeen.{pending_reason}
 use Rattle.polcert_model.proofs.Shaped.{right_shaped, too_much_shaped}
 

@@ -9,9 +9,9 @@ use Rattle.polcert_text.specs.declared.tokens.TokenFault.TheVariants as token_fa
 use Rattle.polcert_format.specs.declared.fault.ItemFault.{ItemFault}
 use Rattle.polcert_format.specs.declared.fault.ItemFault.TheVariants.{BadShape, BeforeFirstItem, DuplicateLine, LateLine, MissingLine, TooManyCells}
 use Rattle.polcert_format.specs.declared.fault.ModelFault.TheVariants as model_faults
-use Rattle.polcert_items.specs.declared.number.Refusal.{Refusal}
+use Rattle.polcert_items.specs.declared.signed_number.Refusal.{Refusal}
 use Rattle.polcert_model.specs.declared.reader.TextReader.{TextReader}
-use Rattle.polcert_items.specs.ItemSteps.{pending_in}
+use Rattle.polcert_items.specs.Steps.Items.{pending_in}
 use Rattle.polcert_cells.specs.declared.words.Topic.{Topic}
 use Rattle.polcert_cells.specs.Words.{topic, begins_item}
 use Rattle.polcert_format.specs.Items.{Item, IsDivided}
@@ -24,15 +24,15 @@ use Rattle.polcert_format.specs.Reasons.{IsReason}
 use Rattle.polcert_format.specs.Forms.{IsPossible}
 use Rattle.polcert_format.specs.Refusals.{IsItemRefusal, IsOfTokens, IsLastTaken, before_body, of_tokens}
 use Rattle.polcert_format.specs.Refusals as refusals
-use Rattle.polcert_model.specs.TextSteps.{IsNothingRead, IsItemRead, IsTextRead, AreItemsRead, IsRefusedBehind, Refuses, fault_kind, pending_at, tokens_end}
-use Rattle.polcert_model.specs.TextSteps as texts
+use Rattle.polcert_model.specs.Steps.Texts.{IsNothingRead, IsItemRead, IsTextRead, AreItemsRead, IsRefusedBehind, Refuses, fault_kind, pending_at, tokens_end}
+use Rattle.polcert_model.specs.Steps.Texts as texts
 use Rattle.polcert_cells.proofs.Basics.{or_false_from, cons≢nil, some≢none}
 use Rattle.polcert_format.proofs.ItemLaws.{has_division, one_division}
 use Rattle.polcert_format.proofs.Dividing.{append_division, empty_division}
 use Rattle.polcert_format.proofs.OrderLaws.{wrong_at_word, not_complete, are_too_many, fault_at}
 use Rattle.polcert_format.proofs.PlaceLaws.{tokens_rise, fault_rises, lies_at_word, lies_before_items, lies_at_end, lies_at_fault, lies_at_once}
 use Rattle.polcert_format.proofs.DecidedLaws.{one_decided}
-use Rattle.polcert_format.proofs.Within.{item_begins}
+use Rattle.polcert_format.proofs.BegunItems.{item_begins}
 use Rattle.polcert_model.proofs.Refusing.{Here, item_here, here, first_here, free_here, due_at_fault, pending_refused}
 
 -- ---- before the first item

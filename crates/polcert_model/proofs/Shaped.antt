@@ -6,7 +6,7 @@ use Rattle.polcert_cells.specs.declared.entry.Table.{Table}
 use Rattle.polcert_cells.specs.declared.words.Topic.{Topic}
 use Rattle.polcert_cells.specs.declared.words.Topic.TheVariants.{Discount, Values, States, Actions, Observations, Start, Cells}
 use Rattle.polcert_cells.specs.Preamble.{Preamble}
-use Rattle.polcert_cells.specs.Sound.{IsSoundEntry}
+use Rattle.polcert_cells.specs.Steps.Sound.{IsSoundEntry}
 use Rattle.polcert_cells.proofs.Basics.{same_tail}
 use Rattle.polcert_format.specs.Forms.{HasForm, IsTooMuch}
 use Rattle.polcert_format.specs.Forms as shapes
@@ -18,10 +18,10 @@ use Rattle.polcert_format.specs.Text.{Known, IsRight}
 use Rattle.polcert_format.proofs.KnownLaws.{same_preamble}
 use Rattle.polcert_format.proofs.OrderLaws.{complete_fault, states_may_stand, actions_may_stand, observations_may_stand}
 use Rattle.polcert_format.proofs.SoundTexts.{right_entry_sound}
-use Rattle.polcert_items.specs.declared.item.Said.{Said}
-use Rattle.polcert_items.specs.declared.item.Said.TheVariants as says
-use Rattle.polcert_items.specs.KnownView.{learned, IsSaidOf, MayBeLearned}
-use Rattle.polcert_model.specs.TextSteps.{IsEntryTo, IsShaped}
+use Rattle.polcert_items.specs.declared.item.ItemContents.{ItemContents}
+use Rattle.polcert_items.specs.declared.item.ItemContents.TheVariants as says
+use Rattle.polcert_items.specs.Steps.Known.{learned, IsSaidOf, MayBeLearned}
+use Rattle.polcert_model.specs.Steps.Texts.{IsEntryTo, IsShaped}
 
 pub right_shaped : (k : Known) (t : Topic) (body : List Lexeme) (next : Known) → IsRight k t body next → IsShaped k t body next
 right_shaped k t body next (texts.discount p e c n l) = texts.discount p e c n l
@@ -105,7 +105,7 @@ same_last [] (z ∷ ys) x y same e = cc
 same_last (w ∷ xs) [] x y same e = cc
 same_last (w ∷ xs) (z ∷ ys) x y same e = same_last xs ys x y (same_tail same) (same_tail e)
 
-pub may_be_learned : (k : Known) (t : Topic) (body : List Lexeme) (said : Said) → word_fault k t ≡ None → IsSaidOf t said → IsShaped k t body (learned k said) → MayBeLearned k said
+pub may_be_learned : (k : Known) (t : Topic) (body : List Lexeme) (said : ItemContents) → word_fault k t ≡ None → IsSaidOf t said → IsShaped k t body (learned k said) → MayBeLearned k said
 may_be_learned k t body (says.Discount g) free about s = tt
 may_be_learned k t body (says.Costs b) free about s = tt
 may_be_learned k States body (says.States e) free about s = (states_may_stand k free).0.no_entry

@@ -7,8 +7,8 @@ use Rattle.polcert_cells.specs.declared.entry.Table.{Table}
 use Rattle.polcert_cells.specs.declared.entry.Table.TheVariants.{Transition, Observation, Reward}
 use Rattle.polcert_items.specs.declared.item.ItemReader.{ItemReader}
 use Rattle.polcert_items.specs.declared.item.ItemReader.TheVariants as items
-use Rattle.polcert_items.specs.declared.lines.DiscountReader.TheVariants as discount
-use Rattle.polcert_items.specs.declared.lines.ValuesReader.TheVariants as values
+use Rattle.polcert_items.specs.declared.preamble_lines.DiscountReader.TheVariants as discount
+use Rattle.polcert_items.specs.declared.preamble_lines.ValuesReader.TheVariants as values
 use Rattle.polcert_items.specs.declared.elements_reader.ElementsReader.TheVariants as elements
 use Rattle.polcert_cells.specs.declared.words.Topic.{Topic}
 use Rattle.polcert_cells.specs.declared.words.Topic.TheVariants.{Discount, Values, States, Actions, Observations, Start, Cells}
@@ -21,24 +21,24 @@ use Rattle.polcert_format.specs.Items.{Item}
 use Rattle.polcert_format.specs.Text as texts
 use Rattle.polcert_format.specs.Text.{Known, nothing_known, HasLines, IsComplete, AreRight, IsRight}
 use Rattle.polcert_format.specs.Order.{word_fault}
-use Rattle.polcert_items.specs.LineSteps.{Takes}
+use Rattle.polcert_items.specs.Steps.Lines.{Takes}
 use Rattle.polcert_format.specs.KnownPreamble.{preamble_in}
-use Rattle.polcert_items.specs.EntrySteps.{IsEntryBehind, EntryGoes, AreSome}
+use Rattle.polcert_items.specs.Steps.Entries.{IsEntryBehind, EntryGoes, AreSome}
 use Rattle.polcert_cells.specs.Start.{IsStart}
-use Rattle.polcert_items.specs.StartSteps.{new_start, StartGives}
+use Rattle.polcert_items.specs.Steps.Start.{new_start, StartGives}
 use Rattle.polcert_cells.specs.declared.shares.Shares.{Shares}
 use Rattle.polcert_format.specs.Forms.{IsStartForm, HasForm}
 use Rattle.polcert_format.specs.Forms as shapes
-use Rattle.polcert_items.specs.ItemSteps.{ItemGoes, ItemForms, IsItemWithin, topic_in, IsSeen, new_item, new_entry, HasElements}
+use Rattle.polcert_items.specs.Steps.Items.{ItemGoes, ItemForms, IsItemWithin, topic_in, IsSeen, new_item, new_entry, HasElements}
 use Rattle.polcert_format.specs.Wants.{wanted}
-use Rattle.polcert_items.specs.WantSteps.{Leads, item_wants, IfStart}
+use Rattle.polcert_items.specs.Steps.Wants.{Leads, item_wants, IfStart}
 use Rattle.polcert_items.proofs.FormLaws.{is_start, start_form, right_forms, forms_take}
 use Rattle.polcert_format.specs.FirstNumber.{states_known}
-use Rattle.polcert_model.specs.TextSteps.{IsShaped, IsBodyRead}
+use Rattle.polcert_model.specs.Steps.Texts.{IsShaped, IsBodyRead}
 use Rattle.polcert_model.proofs.Shaped.{shaped_form}
 use Rattle.polcert_format.proofs.FirstPlaces.{entry_begins}
 use Rattle.polcert_format.proofs.KnownLaws.{same_preamble, same_indices, same_states}
-use Rattle.polcert_model.proofs.Continuing.{can_end}
+use Rattle.polcert_model.proofs.ItemsGoOn.{can_end}
 use Rattle.polcert_items.proofs.StartReading.{new_start_on, new_start_back, new_start_within, new_start_seen}
 use Rattle.polcert_format.proofs.LimitLaws.{CountWithin, counts_within}
 use Rattle.polcert_format.proofs.OrderLaws.{discount_may_stand, values_may_stand, states_may_stand, actions_may_stand, observations_may_stand, start_may_stand, entry_may_stand}

@@ -7,7 +7,7 @@ use Rattle.polcert_format.specs.declared.fault.ItemFault.TheVariants.{BeforeFirs
 use Rattle.polcert_format.specs.declared.fault.ModelFault.{ModelFault}
 use Rattle.polcert_format.specs.declared.fault.ModelFault.TheVariants as model_faults
 use Rattle.polcert_items.specs.declared.item.ItemReader.{ItemReader}
-use Rattle.polcert_items.specs.declared.item.Said.{Said}
+use Rattle.polcert_items.specs.declared.item.ItemContents.{ItemContents}
 use Rattle.polcert_model.specs.declared.reader.TextReader.{TextReader}
 use Rattle.polcert_cells.specs.declared.words.Topic.{Topic}
 use Rattle.polcert_cells.specs.declared.words.Topic.TheVariants.{Start}
@@ -18,20 +18,20 @@ use Rattle.polcert_format.specs.Text as texts
 use Rattle.polcert_format.specs.KnownPreamble.{preamble_in}
 use Rattle.polcert_format.specs.Limits.{HasFewCells}
 use Rattle.polcert_format.specs.Order.{word_fault, preamble_fault}
-use Rattle.polcert_items.specs.LineSteps.{Takes, CannotTake, CannotEnd}
-use Rattle.polcert_items.specs.StartSteps.{IsStartReason, StopsStart}
-use Rattle.polcert_items.specs.ItemSteps.{ItemGoes, ItemForms, IsItemWithin, IsItemReason, IsEndReason, IsSeen, topic_in, pending_in, new_item, HasElements}
-use Rattle.polcert_items.specs.KnownView.{learned, IsSaidOf, MayBeLearned}
+use Rattle.polcert_items.specs.Steps.Lines.{Takes, CannotTake, CannotEnd}
+use Rattle.polcert_items.specs.Steps.Start.{IsStartReason, StopsStart}
+use Rattle.polcert_items.specs.Steps.Items.{ItemGoes, ItemForms, IsItemWithin, IsItemReason, IsEndReason, IsSeen, topic_in, pending_in, new_item, HasElements}
+use Rattle.polcert_items.specs.Steps.Known.{learned, IsSaidOf, MayBeLearned}
 use Rattle.polcert_format.specs.Misfits.{misfit, IsMisfit}
-use Rattle.polcert_items.specs.WantSteps.{Leads, item_wants, IfNotStart, IfStart}
-use Rattle.polcert_items.specs.declared.number.Refusal.{Refusal}
+use Rattle.polcert_items.specs.Steps.Wants.{Leads, item_wants, IfNotStart, IfStart}
+use Rattle.polcert_items.specs.declared.signed_number.Refusal.{Refusal}
 use Rattle.polcert_format.specs.FirstNumber.{IsLate, states_known}
-use Rattle.polcert_model.specs.TextSteps.{Refuses, IsShaped, IsTextRead, IsItemRead, IsBodyRead, AreItemsRead, IsRefusedBehind, IsRefusedAt, IsRefusedWhole, at_word, at_end, nothing, item}
+use Rattle.polcert_model.specs.Steps.Texts.{Refuses, IsShaped, IsTextRead, IsItemRead, IsBodyRead, AreItemsRead, IsRefusedBehind, IsRefusedAt, IsRefusedWhole, at_word, at_end, nothing, item}
 use Rattle.polcert_cells.proofs.Basics.{one_some}
 use Rattle.polcert_format.proofs.Dividing.{begins, empty_division}
 use Rattle.polcert_format.proofs.ReadLaws.{item_ends}
 use Rattle.polcert_model.proofs.TakenItems.{item_begun, item_goes_on, has_elements}
-use Rattle.polcert_format.proofs.Within.{within_goes_on, item_begins}
+use Rattle.polcert_format.proofs.BegunItems.{within_goes_on, item_begins}
 use Rattle.polcert_model.proofs.Refusing.{feed_refused, end_refused, end_refused_before, too_much_refused}
 use Rattle.polcert_model.proofs.Shaped.{shaped_right, shaped_too_much, may_be_learned}
 use Rattle.polcert_model.proofs.RefusingEnds.{before_refused, word_refused, text_end_refused}
@@ -66,7 +66,7 @@ shaped_end : (seen : List Lexeme) (r : TextReader) (i : ItemReader) (next : Know
 shaped_end seen r i next w e goes =
     subst (λ b. IsShaped r.known w.t b next) (append-nil w.body) (w.read.back [] next (subst (λ j. ItemGoes r.known j [] next) (sym (same_item seen r i e w)) goes))
 
-pub said_may_be_learned : (seen : List Lexeme) (r : TextReader) (i : ItemReader) (said : Said) → IsTextRead seen r → r.item ≡ Some i → ItemGoes r.known i [] (learned r.known said) → IsSaidOf (topic_in i) said
+pub said_may_be_learned : (seen : List Lexeme) (r : TextReader) (i : ItemReader) (said : ItemContents) → IsTextRead seen r → r.item ≡ Some i → ItemGoes r.known i [] (learned r.known said) → IsSaidOf (topic_in i) said
     → MayBeLearned r.known said
 said_may_be_learned seen r i said (nothing n) e goes about = absurd (none≢some n.item_is e)
 said_may_be_learned seen r i said (item w) e goes about =
@@ -74,7 +74,7 @@ said_may_be_learned seen r i said (item w) e goes about =
     may_be_learned r.known w.t w.body said w.read.may_stand (subst (λ t. IsSaidOf t said) topics about) (shaped_end seen r i (learned r.known said) w e goes)
 
 -- the open item ends
-pub item_ended : (seen : List Lexeme) (r : TextReader) (held : Option ItemReader) (i : ItemReader) (known : Known) (said : Said) → IsTextRead seen r → r.item ≡ Some i → held ≡ None
+pub item_ended : (seen : List Lexeme) (r : TextReader) (held : Option ItemReader) (i : ItemReader) (known : Known) (said : ItemContents) → IsTextRead seen r → r.item ≡ Some i → held ≡ None
     → ItemGoes r.known i [] (learned r.known said) → known ≡ learned r.known said → HasFewCells (preamble_in r.known) (learned r.known said).entries → AreItemsRead seen (reader_of known held r.number)
 item_ended seen r held i known said (nothing n) e none goes same few = absurd (none≢some n.item_is e)
 item_ended seen r held i known said (item w) e none goes same few =
@@ -87,7 +87,7 @@ item_ended seen r held i known said (item w) e none goes same few =
     })
 
 -- it is an entry that gives too much
-pub item_too_much : (seen : List Lexeme) (r : TextReader) (i : ItemReader) (said : Said) (place : ℕ) → IsTextRead seen r → r.item ≡ Some i → ItemGoes r.known i [] (learned r.known said)
+pub item_too_much : (seen : List Lexeme) (r : TextReader) (i : ItemReader) (said : ItemContents) (place : ℕ) → IsTextRead seen r → r.item ≡ Some i → ItemGoes r.known i [] (learned r.known said)
     → (HasFewCells (preamble_in r.known) (learned r.known said).entries → ⊥) → IsRefusedAt seen place (model_faults.Item TooManyCells r.number place)
 item_too_much seen r i said place (nothing n) e goes many = absurd (none≢some n.item_is e)
 item_too_much seen r i said place (item w) e goes many =

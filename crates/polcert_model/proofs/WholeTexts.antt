@@ -4,15 +4,16 @@ use Rattle.polcert_text.specs.Cut.{Lexeme, IsCut, text_rest, end_place, text_lim
 use Rattle.polcert_cells.specs.declared.entry.Table.{Table}
 use Rattle.polcert_format.specs.declared.fault.ModelFault.{ModelFault}
 use Rattle.polcert_format.specs.declared.fault.ModelFault.TheVariants as model_faults
-use Rattle.polcert_cells.specs.Meaning.{HasProperRows, IsWithinLimits}
+use Rattle.polcert_cells.specs.Meaning.{HasProperRows, HasLimitedNumbers}
 use Rattle.polcert_cells.specs.Rows.{IsFirstWrongRow}
 use Rattle.polcert_format.specs.Text.{Known, IsRightText, Denotes, IsModelText}
 use Rattle.polcert_format.specs.FirstWrong.{TextTokens, AreTokensOf}
 use Rattle.polcert_format.specs.Refusals.{IsRefusal}
-use Rattle.polcert_tables.specs.Kept.{Kept, IsKeptOf, meaning}
+use Rattle.polcert_tables.specs.Kept.{Kept, meaning}
+use Rattle.polcert_tables.specs.Steps.KeptOf.{IsKeptOf}
 use Rattle.polcert_format.specs.KnownPreamble.{preamble_in}
-use Rattle.polcert_items.specs.KnownView.{IsWholeRead, said}
-use Rattle.polcert_model.specs.TextSteps.{IsTextOf, Refuses, IsRefusedWhole}
+use Rattle.polcert_items.specs.Steps.Known.{IsWholeRead, said}
+use Rattle.polcert_model.specs.Steps.Texts.{IsTextOf, Refuses, IsRefusedWhole}
 use Rattle.polcert_format.proofs.LimitLaws.{within_limits}
 use Rattle.polcert_format.proofs.FrontLaws.{these_tokens}
 use Rattle.polcert_items.proofs.WholeItems.{whole_right, whole_sound}
@@ -33,7 +34,7 @@ module _ (seen : List Lexeme) (k : Known) (w : IsWholeRead seen k) (m : Kept) (k
     rows = rows;
   }
 
-  pub whole_within : HasProperRows (meaning m) → IsWithinLimits (meaning m)
+  pub whole_within : HasProperRows (meaning m) → HasLimitedNumbers (meaning m)
   whole_within rows = within_limits seen (meaning m) (whole_denotes rows)
 
   -- and the text is the text of this model

@@ -1,4 +1,4 @@
-pub mod TextSteps
+pub mod Steps
 -- what a model's text is, and how it is refused
 pub use Rattle.polcert_format.specs.Items
 pub use Rattle.polcert_format.specs.Text

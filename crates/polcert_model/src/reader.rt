@@ -6,14 +6,14 @@ ghost use Rattle.polcert_text.specs.Source.{IsText, EachTextThatFits};
 ghost use Rattle.polcert_text.specs.Cut.{Lexeme};
 ghost use Rattle.polcert_text.specs.Reading.{lexeme_of};
 ghost use Rattle.polcert_cells.specs.Words.{topic, begins_item};
-ghost use Rattle.polcert_items.specs.ElementSteps.{IsText as IsTextToken};
+ghost use Rattle.polcert_items.specs.Steps.Elements.{IsText as IsTextToken};
 ghost use Rattle.polcert_format.specs.Text.{IsModelText};
 ghost use Rattle.polcert_format.specs.FirstWrong.{TextTokens, AreTokensOf};
 ghost use Rattle.polcert_format.specs.Refusals.{IsRefusal, IsPlacedRight, IsNoModel};
 ghost use Rattle.polcert_format.specs.RefusedTexts.{IsRefusedModelText};
 ghost use Rattle.polcert_tables.specs.Contents.{meaning};
-ghost use Rattle.polcert_items.specs.KnownView.{IsWholeRead};
-ghost use Rattle.polcert_model.specs.TextSteps.{IsTextRead, IsReadAhead, IsPassed, AreItemsRead, IsTextOf, IsRefusedBehind, IsRefusedAt, IsRefusedWhole, Refuses, tokens_end, pending_at};
+ghost use Rattle.polcert_items.specs.Steps.Known.{IsWholeRead};
+ghost use Rattle.polcert_model.specs.Steps.Texts.{IsTextRead, IsReadAhead, IsPassed, AreItemsRead, IsTextOf, IsRefusedBehind, IsRefusedAt, IsRefusedWhole, Refuses, tokens_end, pending_at};
 
 use polcert_cells::{Topic, begun_topic};
 use polcert_format::{ItemFault, ModelFault};

@@ -5,10 +5,10 @@ use Rattle.std.proofs.lemmas.Fmt.{decimal_is_IsNumeral, decimal_nonempty}
 use Rattle.polcert_text.specs.Bytes.{class_of, is_digit}
 use Rattle.polcert_text.specs.Lexemes.{is_numeral, are_digits}
 use Rattle.polcert_text.specs.Numbers.{number_of, exponent_size, power_of, size_of, millionth, largest, IsRounded}
-use Rattle.polcert_text.specs.Scaling.{Measures}
-use Rattle.polcert_text.proofs.SignedLaws.{rounded_whole}
-use Rattle.polcert_text.proofs.SizeLaws.{millionth_pos}
-use Rattle.polcert_text.proofs.PrintLaws.{decimal_digits}
+use Rattle.polcert_text.specs.Steps.Scaling.{Measures}
+use Rattle.polcert_text.proofs.Numbers.SignedLaws.{rounded_whole}
+use Rattle.polcert_text.proofs.Numbers.SizeLaws.{millionth_pos}
+use Rattle.polcert_text.proofs.Printing.PrintLaws.{decimal_digits}
 use Rattle.polcert_text.specs.Cut.{Lexeme}
 use Rattle.polcert_text.specs.declared.lexeme.TokenKind.TheVariants.{Numeral}
 use Rattle.polcert_policy.specs.Vectors.{Part, sign_kind, is_negative, IsActionPart, IsValuePart}

@@ -11,21 +11,21 @@ use Rattle.polcert_text.specs.Bytes.{class_of, is_blank}
 use Rattle.polcert_text.specs.Cut.{IsCut, text_rest, text_limit}
 use Rattle.polcert_text.specs.Millionths.{unsigned_text, scaled_text}
 use Rattle.polcert_text.specs.Numbers.{largest}
-use Rattle.polcert_text.specs.Scaling.{Measures}
-use Rattle.polcert_text.proofs.SignedLaws.{rounded_whole}
-use Rattle.polcert_text.proofs.SizeLaws.{millionth_pos}
+use Rattle.polcert_text.specs.Steps.Scaling.{Measures}
+use Rattle.polcert_text.proofs.Numbers.SignedLaws.{rounded_whole}
+use Rattle.polcert_text.proofs.Numbers.SizeLaws.{millionth_pos}
 use Rattle.polcert_text.specs.declared.number.Rounding.{Rounding}
 use Rattle.polcert_policy.specs.Graphs.{PolicyGraph, nodes, action_of, IsProperGraph}
 use Rattle.polcert_policy.specs.Vectors.{PolicyVectors, Part, sign_kind, tokens_of, value_of, IsActionPart, IsValuePart, IsRoundedVectors, IsInRange, AreProperVectors}
 use Rattle.polcert_policy.specs.VectorText.{IsRoundedVectorsText}
-use Rattle.polcert_policy.specs.VectorsRead.{AreVectorsUpTo}
+use Rattle.polcert_policy.specs.Steps.VectorsRead.{AreVectorsUpTo}
 use Rattle.polcert_policy.specs.FullForm.{behind_value, values_text, action_text, vectors_text_up_to, vectors_text}
 use Rattle.polcert_policy.proofs.Places.{some_none, same_some, row_above}
 use Rattle.polcert_policy.proofs.Fillers.{action_spelled}
 use Rattle.polcert_policy.proofs.VectorSteps.{step_vector_action, step_value_within, step_value_last}
-use Rattle.polcert_text.proofs.Numerals.{IsPlain, plain_decimal}
-use Rattle.polcert_text.proofs.PrintedCut.{rest_at}
-use Rattle.polcert_text.proofs.WrittenNumbers.{size_written, plain_size, readable_written}
+use Rattle.polcert_text.proofs.Printing.Numerals.{IsPlain, plain_decimal}
+use Rattle.polcert_text.proofs.Printing.PrintedCut.{rest_at}
+use Rattle.polcert_text.proofs.Printing.WrittenNumbers.{size_written, plain_size, readable_written}
 use Rattle.polcert_policy.proofs.PrintedCut.{Printed, printed_text, IsPrinted, texts_of, AllPrinted, part_with, parts_from, cut_printed}
 
 -- a number's sign and size as they are written

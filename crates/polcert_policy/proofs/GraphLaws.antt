@@ -4,9 +4,9 @@ use Rattle.polcert_text.specs.Bytes.{class_of}
 use Rattle.polcert_text.specs.Cut.{Lexeme}
 use Rattle.polcert_text.specs.declared.lexeme.TokenKind.{TokenKind}
 use Rattle.polcert_text.specs.declared.lexeme.TokenKind.TheVariants.{Name, Numeral}
-use Rattle.polcert_policy.specs.Words.{numeral_kind, minus_kind, is_whole, whole_of, is_successor, successor_of, is_joined}
+use Rattle.polcert_policy.specs.Fields.{numeral_kind, minus_kind, is_whole, whole_of, is_successor, successor_of, is_joined}
 use Rattle.polcert_policy.specs.Graphs.{PolicyGraph, nodes, IsAction, IsSuccessor, AreNodes, IsLooseGraph, IsPossible, width, most_nodes}
-use Rattle.polcert_policy.specs.GraphRead.{AreNodesUpTo, IsApartFrom}
+use Rattle.polcert_policy.specs.Steps.GraphRead.{AreNodesUpTo, IsApartFrom}
 use Rattle.polcert_policy.proofs.Places.{row_above, order, same_row, same_column, get_snoc, get_more, get_here, get_within, within_get, same_some, same_list, row_of, row_below, below_or_at}
 
 -- what a token is at its place

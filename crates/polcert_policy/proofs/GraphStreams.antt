@@ -3,12 +3,12 @@ use Rattle.std.proofs.Common.{◌≡◌, ℕ, Option, Some, None, Ok, Err, List,
 use Rattle.polcert_text.specs.Cut.{Lexeme, text_limit}
 use Rattle.polcert_text.specs.Source.{IsText, EachTextThatFits}
 use Rattle.polcert_text.specs.Stream.{Ahead, Stream, GivesEnd}
-use Rattle.polcert_text.specs.StreamTaken.{TakenFrom}
+use Rattle.polcert_text.specs.Steps.StreamTaken.{TakenFrom}
 use Rattle.polcert_text.specs.declared.tokens.TokenFault.{TokenFault}
-use Rattle.polcert_text.proofs.StreamTaken.{each_taken, each_cut, text_taken, each_whole}
+use Rattle.polcert_text.proofs.Streams.StreamTaken.{each_taken, each_cut, text_taken, each_whole}
 use Rattle.polcert_policy.specs.Graphs.{PolicyGraph, IsGraph, IsPossible}
 use Rattle.polcert_policy.specs.GraphText.{IsGraphText, IsGraphRefusal, IsRefusedGraphText}
-use Rattle.polcert_policy.specs.GraphRead.{IsTokenRefusal, IsEndRefusal}
+use Rattle.polcert_policy.specs.Steps.GraphRead.{IsTokenRefusal, IsEndRefusal}
 use Rattle.polcert_policy.specs.declared.fault.GraphFault.{GraphFault}
 use Rattle.polcert_policy.specs.declared.fault.GraphFault.TheVariants as faults
 use Rattle.polcert_policy.proofs.TextLaws.{token_refusal, no_graph, end_accepted, possible_at, beyond_named}

@@ -4,7 +4,7 @@ use Rattle.polcert_text.specs.Cut.{Lexeme, Rest, TakesToken, IsCut}
 use Rattle.polcert_text.specs.TakenTokens.{Taken, nothing, token}
 use Rattle.polcert_text.specs.declared.tokens.TokenFault.{TokenFault}
 use Rattle.polcert_text.proofs.TextLaws.{one_next_token}
-use Rattle.polcert_text.proofs.TakenTokens.{cut_taken}
+use Rattle.polcert_text.proofs.Taken.TakenTokens.{cut_taken}
 use Rattle.polcert_policy.proofs.VectorLaws.{head_of, tail_of, cons_not_nil}
 
 -- the tokens taken, from the first on

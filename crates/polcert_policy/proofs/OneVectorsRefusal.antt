@@ -4,7 +4,7 @@ use Rattle.polcert_text.specs.Cut.{Lexeme, IsCut, text_rest, text_limit}
 use Rattle.polcert_text.specs.TakenTokens.{Taken}
 use Rattle.polcert_text.specs.declared.tokens.TokenFault.{TokenFault}
 use Rattle.polcert_text.proofs.TextLaws.{one_cut, one_number_fault}
-use Rattle.polcert_policy.specs.Words.{numeral_kind}
+use Rattle.polcert_policy.specs.Fields.{numeral_kind}
 use Rattle.polcert_policy.specs.Graphs.{PolicyGraph, nodes}
 use Rattle.polcert_policy.specs.Vectors.{sign_kind, IsRoundedVectors, ArePossible}
 use Rattle.polcert_policy.specs.VectorText.{IsPartColumn, last_sign, is_part_shaped, IsPartMisfit, HasWrongPart, IsRoundedVectorsRefusal}

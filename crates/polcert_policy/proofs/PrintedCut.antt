@@ -4,10 +4,10 @@ use Rattle.std.specs.List.{list_all}
 use Rattle.polcert_text.specs.Bytes.{is_blank}
 use Rattle.polcert_text.specs.Cut.{Lexeme, IsCut}
 use Rattle.polcert_text.specs.declared.lexeme.TokenKind.TheVariants.{Numeral, Minus}
-use Rattle.polcert_text.proofs.Numerals.{IsPlain}
-use Rattle.polcert_text.proofs.PrintedCut as cuts
-use Rattle.polcert_text.proofs.PrintedCut.{rest_at}
-use Rattle.polcert_text.proofs.PrintedWords.{Word, plain, minus, word_text, spelled, IsSpelling, text_word, word_printed, numeral_piece}
+use Rattle.polcert_text.proofs.Printing.Numerals.{IsPlain}
+use Rattle.polcert_text.proofs.Printing.PrintedCut as cuts
+use Rattle.polcert_text.proofs.Printing.PrintedCut.{rest_at}
+use Rattle.polcert_text.proofs.Printing.PrintedWords.{Word, plain, minus, word_text, spelled, IsSpelling, text_word, word_printed, numeral_piece}
 use Rattle.polcert_policy.specs.Vectors.{Part, tokens_of}
 
 -- a number as it is written, and what stands behind it

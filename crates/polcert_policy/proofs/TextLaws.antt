@@ -5,10 +5,10 @@ use Rattle.polcert_text.proofs.TextLaws.{one_cut}
 use Rattle.polcert_text.specs.TakenTokens.{Taken}
 use Rattle.polcert_policy.specs.Graphs.{PolicyGraph, IsLooseGraph, IsGraph, IsFirstBeyond, HasNodesOnly, IsPossible}
 use Rattle.polcert_policy.specs.GraphText.{IsGraphText, EndsEarly, HasWrongToken, HasFirstBeyond, IsGraphRefusal, IsNoGraphText, NamesSuccessor}
-use Rattle.polcert_policy.specs.GraphRead.{IsTokenRefusal, IsEndRefusal, IsUnfinished}
+use Rattle.polcert_policy.specs.Steps.GraphRead.{IsTokenRefusal, IsEndRefusal, IsUnfinished}
 use Rattle.polcert_policy.specs.declared.fault.GraphFault.{GraphFault}
 use Rattle.polcert_policy.specs.declared.fault.GraphFault.TheVariants as faults
-use Rattle.polcert_text.proofs.TakenTokens.{cut_taken}
+use Rattle.polcert_text.proofs.Taken.TakenTokens.{cut_taken}
 use Rattle.polcert_policy.proofs.GraphLaws.{one_loose}
 use Rattle.polcert_policy.proofs.Places.{order, same_row, same_column}
 

@@ -9,13 +9,13 @@ use Rattle.std.proofs.Math.Nat.{mul-le-mul_right}
 use Rattle.std.proofs.Math.IntN.{pos-*ℤ-pos}
 use Rattle.polcert_text.specs.Cut.{Lexeme}
 use Rattle.polcert_text.specs.Numbers.{millionth, size_of, largest, signed, IsReadable, IsRounded}
-use Rattle.polcert_text.proofs.SignedLaws.{signed-mul, le_times_back}
-use Rattle.polcert_text.proofs.SizeLaws.{millionth_pos}
+use Rattle.polcert_text.proofs.Numbers.SignedLaws.{signed-mul, le_times_back}
+use Rattle.polcert_text.proofs.Numbers.SizeLaws.{millionth_pos}
 use Rattle.polcert_policy.specs.Graphs.{PolicyGraph, nodes}
 use Rattle.polcert_cells.specs.Elements.{most_states}
 use Rattle.polcert_policy.specs.Vectors.{PolicyVectors, Part, sign_kind, is_negative, with_sign, tokens_of, AreVectors, IsRoundedVectors, IsInRange, AreProper}
 use Rattle.polcert_policy.specs.VectorText.{IsPartColumn}
-use Rattle.polcert_policy.specs.VectorsRead.{AreVectorsUpTo, open_of, IsOpenSign, HasVectors, AreUnfinished}
+use Rattle.polcert_policy.specs.Steps.VectorsRead.{AreVectorsUpTo, open_of, IsOpenSign, HasVectors, AreUnfinished}
 use Rattle.polcert_policy.specs.declared.vectors_reading.OpenSign.{OpenSign}
 use Rattle.polcert_policy.specs.declared.vectors_reading.VectorsReading.{VectorsReading}
 use Rattle.polcert_policy.proofs.Places.{row_above, row_below, row_of, same_column, get_within, within_get, same_some}

@@ -6,7 +6,7 @@ use Rattle.polcert_text.specs.Numbers.{IsRounded}
 use Rattle.polcert_text.specs.declared.lexeme.TokenKind.{TokenKind}
 use Rattle.polcert_text.specs.declared.lexeme.TokenKind.TheVariants.{Numeral}
 use Rattle.polcert_text.proofs.TextLaws.{one_rounded}
-use Rattle.polcert_policy.specs.Words.{numeral_kind}
+use Rattle.polcert_policy.specs.Fields.{numeral_kind}
 use Rattle.polcert_policy.specs.Graphs.{PolicyGraph, nodes}
 use Rattle.polcert_policy.specs.Vectors.{PolicyVectors, Part, sign_kind, with_sign, tokens_of, is_negative, IsPart, IsActionPart, IsValuePart, AreVectors, IsRoundedVectors}
 use Rattle.polcert_policy.proofs.Places.{row_above, row_below, row_of, get_within, within_get, same_some, some_none, same_list}

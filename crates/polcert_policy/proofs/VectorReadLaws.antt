@@ -6,11 +6,11 @@ use Rattle.polcert_text.specs.declared.number.NumberFault.{NumberFault}
 use Rattle.polcert_text.specs.declared.lexeme.TokenKind.{TokenKind}
 use Rattle.polcert_text.specs.declared.lexeme.TokenKind.TheVariants.{Numeral, Plus, Minus}
 use Rattle.polcert_text.proofs.TextLaws.{readable_not_refused}
-use Rattle.polcert_policy.specs.Words.{numeral_kind, minus_kind, is_whole, whole_of}
+use Rattle.polcert_policy.specs.Fields.{numeral_kind, minus_kind, is_whole, whole_of}
 use Rattle.polcert_policy.specs.Graphs.{PolicyGraph, nodes, action_of, IsProperGraph}
 use Rattle.polcert_policy.specs.Vectors.{PolicyVectors, Part, sign_kind, with_sign, tokens_of, is_negative, IsPart, IsActionPart, IsValuePart, AreVectors, IsRoundedVectors, ArePossible}
 use Rattle.polcert_policy.specs.VectorText.{numbers, IsPartColumn, last_sign, number_place, is_part_shaped, IsPartMisfit, StopVectorsFor}
-use Rattle.polcert_policy.specs.VectorsRead.{AreVectorsUpTo, open_of, IsOpenSign, place_behind, is_minus, HasVectors, IsPartRefusal, CheckedAction, AdvancedValue}
+use Rattle.polcert_policy.specs.Steps.VectorsRead.{AreVectorsUpTo, open_of, IsOpenSign, place_behind, is_minus, HasVectors, IsPartRefusal, CheckedAction, AdvancedValue}
 use Rattle.polcert_policy.specs.declared.fault.VectorFault.{VectorFault}
 use Rattle.polcert_policy.specs.declared.fault.VectorFault.TheVariants as faults
 use Rattle.polcert_policy.specs.declared.vectors_reading.OpenSign.{OpenSign}

@@ -3,13 +3,13 @@ use Rattle.std.proofs.Common.{◌≡◌, ℕ, Option, Some, None, Ok, Err, List,
 use Rattle.polcert_text.specs.Cut.{Lexeme, text_limit}
 use Rattle.polcert_text.specs.Source.{IsText, EachTextThatFits}
 use Rattle.polcert_text.specs.Stream.{Ahead, Stream, GivesEnd}
-use Rattle.polcert_text.specs.StreamTaken.{TakenFrom}
+use Rattle.polcert_text.specs.Steps.StreamTaken.{TakenFrom}
 use Rattle.polcert_text.specs.declared.tokens.TokenFault.{TokenFault}
-use Rattle.polcert_text.proofs.StreamTaken.{each_taken, each_cut, text_taken, each_whole}
+use Rattle.polcert_text.proofs.Streams.StreamTaken.{each_taken, each_cut, text_taken, each_whole}
 use Rattle.polcert_policy.specs.Graphs.{PolicyGraph}
 use Rattle.polcert_policy.specs.Vectors.{PolicyVectors, IsRoundedVectors, ArePossible}
 use Rattle.polcert_policy.specs.VectorText.{IsRoundedVectorsText, IsRoundedVectorsRefusal, IsRefusedRoundedVectorsText}
-use Rattle.polcert_policy.specs.VectorsRead.{IsPartRefusal, AreEndRefusal}
+use Rattle.polcert_policy.specs.Steps.VectorsRead.{IsPartRefusal, AreEndRefusal}
 use Rattle.polcert_policy.specs.declared.fault.VectorFault.{VectorFault}
 use Rattle.polcert_policy.specs.declared.fault.VectorFault.TheVariants as faults
 use Rattle.polcert_policy.proofs.VectorTextLaws.{part_refusal, no_vectors, end_accepted}

@@ -6,10 +6,10 @@ use Rattle.polcert_text.specs.TakenTokens.{Taken}
 use Rattle.polcert_policy.specs.Graphs.{PolicyGraph}
 use Rattle.polcert_policy.specs.Vectors.{PolicyVectors, IsRoundedVectors}
 use Rattle.polcert_policy.specs.VectorText.{IsRoundedVectorsText, EndVectorsEarly, HasWrongPart, IsRoundedVectorsRefusal, IsNoRoundedVectorsText}
-use Rattle.polcert_policy.specs.VectorsRead.{IsPartRefusal, AreEndRefusal, AreUnfinished}
+use Rattle.polcert_policy.specs.Steps.VectorsRead.{IsPartRefusal, AreEndRefusal, AreUnfinished}
 use Rattle.polcert_policy.specs.declared.fault.VectorFault.{VectorFault}
 use Rattle.polcert_policy.specs.declared.fault.VectorFault.TheVariants as faults
-use Rattle.polcert_text.proofs.TakenTokens.{cut_taken}
+use Rattle.polcert_text.proofs.Taken.TakenTokens.{cut_taken}
 use Rattle.polcert_text.specs.declared.number.Rounding.{Rounding}
 
 none_some : {A : Type 0} (x : A) → None ≡ Some x → ⊥

@@ -5,18 +5,18 @@ ghost use Rattle.polcert_text.specs.Source.{IsText, EachTextThatFits};
 ghost use Rattle.polcert_text.specs.Cut.{Lexeme};
 ghost use Rattle.polcert_text.specs.Reading.{lexeme_of};
 ghost use Rattle.polcert_text.specs.ReadFailures.{EndsInFailure};
-ghost use Rattle.polcert_policy.specs.Words.{minus_kind, is_joined};
+ghost use Rattle.polcert_policy.specs.Fields.{minus_kind, is_joined};
 ghost use Rattle.polcert_cells.specs.Elements.{most_actions, most_observations};
 ghost use Rattle.polcert_policy.specs.Graphs.{IsGraph, most_nodes};
 ghost use Rattle.polcert_policy.specs.GraphText.{IsGraphText, IsGraphRefusal, IsNoGraphText, IsRefusedGraphText, HasFirstBeyond, NamesSuccessor};
-ghost use Rattle.polcert_policy.specs.GraphRead.{IsRead, IsTokenRefusal, IsEndRefusal, MinusOf, HasCounts, CheckedNumber, ReadAction, Advanced, TakesNext, IsApartFrom, AllBelow, IsFirstBeyondAt};
+ghost use Rattle.polcert_policy.specs.Steps.GraphRead.{IsRead, IsTokenRefusal, IsEndRefusal, MinusOf, HasCounts, CheckedNumber, ReadAction, Advanced, TakesNext, IsApartFrom, AllBelow, IsFirstBeyondAt};
 
 use crate::fault::GraphFault;
+use crate::fields::{successor_of, whole_of};
 use crate::graph::Graph;
 use crate::graph_reading::{GraphReading, MinusSign};
 use crate::growth::push;
 use crate::successor::Successor;
-use crate::words::{successor_of, whole_of};
 use polcert_text::{
     Source, SourceFault, StreamFault, StreamTokens, TEXT_LIMIT, Token, TokenKind, Tokens,
 };

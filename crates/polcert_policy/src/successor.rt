@@ -1,6 +1,6 @@
 //! A node that follows, or none.
 ghost use Rattle.std.specs.Prelude.{◌≡◌, ◌<◌, Option};
-ghost use Rattle.polcert_policy.specs.Kept.{IsKeepable};
+ghost use Rattle.polcert_policy.specs.Steps.Kept.{IsKeepable};
 
 use std::marker::Model;
 
@@ -15,7 +15,7 @@ pub struct Successor {
 impl Model for Successor {
     ghost use Rattle.std.specs.Prelude.{ℕ, Option};
     ghost use Rattle.std.specs.Coded.{coded_ℕ, coded_option};
-    ghost use Rattle.polcert_policy.specs.Kept.{shown, number_of, number_of-shown};
+    ghost use Rattle.polcert_policy.specs.Steps.Kept.{shown, number_of, number_of-shown};
 
     ghost Value = { Option ℕ };
 

@@ -5,19 +5,19 @@ ghost use Rattle.polcert_text.specs.Source.{IsText, EachTextThatFits};
 ghost use Rattle.polcert_text.specs.Cut.{Lexeme};
 ghost use Rattle.polcert_text.specs.Reading.{lexeme_of};
 ghost use Rattle.polcert_text.specs.ReadFailures.{EndsInFailure};
-ghost use Rattle.polcert_policy.specs.Words.{numeral_kind, minus_kind};
+ghost use Rattle.polcert_policy.specs.Fields.{numeral_kind, minus_kind};
 ghost use Rattle.polcert_policy.specs.Graphs.{PolicyGraph, IsProperGraph};
 ghost use Rattle.polcert_cells.specs.Elements.{most_states};
 ghost use Rattle.polcert_policy.specs.Vectors.{sign_kind, IsRoundedVectors};
 ghost use Rattle.polcert_policy.specs.VectorText.{IsVectorsText, IsNoVectorsText, IsVectorsRefusal, IsRefusedVectorsText, IsRoundedVectorsText, IsNoRoundedVectorsText, IsRoundedVectorsRefusal, IsRefusedRoundedVectorsText};
-ghost use Rattle.polcert_policy.specs.VectorsRead.{place_behind, is_minus, HasVectors, TakesPart, CheckedAction, AdvancedValue, AreEndRefusal};
+ghost use Rattle.polcert_policy.specs.Steps.VectorsRead.{place_behind, is_minus, HasVectors, TakesPart, CheckedAction, AdvancedValue, AreEndRefusal};
 
 use crate::fault::VectorFault;
+use crate::fields::whole_of;
 use crate::graph::Graph;
 use crate::growth::push;
 use crate::vectors::Vectors;
 use crate::vectors_reading::{OpenSign, VectorsReading};
-use crate::words::whole_of;
 use polcert_text::{
     Rounding, Source, SourceFault, StreamFault, StreamTokens, TEXT_LIMIT, Token, TokenKind, Tokens,
     rounded_of,

@@ -1,5 +1,5 @@
 -- Keys: a number for each pattern, in the order of its places, so that the patterns that begin alike stand together.
--- Nobody has to believe this file: no contract above this crate rests on it.
+-- Our own: the format says nothing of keys. Of these a reader of what a model keeps needs the base, and the key of a table.
 use Rattle.std.specs.Prelude.{◌≡◌, ℕ, zero, suc, ◌+◌, ◌*◌, ◌^◌, ◌<◌, ◌≤◌, true, List, [], ◌∷◌}
 use Rattle.polcert_cells.specs.declared.entry.Table.{Table}
 use Rattle.polcert_cells.specs.declared.entry.Table.TheVariants.{Transition, Observation, Reward}

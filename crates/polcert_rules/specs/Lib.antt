@@ -1,16 +1,5 @@
-pub mod Meeting
-pub mod Given
 pub mod Keys
-pub mod Merging
-pub mod Newest
-pub mod Rows
-pub mod Shapes
 pub mod RowTables
-pub mod Sources
 pub mod Matching
-pub mod Zeros
-pub mod Repeats
-pub mod Rewards
-pub mod RewardSearch
 pub mod RewardAt
-pub mod Noting
+pub mod Steps

@@ -1,8 +1,13 @@
 -- Matching: the newest rule as a function of the rules.
-use Rattle.std.specs.Prelude.{ℕ, zero, suc, ◌+◌, ◌*◌, ◌^◌, ◌==◌, ◌||◌, Bool, List, [], ◌∷◌, Option, Some, None, if◌then◌else◌}
+use Rattle.std.specs.Prelude.{ℕ, zero, suc, ◌+◌, ◌*◌, ◌^◌, ◌==◌, ◌||◌, Bool, List, [], ◌∷◌, Option, Some, None, nat_le, if◌then◌else◌}
 use Rattle.polcert_rules.specs.declared.rule.Rule.{Rule}
-use Rattle.polcert_rules.specs.Newest.{later}
 use Rattle.polcert_rules.specs.Keys.{key_base}
+
+-- the greater of two numbers, where there are any
+abbrev pub later : Option ℕ → Option ℕ → Option ℕ
+later None b = b
+later (Some m) None = Some m
+later (Some m) (Some n) = if nat_le m n then Some n else Some m
 
 -- The key is that of some places, behind those of the key `low`, that fit the first of these indices: it is `low` itself, where
 -- there are none, or it goes on with `*`, or with the first index, and the places behind fit the indices behind.

@@ -1,10 +1,32 @@
 -- The reward of a cell, by the rules: what the body of the newest rule that fits its indices gives it, or 0.
-use Rattle.std.specs.Prelude.{ℕ, ◌+◌, List, [], ◌∷◌, Option, Some, None, drop, get_or, ℤ, pos}
+use Rattle.std.specs.Prelude.{ℕ, ◌+◌, ◌-◌, ◌*◌, List, [], ◌∷◌, Option, Some, None, drop, get_or, ℤ, pos}
 use Rattle.polcert_cells.specs.declared.entry.Table.TheVariants.{Reward}
+use Rattle.std.specs.List.{slice_get}
+use Rattle.polcert_rules.specs.declared.rule.Rule.{Rule}
 use Rattle.polcert_rules.specs.declared.reward_parts.RewardBody.{RewardBody}
+use Rattle.polcert_rules.specs.declared.reward_parts.RewardShape.{RewardShape}
 use Rattle.polcert_rules.specs.Keys.{table_key, most_places}
 use Rattle.polcert_rules.specs.Matching.{newest_in}
-use Rattle.polcert_rules.specs.Rewards.{RewardRules, body_at, cell_in}
+
+-- the rules of R by their keys, the bodies of their entries by the entries' numbers, from the first of these on, and the
+-- numbers of all bodies
+pub record RewardRules : Type 0 where
+  pub shape : RewardShape
+  pub rules : List Rule
+  pub first : ℕ
+  pub bodies : List RewardBody
+  pub numbers : List ℤ
+
+-- the body of the entry of this number, where the first of the bodies is that of the entry `first`
+abbrev pub body_at : ℕ → List RewardBody → ℕ → Option RewardBody
+body_at first bodies number = slice_get bodies (number - first)
+
+-- the number of a cell in a body, by the indices that are left for it, in a table with so many rows and columns
+abbrev pub cell_in : ℕ → ℕ → List ℕ → ℕ
+cell_in rows columns (matrix ∷ row ∷ column ∷ []) = (matrix * rows + row) * columns + column
+cell_in rows columns (row ∷ column ∷ []) = row * columns + column
+cell_in rows columns (column ∷ []) = column
+cell_in rows columns _ = 0
 
 -- what a body gives the cell at these indices
 abbrev pub given : RewardRules → List ℕ → Option RewardBody → ℤ

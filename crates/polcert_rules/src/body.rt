@@ -2,8 +2,8 @@
 ghost use Rattle.std.specs.Prelude.{◌≡◌, ℕ, ◌+◌, ◌*◌, ◌<◌, ◌≤◌, ◌==◌, All, IfOk, length, slice_index, if◌then◌else◌};
 ghost use Rattle.polcert_cells.specs.Numbers.{one};
 ghost use Rattle.polcert_cells.specs.Elements.{most_elements};
-ghost use Rattle.polcert_cells.specs.EntryLists.{entry_of};
-ghost use Rattle.polcert_rules.specs.Given.{IsWithin, FitsShape, given};
+ghost use Rattle.polcert_cells.specs.EntryRefs.{entry_of};
+ghost use Rattle.polcert_rules.specs.Steps.Given.{IsWithin, FitsShape, given};
 ghost use Rattle.polcert_cells.specs.Sparse.{IsRow};
 
 use crate::Shape;

@@ -1,8 +1,8 @@
 //! Building an index: a rule for each entry, in the order of their keys, and of each key the newest.
 ghost use Rattle.std.specs.Prelude.{◌≡◌, ◌<◌, IfOk};
-ghost use Rattle.polcert_cells.specs.EntryLists.{entry_of};
+ghost use Rattle.polcert_cells.specs.EntryRefs.{entry_of};
 ghost use Rattle.polcert_rules.specs.Keys.{key_base, digit, table_digit, key_of, AreDigits, most_places};
-ghost use Rattle.polcert_rules.specs.Newest.{AreKeyed, rules_from, newest_of_each};
+ghost use Rattle.polcert_rules.specs.Steps.Newest.{AreKeyed, rules_from, newest_of_each};
 
 use crate::Rule;
 use crate::keys::MOST_PLACES;

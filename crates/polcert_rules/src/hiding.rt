@@ -2,8 +2,8 @@
 ghost use Rattle.std.specs.Prelude.{◌≡◌, ◌+◌, ◌<◌, All, IfOk, IfSome};
 ghost use Rattle.polcert_cells.specs.declared.cell.Cell.{Cell as C};
 ghost use Rattle.polcert_rules.specs.Keys.{key_base};
-ghost use Rattle.polcert_rules.specs.Merging.{merged};
-ghost use Rattle.polcert_rules.specs.Zeros.{AreOrdered, newest_zero, hides, shown, shown_under};
+ghost use Rattle.polcert_rules.specs.Steps.Merging.{merged};
+ghost use Rattle.polcert_rules.specs.Steps.Zeros.{AreOrdered, newest_zero, hides, shown, shown_under};
 
 use crate::merging::merged;
 use crate::row::Row;

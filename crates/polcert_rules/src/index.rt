@@ -1,13 +1,13 @@
 //! The index of a list of entries.
 ghost use Rattle.std.specs.Prelude.{◌≡◌, ℕ, ◌+◌, ◌-◌, ◌*◌, ◌^◌, ◌<◌, ◌≤◌, ◌↔◌, List, [], ◌∷◌, All, Contains, IfOk, IsTrue};
 ghost use Rattle.polcert_rules.specs.declared.rule.Rule.{Rule as R};
-ghost use Rattle.polcert_rules.specs.Rows.{HaveColumns, IsSingleEntry, no_column, number_in};
+ghost use Rattle.polcert_rules.specs.Steps.Rows.{HaveColumns, IsSingleEntry, no_column, number_in};
 ghost use Rattle.polcert_cells.specs.declared.entry.Entry.{Entry as E};
 ghost use Rattle.polcert_cells.specs.Cells.{IsLastCovering, weight, weight_of, value_or};
 ghost use Rattle.polcert_cells.specs.Preamble.{Preamble};
 ghost use Rattle.polcert_rules.specs.Keys.{key_base, AreIndices, Fits, table_key, most_places};
-ghost use Rattle.polcert_rules.specs.Newest.{AreKeyed, IsIndexOf, IsNewest, IsRising, IsLastNumber, entry_at};
-ghost use Rattle.polcert_rules.specs.Repeats.{NamesNoAction};
+ghost use Rattle.polcert_rules.specs.Steps.Newest.{AreKeyed, IsIndexOf, IsNewest, IsRising, IsLastNumber, entry_at};
+ghost use Rattle.polcert_rules.specs.Steps.Repeats.{NamesNoAction};
 
 use crate::Rule;
 use crate::build::{newest_of_each, numbered, table_digit};
@@ -27,7 +27,7 @@ pub struct Index {
 impl Model for Index {
     ghost use Rattle.std.specs.Prelude.{List};
     ghost use Rattle.polcert_rules.specs.declared.rule.Rule.{Rule as R};
-    ghost use Rattle.polcert_rules.specs.Newest.{IsRising};
+    ghost use Rattle.polcert_rules.specs.Steps.Newest.{IsRising};
 
     ghost Value = { List R };
 

@@ -3,13 +3,13 @@ ghost use Rattle.std.specs.Prelude.{◌≡◌, ℕ, [], ◌*◌, ◌<◌, ◌≤
 ghost use Rattle.std.specs.Option.{ForSome};
 ghost use Rattle.polcert_cells.specs.Numbers.{one};
 ghost use Rattle.polcert_cells.specs.Elements.{most_elements};
-ghost use Rattle.polcert_cells.specs.EntryLists.{entry_of};
+ghost use Rattle.polcert_cells.specs.EntryRefs.{entry_of};
 ghost use Rattle.polcert_cells.specs.declared.entry.Table.{Table as T};
 ghost use Rattle.polcert_rules.specs.declared.shape.Shape.{Shape as S};
-ghost use Rattle.polcert_rules.specs.Given.{IsWithin};
+ghost use Rattle.polcert_rules.specs.Steps.Given.{IsWithin};
 ghost use Rattle.polcert_cells.specs.Sparse.{weight_at, IsRow, IsSparse};
-ghost use Rattle.polcert_rules.specs.Merging.{given_at, weight_in};
-ghost use Rattle.polcert_rules.specs.Sources.{source_of, source_in, IsWhole, IsFrom, AreKept, AreNumbersOf, IsKeptRow, IsMadeOf, HasCells, IsBehind, Stays, total};
+ghost use Rattle.polcert_rules.specs.Steps.Merging.{given_at, weight_in};
+ghost use Rattle.polcert_rules.specs.Steps.Sources.{source_of, source_in, IsWhole, IsFrom, AreKept, AreNumbersOf, IsKeptRow, IsMadeOf, HasCells, IsBehind, Stays, total};
 
 use crate::Shape;
 use crate::body::body_row;

@@ -1,6 +1,6 @@
 //! A row's single cells over what covers the whole row.
 ghost use Rattle.std.specs.Prelude.{◌≡◌, ◌≤◌, ◌++◌, length, IfOk, OnOk};
-ghost use Rattle.polcert_rules.specs.Merging.{merged, before, behind};
+ghost use Rattle.polcert_rules.specs.Steps.Merging.{merged, before, behind};
 
 use polcert_cells::Cell;
 use std::alloc::{AllocError, Global};

@@ -1,7 +1,8 @@
 //! The newest rule that fits the indices of a cell.
 ghost use Rattle.std.specs.Prelude.{◌≡◌, ◌+◌, ◌<◌, ◌≤◌, ◌^◌, ℕ, Contains};
 ghost use Rattle.polcert_rules.specs.declared.rule.Rule.{Rule as R};
-ghost use Rattle.polcert_rules.specs.Newest.{IsRising, IsNewest, later};
+ghost use Rattle.polcert_rules.specs.Steps.Newest.{IsRising, IsNewest};
+ghost use Rattle.polcert_rules.specs.Matching.{later};
 ghost use Rattle.polcert_rules.specs.Keys.{key_base, AreIndices, Fits, most_places};
 
 use crate::Rule;

@@ -1,9 +1,10 @@
 //! The newest rules of cells that have all indices but the last in common.
 ghost use Rattle.std.specs.Prelude.{◌≡◌, ◌+◌, ◌<◌, ◌≤◌, ◌^◌, ℕ, length, Contains, Some, None, slice_index_or};
 ghost use Rattle.polcert_rules.specs.declared.rule.Rule.{Rule as R};
-ghost use Rattle.polcert_rules.specs.Newest.{IsRising, later};
+ghost use Rattle.polcert_rules.specs.Steps.Newest.{IsRising};
+ghost use Rattle.polcert_rules.specs.Matching.{later};
 ghost use Rattle.polcert_rules.specs.Keys.{key_base, AreIndices, most_places};
-ghost use Rattle.polcert_rules.specs.Noting.{IsNoted, AreNoted, IsLastPlace};
+ghost use Rattle.polcert_rules.specs.Steps.Noting.{IsNoted, AreNoted, IsLastPlace};
 
 use crate::Rule;
 use crate::newest::{first_at, later, span};

@@ -1,7 +1,7 @@
 //! Parts of a list of rules in the order of their keys.
 ghost use Rattle.std.specs.Prelude.{◌≡◌, ◌<◌, ◌≤◌, ◌↔◌, Contains, IsTrue};
 ghost use Rattle.polcert_rules.specs.declared.rule.Rule.{Rule as R};
-ghost use Rattle.polcert_rules.specs.Newest.{IsRising, IsCut};
+ghost use Rattle.polcert_rules.specs.Steps.Newest.{IsRising, IsCut};
 
 use crate::Rule;
 use crate::reward_bodies::in_half;

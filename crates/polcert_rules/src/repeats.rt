@@ -2,14 +2,14 @@
 ghost use Rattle.std.specs.Prelude.{◌≡◌, ℕ, ◌+◌, ◌<◌, List, IfOk, IfSome, IsTrue, length};
 ghost use Rattle.polcert_cells.specs.declared.entry.Table.{Table as T};
 ghost use Rattle.polcert_cells.specs.declared.entry.Entry.{Entry as E};
-ghost use Rattle.polcert_cells.specs.EntryLists.{entry_of};
+ghost use Rattle.polcert_cells.specs.EntryRefs.{entry_of};
 ghost use Rattle.polcert_rules.specs.declared.rule.Rule.{Rule as R};
 ghost use Rattle.polcert_rules.specs.declared.kept.Kept.{Kept as K};
 ghost use Rattle.polcert_rules.specs.Keys.{key_base};
-ghost use Rattle.polcert_rules.specs.Given.{given};
-ghost use Rattle.polcert_rules.specs.Merging.{weight_in};
-ghost use Rattle.polcert_rules.specs.Sources.{IsKeptRow};
-ghost use Rattle.polcert_rules.specs.Repeats.{IsOutline, AreKnown, AreAlike, GivesStatesAlike, IsRepeat, IsAsBefore};
+ghost use Rattle.polcert_rules.specs.Steps.Given.{given};
+ghost use Rattle.polcert_rules.specs.Steps.Merging.{weight_in};
+ghost use Rattle.polcert_rules.specs.Steps.Sources.{IsKeptRow};
+ghost use Rattle.polcert_rules.specs.Steps.Repeats.{IsOutline, AreKnown, AreAlike, GivesStatesAlike, IsRepeat, IsAsBefore};
 
 use crate::build::table_digit;
 use crate::kept::Bodies;

@@ -1,10 +1,11 @@
 //! The bodies of entries of R, in one list of numbers.
 ghost use Rattle.std.specs.Prelude.{◌≡◌, ◌<◌, ◌≤◌, ◌+◌, ◌++◌, All, Contains, map, get_or, length, drop, pos, IfOk, OnOk};
 ghost use Rattle.polcert_cells.specs.Elements.{most_states, most_elements};
-ghost use Rattle.polcert_cells.specs.EntryLists.{body_of};
+ghost use Rattle.polcert_cells.specs.EntryRefs.{body_of};
 ghost use Rattle.polcert_rules.specs.declared.rule.Rule.{Rule as R};
 ghost use Rattle.polcert_rules.specs.Keys.{key_base};
-ghost use Rattle.polcert_rules.specs.Rewards.{worth, rewards_in, AreBodiesOf, body_at, cell_in};
+ghost use Rattle.polcert_rules.specs.Steps.Rewards.{worth, rewards_in, AreBodiesOf};
+ghost use Rattle.polcert_rules.specs.RewardAt.{body_at, cell_in};
 
 use crate::Rule;
 use crate::reward_parts::RewardBody;

@@ -1,9 +1,9 @@
 //! Whether a rule begins with places that fit the first indices of a cell.
 ghost use Rattle.std.specs.Prelude.{◌≡◌, ◌+◌, ◌<◌, ◌≤◌, ◌^◌, Contains};
 ghost use Rattle.polcert_rules.specs.declared.rule.Rule.{Rule as R};
-ghost use Rattle.polcert_rules.specs.Newest.{IsRising};
+ghost use Rattle.polcert_rules.specs.Steps.Newest.{IsRising};
 ghost use Rattle.polcert_rules.specs.Keys.{key_base, AreIndices, most_places};
-ghost use Rattle.polcert_rules.specs.RewardSearch.{Begins, IsAnswer};
+ghost use Rattle.polcert_rules.specs.Steps.RewardSearch.{Begins, IsAnswer};
 
 use crate::Rule;
 use crate::newest::span;

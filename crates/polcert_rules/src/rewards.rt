@@ -7,13 +7,13 @@ ghost use Rattle.polcert_cells.specs.declared.entry.Entry.{Entry as E};
 ghost use Rattle.polcert_cells.specs.declared.entry.Table.TheVariants.{Reward as RewardTable};
 ghost use Rattle.polcert_cells.specs.Elements.{count_of};
 ghost use Rattle.polcert_cells.specs.Preamble.{Preamble, dimensions};
-ghost use Rattle.polcert_cells.specs.Sound.{IsSoundEntry};
+ghost use Rattle.polcert_cells.specs.Steps.Sound.{IsSoundEntry};
 ghost use Rattle.polcert_cells.specs.Cells.{reward};
-ghost use Rattle.polcert_rules.specs.Meeting.{meets_row};
+ghost use Rattle.polcert_rules.specs.Steps.Meeting.{meets_row};
 ghost use Rattle.polcert_rules.specs.Keys.{key_base, AreIndices, Fits, most_places, table_key};
-ghost use Rattle.polcert_rules.specs.Newest.{AreKeyed, IsIndexOf, IsNewest, IsLastNumber, IsRising};
-ghost use Rattle.polcert_rules.specs.Rewards.{IsShapeOf, IsSmall, AreRewardsOf};
-ghost use Rattle.polcert_rules.specs.RewardSearch.{AreFilled, AreWithin, IsLastBody, IsSingle};
+ghost use Rattle.polcert_rules.specs.Steps.Newest.{AreKeyed, IsIndexOf, IsNewest, IsLastNumber, IsRising};
+ghost use Rattle.polcert_rules.specs.Steps.Rewards.{IsShapeOf, IsSmall, AreRewardsOf};
+ghost use Rattle.polcert_rules.specs.Steps.RewardSearch.{AreFilled, AreWithin, IsLastBody, IsSingle};
 
 use crate::keys::{KEY_BASE, MOST_PLACES, TABLE};
 use crate::newest::newest;
@@ -51,7 +51,8 @@ pub struct Rewards {
 }
 
 impl Model for Rewards {
-    ghost use Rattle.polcert_rules.specs.Rewards.{RewardRules, AreRewardRules, reward_rules};
+    ghost use Rattle.polcert_rules.specs.Steps.Rewards.{AreRewardRules, reward_rules};
+    ghost use Rattle.polcert_rules.specs.RewardAt.{RewardRules};
 
     ghost Value = { RewardRules };
 

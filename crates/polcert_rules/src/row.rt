@@ -4,10 +4,10 @@ ghost use Rattle.std.specs.Prelude.{Contains, IfSome, OnOk, IfOk};
 ghost use Rattle.polcert_rules.specs.declared.rule.Rule.{Rule as R};
 ghost use Rattle.polcert_cells.specs.declared.entry.Entry.{Entry as E};
 ghost use Rattle.polcert_rules.specs.Keys.{key_base};
-ghost use Rattle.polcert_rules.specs.Newest.{AreKeyed, IsIndexOf, IsRising, IsNewest};
-ghost use Rattle.polcert_rules.specs.Rows.{HaveColumns, IsSingle, IsColumn, IsCell, columns_of, at_column};
-ghost use Rattle.polcert_rules.specs.Repeats.{IsWholeNumber};
-ghost use Rattle.polcert_rules.specs.Zeros.{AreOrdered, IsSplit, IsRowOf, under};
+ghost use Rattle.polcert_rules.specs.Steps.Newest.{AreKeyed, IsIndexOf, IsRising, IsNewest};
+ghost use Rattle.polcert_rules.specs.Steps.Rows.{HaveColumns, IsSingle, IsColumn, IsCell, columns_of, at_column};
+ghost use Rattle.polcert_rules.specs.Steps.Repeats.{IsWholeNumber};
+ghost use Rattle.polcert_rules.specs.Steps.Zeros.{AreOrdered, IsSplit, IsRowOf, under};
 
 use crate::Rule;
 use crate::build::{newest_of_each, table_digit};

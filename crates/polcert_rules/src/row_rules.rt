@@ -1,11 +1,11 @@
 //! The rules of R, in which those whose first two places are known are found without a search.
 ghost use Rattle.std.specs.Prelude.{◌≡◌, ◌+◌, ◌<◌, ◌≤◌, ◌^◌, ◌↔◌, ◌∷◌, Contains, length, IfOk};
 ghost use Rattle.polcert_rules.specs.declared.rule.Rule.{Rule as R};
-ghost use Rattle.polcert_rules.specs.Newest.{IsRising, IsNewest};
+ghost use Rattle.polcert_rules.specs.Steps.Newest.{IsRising, IsNewest};
 ghost use Rattle.polcert_rules.specs.Keys.{key_base, AreIndices, Fits};
-ghost use Rattle.polcert_rules.specs.Noting.{AreNoted};
-ghost use Rattle.polcert_rules.specs.RewardSearch.{Begins, IsAnswer};
-ghost use Rattle.polcert_rules.specs.Rewards.{IsSmall};
+ghost use Rattle.polcert_rules.specs.Steps.Noting.{AreNoted};
+ghost use Rattle.polcert_rules.specs.Steps.RewardSearch.{Begins, IsAnswer};
+ghost use Rattle.polcert_rules.specs.Steps.Rewards.{IsSmall};
 
 use crate::Rule;
 use crate::newest::{first_at, later, newest, span};

@@ -4,12 +4,12 @@ ghost use Rattle.polcert_cells.specs.Preamble.{Preamble};
 ghost use Rattle.polcert_cells.specs.Rows.{IsWeighted};
 ghost use Rattle.polcert_cells.specs.Meaning.{sum_below};
 ghost use Rattle.polcert_cells.specs.declared.cell.Cell.{Cell as C};
-ghost use Rattle.polcert_rules.specs.Newest.{IsIndexOf};
-ghost use Rattle.polcert_rules.specs.Shapes.{IsShapeOf, AreSound};
+ghost use Rattle.polcert_rules.specs.Steps.Newest.{IsIndexOf};
+ghost use Rattle.polcert_rules.specs.Steps.Shapes.{IsShapeOf, AreSound};
 ghost use Rattle.polcert_cells.specs.Sparse.{weight_at, IsSparse};
-ghost use Rattle.polcert_rules.specs.Merging.{from as cells_from};
+ghost use Rattle.polcert_rules.specs.Steps.Merging.{from as cells_from};
 ghost use Rattle.polcert_rules.specs.RowTables.{AreRowsOf, row_at};
-ghost use Rattle.polcert_rules.specs.Sources.{IsKept};
+ghost use Rattle.polcert_rules.specs.Steps.Sources.{IsKept};
 
 use crate::kept::{Bodies, Keeper, Kept};
 use crate::repeats::{Repeats, is_as_before};
@@ -33,7 +33,7 @@ pub struct Rows {
 
 impl Model for Rows {
     ghost use Rattle.std.specs.Prelude.{◌≡◌, ◌*◌, ◌<◌, All, length, map};
-    ghost use Rattle.polcert_rules.specs.Sources.{IsKept};
+    ghost use Rattle.polcert_rules.specs.Steps.Sources.{IsKept};
     ghost use Rattle.polcert_rules.specs.RowTables.{RowTable};
 
     ghost Value = { RowTable };

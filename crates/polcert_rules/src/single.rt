@@ -1,9 +1,9 @@
 //! The single cells of a row that are newer than what covers the whole row.
 ghost use Rattle.std.specs.Prelude.{◌≡◌, ℕ, ◌≤◌, All, IfOk, IfSome, Some};
 ghost use Rattle.polcert_cells.specs.Elements.{most_elements};
-ghost use Rattle.polcert_rules.specs.Merging.{given_at, is_newer, newer_cells};
-ghost use Rattle.polcert_rules.specs.Sources.{IsNumber, IsColumnOf};
-ghost use Rattle.polcert_rules.specs.Zeros.{AreOrdered, under};
+ghost use Rattle.polcert_rules.specs.Steps.Merging.{given_at, is_newer, newer_cells};
+ghost use Rattle.polcert_rules.specs.Steps.Sources.{IsNumber, IsColumnOf};
+ghost use Rattle.polcert_rules.specs.Steps.Zeros.{AreOrdered, under};
 
 use crate::row::Row;
 use polcert_cells::{BodyRef, Cell, Entries};

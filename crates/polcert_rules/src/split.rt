@@ -1,8 +1,8 @@
 //! The rules of a table of weights in two lists: the zeros, and the others.
 ghost use Rattle.std.specs.Prelude.{◌≡◌, ◌<◌, ◌==◌, All, IfOk, length, slice_index};
 ghost use Rattle.polcert_rules.specs.declared.rule.Rule.{Rule as R};
-ghost use Rattle.polcert_cells.specs.EntryLists.{entry_of};
-ghost use Rattle.polcert_rules.specs.Zeros.{gives_zero, is_zero, zeros_of, others_of, others_in};
+ghost use Rattle.polcert_cells.specs.EntryRefs.{entry_of};
+ghost use Rattle.polcert_rules.specs.Steps.Zeros.{gives_zero, is_zero, zeros_of, others_of, others_in};
 
 use crate::Rule;
 use polcert_cells::{BodyRef, Entries, EntryRef};

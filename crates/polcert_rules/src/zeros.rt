@@ -1,9 +1,9 @@
 //! The zeros of a row of T or O: single cells of weight 0, which are searched by column and never gathered.
 ghost use Rattle.std.specs.Prelude.{◌≡◌, ◌+◌, ◌*◌, ◌-◌, ◌<◌, ◌≤◌, ◌^◌, ℕ, None, IfSome, IsTrue};
 ghost use Rattle.polcert_rules.specs.Keys.{key_base};
-ghost use Rattle.polcert_rules.specs.Newest.{IsRising, IsNewest};
-ghost use Rattle.polcert_rules.specs.Rows.{IsSingle};
-ghost use Rattle.polcert_rules.specs.Zeros.{IsOrdered, AreOrdered, AreColumnsFrom, zero_in, newest_zero, zero_of};
+ghost use Rattle.polcert_rules.specs.Steps.Newest.{IsRising, IsNewest};
+ghost use Rattle.polcert_rules.specs.Steps.Rows.{IsSingle};
+ghost use Rattle.polcert_rules.specs.Steps.Zeros.{IsOrdered, AreOrdered, AreColumnsFrom, zero_in, newest_zero, zero_of};
 
 use crate::Rule;
 use crate::keys::{COLUMN, COLUMN_KEYS, first_column};

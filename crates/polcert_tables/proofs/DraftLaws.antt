@@ -6,13 +6,15 @@ use Rattle.polcert_cells.specs.Elements.{count_of}
 use Rattle.polcert_cells.specs.Preamble.{Preamble, observed, is_mdp}
 use Rattle.polcert_cells.specs.declared.entry.Table.TheVariants.{Transition}
 use Rattle.polcert_cells.proofs.Basics.{one_some, some≢none}
-use Rattle.polcert_cells.specs.Drafts.{Draft}
-use Rattle.polcert_cells.specs.Sound.{IsSound}
-use Rattle.polcert_rules.specs.Shapes.{AreSound}
+use Rattle.polcert_cells.specs.Steps.Drafts.{Draft}
+use Rattle.polcert_cells.specs.Steps.Sound.{IsSound}
+use Rattle.polcert_rules.specs.Steps.Shapes.{AreSound}
 use Rattle.polcert_rules.specs.RowTables.{RowTable, AreRowsOf}
-use Rattle.polcert_rules.specs.Rewards.{RewardRules, AreRewardsOf}
-use Rattle.polcert_tables.specs.Kept.{Kept, IsKeptOf, AreObservationsOf}
-use Rattle.polcert_tables.specs.DraftView.{HasCounts, IsDraft}
+use Rattle.polcert_rules.specs.Steps.Rewards.{AreRewardsOf}
+use Rattle.polcert_rules.specs.RewardAt.{RewardRules}
+use Rattle.polcert_tables.specs.Kept.{Kept}
+use Rattle.polcert_tables.specs.Steps.KeptOf.{IsKeptOf, AreObservationsOf}
+use Rattle.polcert_tables.specs.Steps.DraftView.{HasCounts, IsDraft}
 
 pub are_sound : (d : Draft) → IsSound d → AreSound d.preamble d.entries
 are_sound d s = record { states = s.states; actions = s.actions; observations = s.observations; each = s.entries }

@@ -8,7 +8,7 @@ use Rattle.polcert_cells.specs.Elements.{most_states, most_actions, most_observa
 use Rattle.polcert_cells.specs.Numbers.{one}
 use Rattle.polcert_cells.specs.Meaning as meanings
 use Rattle.polcert_cells.specs.Meaning.{Meaning, sum_below, IsCount, HasProperRows}
-use Rattle.polcert_cells.specs.Tables.{Table, IsProper, IsWithinLimits, table_of}
+use Rattle.polcert_cells.specs.Tables.{CellTable, IsProper, IsWithinLimits, table_of}
 use Rattle.polcert_text.specs.Numbers.{largest}
 use Rattle.polcert_cells.specs.SameCells.{HasSameCells}
 use Rattle.polcert_tables.specs.Filled.{Lists, Filled, filled_table, AreTransitions, AreObservations, AreRewards, AddsCells}
@@ -103,21 +103,21 @@ by_four cell f actions starts ends seen h a s e z al sl el zl =
     by_row cell (λ row column. f (row / ends / starts) (row / ends % starts) (row % ends) column) (actions * starts * ends) seen h ((a * starts + s) * ends + e) z (place_of_three a s e actions starts ends al sl el) zl
     ∙ by_three (λ row. f (row / ends / starts) (row / ends % starts) (row % ends) z) (λ action start end. f action start end z) actions starts ends (λ k l. refl) a s e al sl el
 
-pub transitions_are : (m : Table) (actions states place : ℕ) (ts : List ℕ) → actions ≡ m.actions → states ≡ m.states → place ≡ actions * states * states → length ts ≡ place → ((k : ℕ) → k < place → get_or ts k 0 ≡ m.t (k / states / states) (k / states % states) (k % states)) → AreTransitions m ts
+pub transitions_are : (m : CellTable) (actions states place : ℕ) (ts : List ℕ) → actions ≡ m.actions → states ≡ m.states → place ≡ actions * states * states → length ts ≡ place → ((k : ℕ) → k < place → get_or ts k 0 ≡ m.t (k / states / states) (k / states % states) (k % states)) → AreTransitions m ts
 transitions_are m actions states place ts ea es ep size each =
     record {
       count = rw (sym ea, sym es) (size ∙ ep);
       cells = λ a s e al sl el. rw (sym es) (by_three (λ k. get_or ts k 0) m.t actions states states (λ k l. each k (omega (arith, l, ep))) a s e (omega (arith, al, ea)) (omega (arith, sl, es)) (omega (arith, el, es)));
     }
 
-pub observations_are : (m : Table) (actions states observations place : ℕ) (os : List ℕ) → actions ≡ m.actions → states ≡ m.states → observations ≡ m.observations → place ≡ actions * states * observations → length os ≡ place → ((k : ℕ) → k < place → get_or os k 0 ≡ m.o (k / observations / states) (k / observations % states) (k % observations)) → AreObservations m os
+pub observations_are : (m : CellTable) (actions states observations place : ℕ) (os : List ℕ) → actions ≡ m.actions → states ≡ m.states → observations ≡ m.observations → place ≡ actions * states * observations → length os ≡ place → ((k : ℕ) → k < place → get_or os k 0 ≡ m.o (k / observations / states) (k / observations % states) (k % observations)) → AreObservations m os
 observations_are m actions states observations place os ea es eo ep size each =
     record {
       count = rw (sym ea, sym es, sym eo) (size ∙ ep);
       cells = λ a e z al el zl. rw (sym es, sym eo) (by_three (λ k. get_or os k 0) m.o actions states observations (λ k l. each k (omega (arith, l, ep))) a e z (omega (arith, al, ea)) (omega (arith, el, es)) (omega (arith, zl, eo)));
     }
 
-pub rewards_are : (m : Table) (actions states observations place : ℕ) (rs : List ℤ) → actions ≡ m.actions → states ≡ m.states → observations ≡ m.observations → place ≡ actions * states * states * observations → length rs ≡ place → ((k : ℕ) → k < place → get_or rs k (pos 0) ≡ m.r (k / observations / states / states) (k / observations / states % states) (k / observations % states) (k % observations)) → AreRewards m rs
+pub rewards_are : (m : CellTable) (actions states observations place : ℕ) (rs : List ℤ) → actions ≡ m.actions → states ≡ m.states → observations ≡ m.observations → place ≡ actions * states * states * observations → length rs ≡ place → ((k : ℕ) → k < place → get_or rs k (pos 0) ≡ m.r (k / observations / states / states) (k / observations / states % states) (k / observations % states) (k % observations)) → AreRewards m rs
 rewards_are m actions states observations place rs ea es eo ep size each =
     record {
       count = rw (sym ea, sym es, sym eo) (size ∙ ep);
@@ -125,7 +125,7 @@ rewards_are m actions states observations place rs ea es eo ep size each =
     }
 
 -- lists that are every cell of a table are that table
-pub same_cells : (m : Table) (l : Lists) → m.actions ≡ l.actions → m.states ≡ l.states → m.observations ≡ l.observations → m.discount ≡ l.discount → IsWithinLimits m → AreTransitions m l.ts → AreObservations m l.os → AreRewards m l.rs → HasSameCells m (filled_table l)
+pub same_cells : (m : CellTable) (l : Lists) → m.actions ≡ l.actions → m.states ≡ l.states → m.observations ≡ l.observations → m.discount ≡ l.discount → IsWithinLimits m → AreTransitions m l.ts → AreObservations m l.os → AreRewards m l.rs → HasSameCells m (filled_table l)
 same_cells m l ea es eo ed limits ts os rs =
     record {
       states = es;
@@ -147,7 +147,7 @@ sum_below_same f g (suc n) h =
     cc
 
 -- what has the cells of a table has its rows and its limits
-pub same_rows : (x y : Table) → HasSameCells x y → IsProper x → IsProper y
+pub same_rows : (x y : CellTable) → HasSameCells x y → IsProper x → IsProper y
 same_rows x y same proper =
     record {
       t_rows = λ a s al sl.
@@ -160,7 +160,7 @@ same_rows x y same proper =
           rw (sym same.observations, sym same.o_scale) (sym (sum_below_same (x.o a e) (y.o a e) x.observations (λ z zl. same.o a e z ax ex zl)) ∙ proper.o_rows a e ax ex);
     }
 
-pub same_limits : (x y : Table) → HasSameCells x y → IsWithinLimits x → IsWithinLimits y
+pub same_limits : (x y : CellTable) → HasSameCells x y → IsWithinLimits x → IsWithinLimits y
 same_limits x y same limits =
     record {
       states = subst (λ n. IsCount most_states n) same.states limits.states;
@@ -182,7 +182,7 @@ same_limits x y same limits =
 pub table_rows : (m : Meaning) → HasProperRows m → IsProper (table_of m)
 table_rows m rows = record { t_rows = rows.transitions; o_rows = rows.observations }
 
-pub table_limits : (m : Meaning) → meanings.IsWithinLimits m → IsWithinLimits (table_of m)
+pub table_limits : (m : Meaning) → meanings.HasLimitedNumbers m → IsWithinLimits (table_of m)
 table_limits m limits =
     record {
       states = limits.states;

@@ -10,19 +10,20 @@ use Rattle.polcert_cells.specs.Preamble.{Preamble, is_mdp, observed, rewarded, c
 use Rattle.polcert_cells.specs.Start.{all_states}
 use Rattle.polcert_cells.specs.Cells.{weight, reward}
 use Rattle.polcert_cells.specs.Meaning.{observation_weight, reward_index, IsSame, observations_of, o_scale, sum_below}
-use Rattle.polcert_cells.specs.Drafts as drafts
+use Rattle.polcert_cells.specs.Steps.Drafts as drafts
 use Rattle.polcert_cells.specs.Sparse.{weight_at}
 use Rattle.polcert_rules.specs.RowTables.{RowTable, row_at, AreRowsOf}
-use Rattle.polcert_rules.specs.Rewards.{AreRewardsOf}
+use Rattle.polcert_rules.specs.Steps.Rewards.{AreRewardsOf}
 use Rattle.polcert_rules.specs.RewardAt.{reward_at}
 use Rattle.polcert_cells.specs.Numbers.{one}
 use Rattle.polcert_cells.specs.declared.elements.Elements.{Elements}
 use Rattle.polcert_cells.specs.declared.elements.Elements.TheVariants.{Count}
 use Rattle.polcert_cells.proofs.SoundLaws.{rewarded_few}
 use Rattle.polcert_cells.proofs.Basics.{true≢false}
-use Rattle.polcert_rules.proofs.RewardAt.{reward_is}
-use Rattle.polcert_tables.specs.Kept.{Kept, IsKeptOf, AreObservationsOf, observed_at, meaning}
-use Rattle.polcert_tables.specs.DraftView.{IsDraft}
+use Rattle.polcert_rules.proofs.RewardLaws.RewardAt.{reward_is}
+use Rattle.polcert_tables.specs.Kept.{Kept, observed_at, meaning}
+use Rattle.polcert_tables.specs.Steps.KeptOf.{IsKeptOf, AreObservationsOf}
+use Rattle.polcert_tables.specs.Steps.DraftView.{IsDraft}
 
 same_cell : (p : Preamble) (entries : List Entry) (table : Table) (t : RowTable) → AreRowsOf p entries table t
     → (a s c : ℕ) → a < count_of p.actions → s < count_of p.states → c < columns p table → weight_at (row_at t a s) c ≡ weight p entries table (a ∷ s ∷ c ∷ [])

@@ -5,8 +5,8 @@ use Rattle.polcert_cells.specs.declared.entry.Table.TheVariants.{Transition, Obs
 use Rattle.polcert_cells.specs.Meaning.{Meaning, HasProperRows, states_of, observations_of, t_scale, o_scale, sum_below}
 use Rattle.polcert_tables.specs.Kept.{Kept, meaning}
 use Rattle.polcert_cells.specs.Rows.{IsProperRow, AreProperBefore, IsFirstWrongRow}
-use Rattle.polcert_tables.specs.declared.rows.WrongRow.{WrongRow}
-use Rattle.polcert_tables.specs.RowSums.{AreProper, IsFirstWrongIn}
+use Rattle.polcert_tables.specs.declared.row_sums.WrongRow.{WrongRow}
+use Rattle.polcert_tables.specs.Steps.RowSums.{AreProper, IsFirstWrongIn}
 
 equal_test : (x y a b : ℕ) → x ≡ a → y ≡ b → IsTrue (nat_eq x y) ↔ (a ≡ b)
 equal_test x y a b e f = (λ t. let same : x ≡ y = search (rules, tests) in sym e ∙ same ∙ f, λ same. let same : x ≡ y = e ∙ same ∙ sym f in search (rules, tests))

@@ -1,6 +1,6 @@
 -- What a model keeps of its text, and what that means.
 -- Source: the POMDP file format page at pomdp.org: the preamble, a start item or none, and the lines of T, O and R.
-use Rattle.polcert_cells.specs.Meaning.{Meaning, HasProperRows, IsWithinLimits}
+use Rattle.polcert_cells.specs.Meaning.{Meaning, HasProperRows, HasLimitedNumbers}
 use Rattle.polcert_format.specs.Writable.{IsWritable}
 use Rattle.polcert_tables.specs.Kept as kept
 use Rattle.polcert_tables.specs.Kept.{Kept}
@@ -9,7 +9,7 @@ use Rattle.polcert_tables.specs.Kept.{Kept}
 pub record Contents : Type 0 where
   pub draft : Kept
   pub rows : HasProperRows (kept.meaning draft)
-  pub limits : IsWithinLimits (kept.meaning draft)
+  pub limits : HasLimitedNumbers (kept.meaning draft)
   pub writable : IsWritable (kept.meaning draft)
 
 -- what they denote

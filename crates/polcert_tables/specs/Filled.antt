@@ -2,7 +2,7 @@
 -- Our own: the file format gives cells by entries, and does not say how a program keeps them.
 use Rattle.std.specs.Prelude.{◌≡◌, ℕ, ◌+◌, ◌*◌, ◌<◌, List, length, get_or, ℤ, pos}
 use Rattle.polcert_cells.specs.Numbers.{one}
-use Rattle.polcert_cells.specs.Tables.{Table, IsProper, IsWithinLimits}
+use Rattle.polcert_cells.specs.Tables.{CellTable, IsProper, IsWithinLimits}
 
 -- counts, the discount in millionths, and the cells of T, O and R: those of a row side by side, and row after row
 pub record Lists : Type 0 where
@@ -26,7 +26,7 @@ lists_of states actions observations discount ts os rs = record {
 }
 
 -- the table that they are
-abbrev pub filled_table : Lists → Table
+abbrev pub filled_table : Lists → CellTable
 filled_table l = record {
   states = l.states;
   actions = l.actions;
@@ -46,18 +46,18 @@ pub record Filled : Type 0 where
   pub limits : IsWithinLimits (filled_table lists)
 
 -- the list is every cell of T: action after action, start state after start state, end state after end state
-pub record AreTransitions (m : Table) (ts : List ℕ) : Type 0 where
+pub record AreTransitions (m : CellTable) (ts : List ℕ) : Type 0 where
   pub count : length ts ≡ m.actions * m.states * m.states
   pub cells : (a s e : ℕ) → a < m.actions → s < m.states → e < m.states → get_or ts ((a * m.states + s) * m.states + e) 0 ≡ m.t a s e
 
 -- the list is every cell of O: action after action, end state after end state, observation after observation
-pub record AreObservations (m : Table) (os : List ℕ) : Type 0 where
+pub record AreObservations (m : CellTable) (os : List ℕ) : Type 0 where
   pub count : length os ≡ m.actions * m.states * m.observations
   pub cells : (a e z : ℕ) → a < m.actions → e < m.states → z < m.observations → get_or os ((a * m.states + e) * m.observations + z) 0 ≡ m.o a e z
 
 -- the list is every cell of R: action after action, start state after start state, end state after end state,
 -- observation after observation
-pub record AreRewards (m : Table) (rs : List ℤ) : Type 0 where
+pub record AreRewards (m : CellTable) (rs : List ℤ) : Type 0 where
   pub count : length rs ≡ m.actions * m.states * m.states * m.observations
   pub cells : (a s e z : ℕ) → a < m.actions → s < m.states → e < m.states → z < m.observations → get_or rs (((a * m.states + s) * m.states + e) * m.observations + z) (pos 0) ≡ m.r a s e z
 

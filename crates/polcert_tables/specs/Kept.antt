@@ -1,18 +1,14 @@
 -- What a model keeps of its text, and what that means: the preamble, the start, and the cells as sparse rows and as rules.
-use Rattle.std.specs.Prelude.{◌≡◌, ℕ, ◌*◌, ◌==◌, true, false, if◌then◌else◌, List, Option, Some, None, unwrap_or}
-use Rattle.polcert_cells.specs.declared.entry.Table.TheVariants.{Transition, Observation}
+use Rattle.std.specs.Prelude.{ℕ, ◌*◌, ◌==◌, if◌then◌else◌, Option, Some, None, unwrap_or}
 use Rattle.polcert_cells.specs.declared.shares.Shares.{Shares}
-use Rattle.polcert_cells.specs.declared.entry.Entry.{Entry}
 use Rattle.polcert_cells.specs.Elements.{count_of}
 use Rattle.polcert_cells.specs.Numbers.{one}
-use Rattle.polcert_cells.specs.Preamble.{Preamble, is_mdp}
+use Rattle.polcert_cells.specs.Preamble.{Preamble}
 use Rattle.polcert_cells.specs.Start.{all_states}
 use Rattle.polcert_cells.specs.Meaning.{Meaning, reward_index}
-use Rattle.polcert_cells.specs.Drafts.{Draft}
 use Rattle.polcert_cells.specs.Sparse.{weight_at}
-use Rattle.polcert_rules.specs.RowTables.{RowTable, row_at, AreRowsOf}
-use Rattle.polcert_rules.specs.Rewards.{RewardRules, AreRewardsOf}
-use Rattle.polcert_rules.specs.RewardAt.{reward_at}
+use Rattle.polcert_rules.specs.RowTables.{RowTable, row_at}
+use Rattle.polcert_rules.specs.RewardAt.{RewardRules, reward_at}
 
 -- (an MDP keeps no rows of O)
 pub record Kept : Type 0 where
@@ -36,16 +32,3 @@ meaning k = record {
   o = observed_at k.preamble k.observations;
   r = (λ a s e z. reward_at k.rewards a s e (reward_index k.preamble z));
 }
-
--- the rows of O are those of the entries; an MDP has none
-abbrev pub AreObservationsOf : Preamble → List Entry → Option RowTable → Type 0
-AreObservationsOf p entries (Some rows) = (is_mdp p ≡ false) × AreRowsOf p entries Observation rows
-AreObservationsOf p entries None = is_mdp p ≡ true
-
--- they are what these items of a text say
-pub record IsKeptOf (d : Draft) (k : Kept) : Type 0 where
-  pub preamble : k.preamble ≡ d.preamble
-  pub start : k.start ≡ d.start
-  pub transitions : AreRowsOf d.preamble d.entries Transition k.transitions
-  pub observations : AreObservationsOf d.preamble d.entries k.observations
-  pub rewards : AreRewardsOf d.preamble d.entries k.rewards

@@ -1,5 +1,4 @@
 pub mod Contents
-pub mod DraftView
 pub mod Filled
 pub mod Kept
-pub mod RowSums
+pub mod Steps

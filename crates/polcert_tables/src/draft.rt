@@ -3,18 +3,17 @@ ghost use Rattle.std.specs.Prelude.{◌≡◌, ◌+◌, ◌<◌, false, pos, ℕ
 ghost use Rattle.std.specs.Option.{ForSome, option_copied};
 ghost use Rattle.polcert_cells.specs.LentRows.{IsRowOf};
 ghost use Rattle.polcert_cells.specs.Rows.{IsWeighted};
-ghost use Rattle.polcert_cells.specs.Elements.{most_states, most_actions, most_observations, most_elements};
-ghost use Rattle.polcert_cells.specs.Elements.{count_of};
+ghost use Rattle.polcert_cells.specs.Elements.{most_states, most_actions, most_observations, most_elements, count_of};
 ghost use Rattle.polcert_cells.specs.declared.entry.Table.TheVariants.{Transition};
 ghost use Rattle.polcert_cells.specs.Preamble.{Preamble as P, is_mdp, rewarded, columns as columns_in};
 ghost use Rattle.polcert_cells.specs.Meaning.{IsCount, reward_index, states_of, actions_of, observations_of};
-ghost use Rattle.polcert_cells.specs.Meaning.{t_scale, o_scale, start_weight, start_total, elements_of};
-ghost use Rattle.polcert_cells.specs.Meaning.{sum_below};
-ghost use Rattle.polcert_tables.specs.Kept.{meaning, IsKeptOf, AreObservationsOf};
+ghost use Rattle.polcert_cells.specs.Meaning.{t_scale, o_scale, start_weight, start_total, elements_of, sum_below};
+ghost use Rattle.polcert_tables.specs.Kept.{meaning};
+ghost use Rattle.polcert_tables.specs.Steps.KeptOf.{IsKeptOf, AreObservationsOf};
 ghost use Rattle.polcert_format.specs.Order.{count_or};
-ghost use Rattle.polcert_rules.specs.Newest.{IsIndexOf};
-ghost use Rattle.polcert_rules.specs.Shapes.{IsShapeOf, AreSound};
-ghost use Rattle.polcert_tables.specs.RowSums.{row_of};
+ghost use Rattle.polcert_rules.specs.Steps.Newest.{IsIndexOf};
+ghost use Rattle.polcert_rules.specs.Steps.Shapes.{IsShapeOf, AreSound};
+ghost use Rattle.polcert_tables.specs.Steps.RowSums.{row_of};
 
 use crate::Preamble;
 use polcert_cells::{Cell, Elements, Entries, Kind, Row, Shares, Table};
@@ -44,7 +43,7 @@ pub struct Draft {
 
 impl marker::Model for Draft {
     ghost use Rattle.polcert_tables.specs.Kept.{Kept};
-    ghost use Rattle.polcert_tables.specs.DraftView.{kept_of, IsDraft};
+    ghost use Rattle.polcert_tables.specs.Steps.DraftView.{kept_of, IsDraft};
 
     ghost Value = { Kept };
 
@@ -54,8 +53,8 @@ impl marker::Model for Draft {
 }
 
 impl Draft {
-    ghost use Rattle.polcert_cells.specs.Sound.{IsSound};
-    ghost use Rattle.polcert_tables.specs.DraftView.{draft_with, preamble_of};
+    ghost use Rattle.polcert_cells.specs.Steps.Sound.{IsSound};
+    ghost use Rattle.polcert_tables.specs.Steps.DraftView.{draft_with, preamble_of};
 
     /// The draft of a text that has this preamble, this start item or none, and these entries.
     pub fn of(

@@ -6,11 +6,11 @@ mod dense;
 mod draft;
 mod model;
 mod preamble;
-mod rows;
+mod row_sums;
 mod table;
 
 pub use dense::{DenseModel, dense_of};
 pub use draft::{Draft, ONE, count_or};
 pub use model::{MOST_CELLS, Model};
 pub use preamble::Preamble;
-pub use rows::{WrongRow, first_wrong_row};
+pub use row_sums::{WrongRow, first_wrong_row};

@@ -1,10 +1,8 @@
 //! A model, as it was read.
 ghost use Rattle.std.specs.Prelude.{◌≡◌, ◌<◌, ◌↔◌, option_map, IsTrue};
-ghost use Rattle.polcert_cells.specs.Elements.{most_states, most_actions, most_observations, count_of};
-ghost use Rattle.polcert_cells.specs.Elements.{name_of};
-ghost use Rattle.polcert_cells.specs.Meaning.{HasProperRows, IsWithinLimits, IsCount, states_of, actions_of};
-ghost use Rattle.polcert_cells.specs.Meaning.{observations_of, t_scale, o_scale, start_weight, start_total};
-ghost use Rattle.polcert_cells.specs.Meaning.{elements_of};
+ghost use Rattle.polcert_cells.specs.Elements.{most_states, most_actions, most_observations, count_of, name_of};
+ghost use Rattle.polcert_cells.specs.Meaning.{HasProperRows, HasLimitedNumbers, IsCount, states_of, actions_of};
+ghost use Rattle.polcert_cells.specs.Meaning.{observations_of, t_scale, o_scale, start_weight, start_total, elements_of};
 ghost use Rattle.polcert_cells.specs.Preamble.{is_mdp};
 ghost use Rattle.polcert_tables.specs.Kept as kept;
 ghost use Rattle.polcert_tables.specs.Contents.{meaning};
@@ -30,7 +28,7 @@ pub const MOST_CELLS: usize = 16_777_216;
 pub struct Model {
     draft: Draft,
     ghost rows: { HasProperRows (kept.meaning draft) },
-    ghost limits: { IsWithinLimits (kept.meaning draft) },
+    ghost limits: { HasLimitedNumbers (kept.meaning draft) },
     ghost writable: { IsWritable (kept.meaning draft) },
 }
 
@@ -53,7 +51,7 @@ impl Model {
     /// The model of a draft whose rows sum to their scales.
     pub fn of(draft: Draft) -> Model
         requires rows { HasProperRows (kept.meaning draft) }
-        requires limits { IsWithinLimits (kept.meaning draft) }
+        requires limits { HasLimitedNumbers (kept.meaning draft) }
         requires writable { IsWritable (kept.meaning draft) }
         ensures { result.draft ≡ draft }
     {

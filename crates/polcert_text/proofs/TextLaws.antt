@@ -10,9 +10,9 @@ use Rattle.polcert_text.specs.declared.number.Rounding.{Rounding}
 use Rattle.polcert_text.specs.declared.number.Rounding.TheVariants.{Down, Up}
 use Rattle.polcert_text.specs.declared.number.NumberFault.{NumberFault}
 use Rattle.polcert_text.specs.declared.number.NumberFault.TheVariants.{NotANumeral, TooLong, TooLarge, TooFine}
-use Rattle.polcert_text.proofs.CutLaws as cuts
-use Rattle.polcert_text.proofs.SizeLaws.{millionth_pos}
-use Rattle.polcert_text.proofs.SignedLaws.{one_quotient, le_times_back}
+use Rattle.polcert_text.proofs.Scanning.CutLaws as cuts
+use Rattle.polcert_text.proofs.Numbers.SizeLaws.{millionth_pos}
+use Rattle.polcert_text.proofs.Numbers.SignedLaws.{one_quotient, le_times_back}
 
 pub one_cut : (rest : Rest) (ss ts : List Lexeme) (x y : Option TokenFault) → IsCut rest ss x → IsCut rest ts y → (ss ≡ ts) × (x ≡ y)
 one_cut = cuts.one_cut

@@ -1,16 +1,11 @@
 -- Tokens that stand whole at the front of some bytes.
--- Nobody has to believe this: only contracts of private functions and of readers token by token cite it.
-use Rattle.std.specs.Prelude.{◌≡◌, ℕ, ◌+◌, ◌≤◌, ◌++◌, ◌∷◌, false, true, Option, List, [], length, take, drop, slice_index, pos}
+use Rattle.std.specs.Prelude.{◌≡◌, ℕ, ◌+◌, ◌≤◌, ◌++◌, ◌∷◌, false, true, Option, List, [], length, drop, pos}
 use Rattle.std.specs.Str.Parse.{digits_value}
-use Rattle.polcert_text.specs.Bytes.{class_of}
 use Rattle.polcert_text.specs.Lexemes.{are_digits}
-use Rattle.polcert_text.specs.ScanOf.{EndsWithin}
-use Rattle.polcert_text.specs.Cut.{Lexeme, Rest, is_glued}
+use Rattle.polcert_text.specs.Cut.{Lexeme, Rest}
 use Rattle.polcert_text.specs.Numbers.{IsReadable, IsExact}
-use Rattle.polcert_text.specs.Stream.{Stream}
-use Rattle.polcert_text.specs.Streaming.{skip}
+use Rattle.polcert_text.specs.Stream.{Stream, skip}
 use Rattle.polcert_text.specs.TakenTokens.{Taken}
-use Rattle.polcert_text.specs.declared.bytes.ByteClass.TheVariants.{Digit}
 use Rattle.polcert_text.specs.declared.lexeme.TokenKind.{TokenKind}
 use Rattle.polcert_text.specs.declared.lexeme.TokenKind.TheVariants.{Numeral}
 use Rattle.polcert_text.specs.declared.tokens.TokenFault.{TokenFault}
@@ -51,21 +46,3 @@ pub record BeginWithDigits (place : ℕ) (bytes : List ℕ) (number : FrontNumbe
   pub front : BeginWith place bytes number.len (token ∷ [])
   pub digits : are_digits token.bytes ≡ true
   pub value : digits_value 10 token.bytes ≡ number.value
-
--- a numeral of just so many millionths ends within the bytes
-pub record EndsAsNumber (bytes : List ℕ) (number : FrontNumber) : Type 0 where
-  pub digit : class_of (slice_index bytes 0) ≡ Digit
-  pub ends : EndsWithin bytes (record { kind = Numeral; len = number.len })
-  pub short : number.len ≤ 400
-  pub apart : is_glued Numeral (drop number.len bytes) ≡ false
-  pub readable : IsReadable (take number.len bytes)
-  pub exact : IsExact false (take number.len bytes) (pos number.value)
-
--- digits that spell a number end within the bytes
-pub record EndsAsDigits (bytes : List ℕ) (number : FrontNumber) : Type 0 where
-  pub digit : class_of (slice_index bytes 0) ≡ Digit
-  pub ends : EndsWithin bytes (record { kind = Numeral; len = number.len })
-  pub short : number.len ≤ 400
-  pub apart : is_glued Numeral (drop number.len bytes) ≡ false
-  pub digits : are_digits (take number.len bytes) ≡ true
-  pub value : digits_value 10 (take number.len bytes) ≡ number.value

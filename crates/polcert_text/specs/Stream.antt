@@ -1,7 +1,7 @@
 -- What a stream of tokens has read and not yet given, and what a call of it reads and answers.
 -- Source: a read of a file as POSIX has it: bytes, the end, or an error. Our own: the rest that is cut is the same
 -- however the source cuts its bytes.
-use Rattle.std.specs.Prelude.{◌≡◌, ◌-◌, ◌+◌, ◌++◌, ℕ, Bool, true, false, List, [], length, take, Option, Some, None, Result, Ok, Err, nat_lt, if◌then◌else◌}
+use Rattle.std.specs.Prelude.{◌≡◌, ◌-◌, ◌+◌, ◌++◌, ℕ, Bool, true, false, List, [], length, take, drop, Option, Some, None, Result, Ok, Err, nat_lt, if◌then◌else◌}
 use Rattle.polcert_text.specs.Cut.{Lexeme, Rest, TakesToken, Ends}
 use Rattle.polcert_text.specs.Device.{HasFailed}
 use Rattle.polcert_text.specs.Source.{GivesThenFails, Reads}
@@ -9,8 +9,8 @@ use Rattle.polcert_text.specs.declared.tokens.TokenFault.{TokenFault}
 use Rattle.polcert_text.specs.declared.tokens.TokenFault.TheVariants.{TextTooLong}
 use Rattle.polcert_text.specs.declared.stream_tokens.StreamFault.{StreamFault}
 use Rattle.polcert_text.specs.declared.stream_tokens.StreamFault.TheVariants as faults
-use Rattle.polcert_text.specs.declared.stream_tokens.Stop.{Stop}
-use Rattle.polcert_text.specs.declared.stream_tokens.Stop.TheVariants.{End, Fault}
+use Rattle.polcert_text.specs.declared.stream_tokens.LastAnswer.{LastAnswer}
+use Rattle.polcert_text.specs.declared.stream_tokens.LastAnswer.TheVariants.{End, Fault}
 
 -- The bytes that were read and are not yet given, the offset of the first, the limit of the text, an offset too, and
 -- whether the true end was seen behind them.
@@ -20,12 +20,20 @@ pub record Ahead : Type 0 where
   pub limit : ℕ
   pub is_whole : Bool
 
+-- the bytes that are kept and stand below the limit
+abbrev pub visible : Ahead → List ℕ
+visible a = take (a.limit - a.place) a.kept
+
+-- the first n bytes are given
+abbrev pub skip : ℕ → Ahead → Ahead
+skip n a = record { place = a.place + n; kept = drop n a.kept; limit = a.limit; is_whole = a.is_whole }
+
 -- A stream: what is ahead, the bytes of the token that was given last, and what every further call answers, once it
 -- has stopped.
 pub record Stream : Type 0 where
   pub ahead : Ahead
   pub lent : List ℕ
-  pub stop : Option Stop
+  pub stop : Option LastAnswer
 
 -- what is still to be cut of a text, from an offset on: the bytes below the limit; a byte at the limit is a fault there
 abbrev pub rest_from : ℕ → ℕ → List ℕ → Rest
@@ -52,7 +60,7 @@ abbrev pub fresh : ℕ → Stream
 fresh limit = record { ahead = record { place = 0; kept = []; limit = limit; is_whole = false }; lent = []; stop = None }
 
 -- what a stream that has stopped answers
-abbrev pub answer_of : {T : Type 0} → Stop → Result (Option T) StreamFault
+abbrev pub answer_of : {T : Type 0} → LastAnswer → Result (Option T) StreamFault
 answer_of End = Ok None
 answer_of (Fault fault) = Err fault
 
@@ -107,4 +115,4 @@ module _ {S : Type 0} (reads : S → ℕ → Option (List ℕ) → S → Type 0)
   pub record AnswersNext {T : Type 0} (lexeme : T → Lexeme) (old : Stream) (source : S) (result : Result (Option T) StreamFault)
       (new : Stream) (source' : S) : Type 0 where
     pub answers : Answers lexeme old source result new source'
-    pub again : (stop : Stop) → old.stop ≡ Some stop → (result ≡ answer_of stop) × (new ≡ old) × (source' ≡ source)
+    pub again : (stop : LastAnswer) → old.stop ≡ Some stop → (result ≡ answer_of stop) × (new ≡ old) × (source' ≡ source)

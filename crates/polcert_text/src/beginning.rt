@@ -1,7 +1,8 @@
 //! Tokens that stand whole at the front of some bytes, cut without going through a stream.
 ghost use Rattle.std.specs.Prelude.{◌≡◌, ◌≤◌, ℕ, length, take, IfSome};
-ghost use Rattle.polcert_text.specs.Scan.{gap_through};
-ghost use Rattle.polcert_text.specs.Beginning.{BeginWithOne, BeginWithNumber, BeginWithDigits, EndsAsNumber, EndsAsDigits};
+ghost use Rattle.polcert_text.specs.Steps.Scan.{gap_through};
+ghost use Rattle.polcert_text.specs.Beginning.{BeginWithOne, BeginWithNumber, BeginWithDigits};
+ghost use Rattle.polcert_text.specs.Steps.ScanOf.{EndsAsNumber, EndsAsDigits};
 
 use crate::bytes::{is_surely_blank, is_surely_colon, is_surely_point};
 use crate::lexeme::{Gap, TokenKind};

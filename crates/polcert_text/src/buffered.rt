@@ -2,7 +2,7 @@
 ghost use Rattle.std.specs.Prelude.{◌≡◌, []};
 ghost use Rattle.polcert_text.specs.Device.{CountsFailures};
 ghost use Rattle.polcert_text.specs.Sink.{WritesText};
-ghost use Rattle.polcert_text.specs.Buffer.{WritesBuffered};
+ghost use Rattle.polcert_text.specs.Steps.Buffer.{WritesBuffered};
 
 use crate::buffer::{BUFFER_SIZE, Buffer};
 use crate::{Sink, SinkFailed, write_all};

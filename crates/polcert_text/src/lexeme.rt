@@ -1,7 +1,7 @@
 //! A gap and a lexeme, read byte by byte.
 ghost use Rattle.std.specs.Prelude.{◌≡◌, ◌+◌, ◌<◌, ◌++◌, ◌∷◌, [], ℕ, List, length, take, slice_index, true, false, ◌≤◌, ◌⊎◌, IfSome, IsTrue};
 ghost use Rattle.polcert_text.specs.Fronts.{IsLongestGap, IsLongestLexeme};
-ghost use Rattle.polcert_text.specs.Scan.{gap_after, gap_through, state_after, state_through, kind_at, is_numeral_kind};
+ghost use Rattle.polcert_text.specs.Steps.Scan.{gap_after, gap_through, state_after, state_through, kind_at, is_numeral_kind};
 ghost use Rattle.polcert_text.specs.Bytes.{class_of};
 
 use crate::bytes::{
@@ -226,7 +226,7 @@ pub struct LexemeScan {
 }
 
 impl LexemeScan {
-    ghost use Rattle.polcert_text.specs.ScanOf.{IsScanOf, is_stuck, front_len, scan_at};
+    ghost use Rattle.polcert_text.specs.Steps.ScanOf.{IsScanOf, is_stuck, front_len, scan_at};
 
     pub fn new() -> LexemeScan
         ensures { IsScanOf [] result }
@@ -346,8 +346,8 @@ impl LexemeScan {
     }
 }
 
-ghost use Rattle.polcert_text.specs.ScanOf.{IsFrontOf, EndsWithin};
-ghost use Rattle.polcert_text.specs.Scan.{GoesOnWithDigits};
+ghost use Rattle.polcert_text.specs.Steps.ScanOf.{IsFrontOf, EndsWithin};
+ghost use Rattle.polcert_text.specs.Steps.Scan.{GoesOnWithDigits};
 ghost use Rattle.polcert_text.specs.declared.lexeme.State.{State};
 
 /// Where a name that the bytes before `from` begin ends.

@@ -5,7 +5,7 @@ ghost use Rattle.std.specs.Str.Parse.{digits_value};
 ghost use Rattle.polcert_text.specs.Bytes.{class_of, is_digit};
 ghost use Rattle.polcert_text.specs.Lexemes.{before, after, is_numeral};
 ghost use Rattle.polcert_text.specs.Numbers.{whole_of, fraction_of, exponent_of, is_lowering, without_sign, largest, signed, IsExact, IsFloor, IsCeil, IsRounded, IsReadable, IsRefused, IsRefusedExactly};
-ghost use Rattle.polcert_text.specs.Scaling.{separates, cap, is_nonzero, IsScaled, Measures, ceiling, rounded, is_away};
+ghost use Rattle.polcert_text.specs.Steps.Scaling.{separates, cap, is_nonzero, IsScaled, Measures, ceiling, rounded, is_away};
 
 use crate::bytes::{ByteClass, class_of, is_surely_digit, is_surely_point};
 use crate::lexeme::State;

@@ -1,10 +1,10 @@
 //! The bytes of a text that comes from a source, and the gap and the lexeme at their front.
 ghost use Rattle.std.specs.Prelude.{◌≡◌, ◌+◌, ◌<◌, ◌≤◌, ◌-◌, ◌^◌, ◌∷◌, [], ℕ, List, Bool, Option, true, false, length, take, slice_index, IfOk, OnErr};
 ghost use Rattle.polcert_text.specs.Bytes.{class_of};
-ghost use Rattle.polcert_text.specs.Scan.{gap_after, gap_through};
-ghost use Rattle.polcert_text.specs.ScanOf.{is_stuck, front_len};
-ghost use Rattle.polcert_text.specs.Stream.{Ahead};
-ghost use Rattle.polcert_text.specs.Streaming.{visible, skip, end_of, Fills, FailsAt, SkipsGapOrFails, ScansLexemeOrFails, IsComplete};
+ghost use Rattle.polcert_text.specs.Steps.Scan.{gap_after, gap_through};
+ghost use Rattle.polcert_text.specs.Steps.ScanOf.{is_stuck, front_len};
+ghost use Rattle.polcert_text.specs.Stream.{Ahead, visible, skip};
+ghost use Rattle.polcert_text.specs.Steps.Streaming.{end_of, Fills, FailsAt, SkipsGapOrFails, ScansLexemeOrFails, IsComplete};
 
 use crate::lexeme::{Front, Gap, LexemeScan, ended_lexeme, seen_gap};
 use crate::window::Window;

@@ -20,20 +20,20 @@ pub enum StreamFault {
 
 /// What every further call answers, once the tokens have stopped.
 #[derive(Clone, Copy, Debug, PartialEq, Eq)]
-pub enum Stop {
+pub enum LastAnswer {
     End,
     Fault(StreamFault),
 }
 
-impl Stop {
+impl LastAnswer {
     ghost use Rattle.polcert_text.specs.Stream.{answer_of};
 
     fn answer(self) -> Result<Option<TokenKind>, StreamFault>
         ensures { result ≡ answer_of self }
     {
         match self {
-            Stop::End => Ok(None),
-            Stop::Fault(fault) => Err(fault),
+            LastAnswer::End => Ok(None),
+            LastAnswer::Fault(fault) => Err(fault),
         }
     }
 }
@@ -44,13 +44,14 @@ impl Stop {
 pub struct StreamTokens {
     bytes: StreamBytes,
     taken: usize,
-    stop: Option<Stop>,
+    stop: Option<LastAnswer>,
 }
 
 impl Model for StreamTokens {
     ghost use Rattle.std.specs.Prelude.{◌≡◌, ◌+◌, ◌≤◌, length, take};
     ghost use Rattle.polcert_text.specs.Stream.{Stream};
-    ghost use Rattle.polcert_text.specs.Streaming.{visible, skip, StopsRightly};
+    ghost use Rattle.polcert_text.specs.Steps.Streaming.{StopsRightly};
+    ghost use Rattle.polcert_text.specs.Stream.{visible, skip};
 
     ghost Value = { Stream };
 
@@ -70,7 +71,8 @@ impl StreamTokens {
     ghost use Rattle.polcert_text.specs.Reading.{lexeme_of};
     ghost use Rattle.polcert_text.specs.Stream.{fresh, rest_with, AnswersNext};
     ghost use Rattle.polcert_text.specs.Beginning.{passed};
-    ghost use Rattle.polcert_text.specs.Streaming.{visible, lent_lexeme, TakesNext};
+    ghost use Rattle.polcert_text.specs.Steps.Streaming.{lent_lexeme, TakesNext};
+    ghost use Rattle.polcert_text.specs.Stream.{visible};
 
     /// The tokens below the limit, an offset in the text. A byte at the limit is refused there.
     pub fn new(limit: u64) -> StreamTokens
@@ -159,8 +161,8 @@ impl StreamTokens {
         let result = self.take_token(source);
         self.stop = match result {
             Ok(Some(_)) => None,
-            Ok(None) => Some(Stop::End),
-            Err(fault) => Some(Stop::Fault(fault)),
+            Ok(None) => Some(LastAnswer::End),
+            Err(fault) => Some(LastAnswer::Fault(fault)),
         };
         result
     }

@@ -133,8 +133,8 @@ impl Tokens<'_> {
 ghost use Rattle.polcert_text.specs.Bytes.{is_glue};
 ghost use Rattle.polcert_text.specs.Cut.{is_glued, IsFaultAt};
 ghost use Rattle.polcert_text.specs.Reading.{IsReadAt};
-ghost use Rattle.polcert_text.specs.ScanOf.{front_len};
-ghost use Rattle.polcert_text.specs.Streaming.{IsSeen};
+ghost use Rattle.polcert_text.specs.Steps.ScanOf.{front_len};
+ghost use Rattle.polcert_text.specs.Steps.Streaming.{IsSeen};
 
 /// The token at the front of the bytes, which stand at `place`.
 #[inline(always)]

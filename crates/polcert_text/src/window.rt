@@ -1,6 +1,6 @@
 //! The bytes that a source gave and that nobody has taken yet.
 ghost use Rattle.std.specs.Prelude.{◌≡◌, ◌<◌, ◌≤◌, ◌++◌, [], ℕ, List, Some, None, length, IfOk, OnErr, OnOk, drop};
-ghost use Rattle.polcert_text.specs.Streaming.{FailsAt};
+ghost use Rattle.polcert_text.specs.Steps.Streaming.{FailsAt};
 
 use crate::{BUFFER_SIZE, Source, SourceFailed};
 use std::marker::Model;

@@ -1,7 +1,7 @@
 use Rattle.std.proofs.Common.{◌≡◌, ◌∙◌, ap, sym, refl, true, List, []}
 use Rattle.clap.specs.Words.{App, Text, app_of, fault_of, is_simple_and_free}
 use Rattle.clap.proofs.OnLiterals.{clap_on_literals}
-use Rattle.polcert.specs.Words.{the_app}
+use Rattle.polcert.specs.CommandLine.{the_app}
 use Rattle.polcert.proofs.choice.choose.Goals as goal
 
 is_simple : is_simple_and_free the_app ≡ true

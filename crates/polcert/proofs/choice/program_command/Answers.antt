@@ -1,7 +1,7 @@
 use Rattle.std.proofs.Common.{◌≡◌, ◌∙◌, ap, ap₂, true}
 use Rattle.std.proofs.lemmas.Result.{IfOk-weaker}
 use Rattle.clap.specs.Words.{App, app_of, with_subcommand}
-use Rattle.polcert.specs.Words.{bare_app}
+use Rattle.polcert.specs.CommandLine.{bare_app}
 use Rattle.polcert.proofs.choice.program_command.Goals as goal
 
 abbrev with_version : App → App

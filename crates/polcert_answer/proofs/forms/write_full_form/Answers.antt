@@ -1,8 +1,8 @@
 use Rattle.std.proofs.Common.{rules}
 use Rattle.polcert_text.specs.Device.{HasFailed}
 use Rattle.polcert_text.specs.Sink.{TakesFront}
-use Rattle.polcert_text.proofs.Taking.{wrote_front}
-use Rattle.polcert_text.proofs.Buffering.{flushed, same_name, stopped, stopped_count, stopped_name, left_behind}
+use Rattle.polcert_text.proofs.Printing.Taking.{wrote_front}
+use Rattle.polcert_text.proofs.Printing.Buffering.{flushed, same_name, stopped, stopped_count, stopped_name, left_behind}
 use Rattle.polcert_model.specs.Contents.{meaning}
 use Rattle.polcert_model.specs.FullForm.{full_form}
 use Rattle.polcert_answer.proofs.forms.write_full_form.Goals as goal

@@ -1,8 +1,8 @@
 use Rattle.std.proofs.Common.{◌≡◌, rules, to_z, of_z, w64, to_z-of_z, FitsSigned, ◌++◌, codes}
 use Rattle.polcert_text.specs.Millionths.{scaled_text}
-use Rattle.polcert_text.proofs.Taking.{wrote_front}
+use Rattle.polcert_text.proofs.Printing.Taking.{wrote_front}
 use Rattle.polcert_answer.specs.Lines.{pair_text}
-use Rattle.polcert_text.proofs.Written.{wrote, one_more, fails_at, fails_before, ends_with}
+use Rattle.polcert_text.proofs.Printing.Written.{wrote, one_more, fails_at, fails_before, ends_with}
 use Rattle.polcert_answer.proofs.lines.write_amount.Goals as goal
 
 pub returns-in_err-write_pair : goal.returns-in_err-write_pair

@@ -1,5 +1,5 @@
 use Rattle.std.proofs.Common.{◌≡◌, rules, decimal}
-use Rattle.polcert_text.proofs.Taking.{front_then, wrote_front, wrote_next}
+use Rattle.polcert_text.proofs.Printing.Taking.{front_then, wrote_front, wrote_next}
 use Rattle.polcert_answer.proofs.lines.write_count.Goals as goal
 
 pub returns-in_err-write_all : goal.returns-in_err-write_all

@@ -1,10 +1,10 @@
 use Rattle.std.proofs.Common.{◌++◌, List, ℕ, codes}
-use Rattle.polcert_text.proofs.Taking.{wrote_front}
+use Rattle.polcert_text.proofs.Printing.Taking.{wrote_front}
 use Rattle.polcert_model.specs.Contents.{Contents, meaning}
 use Rattle.polcert_cells.specs.Preamble.{is_mdp}
 use Rattle.polcert_cells.specs.Meaning.{states_of, actions_of}
 use Rattle.polcert_answer.specs.Lines.{counted, kind_word, observations_text}
-use Rattle.polcert_text.proofs.Written.{wrote, one_more, fails_at, fails_before, ends_with}
+use Rattle.polcert_text.proofs.Printing.Written.{wrote, one_more, fails_at, fails_before, ends_with}
 use Rattle.polcert_answer.proofs.lines.write_counts.Goals as goal
 
 abbrev head : Contents → List ℕ

@@ -1,7 +1,7 @@
 use Rattle.std.proofs.Common.{codes}
-use Rattle.polcert_text.proofs.Taking.{wrote_front}
+use Rattle.polcert_text.proofs.Printing.Taking.{wrote_front}
 use Rattle.polcert_answer.specs.Lines.{counted, pair_text}
-use Rattle.polcert_text.proofs.Written.{wrote, fails_before, ends_with}
+use Rattle.polcert_text.proofs.Printing.Written.{wrote, fails_before, ends_with}
 use Rattle.polcert_answer.proofs.lines.write_lack.Goals as goal
 
 pub returns-in_err-write_pair : goal.returns-in_err-write_pair

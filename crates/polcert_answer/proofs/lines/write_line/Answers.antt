@@ -1,7 +1,7 @@
 use Rattle.polcert_model.specs.Contents.{meaning}
 use Rattle.polcert_answer.specs.Lines.{counts_text, values_text}
-use Rattle.polcert_text.proofs.Taking.{wrote_front}
-use Rattle.polcert_text.proofs.Written.{wrote, fails_before, ends_with}
+use Rattle.polcert_text.proofs.Printing.Taking.{wrote_front}
+use Rattle.polcert_text.proofs.Printing.Written.{wrote, fails_before, ends_with}
 use Rattle.polcert_answer.proofs.lines.write_line.Goals as goal
 
 pub returns-in_err-write_counts : goal.returns-in_err-write_counts

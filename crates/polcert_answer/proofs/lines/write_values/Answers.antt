@@ -2,10 +2,10 @@ use Rattle.std.proofs.Common.{◌≡◌, ◌∙◌, ◌<◌, ◌^◌, ◌++◌, 
 use Rattle.std.proofs.lemmas.Int.{to_z_pos}
 use Rattle.polcert_text.specs.Sink.{Takes, TakesFront}
 use Rattle.polcert_text.specs.Millionths.{scaled_text}
-use Rattle.polcert_text.proofs.Taking.{wrote_front}
+use Rattle.polcert_text.proofs.Printing.Taking.{wrote_front}
 use Rattle.polcert_model.specs.Contents.{Contents, meaning}
 use Rattle.polcert_answer.specs.Lines.{gains}
-use Rattle.polcert_text.proofs.Written.{wrote, one_more, fails_at, fails_before, ends_with}
+use Rattle.polcert_text.proofs.Printing.Written.{wrote, one_more, fails_at, fails_before, ends_with}
 use Rattle.polcert_answer.proofs.lines.write_values.Goals as goal
 
 -- a small number keeps its value where it is cast

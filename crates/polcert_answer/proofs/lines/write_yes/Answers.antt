@@ -1,8 +1,8 @@
 use Rattle.std.proofs.Common.{◌≡◌, rules, to_z, of_z, w64, to_z-of_z, FitsSigned, ℕ, List, ◌++◌, codes}
 use Rattle.polcert_text.specs.Millionths.{scaled_text}
-use Rattle.polcert_text.proofs.Taking.{wrote_front}
+use Rattle.polcert_text.proofs.Printing.Taking.{wrote_front}
 use Rattle.polcert_answer.specs.Lines.{counted}
-use Rattle.polcert_text.proofs.Written.{wrote, one_more, fails_at, fails_before, ends_with}
+use Rattle.polcert_text.proofs.Printing.Written.{wrote, one_more, fails_at, fails_before, ends_with}
 use Rattle.polcert_answer.proofs.lines.write_yes.Goals as goal
 
 abbrev head : List ℕ

@@ -1,19 +1,19 @@
 use Rattle.std.proofs.Common.{sym, subst}
 use Rattle.polcert_policy.specs.Vectors.{value_of}
 use Rattle.polcert_check.specs.declared.above.AboveVerdict.{AboveVerdict}
-use Rattle.polcert_check.specs.Certificate.{controller, judged}
+use Rattle.polcert_check.specs.Steps.Certificate.{controller, judged}
 use Rattle.polcert_check.specs.Horizon.{Controller, controller_of, MeetsHorizon}
 use Rattle.polcert_check.specs.Verdict.{IsVerdict, NamesSmallAmount}
 use Rattle.polcert_check.specs.Above.{IsAboveVerdict, MeetsHorizonAbove, NamesSmallAmountAbove}
-use Rattle.polcert_check.specs.Mirrored.{mirrored}
-use Rattle.polcert_check.specs.Ranges.{IsController}
-use Rattle.polcert_check.proofs.Answering.{meets_horizon, verdict_small}
-use Rattle.polcert_check.proofs.FromAbove.{verdict_above, horizon_above, small_above}
-use Rattle.polcert_check.proofs.Interval.{never_above}
-use Rattle.polcert_check.proofs.Outcomes.{verdict_is}
-use Rattle.polcert_check.proofs.Scales.{scales}
-use Rattle.polcert_check.proofs.Sides.{sided_proper, sided_limits, sided_values}
-use Rattle.polcert_check.proofs.Verdicts.{positive_product}
+use Rattle.polcert_check.specs.Steps.Mirrored.{mirrored}
+use Rattle.polcert_check.specs.Steps.Ranges.{IsController}
+use Rattle.polcert_check.proofs.Walking.Answering.{meets_horizon, verdict_small}
+use Rattle.polcert_check.proofs.Mirrors.FromAbove.{verdict_above, horizon_above, small_above}
+use Rattle.polcert_check.proofs.Mirrors.Interval.{never_above}
+use Rattle.polcert_check.proofs.Walking.Outcomes.{verdict_is}
+use Rattle.polcert_check.proofs.Sums.Scales.{scales}
+use Rattle.polcert_check.proofs.Mirrors.Sides.{sided_proper, sided_limits, sided_values}
+use Rattle.polcert_check.proofs.Walking.Verdicts.{positive_product}
 use Rattle.polcert_check.proofs.above.check_above_watched.Goals as goal
 
 pub returns-clause-verdict : goal.returns-clause-verdict

@@ -2,16 +2,16 @@ use Rattle.std.proofs.Common.{rules, arith, ◌≡◌, ◌≤◌, ◌*◌, unsig
 use mir.Syntax.{w128}
 use Rattle.std.proofs.lemmas.Int.{to_z-of_z}
 use Rattle.polcert_text.specs.Numbers.{largest}
-use Rattle.polcert_cells.specs.Tables.{Table}
-use Rattle.polcert_check.specs.Factored.{reward_behind}
-use Rattle.polcert_check.proofs.Ahead.{weight_room, ahead_step, ahead_on}
-use Rattle.polcert_check.proofs.Earning.{reward_behind_le}
+use Rattle.polcert_cells.specs.Tables.{CellTable}
+use Rattle.polcert_check.specs.Steps.Factored.{reward_behind}
+use Rattle.polcert_check.proofs.Walking.Ahead.{weight_room, ahead_step, ahead_on}
+use Rattle.polcert_check.proofs.Walking.Earning.{reward_behind_le}
 use Rattle.polcert_cells.specs.LentRows.{reached}
 use Rattle.polcert_check.proofs.earned.each_end.Goals as goal
 
 pub weighed-sum-requires : goal.weighed-sum-requires
 weighed-sum-requires g c =
-    let m : Table = g.C.Cells.table c.args.cells.now in
+    let m : CellTable = g.C.Cells.table c.args.cells.now in
     let fy : FitsSigned w128 c.reward_behind.result = search rules in
     let back : to_z w128 (of_z w128 c.reward_behind.result) ≡ c.reward_behind.result = to_z-of_z w128 c.reward_behind.result fy in
     let next = c.in-Some.ensures.0 in
@@ -20,7 +20,7 @@ weighed-sum-requires g c =
 
 pub overflow_add-sum : goal.overflow_add-sum
 overflow_add-sum g c =
-    let m : Table = g.C.Cells.table c.args.cells.now in
+    let m : CellTable = g.C.Cells.table c.args.cells.now in
     let fx : FitsSigned w128 c.weighed-sum.result = search rules in
     let fy : FitsSigned w128 c.reward_behind.result = search rules in
     let next = c.in-Some.ensures.0 in
@@ -28,7 +28,7 @@ overflow_add-sum g c =
 
 pub loop-end-preserved : goal.loop-end-preserved
 loop-end-preserved g c =
-    let m : Table = g.C.Cells.table c.args.cells.now in
+    let m : CellTable = g.C.Cells.table c.args.cells.now in
     let fx : FitsSigned w128 c.weighed-sum.result = search rules in
     let fy : FitsSigned w128 c.reward_behind.result = search rules in
     let next = c.in-Some.ensures.0 in
@@ -39,5 +39,5 @@ loop-end-preserved g c =
 
 pub returns : goal.returns
 returns g c =
-    let m : Table = g.C.Cells.table c.args.cells.now in
+    let m : CellTable = g.C.Cells.table c.args.cells.now in
     ahead_on m c.args.a c.args.s (reward_behind m c.args.a c.args.s) (reached c.t_row-row.result c.loop-end.at) m.states (to_z w128 c.loop-end.sum-bits) c.loop-end.invariant.within c.in_default.ensures c.loop-end.invariant.sum

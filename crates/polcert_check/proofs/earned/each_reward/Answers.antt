@@ -1,14 +1,14 @@
 use Rattle.std.proofs.Common.{rules, arith, FitsSigned, to_z, of_z, w64, ◌∙◌}
 use mir.Syntax.{w128}
 use Rattle.std.proofs.lemmas.Int.{to_z-of_z}
-use Rattle.polcert_cells.specs.Tables.{Table}
-use Rattle.polcert_check.proofs.Earning.{reward_room, reward_step, reward_done}
+use Rattle.polcert_cells.specs.Tables.{CellTable}
+use Rattle.polcert_check.proofs.Walking.Earning.{reward_room, reward_step, reward_done}
 use Rattle.polcert_cells.specs.LentRows.{reached}
 use Rattle.polcert_check.proofs.earned.each_reward.Goals as goal
 
 pub weighed-sum-requires : goal.weighed-sum-requires
 weighed-sum-requires g c =
-    let m : Table = g.C.Cells.table c.args.cells.now in
+    let m : CellTable = g.C.Cells.table c.args.cells.now in
     let h = c.reward-reward.result in
     let fh : FitsSigned w64 h = search rules in
     let fh2 : FitsSigned w128 (to_z w64 (of_z w64 h)) = search rules in
@@ -17,7 +17,7 @@ weighed-sum-requires g c =
 
 pub overflow_add-sum : goal.overflow_add-sum
 overflow_add-sum g c =
-    let m : Table = g.C.Cells.table c.args.cells.now in
+    let m : CellTable = g.C.Cells.table c.args.cells.now in
     let fx : FitsSigned w128 c.weighed-sum.result = search rules in
     let fh : FitsSigned w64 c.reward-reward.result = search rules in
     let fh2 : FitsSigned w128 (to_z w64 (of_z w64 c.reward-reward.result)) = search rules in
@@ -26,7 +26,7 @@ overflow_add-sum g c =
 
 pub loop-seen-preserved : goal.loop-seen-preserved
 loop-seen-preserved g c =
-    let m : Table = g.C.Cells.table c.args.cells.now in
+    let m : CellTable = g.C.Cells.table c.args.cells.now in
     let fx : FitsSigned w128 c.weighed-sum.result = search rules in
     let fh : FitsSigned w64 c.reward-reward.result = search rules in
     let fh2 : FitsSigned w128 (to_z w64 (of_z w64 c.reward-reward.result)) = search rules in

@@ -1,14 +1,14 @@
 use Rattle.std.proofs.Common.{rules, refl, ◌∙◌, FitsSigned, to_z, of_z, w64, ◌≡◌, pos, ◌*ℤ◌}
 use mir.Syntax.{w128}
 use Rattle.std.proofs.lemmas.Int.{to_z-of_z}
-use Rattle.polcert_cells.specs.Tables.{Table}
-use Rattle.polcert_check.proofs.Gaps.{weighed_is}
-use Rattle.polcert_check.proofs.Earning.{common, common_room}
+use Rattle.polcert_cells.specs.Tables.{CellTable}
+use Rattle.polcert_check.proofs.Sums.Gaps.{weighed_is}
+use Rattle.polcert_check.proofs.Walking.Earning.{common, common_room}
 use Rattle.polcert_check.proofs.earned.reward_ahead.Goals as goal
 
 pub weighed-requires : goal.weighed-requires
 weighed-requires g c =
-    let m : Table = g.C.Cells.table c.args.cells.now in
+    let m : CellTable = g.C.Cells.table c.args.cells.now in
     let fx : FitsSigned w128 c.weighed-behind.result = search rules in
     let fh : FitsSigned w64 c.in-Some.reward = search rules in
     let fh2 : FitsSigned w128 (to_z w64 (of_z w64 c.in-Some.reward)) = search rules in
@@ -19,7 +19,7 @@ weighed-requires g c =
 
 pub returns-in-Some : goal.returns-in-Some
 returns-in-Some g c =
-    let m : Table = g.C.Cells.table c.args.cells.now in
+    let m : CellTable = g.C.Cells.table c.args.cells.now in
     let fx : FitsSigned w128 c.weighed.result = search rules in
     let fb : FitsSigned w128 c.weighed-behind.result = search rules in
     let fh : FitsSigned w64 c.in-Some.reward = search rules in

@@ -1,4 +1,4 @@
-use Rattle.polcert_check.proofs.Figures.{amount_small, most_amount, amount_fits_128}
+use Rattle.polcert_check.proofs.Sums.Figures.{amount_small, most_amount, amount_fits_128}
 use Rattle.polcert_check.proofs.laws.amounts_fit.Goals as goal
 
 pub returns : goal.returns

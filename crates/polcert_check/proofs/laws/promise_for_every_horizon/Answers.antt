@@ -1,4 +1,4 @@
-use Rattle.polcert_check.proofs.EveryHorizon.{promised, passes_if_promised}
+use Rattle.polcert_check.proofs.Horizons.EveryHorizon.{promised, passes_if_promised}
 use Rattle.polcert_check.proofs.laws.promise_for_every_horizon.Goals as goal
 
 pub returns : goal.returns

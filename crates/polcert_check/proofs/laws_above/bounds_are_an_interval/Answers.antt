@@ -1,9 +1,9 @@
 use Rattle.polcert_policy.specs.Vectors.{value_of}
 use Rattle.polcert_check.specs.Horizon.{controller_of}
 use Rattle.polcert_check.proofs.Certificates.{controller_is}
-use Rattle.polcert_check.proofs.Scales.{scales}
-use Rattle.polcert_check.proofs.Verdicts.{positive_product}
-use Rattle.polcert_check.proofs.Interval.{never_above}
+use Rattle.polcert_check.proofs.Sums.Scales.{scales}
+use Rattle.polcert_check.proofs.Walking.Verdicts.{positive_product}
+use Rattle.polcert_check.proofs.Mirrors.Interval.{never_above}
 use Rattle.polcert_check.proofs.laws_above.bounds_are_an_interval.Goals as goal
 
 pub returns : goal.returns

@@ -1,4 +1,4 @@
-use Rattle.polcert_check.proofs.OneAbove as one
+use Rattle.polcert_check.proofs.Mirrors.OneAbove as one
 use Rattle.polcert_check.proofs.laws_above.one_start_most.Goals as goal
 
 pub returns : goal.returns

@@ -1,4 +1,4 @@
-use Rattle.polcert_check.proofs.SameAbove as same
+use Rattle.polcert_check.proofs.Mirrors.SameAbove as same
 use Rattle.polcert_check.proofs.laws_above.same_cells_same_answers_above.Goals as goal
 
 pub returns : goal.returns

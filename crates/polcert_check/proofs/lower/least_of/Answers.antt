@@ -1,11 +1,11 @@
 use Rattle.std.proofs.Common.{◌≡◌, pos, FitsSigned, w64, refl, true, false}
 use Rattle.std.proofs.lemmas.Int.{to_z_pos}
 use Rattle.std.proofs.lemmas.Result.{err_from_is_err_and}
-use Rattle.polcert_check.specs.Mirrored.{CanMove}
-use Rattle.polcert_check.specs.Certificate.{controller, judged}
-use Rattle.polcert_check.proofs.Sides.{sided_proper, sided_limits, sided_values}
-use Rattle.polcert_check.proofs.Least.{constant_fits}
-use Rattle.polcert_check.proofs.Outcomes.{refused_small}
+use Rattle.polcert_check.specs.Steps.Mirrored.{CanMove}
+use Rattle.polcert_check.specs.Steps.Certificate.{controller, judged}
+use Rattle.polcert_check.proofs.Mirrors.Sides.{sided_proper, sided_limits, sided_values}
+use Rattle.polcert_check.proofs.Lowerings.Least.{constant_fits}
+use Rattle.polcert_check.proofs.Walking.Outcomes.{refused_small}
 use Rattle.polcert_check.proofs.lower.least_of.Goals as goal
 
 pub returns-in_err-by-clause-small : goal.returns-in_err-by-clause-small

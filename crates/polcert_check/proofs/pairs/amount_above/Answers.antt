@@ -1,11 +1,11 @@
 use Rattle.std.proofs.Common.{rules, arith, ◌≡◌, ◌*◌, pos, ◌*ℤ◌, FitsSigned, to_z, of_z, w64, refl, ◌∙◌}
 use mir.Syntax.{w128}
 use Rattle.std.proofs.lemmas.Int.{to_z-of_z}
-use Rattle.polcert_cells.specs.Tables.{Table, IsWithinLimits}
+use Rattle.polcert_cells.specs.Tables.{CellTable, IsWithinLimits}
 use Rattle.polcert_check.specs.Horizon.{one}
-use Rattle.polcert_check.proofs.Scales.{scales_le}
-use Rattle.polcert_check.proofs.Gaps.{weighed_is}
-use Rattle.polcert_check.proofs.Amounts.{value_small, factor_room, factor_small, discount_small, backing_fits, amount_fits}
+use Rattle.polcert_check.proofs.Sums.Scales.{scales_le}
+use Rattle.polcert_check.proofs.Sums.Gaps.{weighed_is}
+use Rattle.polcert_check.proofs.Sums.Amounts.{value_small, factor_room, factor_small, discount_small, backing_fits, amount_fits}
 use Rattle.polcert_check.proofs.pairs.amount_above.Goals as goal
 
 pub weighed-requires : goal.weighed-requires
@@ -15,7 +15,7 @@ weighed-requires g c =
 
 pub weighed-requires-2 : goal.weighed-requires-2
 weighed-requires-2 g c =
-    let m : Table = g.C.Cells.table c.args.cells.now in
+    let m : CellTable = g.C.Cells.table c.args.cells.now in
     let limits : IsWithinLimits m = g.met.C.Cells.is_within_limits c.args.cells.now in
     let back : to_z w128 (of_z w128 c.args.expected) ≡ c.args.expected = to_z-of_z w128 c.args.expected c.ranges.expected in
     let discount : c.from-discount.result ≡ m.discount = c.from-discount.ensures ∙ c.discount.ensures in
@@ -24,7 +24,7 @@ weighed-requires-2 g c =
 pub overflow_add-backing : goal.overflow_add-backing
 unfolding one
 overflow_add-backing g c =
-    let m : Table = g.C.Cells.table c.args.cells.now in
+    let m : CellTable = g.C.Cells.table c.args.cells.now in
     let limits : IsWithinLimits m = g.met.C.Cells.is_within_limits c.args.cells.now in
     let fy : FitsSigned w128 c.weighed.result = search rules in
     let fz : FitsSigned w128 c.weighed-2.result = search rules in
@@ -36,7 +36,7 @@ overflow_add-backing g c =
 pub overflow_sub-result : goal.overflow_sub-result
 unfolding one
 overflow_sub-result g c =
-    let m : Table = g.C.Cells.table c.args.cells.now in
+    let m : CellTable = g.C.Cells.table c.args.cells.now in
     let limits : IsWithinLimits m = g.met.C.Cells.is_within_limits c.args.cells.now in
     let fx : FitsSigned w128 c.scaled_value.result = search rules in
     let fy : FitsSigned w128 c.weighed.result = search rules in
@@ -51,7 +51,7 @@ overflow_sub-result g c =
 pub returns : goal.returns
 unfolding one
 returns g c =
-    let m : Table = g.C.Cells.table c.args.cells.now in
+    let m : CellTable = g.C.Cells.table c.args.cells.now in
     let limits : IsWithinLimits m = g.met.C.Cells.is_within_limits c.args.cells.now in
     let fv : FitsSigned w64 c.args.value = c.ranges.value in
     let fx : FitsSigned w128 c.scaled_value.result = search rules in

@@ -1,21 +1,21 @@
 use Rattle.std.proofs.Common.{rules, arith, ◌≡◌, ◌≤◌, ◌<◌, ◌^◌, Option, None, ℕ, FitsSigned, to_z, of_z, w64, refl, sym, ap, subst, ◌∙◌}
 use mir.Syntax.{w128}
 use Rattle.std.proofs.lemmas.Int.{to_z-of_z}
-use Rattle.polcert_check.specs.Certificate.{controller, judged}
+use Rattle.polcert_check.specs.Steps.Certificate.{controller, judged}
 use Rattle.polcert_check.specs.Horizon.{Controller}
 use Rattle.polcert_check.specs.Shortfall.{short, largest_amount}
-use Rattle.polcert_check.specs.Mirrored.{turned}
+use Rattle.polcert_check.specs.Steps.Mirrored.{turned}
 use Rattle.polcert_check.specs.Verdict.{IsLeastLacking}
-use Rattle.polcert_check.specs.Factored.{reward_ahead}
-use Rattle.polcert_check.proofs.Verdicts.{amount_positive, amount_at_most}
-use Rattle.polcert_check.proofs.Earning.{reward_ahead_le}
-use Rattle.polcert_check.proofs.Expecting.{value_ahead_le}
-use Rattle.polcert_check.proofs.Missing.{pair_lacking}
-use Rattle.polcert_check.proofs.Amounts.{amount_is}
-use Rattle.polcert_check.proofs.Splitting.{backing_split}
-use Rattle.polcert_check.proofs.Shorts.{short_le}
-use Rattle.polcert_check.proofs.Figures.{most_amount, amount_fits_128}
-use Rattle.polcert_check.proofs.Sides.{sided_short}
+use Rattle.polcert_check.specs.Steps.Factored.{reward_ahead}
+use Rattle.polcert_check.proofs.Walking.Verdicts.{amount_positive, amount_at_most}
+use Rattle.polcert_check.proofs.Walking.Earning.{reward_ahead_le}
+use Rattle.polcert_check.proofs.Walking.Expecting.{value_ahead_le}
+use Rattle.polcert_check.proofs.Walking.Missing.{pair_lacking}
+use Rattle.polcert_check.proofs.Sums.Amounts.{amount_is}
+use Rattle.polcert_check.proofs.Horizons.Splitting.{backing_split}
+use Rattle.polcert_check.proofs.Lowerings.Shorts.{short_le}
+use Rattle.polcert_check.proofs.Sums.Figures.{most_amount, amount_fits_128}
+use Rattle.polcert_check.proofs.Mirrors.Sides.{sided_short}
 use Rattle.polcert_check.proofs.pairs.at_pair.Goals as goal
 
 small_enough : (x most : ℕ) → x ≤ most → most ≤ largest_amount → x < 2 ^ 127

@@ -2,7 +2,7 @@ use Rattle.std.proofs.Common.{arith, ◌≡◌, ℕ, ◌*◌, ℤ, pos, FitsSign
 use mir.Syntax.{w128}
 use Rattle.std.proofs.lemmas.Int.{to_z-of_z, to_z_pos}
 use Rattle.polcert_check.specs.Horizon.{one}
-use Rattle.polcert_check.proofs.Bounds.{scaled_fits}
+use Rattle.polcert_check.proofs.Sums.Bounds.{scaled_fits}
 use Rattle.polcert_check.proofs.pairs.scaled_value.Goals as goal
 
 pub overflow_mul-result-3 : goal.overflow_mul-result-3

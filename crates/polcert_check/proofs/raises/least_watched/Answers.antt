@@ -6,8 +6,8 @@ use Rattle.polcert_check.specs.declared.side.Side.{Side}
 use Rattle.polcert_check.specs.Horizon.{Controller, controller_of}
 use Rattle.polcert_check.specs.Lower.{IsNotMended, RefusesSmallAmount}
 use Rattle.polcert_check.specs.Raise.{IsLeastRaise, IsNotRaised, RefusesSmallRaise}
-use Rattle.polcert_check.specs.Mirrored.{CanMove, IsLeastMove}
-use Rattle.polcert_check.proofs.Raising.{least_raise_is, not_raised_is, small_raise}
+use Rattle.polcert_check.specs.Steps.Mirrored.{CanMove, IsLeastMove}
+use Rattle.polcert_check.proofs.Lowerings.Raising.{least_raise_is, not_raised_is, small_raise}
 use Rattle.polcert_check.proofs.raises.least_watched.Goals as goal
 
 -- what is said of a certificate is said of its parts

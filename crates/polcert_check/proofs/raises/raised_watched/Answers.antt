@@ -2,7 +2,7 @@ use Rattle.std.proofs.Common.{ℤ, ◌+ℤ◌, ◌∙◌, ap, rules, FitsSigned,
 use Rattle.std.proofs.lemmas.Int.{to_z-of_z}
 use Rattle.polcert_policy.specs.Vectors.{value_of}
 use Rattle.polcert_check.proofs.Certificates.{controller_is}
-use Rattle.polcert_check.proofs.Raising.{raised_passes}
+use Rattle.polcert_check.proofs.Lowerings.Raising.{raised_passes}
 use Rattle.polcert_check.proofs.raises.raised_watched.Goals as goal
 
 pub returns-clause-passes : goal.returns-clause-passes

@@ -3,8 +3,8 @@ use Rattle.std.specs.Int.{w128}
 use Rattle.std.proofs.lemmas.Int.{ints}
 use Rattle.std.proofs.Math.Nat.{mul-le-mul_right}
 use Rattle.polcert_text.specs.Numbers.{largest}
-use Rattle.polcert_check.specs.Ranges.{most_scales}
-use Rattle.polcert_check.proofs.Scales.{scales_le}
+use Rattle.polcert_check.specs.Steps.Ranges.{most_scales}
+use Rattle.polcert_check.proofs.Sums.Scales.{scales_le}
 use Rattle.polcert_check.specs.Horizon.{one}
 use Rattle.polcert_check.specs.StartWorth.{IsCeilQuotient}
 use Rattle.polcert_check.proofs.rounded.millionths_short.Goals as goal

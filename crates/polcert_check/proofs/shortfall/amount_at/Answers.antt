@@ -1,15 +1,15 @@
 use Rattle.std.proofs.Common.{rules, ◌≡◌, ◌∙◌, FitsSigned, to_z, of_z, w64}
 use mir.Syntax.{w128}
 use Rattle.std.proofs.lemmas.Int.{to_z-of_z}
-use Rattle.polcert_check.specs.Certificate.{controller}
+use Rattle.polcert_check.specs.Steps.Certificate.{controller}
 use Rattle.polcert_check.specs.Horizon.{Controller}
 use Rattle.polcert_check.specs.Shortfall.{short}
-use Rattle.polcert_check.specs.Followed.{followed, followed_is_proper, followed_is_within}
-use Rattle.polcert_check.proofs.Earning.{reward_ahead_le}
-use Rattle.polcert_check.proofs.Expecting.{value_ahead_le}
-use Rattle.polcert_check.proofs.Amounts.{amount_is}
-use Rattle.polcert_check.proofs.Splitting.{followed_split}
-use Rattle.polcert_check.proofs.Shorts.{short_le}
+use Rattle.polcert_check.specs.Steps.Followed.{followed, followed_is_proper, followed_is_within}
+use Rattle.polcert_check.proofs.Walking.Earning.{reward_ahead_le}
+use Rattle.polcert_check.proofs.Walking.Expecting.{value_ahead_le}
+use Rattle.polcert_check.proofs.Sums.Amounts.{amount_is}
+use Rattle.polcert_check.proofs.Horizons.Splitting.{followed_split}
+use Rattle.polcert_check.proofs.Lowerings.Shorts.{short_le}
 use Rattle.polcert_check.proofs.shortfall.amount_at.Goals as goal
 
 pub amount_above-requires-clause-earned : goal.amount_above-requires-clause-earned

@@ -3,11 +3,11 @@ use mir.Syntax.{w128}
 use Rattle.std.proofs.lemmas.Int.{to_z-of_z}
 use Rattle.polcert_text.specs.Numbers.{largest}
 use Rattle.polcert_cells.specs.Tables.{IsWithinLimits}
-use Rattle.polcert_check.specs.Certificate.{controller}
+use Rattle.polcert_check.specs.Steps.Certificate.{controller}
 use Rattle.polcert_check.specs.Horizon.{Controller}
-use Rattle.polcert_check.specs.Factored.{value_behind}
-use Rattle.polcert_check.proofs.Ahead.{weight_room, ahead_step, ahead_on}
-use Rattle.polcert_check.proofs.Expecting.{value_behind_le}
+use Rattle.polcert_check.specs.Steps.Factored.{value_behind}
+use Rattle.polcert_check.proofs.Walking.Ahead.{weight_room, ahead_step, ahead_on}
+use Rattle.polcert_check.proofs.Walking.Expecting.{value_behind_le}
 use Rattle.polcert_cells.specs.LentRows.{reached}
 use Rattle.polcert_check.proofs.shortfall.expected_at.Goals as goal
 

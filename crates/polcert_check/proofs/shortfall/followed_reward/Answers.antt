@@ -1,9 +1,9 @@
 use Rattle.std.proofs.Common.{rules, ◌∙◌, ap, ℕ, FitsSigned}
 use mir.Syntax.{w128}
 use Rattle.std.proofs.lemmas.Int.{to_z-of_z}
-use Rattle.polcert_check.specs.Certificate.{controller}
-use Rattle.polcert_check.specs.Factored.{reward_ahead}
-use Rattle.polcert_check.specs.Followed.{followed}
+use Rattle.polcert_check.specs.Steps.Certificate.{controller}
+use Rattle.polcert_check.specs.Steps.Factored.{reward_ahead}
+use Rattle.polcert_check.specs.Steps.Followed.{followed}
 use Rattle.polcert_check.proofs.shortfall.followed_reward.Goals as goal
 
 pub returns : goal.returns

@@ -3,7 +3,7 @@ use mir.Syntax.{w128}
 use Rattle.std.proofs.lemmas.Bool.{cases_lt}
 use Rattle.std.proofs.lemmas.Int.{ints, to_z-of_z}
 use Rattle.polcert_check.specs.StartWorth.{IsFirstGreatest}
-use Rattle.polcert_check.proofs.Ring.{linear}
+use Rattle.polcert_check.proofs.Sums.Ring.{linear}
 use Rattle.polcert_check.proofs.start.best_start.Goals.{then-sum-greatest, else-sum-greatest}
 use Rattle.polcert_check.proofs.start.best_start.Goals as goal
 

@@ -1,6 +1,6 @@
 use Rattle.std.proofs.Common.{subst, sym}
 use Rattle.polcert_check.specs.StartWorth.{IsFloorQuotient, IsCeilQuotient}
-use Rattle.polcert_check.proofs.StartMosts.{ceil_is, neg_sum_is, neg_quotient_is}
+use Rattle.polcert_check.proofs.Mirrors.StartMosts.{ceil_is, neg_sum_is, neg_quotient_is}
 use Rattle.polcert_check.proofs.start_above.ceil_quotient.Goals as goal
 
 pub returns : goal.returns

@@ -6,9 +6,9 @@ use Rattle.polcert_cells.specs.Meaning.{Meaning, start_total}
 use Rattle.polcert_cells.specs.Tables.{table_of}
 use Rattle.polcert_check.specs.Horizon.{Controller, controller_of}
 use Rattle.polcert_check.specs.StartWorth.{IsCeilQuotient, start_sum}
-use Rattle.polcert_check.specs.Ranges.{IsController}
+use Rattle.polcert_check.specs.Steps.Ranges.{IsController}
 use Rattle.polcert_check.proofs.Certificates.{controller_is}
-use Rattle.polcert_check.proofs.StartMosts.{start_above}
+use Rattle.polcert_check.proofs.Mirrors.StartMosts.{start_above}
 use Rattle.polcert_check.proofs.start_above.start_most.Goals as goal
 
 pub returns-clause-most : goal.returns-clause-most

@@ -1,7 +1,7 @@
 use Rattle.std.proofs.Common.{arith}
-use Rattle.polcert_check.specs.Certificate.{controller, judged}
-use Rattle.polcert_check.proofs.Sides.{sided_proper}
-use Rattle.polcert_check.proofs.Walked.{nothing_found, all_walked}
+use Rattle.polcert_check.specs.Steps.Certificate.{controller, judged}
+use Rattle.polcert_check.proofs.Mirrors.Sides.{sided_proper}
+use Rattle.polcert_check.proofs.Walking.Walked.{nothing_found, all_walked}
 use Rattle.polcert_check.proofs.survey.survey.Goals as goal
 
 pub loop-a-init : goal.loop-a-init

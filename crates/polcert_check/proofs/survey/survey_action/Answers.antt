@@ -1,6 +1,6 @@
 use Rattle.std.proofs.Common.{arith}
-use Rattle.polcert_check.specs.Certificate.{judged}
-use Rattle.polcert_check.proofs.Walked.{action_done}
+use Rattle.polcert_check.specs.Steps.Certificate.{judged}
+use Rattle.polcert_check.proofs.Walking.Walked.{action_done}
 use Rattle.polcert_check.proofs.survey.survey_action.Goals as goal
 
 pub returns-clause-found : goal.returns-clause-found

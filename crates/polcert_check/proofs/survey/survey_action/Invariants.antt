@@ -1,6 +1,6 @@
 use Rattle.std.proofs.Common.{◌≡◌, ◌-◌}
-use Rattle.polcert_check.specs.Certificate.{judged}
-use Rattle.polcert_check.specs.Findings.{IsFoundUpTo}
+use Rattle.polcert_check.specs.Steps.Certificate.{judged}
+use Rattle.polcert_check.specs.Steps.Findings.{IsFoundUpTo}
 use Rattle.polcert_check.proofs.survey.survey_action.Given as goal
 
 abbrev pub invariant-loop-first : goal.invariant-loop-first

@@ -1,9 +1,9 @@
 use Rattle.std.proofs.Common.{arith, ◌≡◌, ◌+◌, ◌∙◌, ℕ, refl, sym, subst}
-use Rattle.polcert_check.specs.Certificate.{controller, judged}
+use Rattle.polcert_check.specs.Steps.Certificate.{controller, judged}
 use Rattle.polcert_check.specs.Horizon.{Controller}
-use Rattle.polcert_check.specs.Factored.{AreKept}
-use Rattle.polcert_check.specs.Findings.{IsFoundBefore}
-use Rattle.polcert_check.proofs.Walked.{node_passed, block_begun, block_done}
+use Rattle.polcert_check.specs.Steps.Factored.{AreKept}
+use Rattle.polcert_check.specs.Steps.Findings.{IsFoundBefore}
+use Rattle.polcert_check.proofs.Walking.Walked.{node_passed, block_begun, block_done}
 use Rattle.polcert_check.proofs.survey.survey_block.Goals.{then-action-a, else-action-a}
 use Rattle.polcert_check.proofs.survey.survey_block.Goals as goal
 

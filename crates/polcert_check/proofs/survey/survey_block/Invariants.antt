@@ -1,7 +1,7 @@
 use Rattle.std.proofs.Common.{◌≡◌}
-use Rattle.polcert_check.specs.Certificate.{controller, judged}
-use Rattle.polcert_check.specs.Factored.{AreKept}
-use Rattle.polcert_check.specs.Findings.{IsFoundBefore}
+use Rattle.polcert_check.specs.Steps.Certificate.{controller, judged}
+use Rattle.polcert_check.specs.Steps.Factored.{AreKept}
+use Rattle.polcert_check.specs.Steps.Findings.{IsFoundBefore}
 use Rattle.polcert_check.proofs.survey.survey_block.Given as goal
 
 abbrev pub invariant-loop-n : goal.invariant-loop-n

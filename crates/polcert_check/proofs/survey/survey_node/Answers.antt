@@ -1,6 +1,6 @@
 use Rattle.std.proofs.Common.{arith, refl}
-use Rattle.polcert_check.specs.Certificate.{judged}
-use Rattle.polcert_check.proofs.Walked.{node_settled}
+use Rattle.polcert_check.specs.Steps.Certificate.{judged}
+use Rattle.polcert_check.proofs.Walking.Walked.{node_settled}
 use Rattle.polcert_check.proofs.survey.survey_node.Goals as goal
 
 pub returns-then-is_settled-clause-found : goal.returns-then-is_settled-clause-found

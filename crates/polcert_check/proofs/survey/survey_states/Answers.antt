@@ -1,10 +1,10 @@
 use Rattle.std.proofs.Common.{arith, ◌+◌, ◌∙◌, ◌-◌, ℕ, subst}
-use Rattle.polcert_check.specs.Certificate.{controller, judged}
+use Rattle.polcert_check.specs.Steps.Certificate.{controller, judged}
 use Rattle.polcert_check.specs.Horizon.{Controller}
-use Rattle.polcert_check.specs.Factored.{AreKept}
-use Rattle.polcert_check.specs.Walks.{walk_at}
-use Rattle.polcert_check.proofs.Walked.{node_done, node_settled}
-use Rattle.polcert_check.proofs.Walking.{walk_over, at_state}
+use Rattle.polcert_check.specs.Steps.Factored.{AreKept}
+use Rattle.polcert_check.specs.Steps.Walks.{walk_at}
+use Rattle.polcert_check.proofs.Walking.Walked.{node_done, node_settled}
+use Rattle.polcert_check.proofs.Walking.StartWalks.{walk_over, at_state}
 use Rattle.polcert_check.proofs.survey.survey_states.Goals as goal
 
 pub at_pair-found-requires-clause-steps : goal.at_pair-found-requires-clause-steps

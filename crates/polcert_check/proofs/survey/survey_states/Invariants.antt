@@ -1,8 +1,8 @@
 use Rattle.std.proofs.Common.{◌≡◌, ◌+◌, ◌≤◌}
-use Rattle.polcert_check.specs.Certificate.{controller, judged}
-use Rattle.polcert_check.specs.Factored.{AreKept}
-use Rattle.polcert_check.specs.Walks.{AreWalks}
-use Rattle.polcert_check.specs.Findings.{IsFoundBefore}
+use Rattle.polcert_check.specs.Steps.Certificate.{controller, judged}
+use Rattle.polcert_check.specs.Steps.Factored.{AreKept}
+use Rattle.polcert_check.specs.Steps.Walks.{AreWalks}
+use Rattle.polcert_check.specs.Steps.Findings.{IsFoundBefore}
 use Rattle.polcert_check.proofs.survey.survey_states.Given as goal
 
 abbrev pub invariant-loop-s : goal.invariant-loop-s

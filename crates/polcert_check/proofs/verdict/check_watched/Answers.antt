@@ -1,9 +1,9 @@
-use Rattle.polcert_check.specs.Certificate.{controller, judged}
-use Rattle.polcert_check.proofs.Sides.{sided_proper, sided_limits, sided_values}
+use Rattle.polcert_check.specs.Steps.Certificate.{controller, judged}
+use Rattle.polcert_check.proofs.Mirrors.Sides.{sided_proper, sided_limits, sided_values}
 use Rattle.polcert_check.specs.Horizon.{Controller}
 use Rattle.polcert_check.specs.Verdict.{IsVerdict}
-use Rattle.polcert_check.proofs.Answering.{meets_horizon, verdict_small}
-use Rattle.polcert_check.proofs.Outcomes.{verdict_is}
+use Rattle.polcert_check.proofs.Walking.Answering.{meets_horizon, verdict_small}
+use Rattle.polcert_check.proofs.Walking.Outcomes.{verdict_is}
 use Rattle.polcert_check.proofs.verdict.check_watched.Goals as goal
 
 pub returns-clause-verdict : goal.returns-clause-verdict

@@ -2,7 +2,7 @@ use Rattle.std.proofs.Common.{Option, refl, sym, subst}
 use Rattle.std.specs.Option.{ForSome}
 use Rattle.polcert_cells.specs.declared.row.Row.{Row}
 use Rattle.polcert_cells.specs.LentRows.{IsRowOf}
-use Rattle.polcert_check.specs.Walks.{IsPlace}
+use Rattle.polcert_check.specs.Steps.Walks.{IsPlace}
 use Rattle.polcert_check.proofs.walk.place_from.Goals as goal
 
 pub returns-in-Some : goal.returns-in-Some

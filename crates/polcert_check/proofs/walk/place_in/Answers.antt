@@ -4,8 +4,8 @@ use Rattle.std.specs.Prelude.{Some}
 use Rattle.polcert_cells.specs.declared.cell.Cell.{Cell}
 use Rattle.polcert_cells.specs.declared.row.Row.{Row}
 use Rattle.polcert_cells.specs.LentRows.{IsRowOf}
-use Rattle.polcert_check.specs.Walks.{IsPlace}
-use Rattle.polcert_check.proofs.Places.{parted, place_sparse, place_single, place_before}
+use Rattle.polcert_check.specs.Steps.Walks.{IsPlace}
+use Rattle.polcert_check.proofs.Walking.Places.{parted, place_sparse, place_single, place_before}
 use Rattle.polcert_check.proofs.walk.place_in.Goals as goal
 
 pub returns-in-Sparse : goal.returns-in-Sparse

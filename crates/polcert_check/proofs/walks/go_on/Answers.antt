@@ -4,16 +4,16 @@ use Rattle.std.proofs.lemmas.Int.{to_z-of_z}
 use Rattle.polcert_text.specs.Numbers.{largest}
 use Rattle.polcert_cells.specs.Tables.{IsWithinLimits}
 use Rattle.polcert_cells.specs.LentRows.{reached}
-use Rattle.polcert_check.specs.Certificate.{controller}
+use Rattle.polcert_check.specs.Steps.Certificate.{controller}
 use Rattle.polcert_check.specs.Horizon.{Controller}
-use Rattle.polcert_check.specs.Factored.{value_behind}
-use Rattle.polcert_check.specs.Walks.{AreSteps, IsPlace}
+use Rattle.polcert_check.specs.Steps.Factored.{value_behind}
+use Rattle.polcert_check.specs.Steps.Walks.{AreSteps, IsPlace}
 use Rattle.polcert_check.specs.declared.blocks.Block.{Block}
 use Rattle.polcert_check.specs.declared.blocks.TheConstants.{ENDS_AT_ONCE}
-use Rattle.polcert_check.proofs.Ahead.{weight_room, ahead_step}
-use Rattle.polcert_check.proofs.Expecting.{value_behind_le}
-use Rattle.polcert_check.proofs.Missing.{before_more}
-use Rattle.polcert_check.proofs.Walking.{steps_back, not_nearer, walk_stopped}
+use Rattle.polcert_check.proofs.Walking.Ahead.{weight_room, ahead_step}
+use Rattle.polcert_check.proofs.Walking.Expecting.{value_behind_le}
+use Rattle.polcert_check.proofs.Walking.Missing.{before_more}
+use Rattle.polcert_check.proofs.Walking.StartWalks.{steps_back, not_nearer, walk_stopped}
 use Rattle.polcert_check.proofs.walks.go_on.Goals as goal
 
 pub loop-end-init : goal.loop-end-init

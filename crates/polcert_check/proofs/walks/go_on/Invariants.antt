@@ -1,8 +1,8 @@
 use Rattle.std.proofs.Common.{◌≡◌, ℕ, ◌-◌, ◌<◌, ◌≤◌}
 use Rattle.polcert_cells.specs.LentRows.{reached}
-use Rattle.polcert_check.specs.Certificate.{controller}
-use Rattle.polcert_check.specs.Factored.{IsLeastOf}
-use Rattle.polcert_check.specs.Walks.{AreKnown, IsMissedBefore, value_before}
+use Rattle.polcert_check.specs.Steps.Certificate.{controller}
+use Rattle.polcert_check.specs.Steps.Factored.{IsLeastOf}
+use Rattle.polcert_check.specs.Steps.Walks.{AreKnown, IsMissedBefore, value_before}
 use Rattle.polcert_check.proofs.walks.go_on.Given as goal
 
 -- the steps so far; there is no weight from there to the block

@@ -1,7 +1,7 @@
 use Rattle.std.proofs.Common.{◌≡◌, ◌-◌, ◌≤◌}
 use Rattle.polcert_cells.specs.LentRows.{reached}
-use Rattle.polcert_check.specs.Certificate.{controller}
-use Rattle.polcert_check.specs.Walks.{value_before}
+use Rattle.polcert_check.specs.Steps.Certificate.{controller}
+use Rattle.polcert_check.specs.Steps.Walks.{value_before}
 use Rattle.polcert_check.proofs.walks.worth_ahead.Given as goal
 
 -- the sum so far

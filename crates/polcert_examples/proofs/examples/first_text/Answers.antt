@@ -1,4 +1,4 @@
-use Rattle.polcert_examples.proofs.First.{first_taken, first_denotes}
+use Rattle.polcert_examples.proofs.FirstText.{first_taken, first_denotes}
 use Rattle.polcert_examples.proofs.examples.first_text.Goals as goal
 
 pub returns-clause-taken : goal.returns-clause-taken

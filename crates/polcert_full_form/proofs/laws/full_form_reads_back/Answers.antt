@@ -1,5 +1,5 @@
-use Rattle.polcert_full_form.proofs.WritableModels.{kept_short, kept_reads_back}
-use Rattle.polcert_full_form.proofs.WritableTexts.{reads_back}
+use Rattle.polcert_full_form.proofs.Writable.WritableModels.{kept_short, kept_reads_back}
+use Rattle.polcert_full_form.proofs.Writable.WritableTexts.{reads_back}
 use Rattle.polcert_full_form.proofs.laws.full_form_reads_back.Goals as goal
 
 pub returns : goal.returns

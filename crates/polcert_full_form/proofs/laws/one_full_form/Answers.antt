@@ -1,5 +1,5 @@
-use Rattle.polcert_full_form.proofs.SameForms.{same_forms}
-use Rattle.polcert_full_form.proofs.WritableTexts.{one_form}
+use Rattle.polcert_full_form.proofs.Denoting.SameForms.{same_forms}
+use Rattle.polcert_full_form.proofs.Writable.WritableTexts.{one_form}
 use Rattle.polcert_full_form.proofs.laws.one_full_form.Goals as goal
 
 pub returns : goal.returns

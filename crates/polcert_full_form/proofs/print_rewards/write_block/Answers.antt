@@ -1,10 +1,10 @@
 use Rattle.std.proofs.Common.{◌≡◌, ◌∙◌, ◌+◌, ℕ, List, pos, refl, ap, rules, FitsSigned, get_or, length}
 use Rattle.polcert_text.specs.Sink.{nothing}
-use Rattle.polcert_text.proofs.Written.{as_text}
+use Rattle.polcert_text.proofs.Printing.Written.{as_text}
 use Rattle.polcert_format.specs.FullForm.{written}
-use Rattle.polcert_full_form.specs.PrintSteps.{number_text, block_text}
+use Rattle.polcert_full_form.specs.Steps.Printing.{number_text, block_text}
 use Rattle.polcert_cells.proofs.SoundLaws.{reward_fits}
-use Rattle.polcert_full_form.proofs.Parts.{parts_fail, one_more_part}
+use Rattle.polcert_full_form.proofs.Printing.WrittenParts.{parts_fail, one_more_part}
 use Rattle.std.proofs.lemmas.Int.{to_z-of_z}
 use mir.Syntax.{w64}
 use mir.Val.{to_z, of_z}

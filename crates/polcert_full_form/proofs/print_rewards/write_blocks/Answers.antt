@@ -1,12 +1,12 @@
 use Rattle.std.proofs.Common.{◌≡◌, ◌∙◌, ◌+◌, ◌-◌, ◌≤◌, ◌++◌, ℕ, List, length, take, refl, ap, subst, rules, arith}
 use Rattle.polcert_text.specs.Sink.{Takes, nothing}
-use Rattle.polcert_text.proofs.Taking.{took_then}
+use Rattle.polcert_text.proofs.Printing.Taking.{took_then}
 use Rattle.polcert_tables.specs.Contents.{meaning}
 use Rattle.polcert_format.specs.FullForm.{for_each}
-use Rattle.polcert_full_form.specs.PrintSteps.{reward_text, block_text}
-use Rattle.polcert_full_form.specs.PrintedRows.{row_width, row_rewards, rewarded_text}
-use Rattle.polcert_full_form.proofs.RewardBlocks.{size_is, small_in, block_is, small_rewards, size_room}
-use Rattle.polcert_full_form.proofs.Runs.{run_more, run_fails}
+use Rattle.polcert_full_form.specs.Steps.Printing.{reward_text, block_text}
+use Rattle.polcert_full_form.specs.Steps.PrintedRows.{row_width, row_rewards, rewarded_text}
+use Rattle.polcert_full_form.proofs.Denoting.RewardBlocks.{size_is, small_in, block_is, small_rewards, size_room}
+use Rattle.polcert_full_form.proofs.Printing.Runs.{run_more, run_fails}
 use Rattle.polcert_full_form.proofs.print_rewards.write_blocks.Goals as goal
 
 pub loop-column-init : goal.loop-column-init

@@ -1,11 +1,11 @@
 use Rattle.std.proofs.Common.{◌+◌, ◌-◌, ◌++◌, ℕ, List, rules, arith, codes}
-use Rattle.polcert_text.proofs.Taking.{wrote_front}
-use Rattle.polcert_text.proofs.Written.{wrote, one_more, fails_at, fails_before, ends_with, as_text}
+use Rattle.polcert_text.proofs.Printing.Taking.{wrote_front}
+use Rattle.polcert_text.proofs.Printing.Written.{wrote, one_more, fails_at, fails_before, ends_with, as_text}
 use Rattle.polcert_tables.specs.Contents.{meaning}
 use Rattle.polcert_format.specs.FullForm.{for_each}
-use Rattle.polcert_full_form.specs.PrintSteps.{zeros_text, reward_head}
-use Rattle.polcert_full_form.specs.PrintedRows.{row_width, rewarded_text}
-use Rattle.polcert_full_form.proofs.RewardBlocks.{row_paid, few_columns}
+use Rattle.polcert_full_form.specs.Steps.Printing.{zeros_text, reward_head}
+use Rattle.polcert_full_form.specs.Steps.PrintedRows.{row_width, rewarded_text}
+use Rattle.polcert_full_form.proofs.Denoting.RewardBlocks.{row_paid, few_columns}
 use Rattle.polcert_full_form.proofs.print_rewards.write_paid_row.Goals as goal
 
 pub write_zeros-requires : goal.write_zeros-requires

@@ -1,6 +1,6 @@
 use Rattle.polcert_tables.specs.Contents.{meaning}
-use Rattle.polcert_full_form.proofs.Parts.{wrote_nothing}
-use Rattle.polcert_full_form.proofs.RewardBlocks.{row_unpaid}
+use Rattle.polcert_full_form.proofs.Printing.WrittenParts.{wrote_nothing}
+use Rattle.polcert_full_form.proofs.Denoting.RewardBlocks.{row_unpaid}
 use Rattle.polcert_full_form.proofs.print_rewards.write_reward_row.Goals as goal
 
 pub returns-in-None : goal.returns-in-None

@@ -2,8 +2,8 @@ use Rattle.std.proofs.Common.{◌∙◌, ℕ, List, Some, refl, rules}
 use Rattle.polcert_text.specs.Sink.{nothing}
 use Rattle.polcert_tables.specs.Contents.{meaning}
 use Rattle.polcert_cells.specs.Meaning.{states_of}
-use Rattle.polcert_full_form.specs.PrintSteps.{reward_row_text}
-use Rattle.polcert_full_form.proofs.Parts.{parts_fail, one_more_part}
+use Rattle.polcert_full_form.specs.Steps.Printing.{reward_row_text}
+use Rattle.polcert_full_form.proofs.Printing.WrittenParts.{parts_fail, one_more_part}
 use Rattle.polcert_full_form.proofs.print_rewards.write_reward_rows.Goals as goal
 
 pub loop-end-init : goal.loop-end-init

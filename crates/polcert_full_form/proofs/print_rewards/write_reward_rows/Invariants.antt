@@ -2,7 +2,7 @@ use Rattle.std.proofs.Common.{◌≡◌, Some}
 use Rattle.polcert_text.specs.Sink.{Takes}
 use Rattle.polcert_tables.specs.Contents.{meaning}
 use Rattle.polcert_format.specs.FullForm.{for_each}
-use Rattle.polcert_full_form.specs.PrintSteps.{reward_row_text}
+use Rattle.polcert_full_form.specs.Steps.Printing.{reward_row_text}
 use Rattle.polcert_full_form.proofs.print_rewards.write_reward_rows.Given as goal
 
 abbrev pub invariant-loop-end : goal.invariant-loop-end

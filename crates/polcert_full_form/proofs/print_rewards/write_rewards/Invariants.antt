@@ -2,7 +2,7 @@ use Rattle.std.proofs.Common.{◌≡◌}
 use Rattle.polcert_text.specs.Sink.{Takes}
 use Rattle.polcert_tables.specs.Contents.{meaning}
 use Rattle.polcert_format.specs.FullForm.{for_each}
-use Rattle.polcert_full_form.specs.PrintSteps.{rewards_at}
+use Rattle.polcert_full_form.specs.Steps.Printing.{rewards_at}
 use Rattle.polcert_full_form.proofs.print_rewards.write_rewards.Given as goal
 
 abbrev pub invariant-loop-action : goal.invariant-loop-action

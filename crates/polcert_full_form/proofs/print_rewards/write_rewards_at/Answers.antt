@@ -3,7 +3,7 @@ use Rattle.polcert_text.specs.Sink.{nothing}
 use Rattle.polcert_tables.specs.Contents.{meaning}
 use Rattle.polcert_cells.specs.Meaning.{states_of}
 use Rattle.polcert_format.specs.FullForm.{rewards_from}
-use Rattle.polcert_full_form.proofs.Parts.{parts_fail, one_more_part}
+use Rattle.polcert_full_form.proofs.Printing.WrittenParts.{parts_fail, one_more_part}
 use Rattle.polcert_full_form.proofs.print_rewards.write_rewards_at.Goals as goal
 
 pub loop-start-init : goal.loop-start-init

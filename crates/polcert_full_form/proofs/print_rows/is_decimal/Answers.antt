@@ -1,7 +1,7 @@
 use Rattle.std.proofs.Common.{Some, refl, arith}
 use Rattle.polcert_cells.specs.LentRows.{reached}
-use Rattle.polcert_full_form.specs.PrintedRows.{row_weights}
-use Rattle.polcert_full_form.proofs.WalkedRows.{at_start, decimal_other, decimal_more, decimal_end}
+use Rattle.polcert_full_form.specs.Steps.PrintedRows.{row_weights}
+use Rattle.polcert_full_form.proofs.Printing.WalkedRows.{at_start, decimal_other, decimal_more, decimal_end}
 use Rattle.polcert_full_form.proofs.print_rows.is_decimal.Goals as goal
 
 pub loop-step-init : goal.loop-step-init

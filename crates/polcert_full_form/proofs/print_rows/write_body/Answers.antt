@@ -1,9 +1,9 @@
 use Rattle.std.proofs.Common.{◌≡◌, ◌∙◌, sym, true, false}
-use Rattle.polcert_text.proofs.Written.{as_text}
-use Rattle.polcert_full_form.specs.PrintedRows.{row_weights}
+use Rattle.polcert_text.proofs.Printing.Written.{as_text}
+use Rattle.polcert_full_form.specs.Steps.PrintedRows.{row_weights}
 use Rattle.polcert_format.specs.FullForm.{is_uniform, is_decimal}
-use Rattle.polcert_full_form.proofs.PrintedParts as texts
-use Rattle.polcert_full_form.proofs.WalkedRows.{some_columns}
+use Rattle.polcert_full_form.proofs.Printing.PrintedParts as texts
+use Rattle.polcert_full_form.proofs.Printing.WalkedRows.{some_columns}
 use Rattle.polcert_full_form.proofs.print_rows.write_body.Goals as goal
 
 pub returns-then-is_uniform : goal.returns-then-is_uniform

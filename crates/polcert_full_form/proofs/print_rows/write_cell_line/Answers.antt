@@ -1,8 +1,8 @@
 use Rattle.std.proofs.Common.{◌++◌, ◌∷◌, [], ℕ, List, ap, rules, codes}
 use Rattle.polcert_text.specs.Millionths.{scaled_text}
-use Rattle.polcert_text.proofs.Taking.{wrote_front}
-use Rattle.polcert_text.proofs.Written.{wrote, one_more, fails_at, fails_before, ends_with, as_text}
-use Rattle.polcert_full_form.specs.PrintSteps.{pattern_text}
+use Rattle.polcert_text.proofs.Printing.Taking.{wrote_front}
+use Rattle.polcert_text.proofs.Printing.Written.{wrote, one_more, fails_at, fails_before, ends_with, as_text}
+use Rattle.polcert_full_form.specs.Steps.Printing.{pattern_text}
 use Rattle.std.proofs.lemmas.Int.{to_z-of_z}
 use mir.Syntax.{w64}
 use Rattle.polcert_full_form.proofs.print_rows.write_cell_line.Goals as goal

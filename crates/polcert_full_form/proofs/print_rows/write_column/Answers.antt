@@ -1,14 +1,14 @@
 use Rattle.std.proofs.Common.{◌≡◌, ◌∙◌, ◌/◌, ◌==◌, false, pos, ap, sym, rules, FitsSigned}
-use Rattle.polcert_text.proofs.Written.{as_text}
+use Rattle.polcert_text.proofs.Printing.Written.{as_text}
 use Rattle.polcert_cells.specs.Numbers.{one}
-use Rattle.polcert_full_form.specs.PrintSteps.{number_text, cell_line}
-use Rattle.polcert_full_form.specs.PrintedRows.{row_weights, column_text}
-use Rattle.polcert_full_form.proofs.Parts.{wrote_nothing}
+use Rattle.polcert_full_form.specs.Steps.Printing.{number_text, cell_line}
+use Rattle.polcert_full_form.specs.Steps.PrintedRows.{row_weights, column_text}
+use Rattle.polcert_full_form.proofs.Printing.WrittenParts.{wrote_nothing}
 use Rattle.std.proofs.lemmas.Int.{to_z-of_z}
 use mir.Syntax.{w64}
 use mir.Val.{to_z, of_z}
-use Rattle.polcert_full_form.proofs.PrintedParts as texts
-use Rattle.polcert_full_form.proofs.RowEntries.{test_apart}
+use Rattle.polcert_full_form.proofs.Printing.PrintedParts as texts
+use Rattle.polcert_full_form.proofs.Denoting.RowEntries.{test_apart}
 use Rattle.polcert_full_form.proofs.print_rows.write_column.Goals as goal
 
 pub millionths_of-scaled-requires-clause-small : goal.millionths_of-scaled-requires-clause-small

@@ -1,12 +1,12 @@
 use Rattle.std.proofs.Common.{◌≡◌, ◌∙◌, ◌+◌, ◌-◌, ◌++◌, ℕ, List, refl, subst, rules, arith}
 use Rattle.polcert_text.specs.Sink.{Takes, nothing}
-use Rattle.polcert_text.proofs.Taking.{took_then}
-use Rattle.polcert_text.proofs.Written.{wrote, ends_with, as_text}
+use Rattle.polcert_text.proofs.Printing.Taking.{took_then}
+use Rattle.polcert_text.proofs.Printing.Written.{wrote, ends_with, as_text}
 use Rattle.polcert_format.specs.FullForm.{for_each}
-use Rattle.polcert_full_form.specs.PrintedRows.{row_weights, column_text, zero_text}
-use Rattle.polcert_full_form.proofs.Runs.{step_is, rest_is, run_fails}
-use Rattle.polcert_full_form.proofs.WalkedRows.{at_start}
-use Rattle.polcert_full_form.proofs.WalkedColumns.{zero_column}
+use Rattle.polcert_full_form.specs.Steps.PrintedRows.{row_weights, column_text, zero_text}
+use Rattle.polcert_full_form.proofs.Printing.Runs.{step_is, rest_is, run_fails}
+use Rattle.polcert_full_form.proofs.Printing.WalkedRows.{at_start}
+use Rattle.polcert_full_form.proofs.Printing.WalkedColumns.{zero_column}
 use Rattle.polcert_full_form.proofs.print_rows.write_columns.Goals as goal
 
 pub loop-step-init : goal.loop-step-init

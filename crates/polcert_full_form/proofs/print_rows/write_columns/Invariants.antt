@@ -2,7 +2,7 @@ use Rattle.std.proofs.Common.{◌≡◌, ◌≤◌, ◌-◌, Some}
 use Rattle.polcert_text.specs.Sink.{Takes}
 use Rattle.polcert_cells.specs.LentRows.{reached}
 use Rattle.polcert_format.specs.FullForm.{for_each}
-use Rattle.polcert_full_form.specs.PrintedRows.{column_text}
+use Rattle.polcert_full_form.specs.Steps.PrintedRows.{column_text}
 use Rattle.polcert_full_form.proofs.print_rows.write_columns.Given as goal
 
 abbrev pub invariant-loop-step : goal.invariant-loop-step

@@ -1,7 +1,7 @@
 use Rattle.std.proofs.Common.{◌-◌, ℕ, List, rules}
-use Rattle.polcert_text.proofs.Taking.{wrote_front}
-use Rattle.polcert_text.proofs.Written.{wrote, fails_before, ends_with}
-use Rattle.polcert_full_form.specs.PrintedRows.{column_text, zeros_from}
+use Rattle.polcert_text.proofs.Printing.Taking.{wrote_front}
+use Rattle.polcert_text.proofs.Printing.Written.{wrote, fails_before, ends_with}
+use Rattle.polcert_full_form.specs.Steps.PrintedRows.{column_text, zeros_from}
 use Rattle.polcert_full_form.proofs.print_rows.write_columns_to.Goals as goal
 
 pub returns-in_err-write_zero_columns : goal.returns-in_err-write_zero_columns

@@ -1,9 +1,9 @@
 use Rattle.std.proofs.Common.{ℕ, List, rules, codes}
-use Rattle.polcert_text.proofs.Taking.{wrote_front}
-use Rattle.polcert_text.proofs.Written.{wrote, fails_before, ends_with}
+use Rattle.polcert_text.proofs.Printing.Taking.{wrote_front}
+use Rattle.polcert_text.proofs.Printing.Written.{wrote, fails_before, ends_with}
 use Rattle.polcert_format.specs.FullForm.{for_each}
 use Rattle.polcert_full_form.specs.declared.weight_row.ColumnForm.TheVariants.{Decimals}
-use Rattle.polcert_full_form.specs.PrintedRows.{column_text}
+use Rattle.polcert_full_form.specs.Steps.PrintedRows.{column_text}
 use Rattle.polcert_full_form.proofs.print_rows.write_decimals_line.Goals as goal
 
 pub returns-in_err-write_columns : goal.returns-in_err-write_columns

@@ -1,10 +1,10 @@
 use Rattle.std.proofs.Common.{◌≡◌, ◌++◌, ◌∷◌, [], ℕ, List, rules, codes}
-use Rattle.polcert_text.proofs.Taking.{wrote_front}
-use Rattle.polcert_text.proofs.Written.{wrote, fails_before, ends_with, as_text}
+use Rattle.polcert_text.proofs.Printing.Taking.{wrote_front}
+use Rattle.polcert_text.proofs.Printing.Written.{wrote, fails_before, ends_with, as_text}
 use Rattle.polcert_cells.specs.Preamble.{columns}
-use Rattle.polcert_tables.specs.RowSums.{row_of}
-use Rattle.polcert_full_form.specs.PrintSteps.{pattern_text, body_text}
-use Rattle.polcert_full_form.proofs.PrintedParts as texts
+use Rattle.polcert_tables.specs.Steps.RowSums.{row_of}
+use Rattle.polcert_full_form.specs.Steps.Printing.{pattern_text, body_text}
+use Rattle.polcert_full_form.proofs.Printing.PrintedParts as texts
 use Rattle.polcert_full_form.proofs.print_rows.write_row.Goals as goal
 
 pub returns-in_err-write_head : goal.returns-in_err-write_head

@@ -2,8 +2,8 @@ use Rattle.std.proofs.Common.{◌∙◌, ℕ, List, refl, rules}
 use Rattle.polcert_text.specs.Sink.{nothing}
 use Rattle.polcert_tables.specs.Contents.{meaning}
 use Rattle.polcert_cells.specs.Meaning.{actions_of}
-use Rattle.polcert_full_form.specs.PrintSteps.{rows_at}
-use Rattle.polcert_full_form.proofs.Parts.{parts_fail, one_more_part}
+use Rattle.polcert_full_form.specs.Steps.Printing.{rows_at}
+use Rattle.polcert_full_form.proofs.Printing.WrittenParts.{parts_fail, one_more_part}
 use Rattle.polcert_full_form.proofs.print_rows.write_rows.Goals as goal
 
 pub loop-action-init : goal.loop-action-init

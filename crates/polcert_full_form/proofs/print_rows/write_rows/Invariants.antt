@@ -1,7 +1,7 @@
 use Rattle.std.proofs.Common.{◌≡◌}
 use Rattle.polcert_text.specs.Sink.{Takes}
 use Rattle.polcert_format.specs.FullForm.{for_each}
-use Rattle.polcert_full_form.specs.PrintSteps.{rows_at}
+use Rattle.polcert_full_form.specs.Steps.Printing.{rows_at}
 use Rattle.polcert_full_form.proofs.print_rows.write_rows.Given as goal
 
 abbrev pub invariant-loop-action : goal.invariant-loop-action

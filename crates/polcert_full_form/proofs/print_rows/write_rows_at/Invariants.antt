@@ -1,7 +1,7 @@
 use Rattle.std.proofs.Common.{◌≡◌}
 use Rattle.polcert_text.specs.Sink.{Takes}
 use Rattle.polcert_format.specs.FullForm.{for_each}
-use Rattle.polcert_full_form.specs.PrintSteps.{row_at}
+use Rattle.polcert_full_form.specs.Steps.Printing.{row_at}
 use Rattle.polcert_full_form.proofs.print_rows.write_rows_at.Given as goal
 
 abbrev pub invariant-loop-state : goal.invariant-loop-state

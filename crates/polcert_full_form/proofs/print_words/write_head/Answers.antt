@@ -1,7 +1,7 @@
 use Rattle.std.proofs.Common.{ℕ, List, rules, codes}
-use Rattle.polcert_text.proofs.Taking.{wrote_front}
-use Rattle.polcert_text.proofs.Written.{wrote, fails_before, ends_with}
-use Rattle.polcert_full_form.specs.PrintSteps.{pattern_text}
+use Rattle.polcert_text.proofs.Printing.Taking.{wrote_front}
+use Rattle.polcert_text.proofs.Printing.Written.{wrote, fails_before, ends_with}
+use Rattle.polcert_full_form.specs.Steps.Printing.{pattern_text}
 use Rattle.polcert_full_form.proofs.print_words.write_head.Goals as goal
 
 pub returns-in_err-write_pattern : goal.returns-in_err-write_pattern

@@ -1,7 +1,7 @@
 use Rattle.std.proofs.Common.{ℕ, List, rules, decimal}
-use Rattle.polcert_text.proofs.Taking.{wrote_front}
-use Rattle.polcert_text.proofs.Written.{wrote, fails_before, ends_with, as_text}
-use Rattle.polcert_full_form.specs.PrintSteps.{mark_before}
+use Rattle.polcert_text.proofs.Printing.Taking.{wrote_front}
+use Rattle.polcert_text.proofs.Printing.Written.{wrote, fails_before, ends_with, as_text}
+use Rattle.polcert_full_form.specs.Steps.Printing.{mark_before}
 use Rattle.polcert_full_form.proofs.print_words.write_index.Goals as goal
 
 pub returns-in_err-write_all : goal.returns-in_err-write_all

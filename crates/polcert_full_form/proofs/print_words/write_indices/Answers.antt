@@ -1,7 +1,7 @@
 use Rattle.std.proofs.Common.{◌∙◌, ℕ, List, refl, rules, length}
 use Rattle.polcert_text.specs.Sink.{nothing}
-use Rattle.polcert_full_form.specs.PrintSteps.{index_text}
-use Rattle.polcert_full_form.proofs.Parts.{parts_fail, one_more_part}
+use Rattle.polcert_full_form.specs.Steps.Printing.{index_text}
+use Rattle.polcert_full_form.proofs.Printing.WrittenParts.{parts_fail, one_more_part}
 use Rattle.polcert_full_form.proofs.print_words.write_indices.Goals as goal
 
 pub loop-number-init : goal.loop-number-init

@@ -1,7 +1,7 @@
 use Rattle.std.proofs.Common.{◌≡◌}
 use Rattle.polcert_text.specs.Sink.{Takes}
 use Rattle.polcert_format.specs.FullForm.{for_each}
-use Rattle.polcert_full_form.specs.PrintSteps.{index_text}
+use Rattle.polcert_full_form.specs.Steps.Printing.{index_text}
 use Rattle.polcert_full_form.proofs.print_words.write_indices.Given as goal
 
 abbrev pub invariant-loop-number : goal.invariant-loop-number

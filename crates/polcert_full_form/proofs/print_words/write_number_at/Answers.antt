@@ -1,8 +1,8 @@
 use Rattle.std.proofs.Common.{ℕ, List, ap, rules}
 use Rattle.polcert_text.specs.Millionths.{scaled_text}
-use Rattle.polcert_text.proofs.Taking.{wrote_front}
-use Rattle.polcert_text.proofs.Written.{wrote, fails_before, ends_with, as_text}
-use Rattle.polcert_full_form.specs.PrintSteps.{blank_before}
+use Rattle.polcert_text.proofs.Printing.Taking.{wrote_front}
+use Rattle.polcert_text.proofs.Printing.Written.{wrote, fails_before, ends_with, as_text}
+use Rattle.polcert_full_form.specs.Steps.Printing.{blank_before}
 use Rattle.std.proofs.lemmas.Int.{to_z-of_z}
 use mir.Syntax.{w64}
 use Rattle.polcert_full_form.proofs.print_words.write_number_at.Goals as goal

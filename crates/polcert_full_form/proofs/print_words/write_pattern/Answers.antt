@@ -1,8 +1,8 @@
 use Rattle.std.proofs.Common.{ℕ, List, rules, length}
-use Rattle.polcert_text.proofs.Taking.{wrote_front}
-use Rattle.polcert_text.proofs.Written.{wrote, fails_before, ends_with, as_text}
+use Rattle.polcert_text.proofs.Printing.Taking.{wrote_front}
+use Rattle.polcert_text.proofs.Printing.Written.{wrote, fails_before, ends_with, as_text}
 use Rattle.polcert_format.specs.FullForm.{for_each, table_word}
-use Rattle.polcert_full_form.specs.PrintSteps.{index_text}
+use Rattle.polcert_full_form.specs.Steps.Printing.{index_text}
 use Rattle.polcert_full_form.proofs.print_words.write_pattern.Goals as goal
 
 pub returns-in_err-write_all : goal.returns-in_err-write_all

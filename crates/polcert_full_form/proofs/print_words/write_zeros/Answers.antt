@@ -1,9 +1,9 @@
 use Rattle.std.proofs.Common.{◌∙◌, ◌+◌, ℕ, List, pos, refl, rules}
 use Rattle.polcert_text.specs.Sink.{nothing}
-use Rattle.polcert_text.proofs.Written.{as_text}
-use Rattle.polcert_full_form.specs.PrintSteps.{number_text}
-use Rattle.polcert_full_form.proofs.Parts.{parts_fail, one_more_part}
-use Rattle.polcert_full_form.proofs.PrintedZeros.{zero_at}
+use Rattle.polcert_text.proofs.Printing.Written.{as_text}
+use Rattle.polcert_full_form.specs.Steps.Printing.{number_text}
+use Rattle.polcert_full_form.proofs.Printing.WrittenParts.{parts_fail, one_more_part}
+use Rattle.polcert_full_form.proofs.Printing.PrintedZeros.{zero_at}
 use Rattle.polcert_full_form.proofs.print_words.write_zeros.Goals as goal
 
 pub loop-number-init : goal.loop-number-init

@@ -1,6 +1,6 @@
 use Rattle.std.proofs.Common.{◌∙◌, ◌*◌, ◌≤◌, List, length, sym, ap, subst}
 use Rattle.polcert_cells.specs.declared.entry.Place.{Place}
-use Rattle.polcert_items.specs.Covering.{open_cells, weighty, most_covered}
+use Rattle.polcert_items.specs.Steps.Covering.{open_cells, weighty, most_covered}
 use Rattle.polcert_items.proofs.CoveringLaws.{covered_few, covered_fits}
 use Rattle.polcert_items.proofs.covering.covered_by.Goals as goal
 

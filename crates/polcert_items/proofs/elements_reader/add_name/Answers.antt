@@ -1,6 +1,6 @@
 use Rattle.std.proofs.Common.{◌≢◌, ◌∙◌, length, rules, subst, sym}
 use Rattle.polcert_text.specs.Reading.{lexeme_of}
-use Rattle.polcert_items.specs.ElementSteps.{AreNamesRead}
+use Rattle.polcert_items.specs.Steps.Elements.{AreNamesRead}
 use Rattle.polcert_cells.proofs.Basics.{true≢false}
 use Rattle.polcert_items.proofs.ElementLaws.{no_name_stuck, known_stuck, more_read}
 use Rattle.polcert_items.proofs.MisfitLaws.{name_too_many, name_again}

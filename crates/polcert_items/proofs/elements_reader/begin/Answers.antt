@@ -1,9 +1,9 @@
 use Rattle.std.proofs.Common.{◌≡◌, Some, [], ◌∷◌, ◌++◌, IfErr, rules, subst}
 use Rattle.polcert_text.specs.Reading.{lexeme_of}
 use Rattle.polcert_items.specs.declared.elements_reader.ElementsReader.TheVariants.{Named}
-use Rattle.polcert_items.specs.LineSteps.{CannotTake}
-use Rattle.polcert_items.specs.EntrySteps.{IfRefused}
-use Rattle.polcert_items.specs.ElementSteps.{NamesGo, ElementsReason}
+use Rattle.polcert_items.specs.Steps.Lines.{CannotTake}
+use Rattle.polcert_items.specs.Steps.Entries.{IfRefused}
+use Rattle.polcert_items.specs.Steps.Elements.{NamesGo, ElementsReason}
 use Rattle.polcert_format.specs.Misfits.{misfit, FurtherName}
 use Rattle.polcert_items.proofs.PatternLaws.{if_err_map, if_err_both, refused_map, each_refused_map, each_refused_both}
 use Rattle.polcert_items.proofs.MisfitLaws.{first_misfit}

@@ -1,7 +1,7 @@
 use Rattle.std.proofs.Common.{rules, subst, IfErr}
 use Rattle.polcert_text.specs.Reading.{lexeme_of}
-use Rattle.polcert_items.specs.LineSteps.{CannotTake}
-use Rattle.polcert_items.specs.EntrySteps.{RewardsGo, IfRefused}
+use Rattle.polcert_items.specs.Steps.Lines.{CannotTake}
+use Rattle.polcert_items.specs.Steps.Entries.{RewardsGo, IfRefused}
 use Rattle.polcert_items.proofs.WantLaws.{no_numbers_lead}
 use Rattle.polcert_items.proofs.entry_reader.begin_rewards.Goals as goal
 

@@ -1,18 +1,14 @@
 use Rattle.std.proofs.Common.{inr}
 use Rattle.polcert_text.specs.Reading.{lexeme_of}
 use Rattle.polcert_items.proofs.StartNumbers.{if_ok_map, on_err_map}
-use Rattle.polcert_items.proofs.StartForms.{body_begins, body_stuck, sign_not_whole, plus_or_minus}
+use Rattle.polcert_items.proofs.StartForms.{body_begins, body_stuck, sign_not_whole, plus_or_minus, uniform_begins, name_begins, name_stuck, digits_begin, not_whole, whole_or_one, numeral_not_name}
 use Rattle.polcert_cells.specs.Elements.{count_of}
-use Rattle.polcert_items.proofs.WantLaws.{sign_no_state, body_lead, number_begins}
-use Rattle.polcert_text.proofs.Taking.{on_err}
+use Rattle.polcert_items.proofs.WantLaws.{sign_no_state, body_lead, number_begins, no_state}
+use Rattle.polcert_text.proofs.Printing.Taking.{on_err}
 use Rattle.polcert_cells.proofs.Basics.{true≢false}
-use Rattle.polcert_items.proofs.StartForms.{uniform_begins, name_begins, name_stuck}
 use Rattle.std.proofs.Common.{inl}
 use Rattle.std.proofs.Common.{subst}
-use Rattle.polcert_items.specs.StartSteps.{AreDigits}
-use Rattle.polcert_items.proofs.StartForms.{body_begins, body_stuck, digits_begin, not_whole, whole_or_one, numeral_not_name}
-use Rattle.polcert_items.proofs.WantLaws.{no_state, body_lead}
-use Rattle.polcert_items.proofs.WantLaws.{number_begins}
+use Rattle.polcert_items.specs.Steps.Start.{AreDigits}
 use Rattle.polcert_items.proofs.start_reader.begin_body.Goals as goal
 
 pub returns-in-Plus-clause-begun : goal.returns-in-Plus-clause-begun

@@ -1,7 +1,7 @@
 use Rattle.std.proofs.Common.{sym, subst}
 use Rattle.polcert_format.specs.Text.{IsModelText}
 use Rattle.polcert_tables.specs.Kept.{meaning}
-use Rattle.polcert_full_form.proofs.WritableTexts.{text_writable}
+use Rattle.polcert_full_form.proofs.Writable.WritableTexts.{text_writable}
 use Rattle.polcert_model.proofs.ModelStreams.{row_sum_refused}
 use Rattle.polcert_model.proofs.WholeTexts.{whole_accepted, whole_within}
 use Rattle.polcert_model.proofs.reader.model_of.Goals as goal

@@ -3,8 +3,8 @@ use Rattle.std.proofs.lemmas.Result.{err_from_is_err_and}
 use Rattle.polcert_text.specs.Cut.{Rest, text_rest, end_place, text_limit}
 use Rattle.polcert_text.specs.Reading.{lexeme_of}
 use Rattle.polcert_text.specs.TakenTokens.{Taken, nothing, token}
-use Rattle.polcert_text.proofs.TakenTokens.{all_taken}
-use Rattle.polcert_model.specs.TextSteps.{Refuses}
+use Rattle.polcert_text.proofs.Taken.TakenTokens.{all_taken}
+use Rattle.polcert_model.specs.Steps.Texts.{Refuses}
 use Rattle.polcert_format.proofs.FrontLaws.{taken_end, shorter, tokens_begin, these_tokens, text_is_short}
 use Rattle.polcert_items.proofs.TokenTexts.{token_is_text}
 use Rattle.polcert_model.proofs.RefusingEnds.{fault_refused}

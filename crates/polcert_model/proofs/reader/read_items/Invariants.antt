@@ -1,7 +1,7 @@
 use Rattle.std.proofs.Common.{List, length, ◌+◌, ◌≤◌}
 use Rattle.polcert_text.specs.Cut.{Lexeme, text_rest, text_limit}
 use Rattle.polcert_text.specs.TakenTokens.{Taken}
-use Rattle.polcert_model.specs.TextSteps.{IsTextRead}
+use Rattle.polcert_model.specs.Steps.Texts.{IsTextRead}
 use Rattle.polcert_model.proofs.reader.read_items.Given as goal
 
 abbrev pub invariant-loop-next : goal.invariant-loop-next

@@ -2,7 +2,7 @@ use Rattle.std.proofs.Common.{◌≡◌, ◌∙◌, ◌++◌, ◌∷◌, ◌≤�
 use Rattle.polcert_text.specs.Cut.{text_limit}
 use Rattle.polcert_text.specs.Reading.{lexeme_of}
 use Rattle.polcert_text.specs.Source.{EachTextThatFits}
-use Rattle.polcert_text.proofs.StreamTaken.{none_taken, token_taken, place_grows, place_within, failed_since}
+use Rattle.polcert_text.proofs.Streams.StreamTaken.{none_taken, token_taken, place_grows, place_within, failed_since}
 use Rattle.polcert_format.specs.RefusedTexts.{IsRefusedModelText}
 use Rattle.polcert_format.specs.declared.fault.ModelFault.TheVariants.{Memory}
 use Rattle.polcert_items.proofs.TokenTexts.{token_is_text}

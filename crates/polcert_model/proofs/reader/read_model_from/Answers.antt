@@ -1,6 +1,6 @@
 use Rattle.std.proofs.Common.{◌≡◌, subst}
 use Rattle.polcert_text.specs.Source.{EachTextThatFits}
-use Rattle.polcert_text.proofs.StreamTaken.{each_whole}
+use Rattle.polcert_text.proofs.Streams.StreamTaken.{each_whole}
 use Rattle.polcert_format.specs.RefusedTexts.{IsRefusedModelText}
 use Rattle.polcert_model.proofs.reader.read_model_from.Goals as goal
 

@@ -1,5 +1,5 @@
 use Rattle.std.proofs.Common.{sym, subst}
-use Rattle.polcert_model.specs.TextSteps.{IsTextOf}
+use Rattle.polcert_model.specs.Steps.Texts.{IsTextOf}
 use Rattle.polcert_model.proofs.reader.read_text.Goals as goal
 
 pub returns-in-Ok-clause-read : goal.returns-in-Ok-clause-read

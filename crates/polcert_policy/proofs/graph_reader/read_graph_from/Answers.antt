@@ -1,7 +1,7 @@
 use Rattle.std.proofs.Common.{◌≡◌, ◌∙◌, ◌++◌, ◌∷◌, ◌≤◌, ◌<◌, [], ap, subst, arith, Ok, Err}
 use Rattle.polcert_text.specs.Reading.{lexeme_of}
 use Rattle.polcert_text.specs.Source.{EachTextThatFits}
-use Rattle.polcert_text.proofs.StreamTaken.{none_taken, token_taken, failed_since, place_grows, place_within}
+use Rattle.polcert_text.proofs.Streams.StreamTaken.{none_taken, token_taken, failed_since, place_grows, place_within}
 use Rattle.polcert_text.specs.Cut.{text_limit}
 use Rattle.polcert_policy.specs.declared.fault.GraphFault.TheVariants as faults
 use Rattle.polcert_policy.specs.GraphText.{IsRefusedGraphText}

@@ -1,7 +1,7 @@
 use Rattle.std.proofs.Common.{List, ◌-◌}
 use Rattle.polcert_text.specs.Cut.{Lexeme, text_limit}
-use Rattle.polcert_text.specs.StreamTaken.{TakenFrom}
-use Rattle.polcert_policy.specs.GraphRead.{IsRead, HasCounts}
+use Rattle.polcert_text.specs.Steps.StreamTaken.{TakenFrom}
+use Rattle.polcert_policy.specs.Steps.GraphRead.{IsRead, HasCounts}
 use Rattle.polcert_policy.proofs.graph_reader.read_graph_from.Given as goal
 
 abbrev pub invariant-loop-token : goal.invariant-loop-token

@@ -3,7 +3,7 @@ use Rattle.std.proofs.lemmas.Result.{err_from_is_err_and}
 use Rattle.polcert_text.specs.Cut.{text_rest, text_limit}
 use Rattle.polcert_text.specs.Reading.{lexeme_of}
 use Rattle.polcert_text.specs.TakenTokens.{Taken, nothing, token}
-use Rattle.polcert_text.proofs.TakenTokens.{all_taken}
+use Rattle.polcert_text.proofs.Taken.TakenTokens.{all_taken}
 use Rattle.polcert_policy.specs.Vectors.{ArePossible}
 use Rattle.polcert_policy.specs.declared.fault.VectorFault.TheVariants as faults
 use Rattle.polcert_policy.proofs.ReadLaws.{none_from_not}

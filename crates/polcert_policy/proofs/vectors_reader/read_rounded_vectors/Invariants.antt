@@ -1,7 +1,7 @@
 use Rattle.std.proofs.Common.{◌≡◌, List, length}
 use Rattle.polcert_text.specs.Cut.{Lexeme, text_rest, text_limit}
 use Rattle.polcert_text.specs.TakenTokens.{Taken}
-use Rattle.polcert_policy.specs.VectorsRead.{HasVectors}
+use Rattle.polcert_policy.specs.Steps.VectorsRead.{HasVectors}
 use Rattle.polcert_policy.proofs.vectors_reader.read_rounded_vectors.Given as goal
 
 abbrev pub invariant-loop-next : goal.invariant-loop-next

@@ -2,7 +2,7 @@ use Rattle.std.proofs.Common.{◌≡◌, ◌∙◌, ◌++◌, ◌∷◌, ◌≤�
 use Rattle.polcert_text.specs.Cut.{text_limit}
 use Rattle.polcert_text.specs.Reading.{lexeme_of}
 use Rattle.polcert_text.specs.Source.{EachTextThatFits}
-use Rattle.polcert_text.proofs.StreamTaken.{none_taken, token_taken, failed_since, place_grows, place_within}
+use Rattle.polcert_text.proofs.Streams.StreamTaken.{none_taken, token_taken, failed_since, place_grows, place_within}
 use Rattle.polcert_policy.specs.VectorText.{IsRefusedRoundedVectorsText}
 use Rattle.polcert_policy.specs.declared.fault.VectorFault.TheVariants as faults
 use Rattle.polcert_policy.proofs.VectorReadLaws.{possible_seen}

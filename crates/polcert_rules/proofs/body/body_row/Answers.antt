@@ -1,6 +1,6 @@
 use Rattle.std.proofs.Common.{ap}
-use Rattle.polcert_cells.specs.EntryLists.{entry_of, body_of}
-use Rattle.polcert_rules.proofs.BodyLaws.{matrix_room}
+use Rattle.polcert_cells.specs.EntryRefs.{entry_of, body_of}
+use Rattle.polcert_rules.proofs.RowLaws.BodyLaws.{matrix_room}
 use Rattle.polcert_rules.proofs.body.body_row.Goals as goal
 
 pub line_of-line-requires-clause-room : goal.line_of-line-requires-clause-room

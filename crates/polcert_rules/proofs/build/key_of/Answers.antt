@@ -1,5 +1,5 @@
 use Rattle.polcert_cells.specs.declared.entry.Place.TheVariants.{Every}
-use Rattle.polcert_rules.proofs.Keying.{place_at, on_at}
+use Rattle.polcert_rules.proofs.Keyed.Keying.{place_at, on_at}
 use Rattle.polcert_rules.proofs.build.key_of.Goals as goal
 
 pub overflow_sub-levels : goal.overflow_sub-levels

@@ -1,7 +1,7 @@
 use Rattle.std.proofs.Common.{drop}
-use Rattle.polcert_cells.specs.EntryLists.{entry_of}
+use Rattle.polcert_cells.specs.EntryRefs.{entry_of}
 use Rattle.polcert_rules.specs.Keys.{key_of}
-use Rattle.polcert_rules.proofs.Keying.{IsUnderWay}
+use Rattle.polcert_rules.proofs.Keyed.Keying.{IsUnderWay}
 use Rattle.polcert_rules.proofs.build.key_of.Given as goal
 
 abbrev pub invariant-loop-place : goal.invariant-loop-place

@@ -1,5 +1,5 @@
 use Rattle.std.proofs.Common.{◌≡◌, ◌++◌, drop}
-use Rattle.polcert_rules.specs.Newest.{newest_from, newest_of_each}
+use Rattle.polcert_rules.specs.Steps.Newest.{newest_from, newest_of_each}
 use Rattle.polcert_rules.proofs.build.newest_of_each.Given as goal
 
 abbrev pub invariant-loop-rule : goal.invariant-loop-rule

@@ -2,10 +2,10 @@ use Rattle.std.proofs.Common.{◌≡◌, ◌∙◌, ◌+◌, ◌++◌, ◌∷◌
 use Rattle.std.proofs.Math.Seq.{drop-cons}
 use Rattle.std.proofs.lemmas.Option.{get_or_from_slice_get, slice_get_within}
 use Rattle.polcert_cells.specs.declared.entry.Entry.{Entry}
-use Rattle.polcert_cells.specs.EntryLists.{entry_of}
+use Rattle.polcert_cells.specs.EntryRefs.{entry_of}
 use Rattle.polcert_rules.specs.declared.rule.Rule.{Rule}
 use Rattle.polcert_rules.specs.Keys.{key_of}
-use Rattle.polcert_rules.specs.Newest.{rules_from}
+use Rattle.polcert_rules.specs.Steps.Newest.{rules_from}
 use Rattle.polcert_rules.proofs.build.numbered.Goals as goal
 
 abbrev with_key : ℕ → ℕ → Rule

@@ -1,5 +1,5 @@
 use Rattle.std.proofs.Common.{◌≡◌, ◌++◌, drop}
-use Rattle.polcert_rules.specs.Newest.{rules_from}
+use Rattle.polcert_rules.specs.Steps.Newest.{rules_from}
 use Rattle.polcert_rules.proofs.build.numbered.Given as goal
 
 abbrev pub invariant-loop-number : goal.invariant-loop-number

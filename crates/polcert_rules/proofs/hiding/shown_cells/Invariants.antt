@@ -1,5 +1,5 @@
 use Rattle.std.proofs.Common.{◌≡◌, ◌++◌, drop}
-use Rattle.polcert_rules.specs.Zeros.{newest_zero, hides, shown}
+use Rattle.polcert_rules.specs.Steps.Zeros.{newest_zero, hides, shown}
 use Rattle.polcert_rules.proofs.hiding.shown_cells.Given as goal
 
 abbrev pub invariant-loop-cell : goal.invariant-loop-cell

@@ -2,8 +2,8 @@ use Rattle.std.proofs.Common.{◌∙◌, ◌*◌, ◌<◌, ◌^◌, refl, ap, sy
 use Rattle.polcert_cells.specs.Elements.{most_elements}
 use Rattle.polcert_cells.specs.Numbers.{one}
 use Rattle.polcert_cells.specs.Sparse.{weight_at}
-use Rattle.polcert_rules.specs.Sources.{total}
-use Rattle.polcert_rules.proofs.SumLaws.{sum_is, sum_small}
+use Rattle.polcert_rules.specs.Steps.Sources.{total}
+use Rattle.polcert_rules.proofs.RowLaws.SumLaws.{sum_is, sum_small}
 use Rattle.polcert_rules.proofs.kept.keep.Goals as goal
 
 pub row_sum-sum-requires : goal.row_sum-sum-requires

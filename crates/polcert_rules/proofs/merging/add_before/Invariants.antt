@@ -1,5 +1,5 @@
 use Rattle.std.proofs.Common.{◌≡◌, ◌++◌, drop}
-use Rattle.polcert_rules.specs.Merging.{before, behind}
+use Rattle.polcert_rules.specs.Steps.Merging.{before, behind}
 use Rattle.polcert_rules.proofs.merging.add_before.Given as goal
 
 abbrev pub invariant-loop-number : goal.invariant-loop-number

@@ -1,5 +1,5 @@
 use Rattle.std.proofs.Common.{◌≡◌, ◌++◌, drop}
-use Rattle.polcert_rules.specs.Merging.{merged}
+use Rattle.polcert_rules.specs.Steps.Merging.{merged}
 use Rattle.polcert_rules.proofs.merging.merged.Given as goal
 
 abbrev pub invariant-loop-cell : goal.invariant-loop-cell

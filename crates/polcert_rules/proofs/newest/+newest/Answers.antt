@@ -1,7 +1,8 @@
 use Rattle.std.proofs.Common.{◌∙◌, ◌∷◌, sym, ap, subst, arith, rules}
-use Rattle.polcert_rules.specs.Newest.{IsNewest, later}
+use Rattle.polcert_rules.specs.Steps.Newest.{IsNewest}
+use Rattle.polcert_rules.specs.Matching.{later}
 use Rattle.polcert_rules.specs.Keys.{AreIndices, Fits}
-use Rattle.polcert_rules.proofs.Newer.{newest_deeper, newest_end, is_deeper, no_more}
+use Rattle.polcert_rules.proofs.Indexes.Newer.{newest_deeper, newest_end, is_deeper, no_more}
 use Rattle.polcert_rules.proofs.newest.+newest.Goals as goal
 
 pub overflow_mul-only : goal.overflow_mul-only

@@ -1,5 +1,5 @@
 use Rattle.std.proofs.Common.{sym}
-use Rattle.polcert_rules.proofs.Newer.{first_is, first_is_not}
+use Rattle.polcert_rules.proofs.Indexes.Newer.{first_is, first_is_not}
 use Rattle.polcert_rules.proofs.newest.first_at.Goals as goal
 
 pub returns-then-rule-key : goal.returns-then-rule-key

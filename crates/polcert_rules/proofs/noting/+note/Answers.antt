@@ -1,8 +1,8 @@
 use Rattle.std.proofs.Common.{◌≡◌, ◌+◌, ◌<◌, ◌^◌, ℕ, List, [], ◌∷◌, ◌++◌, None, length, get_or, sym, ap, subst, arith, rules}
 use Rattle.polcert_rules.specs.Keys.{key_base, AreIndices, Fits}
-use Rattle.polcert_rules.specs.Noting.{IsNoted}
-use Rattle.polcert_rules.proofs.Newer.{is_deeper, no_more}
-use Rattle.polcert_rules.proofs.NotedLaws.{noted_end, noted_deeper}
+use Rattle.polcert_rules.specs.Steps.Noting.{IsNoted}
+use Rattle.polcert_rules.proofs.Indexes.Newer.{is_deeper, no_more}
+use Rattle.polcert_rules.proofs.Indexes.NotedLaws.{noted_end, noted_deeper}
 use Rattle.polcert_rules.proofs.noting.+note.Goals as goal
 
 pub overflow_mul-only : goal.overflow_mul-only

@@ -2,8 +2,8 @@ use Rattle.std.proofs.Common.{◌≡◌, ◌+◌, List, None, get_or, take, take
 use Rattle.std.proofs.lemmas.List.{take_more}
 use Rattle.std.proofs.lemmas.List.Elements.{Contains-get_or}
 use Rattle.polcert_rules.specs.declared.rule.Rule.{Rule}
-use Rattle.polcert_rules.specs.Noting.{IsNoted}
-use Rattle.polcert_rules.proofs.NotedLaws.{noted_hit, noted_skip, same_or_not}
+use Rattle.polcert_rules.specs.Steps.Noting.{IsNoted}
+use Rattle.polcert_rules.proofs.Indexes.NotedLaws.{noted_hit, noted_skip, same_or_not}
 use Rattle.polcert_rules.proofs.noting.note_each.Goals as goal
 
 pub note_rule-requires-clause-from : goal.note_rule-requires-clause-from

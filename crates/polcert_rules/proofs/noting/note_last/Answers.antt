@@ -1,5 +1,5 @@
 use Rattle.std.proofs.Common.{◌+◌, arith}
-use Rattle.polcert_rules.proofs.NotedLaws.{noted_last}
+use Rattle.polcert_rules.proofs.Indexes.NotedLaws.{noted_last}
 use Rattle.polcert_rules.proofs.noting.note_last.Goals as goal
 
 pub first_at-requires-clause-from : goal.first_at-requires-clause-from

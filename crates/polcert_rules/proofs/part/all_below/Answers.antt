@@ -1,5 +1,5 @@
 use Rattle.std.proofs.Common.{sym}
-use Rattle.polcert_rules.proofs.Parts.{below, below_last}
+use Rattle.polcert_rules.proofs.Keyed.KeyRanges.{below, below_last}
 use Rattle.polcert_rules.proofs.part.all_below.Goals as goal
 
 pub returns-in-Some : goal.returns-in-Some

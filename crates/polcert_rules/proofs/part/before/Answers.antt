@@ -1,7 +1,7 @@
 use Rattle.std.proofs.Common.{ltb, rules}
 use Rattle.std.proofs.lemmas.List.Sorted.{IsPartitionPoint-from_clause}
 use Rattle.polcert_rules.specs.declared.rule.Rule.{Rule}
-use Rattle.polcert_rules.proofs.Parts.{parted, kept_take}
+use Rattle.polcert_rules.proofs.Keyed.KeyRanges.{parted, kept_take}
 use Rattle.polcert_rules.proofs.part.before.Goals as goal
 
 pub returns-clause-kept : goal.returns-clause-kept

@@ -1,4 +1,4 @@
-use Rattle.polcert_rules.proofs.Parts.{cut_front}
+use Rattle.polcert_rules.proofs.Keyed.KeyRanges.{cut_front}
 use Rattle.polcert_rules.proofs.part.before_at.Goals as goal
 
 pub returns-then-is_cut-clause-kept : goal.returns-then-is_cut-clause-kept

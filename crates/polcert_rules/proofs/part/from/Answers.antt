@@ -1,7 +1,7 @@
 use Rattle.std.proofs.Common.{◌≤◌, ◌↔◌, Contains, ltb, subst, sym, rules}
 use Rattle.std.proofs.lemmas.List.Sorted.{IsPartitionPoint-from_clause}
 use Rattle.polcert_rules.specs.declared.rule.Rule.{Rule}
-use Rattle.polcert_rules.proofs.Parts.{parted, kept_drop, drop_whole}
+use Rattle.polcert_rules.proofs.Keyed.KeyRanges.{parted, kept_drop, drop_whole}
 use Rattle.polcert_rules.proofs.part.from.Goals as goal
 
 pub returns-clause-kept : goal.returns-clause-kept

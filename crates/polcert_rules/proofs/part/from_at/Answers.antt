@@ -1,5 +1,5 @@
 use Rattle.std.proofs.Common.{◌≤◌, ◌↔◌, Contains, subst, sym}
-use Rattle.polcert_rules.proofs.Parts.{cut_rest, drop_whole}
+use Rattle.polcert_rules.proofs.Keyed.KeyRanges.{cut_rest, drop_whole}
 use Rattle.polcert_rules.proofs.part.from_at.Goals as goal
 
 pub returns-then-is_cut-clause-kept : goal.returns-then-is_cut-clause-kept

@@ -1,6 +1,6 @@
 use Rattle.std.proofs.Common.{List, Contains, subst, sym, arith}
 use Rattle.polcert_rules.specs.declared.rule.Rule.{Rule}
-use Rattle.polcert_rules.proofs.Parts.{drop_whole}
+use Rattle.polcert_rules.proofs.Keyed.KeyRanges.{drop_whole}
 use Rattle.polcert_rules.proofs.part.is_cut.Goals as goal
 
 pub returns : goal.returns

@@ -1,7 +1,7 @@
 use Rattle.std.proofs.Common.{List, Contains, subst, sym, arith}
 use Rattle.polcert_rules.specs.declared.rule.Rule.{Rule}
-use Rattle.polcert_rules.specs.Newest.{IsRising}
-use Rattle.polcert_rules.proofs.Parts.{drop_whole, rising_drop, rising_take, near_front}
+use Rattle.polcert_rules.specs.Steps.Newest.{IsRising}
+use Rattle.polcert_rules.proofs.Keyed.KeyRanges.{drop_whole, rising_drop, rising_take, near_front}
 use Rattle.polcert_rules.proofs.part.near.Goals as goal
 
 pub none_below-requires : goal.none_below-requires

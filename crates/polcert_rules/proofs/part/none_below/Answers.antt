@@ -1,5 +1,5 @@
 use Rattle.std.proofs.Common.{sym}
-use Rattle.polcert_rules.proofs.Parts.{at_most, above_first}
+use Rattle.polcert_rules.proofs.Keyed.KeyRanges.{at_most, above_first}
 use Rattle.polcert_rules.proofs.part.none_below.Goals as goal
 
 pub returns-in-Some : goal.returns-in-Some

@@ -1,4 +1,4 @@
-use Rattle.polcert_rules.proofs.RepeatLaws.{alike_of_state}
+use Rattle.polcert_rules.proofs.RowLaws.RepeatLaws.{alike_of_state}
 use Rattle.polcert_rules.proofs.repeats.is_of_other_action.Goals as goal
 
 pub returns-then-one-other : goal.returns-then-one-other

@@ -1,4 +1,4 @@
-use Rattle.polcert_rules.proofs.RepeatLaws.{alike_of_action}
+use Rattle.polcert_rules.proofs.RowLaws.RepeatLaws.{alike_of_action}
 use Rattle.polcert_rules.proofs.repeats.is_of_other_state.Goals as goal
 
 pub returns-then-is_same : goal.returns-then-is_same

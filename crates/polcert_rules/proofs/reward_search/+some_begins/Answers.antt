@@ -1,8 +1,8 @@
 use Rattle.std.proofs.Common.{sym, subst, arith, rules, not}
 use Rattle.polcert_rules.specs.Keys.{AreIndices}
-use Rattle.polcert_rules.specs.RewardSearch.{Begins, IsAnswer}
-use Rattle.polcert_rules.proofs.Newer.{is_deeper, no_more}
-use Rattle.polcert_rules.proofs.RewardKeys.{begins_first, begins_second, begins_none}
+use Rattle.polcert_rules.specs.Steps.RewardSearch.{Begins, IsAnswer}
+use Rattle.polcert_rules.proofs.Indexes.Newer.{is_deeper, no_more}
+use Rattle.polcert_rules.proofs.RewardLaws.RewardKeys.{begins_first, begins_second, begins_none}
 use Rattle.polcert_rules.proofs.reward_search.+some_begins.Goals as goal
 
 pub overflow_mul-only : goal.overflow_mul-only

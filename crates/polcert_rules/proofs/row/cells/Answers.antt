@@ -1,11 +1,11 @@
 use Rattle.std.proofs.Common.{◌∙◌, ℕ, ◌+◌, ◌<◌, List, All, subst, sym, ap, rules}
 use Rattle.std.proofs.lemmas.List.Sorted.{IsNonDecreasingBy-from_sort_by_key}
 use Rattle.polcert_rules.specs.declared.rule.Rule.{Rule}
-use Rattle.polcert_rules.specs.Newest.{IsRising, IsNewest, newest_of_each}
-use Rattle.polcert_rules.specs.Rows.{IsSingle, IsCell, at_column}
+use Rattle.polcert_rules.specs.Steps.Newest.{IsRising, IsNewest, newest_of_each}
+use Rattle.polcert_rules.specs.Steps.Rows.{IsSingle, IsCell, at_column}
 use Rattle.polcert_rules.specs.Keys.{key_base}
-use Rattle.polcert_rules.proofs.Building.{each_rises}
-use Rattle.polcert_rules.proofs.Cells.{gathered_are, newest_at, each_cell}
+use Rattle.polcert_rules.proofs.Indexes.Building.{each_rises}
+use Rattle.polcert_rules.proofs.RowLaws.Cells.{gathered_are, newest_at, each_cell}
 use Rattle.polcert_rules.proofs.row.cells.Goals as goal
 
 pub returns-clause-rising : goal.returns-clause-rising

@@ -1,6 +1,6 @@
 use Rattle.std.proofs.Common.{◌≡◌, ℕ, ◌++◌, drop}
-use Rattle.polcert_rules.specs.Merging.{newer_cells}
-use Rattle.polcert_rules.specs.Zeros.{under}
+use Rattle.polcert_rules.specs.Steps.Merging.{newer_cells}
+use Rattle.polcert_rules.specs.Steps.Zeros.{under}
 use Rattle.polcert_rules.proofs.single.newer_cells.Given as goal
 
 abbrev pub invariant-loop-rule : goal.invariant-loop-rule

@@ -1,5 +1,5 @@
 use Rattle.std.proofs.Common.{◌≡◌, ◌++◌, drop}
-use Rattle.polcert_rules.specs.Zeros.{others_of}
+use Rattle.polcert_rules.specs.Steps.Zeros.{others_of}
 use Rattle.polcert_rules.proofs.split.others_of.Given as goal
 
 abbrev pub invariant-loop-rule : goal.invariant-loop-rule

@@ -1,4 +1,4 @@
-use Rattle.polcert_rules.proofs.ZeroLaws.{row_newest, none_newest}
+use Rattle.polcert_rules.proofs.RowLaws.ZeroLaws.{row_newest, none_newest}
 use Rattle.polcert_rules.proofs.zeros.row_zeros.Goals as goal
 
 pub returns-else-is_empty-2-clause-newest : goal.returns-else-is_empty-2-clause-newest

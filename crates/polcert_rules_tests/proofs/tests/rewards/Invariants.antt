@@ -1,4 +1,4 @@
-use Rattle.polcert_rules.specs.Newest.{AreKeyed}
+use Rattle.polcert_rules.specs.Steps.Newest.{AreKeyed}
 use Rattle.polcert_rules_tests.proofs.tests.rewards.Given as goal
 
 abbrev pub invariant-loop-pattern : goal.invariant-loop-pattern

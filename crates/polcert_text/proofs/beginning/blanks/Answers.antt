@@ -1,8 +1,8 @@
 use Rattle.std.proofs.Common.{◌≡◌, ◌<◌, ⊎_elim, get_or, length, sym, ap, arith}
 use Rattle.polcert_text.specs.Bytes.{class_of}
-use Rattle.polcert_text.specs.Scan.{gap_after}
+use Rattle.polcert_text.specs.Steps.Scan.{gap_after}
 use Rattle.polcert_text.specs.declared.lexeme.Gap.TheVariants.{Between}
-use Rattle.polcert_text.proofs.StreamLaws.{skipped_step}
+use Rattle.polcert_text.proofs.Streams.StreamLaws.{skipped_step}
 use Rattle.polcert_text.proofs.beginning.blanks.Goals as goal
 
 pub loop-at-preserved : goal.loop-at-preserved

@@ -1,5 +1,5 @@
 use Rattle.std.proofs.Common.{◌≡◌, ◌-◌, ◌≤◌, length, take}
-use Rattle.polcert_text.specs.Scan.{gap_through}
+use Rattle.polcert_text.specs.Steps.Scan.{gap_through}
 use Rattle.polcert_text.specs.declared.lexeme.Gap.TheVariants.{Between}
 use Rattle.polcert_text.proofs.beginning.blanks.Given as goal
 

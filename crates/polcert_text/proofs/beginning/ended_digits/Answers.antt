@@ -3,8 +3,8 @@ use Rattle.std.specs.Str.Parse.{digits_value}
 use Rattle.polcert_text.specs.Bytes.{class_of}
 use Rattle.polcert_text.specs.declared.lexeme.State.TheVariants.{Whole}
 use Rattle.polcert_text.specs.declared.lexeme.TokenKind.TheVariants.{Numeral}
-use Rattle.polcert_text.proofs.FrontNumbers.{whole_read, blank_behind, digits_there}
-use Rattle.polcert_text.proofs.Runs.{ends_within, ends_whole}
+use Rattle.polcert_text.proofs.Numbers.FrontNumbers.{whole_read, blank_behind, digits_there}
+use Rattle.polcert_text.proofs.Scanning.Runs.{ends_within, ends_whole}
 use Rattle.polcert_text.proofs.beginning.ended_digits.Goals as goal
 
 pub returns : goal.returns

@@ -3,8 +3,8 @@ use Rattle.std.specs.Str.Parse.{digits_value}
 use Rattle.polcert_text.specs.Bytes.{class_of}
 use Rattle.polcert_text.specs.declared.lexeme.State.TheVariants.{Whole, Fraction}
 use Rattle.polcert_text.specs.declared.lexeme.TokenKind.TheVariants.{Numeral}
-use Rattle.polcert_text.proofs.FrontNumbers.{whole_read, fraction_read, blank_behind, whole_exact, decimal_exact}
-use Rattle.polcert_text.proofs.Runs.{ends_within, ends_whole, ends_fraction}
+use Rattle.polcert_text.proofs.Numbers.FrontNumbers.{whole_read, fraction_read, blank_behind, whole_exact, decimal_exact}
+use Rattle.polcert_text.proofs.Scanning.Runs.{ends_within, ends_whole, ends_fraction}
 use Rattle.polcert_text.proofs.beginning.ended_number.Goals as goal
 
 pub returns-then-is_surely_blank : goal.returns-then-is_surely_blank

@@ -1,5 +1,5 @@
 use Rattle.std.proofs.Common.{arith}
-use Rattle.polcert_text.proofs.BeginLaws.{colon_begins}
+use Rattle.polcert_text.proofs.Taken.BeginLaws.{colon_begins}
 use Rattle.polcert_text.proofs.beginning.front_colon.Goals as goal
 
 pub returns-then-is_surely_colon : goal.returns-then-is_surely_colon

@@ -1,7 +1,7 @@
 use Rattle.std.proofs.Common.{subst}
 use Rattle.std.proofs.lemmas.List.{take_rest}
-use Rattle.polcert_text.specs.Beginning.{EndsAsDigits}
-use Rattle.polcert_text.proofs.BeginLaws.{digits_begin}
+use Rattle.polcert_text.specs.Steps.ScanOf.{EndsAsDigits}
+use Rattle.polcert_text.proofs.Taken.BeginLaws.{digits_begin}
 use Rattle.polcert_text.proofs.beginning.front_digits.Goals as goal
 
 pub returns-in-Some : goal.returns-in-Some

@@ -1,7 +1,7 @@
 use Rattle.std.proofs.Common.{subst}
 use Rattle.std.proofs.lemmas.List.{take_rest}
-use Rattle.polcert_text.specs.Beginning.{EndsAsNumber}
-use Rattle.polcert_text.proofs.BeginLaws.{number_begins}
+use Rattle.polcert_text.specs.Steps.ScanOf.{EndsAsNumber}
+use Rattle.polcert_text.proofs.Taken.BeginLaws.{number_begins}
 use Rattle.polcert_text.proofs.beginning.front_number.Goals as goal
 
 pub returns-in-Some : goal.returns-in-Some

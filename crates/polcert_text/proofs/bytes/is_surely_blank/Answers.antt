@@ -1,7 +1,7 @@
 use Rattle.std.proofs.Common.{inl, inr, ap, ◌∙◌}
 use Rattle.std.proofs.lemmas.Bool.{eqb-true}
 use Rattle.polcert_text.specs.Bytes.{class_of}
-use Rattle.polcert_text.proofs.Classes.{from_true, blank_at_32, line_end_at_10}
+use Rattle.polcert_text.proofs.Scanning.Classes.{from_true, blank_at_32, line_end_at_10}
 use Rattle.polcert_text.proofs.bytes.is_surely_blank.Goals as goal
 
 pub returns-then-byte-eq32 : goal.returns-then-byte-eq32

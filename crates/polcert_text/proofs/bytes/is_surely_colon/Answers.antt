@@ -1,7 +1,7 @@
 use Rattle.std.proofs.Common.{ap, ◌∙◌}
 use Rattle.std.proofs.lemmas.Bool.{eqb-true}
 use Rattle.polcert_text.specs.Bytes.{class_of}
-use Rattle.polcert_text.proofs.Classes.{from_true, colon_at_58}
+use Rattle.polcert_text.proofs.Scanning.Classes.{from_true, colon_at_58}
 use Rattle.polcert_text.proofs.bytes.is_surely_colon.Goals as goal
 
 pub returns : goal.returns

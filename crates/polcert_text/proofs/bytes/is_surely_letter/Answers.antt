@@ -1,6 +1,6 @@
 use Rattle.std.proofs.Common.{arith}
 use Rattle.std.proofs.lemmas.Bool.{leb-true}
-use Rattle.polcert_text.proofs.Classes.{from_true, small_between, capital_between}
+use Rattle.polcert_text.proofs.Scanning.Classes.{from_true, small_between, capital_between}
 use Rattle.polcert_text.proofs.bytes.is_surely_letter.Goals as goal
 
 pub returns-then-byte-le122 : goal.returns-then-byte-le122

@@ -1,5 +1,5 @@
 use Rattle.std.proofs.lemmas.Bool.{ltb-true}
-use Rattle.polcert_text.proofs.Classes.{from_true, above_hash}
+use Rattle.polcert_text.proofs.Scanning.Classes.{from_true, above_hash}
 use Rattle.polcert_text.proofs.bytes.surely_ends_gap.Goals as goal
 
 pub returns-clause-blank : goal.returns-clause-blank

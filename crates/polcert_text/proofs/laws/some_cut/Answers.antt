@@ -1,4 +1,4 @@
-use Rattle.polcert_text.proofs.SomeCut as cuts
+use Rattle.polcert_text.proofs.Scanning.SomeCut as cuts
 use Rattle.polcert_text.proofs.laws.some_cut.Goals as goal
 
 pub returns : goal.returns

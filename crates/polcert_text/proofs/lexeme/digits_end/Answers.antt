@@ -1,5 +1,5 @@
 use Rattle.std.proofs.Common.{◌<◌, length, sym, arith}
-use Rattle.polcert_text.proofs.LexemeLaws.{state_step}
+use Rattle.polcert_text.proofs.Scanning.LexemeLaws.{state_step}
 use Rattle.polcert_text.proofs.lexeme.digits_end.Goals as goal
 
 pub loop-at-preserved : goal.loop-at-preserved

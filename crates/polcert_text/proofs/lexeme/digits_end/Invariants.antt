@@ -1,5 +1,5 @@
 use Rattle.std.proofs.Common.{length, ◌-◌, ◌≡◌, ◌≤◌, take}
-use Rattle.polcert_text.specs.Scan.{state_through, GoesOnWithDigits}
+use Rattle.polcert_text.specs.Steps.Scan.{state_through, GoesOnWithDigits}
 use Rattle.polcert_text.specs.declared.lexeme.State.{State}
 use Rattle.polcert_text.specs.declared.lexeme.State.TheVariants.{Start}
 use Rattle.polcert_text.proofs.lexeme.digits_end.Given as goal

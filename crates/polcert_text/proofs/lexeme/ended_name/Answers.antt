@@ -1,7 +1,7 @@
 use Rattle.std.proofs.Common.{◌<◌, length, refl, arith}
 use Rattle.polcert_text.specs.declared.lexeme.State.TheVariants.{Name}
 use Rattle.polcert_text.specs.declared.lexeme.TokenKind.TheVariants as kinds
-use Rattle.polcert_text.proofs.Runs.{begins_name, ends_within}
+use Rattle.polcert_text.proofs.Scanning.Runs.{begins_name, ends_within}
 use Rattle.polcert_text.proofs.lexeme.ended_name.Goals as goal
 
 pub returns : goal.returns

@@ -2,7 +2,7 @@ use Rattle.std.proofs.Common.{◌<◌, length, get_or, refl, arith}
 use Rattle.polcert_text.specs.Bytes.{class_of}
 use Rattle.polcert_text.specs.declared.lexeme.State.TheVariants.{Whole, Fraction}
 use Rattle.polcert_text.specs.declared.lexeme.TokenKind.TheVariants.{Numeral}
-use Rattle.polcert_text.proofs.Runs.{begins_whole, at_point, ends_within, ends_whole, ends_fraction}
+use Rattle.polcert_text.proofs.Scanning.Runs.{begins_whole, at_point, ends_within, ends_whole, ends_fraction}
 use Rattle.polcert_text.proofs.lexeme.ended_numeral.Goals as goal
 
 pub returns-then-is_surely_blank : goal.returns-then-is_surely_blank

@@ -1,4 +1,4 @@
-use Rattle.polcert_text.proofs.Runs.{longest_seen}
+use Rattle.polcert_text.proofs.Scanning.Runs.{longest_seen}
 use Rattle.polcert_text.proofs.lexeme.gap_len.Goals as goal
 
 pub returns : goal.returns

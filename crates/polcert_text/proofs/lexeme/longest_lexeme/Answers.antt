@@ -1,4 +1,4 @@
-use Rattle.polcert_text.proofs.Runs.{ended_front}
+use Rattle.polcert_text.proofs.Scanning.Runs.{ended_front}
 use Rattle.polcert_text.proofs.lexeme.longest_lexeme.Goals as goal
 
 pub returns-in-Some : goal.returns-in-Some

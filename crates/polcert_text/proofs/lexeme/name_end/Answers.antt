@@ -1,6 +1,6 @@
 use Rattle.std.proofs.Common.{◌<◌, length, refl, sym, arith}
 use Rattle.polcert_text.specs.declared.lexeme.State.TheVariants.{Name}
-use Rattle.polcert_text.proofs.LexemeLaws.{state_step}
+use Rattle.polcert_text.proofs.Scanning.LexemeLaws.{state_step}
 use Rattle.polcert_text.proofs.lexeme.name_end.Goals as goal
 
 pub loop-at-preserved : goal.loop-at-preserved

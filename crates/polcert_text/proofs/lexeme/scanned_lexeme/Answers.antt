@@ -1,4 +1,4 @@
-use Rattle.polcert_text.proofs.LexemeEnds.{scanned}
+use Rattle.polcert_text.proofs.Scanning.LexemeEnds.{scanned}
 use Rattle.polcert_text.proofs.lexeme.scanned_lexeme.Goals as goal
 
 pub returns : goal.returns

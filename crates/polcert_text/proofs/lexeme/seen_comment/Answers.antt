@@ -1,5 +1,5 @@
 use Rattle.std.proofs.Common.{arith}
-use Rattle.polcert_text.proofs.Runs.{comment_goes_on, comment_ends}
+use Rattle.polcert_text.proofs.Scanning.Runs.{comment_goes_on, comment_ends}
 use Rattle.polcert_text.proofs.lexeme.seen_comment.Goals as goal
 
 pub returns-in-Some-clause-state : goal.returns-in-Some-clause-state

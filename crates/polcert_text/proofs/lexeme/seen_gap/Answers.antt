@@ -1,10 +1,10 @@
 use Rattle.std.proofs.Common.{◌≡◌, ◌∙◌, ◌<◌, ⊎_elim, get_or, length, take, drop, sym, ap, arith}
 use Rattle.std.proofs.lemmas.List.{length-drop, take_rest}
 use Rattle.polcert_text.specs.Bytes.{class_of}
-use Rattle.polcert_text.specs.Scan.{gap_after, gap_through}
+use Rattle.polcert_text.specs.Steps.Scan.{gap_after, gap_through}
 use Rattle.polcert_text.specs.declared.lexeme.Gap.TheVariants.{Between, Comment}
-use Rattle.polcert_text.proofs.Runs.{gap_joined, in_between}
-use Rattle.polcert_text.proofs.StreamLaws.{skipped_step}
+use Rattle.polcert_text.proofs.Scanning.Runs.{gap_joined, in_between}
+use Rattle.polcert_text.proofs.Streams.StreamLaws.{skipped_step}
 use Rattle.polcert_text.proofs.lexeme.seen_gap.Goals as goal
 
 pub loop-at-preserved-in-Comment : goal.loop-at-preserved-in-Comment

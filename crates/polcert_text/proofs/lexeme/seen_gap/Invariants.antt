@@ -1,5 +1,5 @@
 use Rattle.std.proofs.Common.{◌≡◌, ◌-◌, ◌≤◌, length, take}
-use Rattle.polcert_text.specs.Scan.{gap_through}
+use Rattle.polcert_text.specs.Steps.Scan.{gap_through}
 use Rattle.polcert_text.specs.declared.lexeme.Gap.TheVariants.{Ended}
 use Rattle.polcert_text.proofs.lexeme.seen_gap.Given as goal
 

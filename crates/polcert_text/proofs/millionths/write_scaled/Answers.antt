@@ -1,4 +1,4 @@
-use Rattle.polcert_text.proofs.PrintLaws.{scaled_denotes}
+use Rattle.polcert_text.proofs.Printing.PrintLaws.{scaled_denotes}
 use Rattle.polcert_text.proofs.millionths.write_scaled.Goals as goal
 
 pub returns-clause-exact : goal.returns-clause-exact

@@ -1,8 +1,8 @@
 use Rattle.std.proofs.Common.{◌≡◌, ◌∙◌, ◌<◌, ◌+◌, ◌*◌, ⊎_elim, length, get_or, ap, arith}
 use Rattle.polcert_text.specs.Bytes.{class_of, digit_class}
 use Rattle.polcert_text.specs.declared.bytes.ByteClass.TheVariants.{Digit}
-use Rattle.polcert_text.proofs.NumberLaws.{digit_from}
-use Rattle.polcert_text.proofs.Plain.{behind_more, below_or_at}
+use Rattle.polcert_text.proofs.Numbers.NumberLaws.{digit_from}
+use Rattle.polcert_text.proofs.Numbers.Plain.{behind_more, below_or_at}
 use Rattle.polcert_text.proofs.number.digits_behind.Goals as goal
 
 pub overflow_sub-bytes : goal.overflow_sub-bytes

@@ -1,5 +1,5 @@
 use Rattle.std.proofs.Common.{◌≡◌, take}
-use Rattle.polcert_text.specs.Scan.{state_through}
+use Rattle.polcert_text.specs.Steps.Scan.{state_through}
 use Rattle.polcert_text.specs.declared.lexeme.State.TheVariants.{Start}
 use Rattle.polcert_text.proofs.number.is_numeral.Given as goal
 

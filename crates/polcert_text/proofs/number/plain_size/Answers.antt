@@ -3,9 +3,9 @@ use Rattle.std.proofs.lemmas.List.{take_rest}
 use Rattle.std.specs.List.{list_all, list_any}
 use Rattle.std.specs.Str.Parse.{digits_value}
 use Rattle.polcert_text.specs.Bytes.{is_digit}
-use Rattle.polcert_text.specs.Scaling.{is_nonzero}
-use Rattle.polcert_text.proofs.Plain.{IsPlain, plain_measures, digits_at, at_or_behind}
-use Rattle.polcert_text.proofs.PlainWhole.{whole_is_plain}
+use Rattle.polcert_text.specs.Steps.Scaling.{is_nonzero}
+use Rattle.polcert_text.proofs.Numbers.Plain.{IsPlain, plain_measures, digits_at, at_or_behind}
+use Rattle.polcert_text.proofs.Numbers.PlainWhole.{whole_is_plain}
 use Rattle.polcert_text.proofs.number.plain_size.Goals as goal
 
 pub returns : goal.returns

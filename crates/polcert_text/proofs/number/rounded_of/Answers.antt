@@ -3,8 +3,8 @@ use Rattle.std.proofs.lemmas.Int.{to_z-of_z}
 use mir.Val.{SFits, to_z, of_z}
 use mir.Syntax.{w64}
 use Rattle.polcert_text.specs.Numbers.{signed, IsRounded}
-use Rattle.polcert_text.specs.Scaling.{rounded, is_away}
-use Rattle.polcert_text.proofs.SignedLaws.{rounded_signed}
+use Rattle.polcert_text.specs.Steps.Scaling.{rounded, is_away}
+use Rattle.polcert_text.proofs.Numbers.SignedLaws.{rounded_signed}
 use Rattle.polcert_text.proofs.number.rounded_of.Goals as goal
 
 pub returns-clause-value : goal.returns-clause-value

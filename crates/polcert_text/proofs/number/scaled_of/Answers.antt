@@ -1,6 +1,6 @@
 use Rattle.std.proofs.Common.{subst}
-use Rattle.polcert_text.specs.Scaling.{Measures}
-use Rattle.polcert_text.proofs.SignedLaws.{no_exact}
+use Rattle.polcert_text.specs.Steps.Scaling.{Measures}
+use Rattle.polcert_text.proofs.Numbers.SignedLaws.{no_exact}
 use Rattle.polcert_text.proofs.number.scaled_of.Goals as goal
 
 pub returns-then-size-clause-fault : goal.returns-then-size-clause-fault

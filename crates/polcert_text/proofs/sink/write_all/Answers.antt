@@ -1,7 +1,7 @@
 use Rattle.std.proofs.Common.{rules, arith, refl}
 use Rattle.std.proofs.lemmas.List.{take_rest, length-drop}
 use Rattle.polcert_text.specs.Sink.{nothing}
-use Rattle.polcert_text.proofs.Taking.{took_more, took_front, on_err}
+use Rattle.polcert_text.proofs.Printing.Taking.{took_more, took_front, on_err}
 use Rattle.polcert_text.proofs.sink.write_all.Goals as goal
 
 pub loop-at-init : goal.loop-at-init

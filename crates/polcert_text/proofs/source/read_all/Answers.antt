@@ -1,7 +1,7 @@
 use Rattle.std.proofs.Common.{rules, arith, refl}
 use Rattle.std.proofs.lemmas.Grind.{common_steps}
 use Rattle.polcert_text.specs.Source.{nothing}
-use Rattle.polcert_text.proofs.Giving.{gave_more}
+use Rattle.polcert_text.proofs.Streams.Giving.{gave_more}
 use Rattle.polcert_text.proofs.source.read_all.Goals as goal
 
 pub loop-piece-init : goal.loop-piece-init

@@ -1,5 +1,5 @@
 use Rattle.std.proofs.Common.{append-nil, []}
-use Rattle.polcert_text.proofs.SeenLaws.{seen_whole}
+use Rattle.polcert_text.proofs.Scanning.SeenLaws.{seen_whole}
 use Rattle.polcert_text.proofs.tokens.token_at.Goals as goal
 
 pub returns : goal.returns

@@ -1,7 +1,7 @@
 use Rattle.std.proofs.Common.{◌≡◌, ◌∙◌, ◌-◌, [], take, take_all, refl, ap, arith}
 use Rattle.std.specs.Str.Parse.{digits_value}
 use Rattle.polcert_text.specs.Bytes.{digit_class}
-use Rattle.polcert_text.proofs.FrontNumbers.{all_of_each, some_digits}
+use Rattle.polcert_text.proofs.Numbers.FrontNumbers.{all_of_each, some_digits}
 use Rattle.polcert_text.proofs.whole.short_number.Goals as goal
 
 pub returns-clause-digits : goal.returns-clause-digits

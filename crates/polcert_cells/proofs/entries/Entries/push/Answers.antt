@@ -1,5 +1,5 @@
 use Rattle.std.proofs.Common.{◌∙◌, ◌++◌, ◌∷◌, [], map, All, Result, Ok, Err, OnErr, sym, ap, subst}
-use Rattle.polcert_cells.specs.EntryLists.{entry_in, IsWithin}
+use Rattle.polcert_cells.specs.Steps.EntryLists.{entry_in, IsWithin}
 use Rattle.polcert_cells.proofs.EntryListLaws.{all_stay, list_stays, one_more_within, one_more}
 use Rattle.polcert_cells.proofs.entries.Entries.push.Goals as goal
 

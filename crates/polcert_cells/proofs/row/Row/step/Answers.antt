@@ -1,4 +1,4 @@
-use Rattle.polcert_cells.proofs.StepLaws.{step_sparse, end_sparse, end_single, found_at, none_at}
+use Rattle.polcert_cells.proofs.RowSteps.{step_sparse, end_sparse, end_single, found_at, none_at}
 use Rattle.polcert_cells.proofs.row.Row.step.Goals as goal
 
 pub returns-in-Some : goal.returns-in-Some

@@ -2,14 +2,14 @@ use Rattle.std.specs.Prelude.{slice_index_or}
 use Rattle.std.proofs.Common.{rules, arith, ◌≡◌, ℤ, pos, FitsSigned, to_z, of_z, w64, subst}
 use mir.Syntax.{w128}
 use Rattle.std.proofs.Math.Nat.{zero-add}
-use Rattle.polcert_cells.specs.Tables.{Table}
-use Rattle.polcert_check.proofs.Earning.{reward_step, reward_done}
+use Rattle.polcert_cells.specs.Tables.{CellTable}
+use Rattle.polcert_check.proofs.Walking.Earning.{reward_step, reward_done}
 use Rattle.polcert_cells.specs.LentRows.{reached}
 use Rattle.polcert_check.proofs.filled.Filled.reward_behind.Goals as goal
 
 pub overflow_add-sum : goal.overflow_add-sum
 overflow_add-sum g c =
-    let m : Table = g.C.Cells.table c.args.cells.now in
+    let m : CellTable = g.C.Cells.table c.args.cells.now in
     let z = c.in-Some.seen.column in
     let h : ℤ = slice_index_or c.fill_rewards.new.rewards z (pos 0) in
     let fx : FitsSigned w128 c.weighed-sum.result = search rules in
@@ -21,7 +21,7 @@ overflow_add-sum g c =
 
 pub loop-seen-preserved : goal.loop-seen-preserved
 loop-seen-preserved g c =
-    let m : Table = g.C.Cells.table c.args.cells.now in
+    let m : CellTable = g.C.Cells.table c.args.cells.now in
     let z = c.in-Some.seen.column in
     let h : ℤ = slice_index_or c.fill_rewards.new.rewards z (pos 0) in
     let fx : FitsSigned w128 c.weighed-sum.result = search rules in

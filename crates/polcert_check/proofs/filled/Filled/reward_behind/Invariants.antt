@@ -1,12 +1,12 @@
 use Rattle.std.proofs.Common.{◌≡◌, ◌-◌, ◌≤◌, pos, ◌*ℤ◌}
-use Rattle.polcert_check.specs.Horizon.{sum_below}
+use Rattle.polcert_check.specs.Horizon.{total_below}
 use Rattle.polcert_cells.specs.LentRows.{reached}
 use Rattle.polcert_check.proofs.filled.Filled.reward_behind.Given as goal
 
 -- the sum so far
 abbrev pub invariant-loop-seen : goal.invariant-loop-seen
 invariant-loop-seen g l = record {
-  sum : l.sum ≡ sum_below (λ z. pos ((g.C.Cells.table l.cells).o l.a l.e z) *ℤ (g.C.Cells.table l.cells).r l.a l.s l.e z) (reached l.row l.at);
+  sum : l.sum ≡ total_below (λ z. pos ((g.C.Cells.table l.cells).o l.a l.e z) *ℤ (g.C.Cells.table l.cells).r l.a l.s l.e z) (reached l.row l.at);
   within : reached l.row l.at ≤ (g.C.Cells.table l.cells).observations;
 }
 

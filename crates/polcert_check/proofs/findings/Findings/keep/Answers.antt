@@ -2,10 +2,10 @@ use Rattle.std.proofs.Common.{rules, ◌+◌, ◌∙◌, ap, subst, unsigned_abs
 use mir.Syntax.{w128}
 use Rattle.std.proofs.lemmas.Int.{to_z-of_z}
 use Rattle.polcert_check.specs.declared.verdict.Verdict.{Verdict}
-use Rattle.polcert_check.specs.Factored.{IsPairVerdict}
-use Rattle.polcert_check.specs.Findings.{IsWalked, IsEarlier}
-use Rattle.polcert_check.proofs.Found.{noted_pass, noted_failure, noted_lack, noted_short}
-use Rattle.polcert_check.proofs.Walked.{next_pair}
+use Rattle.polcert_check.specs.Steps.Factored.{IsPairVerdict}
+use Rattle.polcert_check.specs.Steps.Findings.{IsWalked, IsEarlier}
+use Rattle.polcert_check.proofs.Walking.Found.{noted_pass, noted_failure, noted_lack, noted_short}
+use Rattle.polcert_check.proofs.Walking.Walked.{next_pair}
 use Rattle.polcert_check.proofs.findings.Findings.keep.Goals as goal
 
 pub returns-in-Yes-clause-found : goal.returns-in-Yes-clause-found

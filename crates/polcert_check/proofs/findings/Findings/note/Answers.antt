@@ -1,9 +1,9 @@
 use Rattle.std.proofs.Common.{◌+◌, subst}
 use Rattle.polcert_check.specs.declared.verdict.Verdict.{Verdict}
-use Rattle.polcert_check.specs.Factored.{IsPairVerdict}
-use Rattle.polcert_check.specs.Findings.{IsWalked}
-use Rattle.polcert_check.proofs.Found.{noted_pass}
-use Rattle.polcert_check.proofs.Walked.{next_pair}
+use Rattle.polcert_check.specs.Steps.Factored.{IsPairVerdict}
+use Rattle.polcert_check.specs.Steps.Findings.{IsWalked}
+use Rattle.polcert_check.proofs.Walking.Found.{noted_pass}
+use Rattle.polcert_check.proofs.Walking.Walked.{next_pair}
 use Rattle.polcert_check.proofs.findings.Findings.note.Goals as goal
 
 pub returns-in-Yes-clause-found : goal.returns-in-Yes-clause-found

@@ -1,6 +1,6 @@
 use Rattle.std.proofs.Common.{◌≡◌, ◌≤◌}
-use Rattle.polcert_check.specs.Certificate.{controller}
-use Rattle.polcert_check.specs.Walks.{AreKnown}
+use Rattle.polcert_check.specs.Steps.Certificate.{controller}
+use Rattle.polcert_check.specs.Steps.Walks.{AreKnown}
 use Rattle.polcert_check.proofs.known.Ends.begin.Given as goal
 
 abbrev pub invariant-loop-e : goal.invariant-loop-e

@@ -1,5 +1,5 @@
-use Rattle.polcert_check.specs.Certificate.{controller}
-use Rattle.polcert_check.specs.Walks.{AreFollowed}
+use Rattle.polcert_check.specs.Steps.Certificate.{controller}
+use Rattle.polcert_check.specs.Steps.Walks.{AreFollowed}
 use Rattle.polcert_check.proofs.known.Ends.fill.Given as goal
 
 abbrev pub invariant-loop-e : goal.invariant-loop-e

@@ -1,5 +1,5 @@
 use Rattle.std.proofs.Common.{◌≡◌, ℕ, ◌<◌}
-use Rattle.polcert_check.specs.Walks.{begun, walk_at}
+use Rattle.polcert_check.specs.Steps.Walks.{begun, walk_at}
 use Rattle.polcert_check.proofs.walks.Walks.begin.Given as goal
 
 abbrev pub invariant-loop-i : goal.invariant-loop-i

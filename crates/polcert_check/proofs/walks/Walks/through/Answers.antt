@@ -1,10 +1,10 @@
 use Rattle.std.proofs.Common.{arith, ◌≡◌, ◌∙◌, ◌<◌, ◌-◌, ℕ, length, sym, ap, subst}
-use Rattle.polcert_check.specs.Certificate.{controller}
+use Rattle.polcert_check.specs.Steps.Certificate.{controller}
 use Rattle.polcert_check.specs.Horizon.{Controller}
-use Rattle.polcert_check.specs.Walks.{IsWalk, walk_at}
+use Rattle.polcert_check.specs.Steps.Walks.{IsWalk, walk_at}
 use Rattle.polcert_check.specs.declared.blocks.Block.{Block}
 use Rattle.polcert_check.specs.declared.blocks.TheConstants.{ENDS_AT_ONCE}
-use Rattle.polcert_check.proofs.Walking.{at_state, gone_on, not_gone}
+use Rattle.polcert_check.proofs.Walking.StartWalks.{at_state, gone_on, not_gone}
 use Rattle.polcert_check.proofs.walks.Walks.through.Goals as goal
 
 pub go_on-walk-requires-clause-walk : goal.go_on-walk-requires-clause-walk

@@ -1,6 +1,6 @@
 use Rattle.std.proofs.Common.{◌≡◌, ℕ, ◌+◌, ◌<◌, ◌≤◌}
-use Rattle.polcert_check.specs.Certificate.{controller}
-use Rattle.polcert_check.specs.Walks.{AreKnown, IsWalk, walk_at}
+use Rattle.polcert_check.specs.Steps.Certificate.{controller}
+use Rattle.polcert_check.specs.Steps.Walks.{AreKnown, IsWalk, walk_at}
 use Rattle.polcert_check.proofs.walks.Walks.through.Given as goal
 
 -- the walks before s have gone over the block of end states, and none of them stands before the nearest; the others stand as they did

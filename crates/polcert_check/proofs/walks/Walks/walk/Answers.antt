@@ -1,7 +1,7 @@
 use Rattle.std.proofs.Common.{arith}
-use Rattle.polcert_check.specs.Certificate.{controller}
+use Rattle.polcert_check.specs.Steps.Certificate.{controller}
 use Rattle.polcert_check.specs.Horizon.{Controller}
-use Rattle.polcert_check.proofs.Walking.{walks_low}
+use Rattle.polcert_check.proofs.Walking.StartWalks.{walks_low}
 use Rattle.polcert_check.proofs.walks.Walks.walk.Goals as goal
 
 pub returns : goal.returns

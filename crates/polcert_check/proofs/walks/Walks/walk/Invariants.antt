@@ -1,6 +1,6 @@
 use Rattle.std.proofs.Common.{◌-◌}
-use Rattle.polcert_check.specs.Certificate.{controller}
-use Rattle.polcert_check.specs.Walks.{AreWalks}
+use Rattle.polcert_check.specs.Steps.Certificate.{controller}
+use Rattle.polcert_check.specs.Steps.Walks.{AreWalks}
 use Rattle.polcert_check.proofs.walks.Walks.walk.Given as goal
 
 abbrev pub invariant-loop-first : goal.invariant-loop-first

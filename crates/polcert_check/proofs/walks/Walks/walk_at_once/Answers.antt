@@ -1,11 +1,11 @@
 use Rattle.std.proofs.Common.{rules, arith, ◌∙◌, ◌<◌, ◌-◌, length, FitsSigned, to_z, of_z, None, refl}
 use mir.Syntax.{w128}
 use Rattle.std.proofs.lemmas.Int.{to_z-of_z}
-use Rattle.polcert_check.specs.Certificate.{controller}
+use Rattle.polcert_check.specs.Steps.Certificate.{controller}
 use Rattle.polcert_check.specs.Horizon.{Controller}
-use Rattle.polcert_check.specs.Walks.{IsWalk}
+use Rattle.polcert_check.specs.Steps.Walks.{IsWalk}
 use Rattle.polcert_check.specs.declared.walks.Walk.{Walk}
-use Rattle.polcert_check.proofs.Walking.{gone_on, over_at_once}
+use Rattle.polcert_check.proofs.Walking.StartWalks.{gone_on, over_at_once}
 use Rattle.polcert_check.proofs.walks.Walks.walk_at_once.Goals as goal
 
 pub loop-s-preserved : goal.loop-s-preserved

@@ -1,6 +1,6 @@
 use Rattle.std.proofs.Common.{ℕ, ◌+◌, ◌<◌}
-use Rattle.polcert_check.specs.Certificate.{controller}
-use Rattle.polcert_check.specs.Walks.{AreFollowed, IsWalk, walk_at}
+use Rattle.polcert_check.specs.Steps.Certificate.{controller}
+use Rattle.polcert_check.specs.Steps.Walks.{AreFollowed, IsWalk, walk_at}
 use Rattle.polcert_check.proofs.walks.Walks.walk_at_once.Given as goal
 
 -- the walks before s are over

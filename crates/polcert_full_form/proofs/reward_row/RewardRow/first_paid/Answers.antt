@@ -1,8 +1,8 @@
 use Rattle.std.proofs.Common.{◌≡◌, ◌∙◌, ◌+◌, ◌-◌, ◌≤◌, length, sym, arith}
 use Rattle.polcert_tables.specs.Contents.{meaning}
-use Rattle.polcert_full_form.specs.PrintedRows.{row_width, row_rewards}
-use Rattle.polcert_full_form.proofs.PrintedParts.{all_zero}
-use Rattle.polcert_full_form.proofs.RewardBlocks.{zero_to, paid_from, size_room}
+use Rattle.polcert_full_form.specs.Steps.PrintedRows.{row_width, row_rewards}
+use Rattle.polcert_full_form.proofs.Printing.PrintedParts.{all_zero}
+use Rattle.polcert_full_form.proofs.Denoting.RewardBlocks.{zero_to, paid_from, size_room}
 use Rattle.polcert_full_form.proofs.reward_row.RewardRow.first_paid.Goals as goal
 
 pub loop-first-init : goal.loop-first-init

@@ -1,7 +1,7 @@
 use Rattle.std.proofs.Common.{ℕ, ◌≤◌, ◌+◌, length, drop, rules, subst, arith}
 use Rattle.std.proofs.lemmas.List.{take_rest}
 use Rattle.polcert_text.specs.Beginning.{BeginWithNumber}
-use Rattle.polcert_items.specs.AheadSteps.{with_probabilities}
+use Rattle.polcert_items.specs.Steps.Ahead.{with_probabilities}
 use Rattle.polcert_items.proofs.AheadLaws.{fed_none, fed_then, front_fed, number_within}
 use Rattle.polcert_items.proofs.ahead.Numbers+u32.feed_ahead.Goals as goal
 

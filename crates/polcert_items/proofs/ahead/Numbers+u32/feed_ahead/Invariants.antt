@@ -1,7 +1,7 @@
 use Rattle.std.proofs.Common.{◌≡◌, ◌≢◌, ◌-◌, ◌≤◌, None, length}
 use Rattle.polcert_cells.specs.declared.entry.Table.TheVariants.{Reward}
 use Rattle.polcert_format.specs.Text.{Known}
-use Rattle.polcert_items.specs.AheadSteps.{FedAhead, with_probabilities}
+use Rattle.polcert_items.specs.Steps.Ahead.{FedAhead, with_probabilities}
 use Rattle.polcert_items.specs.declared.entry_reader.EntryReader.{EntryReader}
 use Rattle.polcert_items.proofs.ahead.Numbers+u32.feed_ahead.Given as goal
 

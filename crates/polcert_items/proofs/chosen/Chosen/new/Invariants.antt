@@ -1,4 +1,4 @@
-use Rattle.polcert_items.specs.StartSteps.{AreUnmarked}
+use Rattle.polcert_items.specs.Steps.Start.{AreUnmarked}
 use Rattle.polcert_items.proofs.chosen.Chosen.new.Given as goal
 
 abbrev pub invariant-loop : goal.invariant-loop

@@ -1,4 +1,4 @@
-use Rattle.polcert_items.specs.StartSteps.{marked, picks}
+use Rattle.polcert_items.specs.Steps.Start.{marked, picks}
 use Rattle.polcert_items.proofs.StartShares.{shares_more}
 use Rattle.polcert_items.proofs.chosen.Chosen.shares.Goals as goal
 

@@ -1,5 +1,5 @@
 use Rattle.std.proofs.Common.{◌∙◌, sym, subst}
-use Rattle.polcert_items.specs.Covering.{IsCoveredWith}
+use Rattle.polcert_items.specs.Steps.Covering.{IsCoveredWith}
 use Rattle.polcert_items.proofs.CoveringLaws.{IsWith, observations_few, transitions_with, observations_with, rewards_with}
 use Rattle.polcert_items.proofs.covering.Covering.with.Goals as goal
 

@@ -2,7 +2,7 @@ use Rattle.std.proofs.Common.{◌≡◌, ◌≤◌, ◌∙◌, length, drop, ap,
 use Rattle.polcert_cells.specs.Entry.{cells_in}
 use Rattle.polcert_format.specs.KnownPreamble.{indices_in}
 use Rattle.polcert_format.specs.Wants.{least_written}
-use Rattle.polcert_items.specs.EntrySteps.{IsStateWithin}
+use Rattle.polcert_items.specs.Steps.Entries.{IsStateWithin}
 use Rattle.polcert_items.specs.declared.entry_reader.EntryState.TheVariants as states
 use Rattle.polcert_items.proofs.AheadLaws.{fed_none}
 use Rattle.polcert_items.proofs.AheadPlaces.{number_fed}

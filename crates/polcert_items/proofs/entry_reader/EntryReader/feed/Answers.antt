@@ -2,7 +2,7 @@ use Rattle.polcert_text.specs.Reading.{lexeme_of}
 use Rattle.polcert_format.specs.KnownPreamble.{preamble_in, indices_in}
 use Rattle.polcert_items.proofs.PatternLaws.{probabilities_in, rewards_in, probabilities_stuck, rewards_stuck, probability_reason, if_err_map, refused_map, each_refused_map, on_ok_map}
 use Rattle.std.proofs.Common.{subst}
-use Rattle.polcert_items.specs.EntrySteps.{IsStateWithin}
+use Rattle.polcert_items.specs.Steps.Entries.{IsStateWithin}
 use Rattle.polcert_items.proofs.entry_reader.EntryReader.feed.Goals as goal
 
 pub returns-in-Probabilities-clause-takes : goal.returns-in-Probabilities-clause-takes

@@ -1,7 +1,7 @@
 use Rattle.std.proofs.Common.{subst, sym}
 use Rattle.polcert_format.specs.KnownPreamble.{indices_in}
-use Rattle.polcert_items.specs.AheadSteps.{FedAhead, with_probabilities}
-use Rattle.polcert_items.specs.EntrySteps.{IsStateWithin}
+use Rattle.polcert_items.specs.Steps.Ahead.{FedAhead, with_probabilities}
+use Rattle.polcert_items.specs.Steps.Entries.{IsStateWithin}
 use Rattle.polcert_items.proofs.AheadLaws.{fed_none, if_ok_map, same_state}
 use Rattle.polcert_items.proofs.entry_reader.EntryReader.feed_ahead.Goals as goal
 

@@ -1,15 +1,14 @@
-use Rattle.polcert_format.specs.Wants.{numbers_want}
-use Rattle.polcert_items.specs.WantSteps.{Leads, state_wants}
+use Rattle.polcert_format.specs.Wants.{numbers_want, least_written}
+use Rattle.polcert_items.specs.Steps.Wants.{Leads, state_wants}
 use Rattle.std.proofs.Common.{false, ◌∙◌, ◌≤◌, drop, length, sym, ap, subst, rules, arith}
 use Rattle.polcert_text.specs.Reading.{lexeme_of}
 use Rattle.polcert_cells.specs.Entry.{cells_in}
 use Rattle.polcert_cells.specs.Preamble.{is_mdp}
-use Rattle.polcert_format.specs.Wants.{least_written}
 use Rattle.polcert_format.specs.KnownPreamble.{preamble_in, indices_in}
-use Rattle.polcert_items.specs.EntrySteps.{IfRefused, CannotBegin, IsWordBehind}
+use Rattle.polcert_items.specs.Steps.Entries.{IfRefused, CannotBegin, IsWordBehind}
 use Rattle.polcert_items.specs.declared.entry_reader.EntryState.TheVariants as states
 use Rattle.polcert_cells.proofs.Basics.{true≢false}
-use Rattle.polcert_format.proofs.GoOnLaws.{begins_no_number}
+use Rattle.polcert_format.proofs.FurtherNumbers.{begins_no_number}
 use Rattle.polcert_items.proofs.PatternLaws.{colon_takes, colon_stuck, numbers_begin, numbers_stuck, few_stuck, word_takes, nothing_takes, in_state, stuck_in_state, number_not_colon, number_not_name, if_err_map, refused_map}
 use Rattle.polcert_items.proofs.WantLaws.{numbers_lead, body_leads, number_begins}
 use Rattle.polcert_items.proofs.entry_reader.EntryReader.feed_body.Goals.{in_default-via-in-Colon+else-written-indices_of, in_default-via-in-Numeral+else-takes_numbers, in_default-via-in_default}

@@ -1,7 +1,7 @@
 use Rattle.std.proofs.Common.{subst}
 use Rattle.std.proofs.lemmas.Result.{err_from_is_err_and}
 use Rattle.polcert_cells.specs.Elements.{most_states, most_actions, most_observations}
-use Rattle.polcert_items.specs.ItemSteps.{IsItemWithin}
+use Rattle.polcert_items.specs.Steps.Items.{IsItemWithin}
 use Rattle.polcert_items.proofs.ItemReading.{start_seen, start_end_reason, start_late_end, start_ends, start_unheld, start_stuck_end}
 use Rattle.polcert_items.proofs.item.ItemReader.end.Goals as goal
 

@@ -1,5 +1,5 @@
 use Rattle.polcert_text.specs.Reading.{lexeme_of}
-use Rattle.polcert_items.specs.EntrySteps.{entry_sign}
+use Rattle.polcert_items.specs.Steps.Entries.{entry_sign}
 use Rattle.polcert_items.proofs.PatternLaws.{on_ok_map}
 use Rattle.polcert_items.proofs.ItemReading.{sign_ends}
 use Rattle.polcert_items.proofs.item.ItemReader.feed.Goals as goal

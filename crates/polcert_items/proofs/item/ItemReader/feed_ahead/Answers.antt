@@ -1,5 +1,5 @@
 use Rattle.std.proofs.Common.{refl}
-use Rattle.polcert_items.specs.AheadSteps.{entry}
+use Rattle.polcert_items.specs.Steps.Ahead.{entry}
 use Rattle.polcert_items.proofs.AheadLaws.{if_ok_map}
 use Rattle.polcert_items.proofs.item.ItemReader.feed_ahead.Goals as goal
 

@@ -1,9 +1,9 @@
 use Rattle.std.proofs.Common.{None, [], ◌∷◌, ◌++◌, subst}
 use Rattle.polcert_format.specs.FirstNumber.{states_known}
 use Rattle.polcert_text.specs.Reading.{lexeme_of}
-use Rattle.polcert_items.specs.EntrySteps.{entry_sign}
-use Rattle.polcert_items.specs.LineSteps.{discount_sign}
-use Rattle.polcert_items.specs.ItemSteps.{IsSeen}
+use Rattle.polcert_items.specs.Steps.Entries.{entry_sign}
+use Rattle.polcert_items.specs.Steps.Lines.{discount_sign}
+use Rattle.polcert_items.specs.Steps.Items.{IsSeen}
 use Rattle.polcert_items.proofs.PatternLaws.{if_err_map, refused_map, each_refused_map, on_ok_map}
 use Rattle.polcert_items.proofs.ItemReading.{sign_ends, elements_seen, states_reason, actions_reason, observations_reason, start_reason, start_takes, start_stuck, start_forms, start_formless, start_leads, start_seen, start_keeps, start_stops_in, start_late}
 use Rattle.polcert_items.proofs.item.ItemReader.feed_any.Goals as goal

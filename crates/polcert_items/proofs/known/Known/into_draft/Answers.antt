@@ -1,6 +1,6 @@
 use Rattle.std.proofs.Common.{◌≡◌, ◌∙◌, false, unwrap_or, sym, subst}
 use Rattle.polcert_cells.specs.declared.elements.Elements.TheVariants.{Count}
-use Rattle.polcert_cells.specs.Sound.{IsSound, draft_of}
+use Rattle.polcert_cells.specs.Steps.Sound.{IsSound, draft_of}
 use Rattle.polcert_items.proofs.WholeItems.{whole_sound, said_is}
 use Rattle.polcert_items.proofs.known.Known.into_draft.Goals as goal
 

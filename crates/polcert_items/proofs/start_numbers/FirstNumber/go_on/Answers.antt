@@ -3,9 +3,9 @@ use Rattle.polcert_text.specs.Reading.{lexeme_of}
 use Rattle.polcert_cells.specs.Elements.{count_of}
 use Rattle.polcert_items.specs.declared.entry_reader.Numbers.{Numbers}
 use Rattle.polcert_items.specs.declared.start_reader.StartReader.TheVariants as reader
-use Rattle.polcert_items.specs.EntrySteps.{IfRefused}
-use Rattle.polcert_items.specs.LineSteps.{CannotTake}
-use Rattle.polcert_items.specs.StartSteps.{IsOutside, StartGoes}
+use Rattle.polcert_items.specs.Steps.Entries.{IfRefused}
+use Rattle.polcert_items.specs.Steps.Lines.{CannotTake}
+use Rattle.polcert_items.specs.Steps.Start.{IsOutside, StartGoes}
 use Rattle.polcert_items.proofs.PatternLaws.{if_err_map, refused_map}
 use Rattle.polcert_items.proofs.StartNumbers.{fraction, below_outside, above_outside, outside_stuck, one_read, more_states, number_takes, number_stuck}
 use Rattle.polcert_items.proofs.start_numbers.FirstNumber.go_on.Goals.{then-self-lt0-via-then-self-lt0, then-self-lt0-via-else-self-lt0+then-self}

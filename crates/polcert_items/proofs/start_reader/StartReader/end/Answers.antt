@@ -1,13 +1,12 @@
 use Rattle.std.proofs.Common.{[], sym, subst, IfOk}
-use Rattle.polcert_items.specs.StartSteps.{StartGives, IsStartSeen, IsEndDue}
+use Rattle.polcert_items.specs.Steps.Start.{StartGives, IsStartSeen, IsEndDue, IsStartWithin}
 use Rattle.polcert_items.specs.declared.start_reader.StartReader.TheVariants as reader
 use Rattle.polcert_items.proofs.PatternLaws.{if_err_map}
 use Rattle.polcert_items.proofs.StartSeen.{end_refused}
 use Rattle.std.proofs.Common.{◌≡◌, None, IfErr}
 use Rattle.polcert_cells.specs.Elements.{count_of}
 use Rattle.polcert_format.specs.Misfits.{misfit}
-use Rattle.polcert_items.specs.WantSteps.{start_wants, IfAtEnd}
-use Rattle.polcert_items.specs.StartSteps.{IsStartWithin}
+use Rattle.polcert_items.specs.Steps.Wants.{start_wants, IfAtEnd}
 use Rattle.polcert_items.proofs.start_reader.StartReader.end.Goals as goal
 
 pub returns-in-List-clause-reason : goal.returns-in-List-clause-reason

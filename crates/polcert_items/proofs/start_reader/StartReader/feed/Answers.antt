@@ -1,16 +1,16 @@
 use Rattle.std.proofs.Common.{sym, ap, subst, rules, ◌-◌, false, None, Some}
 use Rattle.polcert_text.specs.Reading.{lexeme_of}
 use Rattle.polcert_cells.specs.Elements.{count_of}
-use Rattle.polcert_items.specs.LineSteps.{Takes, CannotTake}
-use Rattle.polcert_items.specs.EntrySteps.{IfRefused}
+use Rattle.polcert_items.specs.Steps.Lines.{Takes, CannotTake}
+use Rattle.polcert_items.specs.Steps.Entries.{IfRefused}
 use Rattle.polcert_format.specs.Reasons.{is_sign}
-use Rattle.polcert_items.specs.StartSteps.{StartGoes, IsReasonAt, IsDueNumber, IsDueValue, IsStop}
+use Rattle.polcert_items.specs.Steps.Start.{StartGoes, IsReasonAt, IsDueNumber, IsDueValue, IsStop}
 use Rattle.polcert_format.specs.Wants.{number_end}
 use Rattle.polcert_items.specs.declared.start_reader.StartReader.TheVariants as reader
 use Rattle.polcert_items.proofs.PatternLaws.{if_err_map, refused_map, each_refused_map, on_ok_map}
 use Rattle.polcert_items.proofs.StartNumbers.{sign_takes, shares_take, shares_stuck}
 use Rattle.polcert_items.proofs.StartSeen.{seen_as, form_seen, list_seen, body_seen, numeral_seen, number_seen, digits_go_on, further_seen, reason_in, number_reason, digits_reason, list_reason}
-use Rattle.polcert_items.specs.WantSteps.{Leads, start_wants}
+use Rattle.polcert_items.specs.Steps.Wants.{Leads, start_wants}
 use Rattle.polcert_items.proofs.start_reader.StartReader.feed.Goals as goal
 
 pub returns-in_err-feed-in-List-clause-reason :

@@ -1,6 +1,6 @@
 use Rattle.std.proofs.Common.{sym, subst}
 use Rattle.polcert_items.proofs.AheadLaws.{if_ok_map}
-use Rattle.polcert_model.specs.TextSteps.{IsReadAhead}
+use Rattle.polcert_model.specs.Steps.Texts.{IsReadAhead}
 use Rattle.polcert_model.proofs.ReadingAhead.{nothing_ahead, item_ahead, within_item, same_item}
 use Rattle.polcert_model.proofs.reader.TextReader.feed_ahead.Goals as goal
 

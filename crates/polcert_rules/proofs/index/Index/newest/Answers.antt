@@ -1,4 +1,4 @@
-use Rattle.polcert_rules.proofs.Covering.{last_number, last_is}
+use Rattle.polcert_rules.proofs.Keyed.Covering.{last_number, last_is}
 use Rattle.polcert_rules.proofs.index.Index.newest.Goals as goal
 
 pub returns-clause-number : goal.returns-clause-number

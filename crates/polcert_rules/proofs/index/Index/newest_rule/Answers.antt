@@ -1,8 +1,8 @@
 use Rattle.std.proofs.Common.{◌∙◌, ◌*◌, ◌^◌, List, subst, ap}
 use Rattle.polcert_rules.specs.declared.rule.Rule.{Rule}
 use Rattle.polcert_rules.specs.Keys.{key_base}
-use Rattle.polcert_rules.proofs.Newer.{IsSpan}
-use Rattle.polcert_rules.proofs.Covering.{newest_in}
+use Rattle.polcert_rules.proofs.Indexes.Newer.{IsSpan}
+use Rattle.polcert_rules.proofs.Keyed.Covering.{newest_in}
 use Rattle.polcert_rules.proofs.index.Index.newest_rule.Goals as goal
 
 pub newest-requires-clause-from : goal.newest-requires-clause-from

@@ -1,7 +1,7 @@
 use Rattle.std.proofs.Common.{◌∙◌, ◌*◌, ◌^◌, List, subst, ap}
 use Rattle.polcert_rules.specs.declared.rule.Rule.{Rule}
 use Rattle.polcert_rules.specs.Keys.{key_base}
-use Rattle.polcert_rules.proofs.Newer.{IsSpan}
+use Rattle.polcert_rules.proofs.Indexes.Newer.{IsSpan}
 use Rattle.polcert_rules.proofs.index.Index.of_table.Goals as goal
 
 pub returns-clause-kept : goal.returns-clause-kept

@@ -3,8 +3,8 @@ use Rattle.polcert_cells.specs.declared.cell.Cell.{Cell}
 use Rattle.polcert_cells.specs.Sparse.{weight_at}
 use Rattle.polcert_rules.specs.declared.kept.Source.TheVariants.{Cells}
 use Rattle.polcert_rules.specs.declared.kept.Kept.{Kept}
-use Rattle.polcert_rules.specs.Sources.{HasCells}
-use Rattle.polcert_rules.proofs.KeptLaws.{alike_row, from_cells, behind_stays, behind_kept, behind_row}
+use Rattle.polcert_rules.specs.Steps.Sources.{HasCells}
+use Rattle.polcert_rules.proofs.Indexes.KeptLaws.{alike_row, from_cells, behind_stays, behind_kept, behind_row}
 use Rattle.polcert_rules.proofs.kept.Keeper.own_row.Goals as goal
 
 pub returns-clause-stays : goal.returns-clause-stays

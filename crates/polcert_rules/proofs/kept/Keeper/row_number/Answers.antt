@@ -1,8 +1,8 @@
 use Rattle.std.proofs.Common.{◌≡◌, ◌∙◌, ◌<◌, ◌==◌, List, length, refl, sym, ap, subst, rules}
 use Rattle.polcert_rules.specs.declared.kept.Kept.{Kept}
-use Rattle.polcert_rules.specs.Sources.{HasCells}
-use Rattle.polcert_rules.proofs.KeptLaws.{cells_row, row_within, numbers_stay, weighed_row}
-use Rattle.polcert_rules.proofs.RowWeights.{finished, finished_small, shared_weights}
+use Rattle.polcert_rules.specs.Steps.Sources.{HasCells}
+use Rattle.polcert_rules.proofs.Indexes.KeptLaws.{cells_row, row_within, numbers_stay, weighed_row}
+use Rattle.polcert_rules.proofs.RowLaws.RowWeights.{finished, finished_small, shared_weights}
 use Rattle.polcert_rules.proofs.kept.Keeper.row_number.Goals as goal
 
 pub returns-then-is_empty-clause-row : goal.returns-then-is_empty-clause-row

@@ -2,8 +2,8 @@ use Rattle.std.proofs.Common.{◌*◌, ◌≤◌, List, sym, subst}
 use Rattle.polcert_cells.specs.Numbers.{one}
 use Rattle.polcert_rules.specs.declared.kept.Source.{Source}
 use Rattle.polcert_rules.specs.declared.kept.Kept.{Kept}
-use Rattle.polcert_rules.specs.Sources.{IsFrom, IsMadeOf}
-use Rattle.polcert_rules.proofs.KeptLaws.{from_row, known_row, behind_stays, behind_kept, behind_row, whole_small}
+use Rattle.polcert_rules.specs.Steps.Sources.{IsFrom, IsMadeOf}
+use Rattle.polcert_rules.proofs.Indexes.KeptLaws.{from_row, known_row, behind_stays, behind_kept, behind_row, whole_small}
 use Rattle.polcert_rules.proofs.kept.Keeper.shared_row.Goals as goal
 
 pub returns-then-is_made_of-clause-row : goal.returns-then-is_made_of-clause-row

@@ -1,7 +1,7 @@
 use Rattle.std.proofs.Common.{◌∙◌, List, Option, Some, All, refl, subst, sym}
 use Rattle.std.specs.Prelude.{IfSome}
 use Rattle.polcert_rules.specs.declared.repeats.Known.{Known}
-use Rattle.polcert_rules.specs.Repeats.{IsKnown}
+use Rattle.polcert_rules.specs.Steps.Repeats.{IsKnown}
 use Rattle.polcert_rules.proofs.repeats.Repeats.number_of.Goals as goal
 
 pub returns-then-is_of_other_state : goal.returns-then-is_of_other_state

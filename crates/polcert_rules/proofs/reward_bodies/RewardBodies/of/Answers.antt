@@ -1,11 +1,11 @@
 use Rattle.std.proofs.Common.{◌≡◌, ◌∙◌, ◌<◌, ◌-◌, List, take, length, get_or, set, ℤ, sym, subst, arith, rules, length-set}
 use Rattle.std.proofs.lemmas.List.{take_more}
 use Rattle.std.proofs.lemmas.List.Elements.{Contains-get_or}
-use Rattle.polcert_cells.specs.EntryLists.{entry_of}
+use Rattle.polcert_cells.specs.EntryRefs.{entry_of}
 use Rattle.polcert_rules.specs.declared.rule.Rule.{Rule}
 use Rattle.polcert_rules.specs.declared.reward_parts.RewardBody.{RewardBody}
-use Rattle.polcert_rules.specs.Rewards.{AreBodiesOf}
-use Rattle.polcert_rules.proofs.RewardLists.{one_more_body, all_taken, first_of_taken}
+use Rattle.polcert_rules.specs.Steps.Rewards.{AreBodiesOf}
+use Rattle.polcert_rules.proofs.RewardLaws.RewardLists.{one_more_body, all_taken, first_of_taken}
 use Rattle.polcert_rules.proofs.reward_bodies.RewardBodies.of.Goals as goal
 
 abbrev no_rule : Rule

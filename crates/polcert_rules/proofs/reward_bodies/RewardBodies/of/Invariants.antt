@@ -1,5 +1,5 @@
 use Rattle.std.proofs.Common.{◌≡◌, length, take}
-use Rattle.polcert_rules.specs.Rewards.{AreBodiesOf}
+use Rattle.polcert_rules.specs.Steps.Rewards.{AreBodiesOf}
 use Rattle.polcert_rules.proofs.reward_bodies.RewardBodies.of.Given as goal
 
 -- the rules so far have their bodies

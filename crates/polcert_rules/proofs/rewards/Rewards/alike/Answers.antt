@@ -2,9 +2,9 @@ use Rattle.std.proofs.Common.{ℕ, List, [], ◌∷◌, map, subst, rules}
 use Rattle.polcert_cells.specs.declared.entry.Table.TheVariants.{Reward}
 use Rattle.polcert_cells.specs.Elements.{count_of}
 use Rattle.polcert_cells.specs.Preamble.{dimensions}
-use Rattle.polcert_rules.specs.Rewards.{RewardRules}
-use Rattle.polcert_rules.specs.RewardSearch.{AreWithin}
-use Rattle.polcert_rules.proofs.RewardAlike.{NoneBegins, body_moved}
+use Rattle.polcert_rules.specs.RewardAt.{RewardRules}
+use Rattle.polcert_rules.specs.Steps.RewardSearch.{AreWithin}
+use Rattle.polcert_rules.proofs.RewardLaws.RewardAlike.{NoneBegins, body_moved}
 use Rattle.polcert_rules.proofs.rewards.Rewards.alike.Goals as goal
 
 pub returns : goal.returns

@@ -1,10 +1,10 @@
 use Rattle.std.proofs.Common.{◌∙◌, ℕ, None, Option, subst, sym, ap}
 use Rattle.polcert_cells.specs.declared.entry.Table.TheVariants.{Reward}
 use Rattle.polcert_rules.specs.Keys.{Fits, table_key, most_places}
-use Rattle.polcert_rules.specs.Newest.{IsNewest}
-use Rattle.polcert_rules.specs.Rewards.{RewardRules, body_at}
-use Rattle.polcert_rules.specs.RewardSearch.{IsLastBody}
-use Rattle.polcert_rules.proofs.RewardCells.{last_of_rules, last_body}
+use Rattle.polcert_rules.specs.Steps.Newest.{IsNewest}
+use Rattle.polcert_rules.specs.RewardAt.{RewardRules, body_at}
+use Rattle.polcert_rules.specs.Steps.RewardSearch.{IsLastBody}
+use Rattle.polcert_rules.proofs.RewardLaws.RewardCells.{last_of_rules, last_body}
 use Rattle.polcert_rules.proofs.rewards.Rewards.body_of.Goals as goal
 
 pub returns-in-Some : goal.returns-in-Some

@@ -2,10 +2,10 @@ use Rattle.std.proofs.Common.{◌∙◌, ◌+◌, pos, [], ◌∷◌, get_or, Fi
 use Rattle.std.proofs.lemmas.Int.{to_z-of_z}
 use Rattle.std.proofs.lemmas.Option.{same_Some}
 use Rattle.polcert_rules.specs.Keys.{key_base}
-use Rattle.polcert_rules.specs.Rewards.{RewardRules}
-use Rattle.polcert_rules.specs.RewardSearch.{IsSingle}
-use Rattle.polcert_rules.proofs.RewardAlike.{NoneBegins}
-use Rattle.polcert_rules.proofs.RewardCommon.{common_none, common_some}
+use Rattle.polcert_rules.specs.RewardAt.{RewardRules}
+use Rattle.polcert_rules.specs.Steps.RewardSearch.{IsSingle}
+use Rattle.polcert_rules.proofs.RewardLaws.RewardAlike.{NoneBegins}
+use Rattle.polcert_rules.proofs.RewardLaws.RewardCommon.{common_none, common_some}
 use Rattle.polcert_rules.proofs.rewards.Rewards.common.Goals as goal
 
 pub returns-in-None : goal.returns-in-None

@@ -6,11 +6,11 @@ use Rattle.polcert_cells.specs.Cells.{reward}
 use Rattle.polcert_cells.specs.declared.entry.Table.TheVariants.{Reward}
 use Rattle.polcert_rules.specs.declared.rule.Rule.{Rule}
 use Rattle.polcert_rules.specs.Keys.{AreIndices, Fits, table_key, most_places}
-use Rattle.polcert_rules.specs.Newest.{IsNewest}
-use Rattle.polcert_rules.specs.Rewards.{RewardRules}
-use Rattle.polcert_rules.specs.RewardSearch.{AreWithin, IsLastBody}
+use Rattle.polcert_rules.specs.Steps.Newest.{IsNewest}
+use Rattle.polcert_rules.specs.RewardAt.{RewardRules}
+use Rattle.polcert_rules.specs.Steps.RewardSearch.{AreWithin, IsLastBody}
 use Rattle.polcert_rules.specs.declared.reward_parts.RewardBody.{RewardBody}
-use Rattle.polcert_rules.proofs.NotedLaws.{noted_first}
+use Rattle.polcert_rules.proofs.Indexes.NotedLaws.{noted_first}
 use Rattle.polcert_rules.proofs.rewards.Rewards.fill_noted.Goals as goal
 use Rattle.polcert_rules.proofs.rewards.Rewards.fill_noted.Goals.{then-is_same, else-is_same}
 

@@ -1,4 +1,4 @@
-use Rattle.polcert_rules.specs.RewardSearch.{AreFilled}
+use Rattle.polcert_rules.specs.Steps.RewardSearch.{AreFilled}
 use Rattle.polcert_rules.proofs.rewards.Rewards.fill_noted.Given as goal
 
 -- the rewards so far

@@ -2,9 +2,9 @@ use Rattle.std.proofs.Common.{◌∙◌, ◌<◌, ◌+◌, pos, get_or, drop, Al
 use Rattle.std.proofs.lemmas.Int.{to_z-of_z}
 use Rattle.std.proofs.lemmas.List.Elements.{All-drop}
 use Rattle.polcert_rules.specs.Keys.{key_base, most_places}
-use Rattle.polcert_rules.specs.RewardSearch.{IsLastBody}
-use Rattle.polcert_rules.specs.Rewards.{RewardRules, cell_in}
-use Rattle.polcert_rules.proofs.RewardValues.{all_open, body_reward, no_reward, small_indices}
+use Rattle.polcert_rules.specs.Steps.RewardSearch.{IsLastBody}
+use Rattle.polcert_rules.specs.RewardAt.{RewardRules, cell_in}
+use Rattle.polcert_rules.proofs.RewardLaws.RewardValues.{all_open, body_reward, no_reward, small_indices}
 use Rattle.polcert_rules.proofs.rewards.Rewards.given.Goals as goal
 
 pub cell_in-cell-requires-clause-small : goal.cell_in-cell-requires-clause-small

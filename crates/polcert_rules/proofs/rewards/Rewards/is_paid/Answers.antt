@@ -3,9 +3,9 @@ use Rattle.polcert_cells.specs.declared.entry.Table.TheVariants.{Reward}
 use Rattle.polcert_rules.specs.declared.rule.Rule.{Rule}
 use Rattle.polcert_rules.specs.declared.reward_parts.RewardShape.{RewardShape}
 use Rattle.polcert_rules.specs.Keys.{table_key, most_places}
-use Rattle.polcert_rules.specs.Rewards.{RewardRules}
-use Rattle.polcert_rules.specs.RewardSearch.{Begins, IsAnswer}
-use Rattle.polcert_rules.proofs.RewardPaid.{unpaid, paid, paid_by_all}
+use Rattle.polcert_rules.specs.RewardAt.{RewardRules}
+use Rattle.polcert_rules.specs.Steps.RewardSearch.{Begins, IsAnswer}
+use Rattle.polcert_rules.proofs.RewardLaws.RewardPaid.{unpaid, paid, paid_by_all}
 use Rattle.polcert_rules.proofs.rewards.Rewards.is_paid.Goals as goal
 
 pub returns-in-None-clause-unpaid : goal.returns-in-None-clause-unpaid

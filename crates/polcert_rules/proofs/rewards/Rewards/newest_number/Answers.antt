@@ -2,9 +2,9 @@ use Rattle.std.proofs.Common.{List, Contains, subst, sym}
 use Rattle.polcert_rules.specs.declared.rule.Rule.{Rule}
 use Rattle.polcert_rules.specs.Keys.{Fits, table_key, most_places}
 use Rattle.polcert_cells.specs.declared.entry.Table.TheVariants.{Reward}
-use Rattle.polcert_rules.specs.Newest.{IsNewest}
-use Rattle.polcert_rules.specs.Rewards.{AreRewardsOf}
-use Rattle.polcert_rules.proofs.RewardCells.{last_of_rules}
+use Rattle.polcert_rules.specs.Steps.Newest.{IsNewest}
+use Rattle.polcert_rules.specs.Steps.Rewards.{AreRewardsOf}
+use Rattle.polcert_rules.proofs.RewardLaws.RewardCells.{last_of_rules}
 use Rattle.polcert_rules.proofs.rewards.Rewards.newest_number.Goals as goal
 
 pub newest-requires-clause-from : goal.newest-requires-clause-from

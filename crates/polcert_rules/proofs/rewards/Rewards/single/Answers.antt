@@ -1,9 +1,9 @@
 use Rattle.std.proofs.Common.{◌∙◌, ◌+◌, pos, get_or, FitsSigned, w64, subst, sym, ap, rules}
 use Rattle.std.proofs.lemmas.Int.{to_z-of_z}
 use Rattle.std.proofs.lemmas.Option.{same_Some}
-use Rattle.polcert_rules.specs.Rewards.{RewardRules}
-use Rattle.polcert_rules.specs.RewardSearch.{IsLastBody}
-use Rattle.polcert_rules.proofs.RewardValues.{single_reward, no_reward}
+use Rattle.polcert_rules.specs.RewardAt.{RewardRules}
+use Rattle.polcert_rules.specs.Steps.RewardSearch.{IsLastBody}
+use Rattle.polcert_rules.proofs.RewardLaws.RewardValues.{single_reward, no_reward}
 use Rattle.polcert_rules.proofs.rewards.Rewards.single.Goals as goal
 
 pub returns-in-None : goal.returns-in-None

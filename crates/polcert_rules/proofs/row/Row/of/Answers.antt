@@ -1,10 +1,10 @@
 use Rattle.std.proofs.Common.{◌∙◌, ◌*◌, ◌^◌, ℕ, ◌+◌, ◌<◌, List, All, subst, ap}
 use Rattle.polcert_rules.specs.declared.rule.Rule.{Rule}
-use Rattle.polcert_rules.specs.Newest.{IsNewest}
-use Rattle.polcert_rules.specs.Rows.{IsSingle, IsCell, at_column}
-use Rattle.polcert_rules.specs.Zeros.{zero_of}
+use Rattle.polcert_rules.specs.Steps.Newest.{IsNewest}
+use Rattle.polcert_rules.specs.Steps.Rows.{IsSingle, IsCell, at_column}
+use Rattle.polcert_rules.specs.Steps.Zeros.{zero_of}
 use Rattle.polcert_rules.specs.Keys.{key_base, table_key}
-use Rattle.polcert_rules.proofs.FoundRows.{row_is}
+use Rattle.polcert_rules.proofs.RowLaws.FoundRows.{row_is}
 use Rattle.polcert_rules.proofs.row.Row.of.Goals as goal
 
 pub returns : goal.returns

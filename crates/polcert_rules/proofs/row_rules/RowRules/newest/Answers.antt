@@ -1,7 +1,8 @@
 use Rattle.std.proofs.Common.{◌∙◌, ◌+◌, ◌*◌, ◌^◌, ◌∷◌, sym, ap, subst, arith}
-use Rattle.polcert_rules.specs.Newest.{IsNewest, later}
+use Rattle.polcert_rules.specs.Steps.Newest.{IsNewest}
+use Rattle.polcert_rules.specs.Matching.{later}
 use Rattle.polcert_rules.specs.Keys.{key_base, Fits}
-use Rattle.polcert_rules.proofs.Newer.{newest_of_three, newest_here}
+use Rattle.polcert_rules.proofs.Indexes.Newer.{newest_of_three, newest_here}
 use Rattle.polcert_rules.proofs.row_rules.RowRules.newest.Goals as goal
 
 pub first_at-here-requires-clause-from : goal.first_at-here-requires-clause-from

@@ -1,8 +1,8 @@
 use Rattle.std.proofs.Common.{◌+◌, ◌*◌, ◌^◌, ◌∷◌, ◌++◌, [], None, get_or, subst, arith}
 use Rattle.polcert_rules.specs.Keys.{key_base, Fits}
-use Rattle.polcert_rules.specs.Noting.{IsNoted}
-use Rattle.polcert_rules.proofs.Newer.{newest_here}
-use Rattle.polcert_rules.proofs.NotedLaws.{noted_of_three}
+use Rattle.polcert_rules.specs.Steps.Noting.{IsNoted}
+use Rattle.polcert_rules.proofs.Indexes.Newer.{newest_here}
+use Rattle.polcert_rules.proofs.Indexes.NotedLaws.{noted_of_three}
 use Rattle.polcert_rules.proofs.row_rules.RowRules.note.Goals as goal
 
 pub first_at-requires-clause-from : goal.first_at-requires-clause-from

@@ -1,7 +1,7 @@
 use Rattle.std.proofs.Common.{◌+◌, ◌*◌, ◌^◌, sym, subst, arith}
 use Rattle.polcert_rules.specs.Keys.{key_base}
-use Rattle.polcert_rules.proofs.Newer.{IsSpan, newest_here}
-use Rattle.polcert_rules.proofs.NotedLaws.{noted_deeper}
+use Rattle.polcert_rules.proofs.Indexes.Newer.{IsSpan, newest_here}
+use Rattle.polcert_rules.proofs.Indexes.NotedLaws.{noted_deeper}
 use Rattle.polcert_rules.proofs.row_rules.RowRules.note_behind.Goals as goal
 
 pub first_at-requires-clause-from : goal.first_at-requires-clause-from

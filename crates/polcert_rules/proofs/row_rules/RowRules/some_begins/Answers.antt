@@ -1,6 +1,6 @@
 use Rattle.std.proofs.Common.{◌+◌, ◌*◌, ◌∷◌, subst}
-use Rattle.polcert_rules.specs.RewardSearch.{Begins, IsAnswer}
-use Rattle.polcert_rules.proofs.RewardKeys.{begins_first_of_all, begins_second_of_all}
+use Rattle.polcert_rules.specs.Steps.RewardSearch.{Begins, IsAnswer}
+use Rattle.polcert_rules.proofs.RewardLaws.RewardKeys.{begins_first_of_all, begins_second_of_all}
 use Rattle.polcert_rules.proofs.row_rules.RowRules.some_begins.Goals as goal
 
 pub returns-then-some_begins_behind : goal.returns-then-some_begins_behind

@@ -1,6 +1,6 @@
 use Rattle.std.proofs.Common.{◌+◌, ◌*◌, sym, subst}
-use Rattle.polcert_rules.proofs.Newer.{IsSpan, is_deeper}
-use Rattle.polcert_rules.proofs.RewardKeys.{begins_first, begins_second}
+use Rattle.polcert_rules.proofs.Indexes.Newer.{IsSpan, is_deeper}
+use Rattle.polcert_rules.proofs.RewardLaws.RewardKeys.{begins_first, begins_second}
 use Rattle.polcert_rules.proofs.row_rules.RowRules.some_begins_behind.Goals as goal
 
 pub returns-then-some_begins : goal.returns-then-some_begins

@@ -2,8 +2,8 @@ use Rattle.std.proofs.Common.{◌≡◌, ◌∙◌, Some, None, List, ap, sym}
 use Rattle.std.specs.List.{slice_get}
 use Rattle.polcert_cells.specs.declared.cell.Cell.{Cell}
 use Rattle.polcert_cells.specs.Sparse.{weight_at}
-use Rattle.polcert_rules.specs.Merging.{from}
-use Rattle.polcert_rules.proofs.FromLaws.{at_here, at_there, at_none}
+use Rattle.polcert_rules.specs.Steps.Merging.{from}
+use Rattle.polcert_rules.proofs.RowLaws.FromLaws.{at_here, at_there, at_none}
 use Rattle.polcert_rules.proofs.rows.Rows.at.Goals as goal
 
 pub returns-then-cell-column : goal.returns-then-cell-column

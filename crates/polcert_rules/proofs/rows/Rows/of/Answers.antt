@@ -1,14 +1,14 @@
 use Rattle.std.proofs.Common.{◌≡◌, ◌∙◌, ℕ, ◌+◌, ◌-◌, ◌*◌, ◌<◌, List, All, length, get_or, slice_index, refl, ap, sym, subst, arith, rules}
 use Rattle.std.proofs.lemmas.List.{get_or_default}
 use Rattle.polcert_rules.specs.Keys.{key_base}
-use Rattle.polcert_rules.specs.Merging.{weight_in}
-use Rattle.polcert_rules.specs.Sources.{IsKeptRow}
-use Rattle.polcert_rules.proofs.BodyLaws.{line_within}
+use Rattle.polcert_rules.specs.Steps.Merging.{weight_in}
+use Rattle.polcert_rules.specs.Steps.Sources.{IsKeptRow}
+use Rattle.polcert_rules.proofs.RowLaws.BodyLaws.{line_within}
 use Rattle.polcert_cells.proofs.SparseLaws.{row_same}
-use Rattle.polcert_rules.proofs.SplitLaws.{split_is, numbers_within}
-use Rattle.polcert_rules.proofs.SoundRows.{sound_within, row_numbers, weight_is}
-use Rattle.polcert_rules.proofs.BuiltLaws.{built_same, built_more, built_row}
-use Rattle.polcert_rules.proofs.RepeatRows.{whole_within, whole_of, weights_to, known_stays, repeat_row, has_before, before_row}
+use Rattle.polcert_rules.proofs.RowLaws.SplitLaws.{split_is, numbers_within}
+use Rattle.polcert_rules.proofs.RowLaws.SoundRows.{sound_within, row_numbers, weight_is}
+use Rattle.polcert_rules.proofs.Indexes.BuiltLaws.{built_same, built_more, built_row}
+use Rattle.polcert_rules.proofs.RowLaws.RepeatRows.{whole_within, whole_of, weights_to, known_stays, repeat_row, has_before, before_row}
 use Rattle.polcert_rules.proofs.rows.Rows.of.Goals as goal
 
 pub loop-state-init : goal.loop-state-init

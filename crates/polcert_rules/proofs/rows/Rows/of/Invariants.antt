@@ -1,6 +1,6 @@
 use Rattle.std.proofs.Common.{◌+◌, ◌*◌}
-use Rattle.polcert_rules.specs.Sources.{AreBuilt}
-use Rattle.polcert_rules.specs.Repeats.{AreKnown}
+use Rattle.polcert_rules.specs.Steps.Sources.{AreBuilt}
+use Rattle.polcert_rules.specs.Steps.Repeats.{AreKnown}
 use Rattle.polcert_rules.proofs.rows.Rows.of.Given as goal
 
 abbrev pub invariant-loop-action : goal.invariant-loop-action

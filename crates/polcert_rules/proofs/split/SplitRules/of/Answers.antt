@@ -1,5 +1,5 @@
 use Rattle.std.proofs.Common.{◌≡◌, ◌∙◌, ◌==◌, length, sym, ap, rules}
-use Rattle.polcert_rules.proofs.SplitLaws.{no_zeros}
+use Rattle.polcert_rules.proofs.RowLaws.SplitLaws.{no_zeros}
 use Rattle.polcert_rules.proofs.split.SplitRules.of.Goals as goal
 
 pub returns-then-is_empty-clause-others : goal.returns-then-is_empty-clause-others

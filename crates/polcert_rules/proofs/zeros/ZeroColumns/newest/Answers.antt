@@ -1,4 +1,4 @@
-use Rattle.polcert_rules.proofs.ZeroLaws.{found_at}
+use Rattle.polcert_rules.proofs.RowLaws.ZeroLaws.{found_at}
 use Rattle.polcert_rules.proofs.zeros.ZeroColumns.newest.Goals as goal
 
 pub first_at-requires-clause-from : goal.first_at-requires-clause-from

@@ -3,8 +3,8 @@ use Rattle.polcert_cells.specs.Cells.{reward}
 use Rattle.polcert_cells.specs.declared.elements.Elements.{Elements}
 use Rattle.polcert_cells.specs.Preamble.{Preamble}
 use Rattle.polcert_cells.specs.declared.entry.Entry.{Entry}
-use Rattle.polcert_rules.specs.Rewards.{AreRewardsOf}
-use Rattle.polcert_tables.specs.DraftView.{IsDraft}
+use Rattle.polcert_rules.specs.Steps.Rewards.{AreRewardsOf}
+use Rattle.polcert_tables.specs.Steps.DraftView.{IsDraft}
 use Rattle.polcert_tables.specs.Kept.{Kept}
 use Rattle.polcert_tables.proofs.KeptLaws.{draft_index, draft_reward, observed_index}
 use Rattle.polcert_tables.proofs.draft.Draft.fill_rewards.Goals as goal

@@ -1,5 +1,5 @@
 use Rattle.std.proofs.Common.{◌∙◌, subst, sym, ap}
-use Rattle.polcert_tables.specs.DraftView.{IsDraft}
+use Rattle.polcert_tables.specs.Steps.DraftView.{IsDraft}
 use Rattle.polcert_tables.specs.Kept.{Kept}
 use Rattle.polcert_tables.proofs.KeptLaws.{end_sum}
 use Rattle.polcert_tables.proofs.draft.Draft.o_sum.Goals as goal

@@ -1,7 +1,7 @@
 use Rattle.std.proofs.Common.{◌∙◌, refl, sym}
-use Rattle.polcert_cells.specs.Drafts.{Draft}
-use Rattle.polcert_tables.specs.DraftView.{draft_with}
-use Rattle.polcert_rules.proofs.SoundRows.{sound_keyed}
+use Rattle.polcert_cells.specs.Steps.Drafts.{Draft}
+use Rattle.polcert_tables.specs.Steps.DraftView.{draft_with}
+use Rattle.polcert_rules.proofs.RowLaws.SoundRows.{sound_keyed}
 use Rattle.polcert_cells.specs.declared.elements.Elements.TheVariants.{Count}
 use Rattle.polcert_format.proofs.OrderLaws.{count_of_line}
 use Rattle.polcert_tables.proofs.DraftLaws.{are_sound, is_kept, is_draft}

@@ -1,7 +1,7 @@
 use Rattle.std.proofs.Common.{◌≡◌, ◌∙◌, ◌*◌, sym, ap}
 use Rattle.polcert_cells.specs.Elements.{count_of}
 use Rattle.polcert_cells.specs.Meaning.{states_of, start_total}
-use Rattle.polcert_tables.specs.DraftView.{kept_of}
+use Rattle.polcert_tables.specs.Steps.DraftView.{kept_of}
 use Rattle.polcert_tables.specs.Kept.{Kept, meaning}
 use Rattle.polcert_cells.proofs.SoundLaws.{alike_total}
 use Rattle.polcert_tables.proofs.draft.Draft.start_total.Goals as goal

@@ -1,5 +1,5 @@
 use Rattle.std.proofs.Common.{refl}
-use Rattle.polcert_text.proofs.Buffering.{holds, holds_alone}
+use Rattle.polcert_text.proofs.Printing.Buffering.{holds, holds_alone}
 use Rattle.polcert_text.proofs.buffered.BufferedSinkSink.write.Goals as goal
 use Rattle.polcert_text.proofs.buffered.BufferedSinkSink.write.Goals.{then-as_bytes-eq-BUFFER_SIZE+in_ok-flush, else-as_bytes-eq-BUFFER_SIZE}
 

@@ -1,8 +1,8 @@
 use Rattle.std.proofs.Common.{◌∙◌, take, sym, refl, subst}
-use Rattle.polcert_text.specs.ScanOf.{IsScanOf}
+use Rattle.polcert_text.specs.Steps.ScanOf.{IsScanOf}
 use Rattle.polcert_text.specs.declared.lexeme.TokenKind.TheVariants as kinds
 use Rattle.polcert_text.specs.declared.lexeme.State.TheVariants.{Name, Whole, Fraction}
-use Rattle.polcert_text.proofs.Runs.{scan_whole}
+use Rattle.polcert_text.proofs.Scanning.Runs.{scan_whole}
 use Rattle.polcert_text.proofs.lexeme.LexemeScan.along.Goals as goal
 
 pub returns-in-Name-clause-fed : goal.returns-in-Name-clause-fed

@@ -1,8 +1,8 @@
 use Rattle.std.proofs.Common.{◌∙◌, ◌+◌, ◌++◌, ◌∷◌, [], length-append, sym, ap, arith}
-use Rattle.polcert_text.specs.Scan.{kind_at}
-use Rattle.polcert_text.specs.ScanOf.{front_len}
-use Rattle.polcert_text.proofs.LexemeEnds.{behind_some, behind_none}
-use Rattle.polcert_text.proofs.LexemeLaws.{state_fed, front_takes, front_keeps, kind_of-through}
+use Rattle.polcert_text.specs.Steps.Scan.{kind_at}
+use Rattle.polcert_text.specs.Steps.ScanOf.{front_len}
+use Rattle.polcert_text.proofs.Scanning.LexemeEnds.{behind_some, behind_none}
+use Rattle.polcert_text.proofs.Scanning.LexemeLaws.{state_fed, front_takes, front_keeps, kind_of-through}
 use Rattle.polcert_text.proofs.lexeme.LexemeScan.fed.Goals as goal
 
 pub returns-in-Some-clause-scan : goal.returns-in-Some-clause-scan

@@ -1,7 +1,7 @@
 use Rattle.std.proofs.Common.{◌≡◌, ◌∙◌, ◌+◌, ◌-◌, ◌/◌, ◌%◌, ◌^◌, ◌++◌, ◌∷◌, [], length, length-append, sym, ap, arith, append-nil}
 use Rattle.std.proofs.Math.Nat.{mod-lt}
 use Rattle.polcert_text.specs.Millionths.{decimals}
-use Rattle.polcert_text.proofs.DecimalLaws.{ten_pos, decimals-zero, some_places, decimals-step, digit_below, one_digit}
+use Rattle.polcert_text.proofs.Numbers.DecimalLaws.{ten_pos, decimals-zero, some_places, decimals-step, digit_below, one_digit}
 use Rattle.polcert_text.proofs.millionths.ScaledText.push_decimals.Goals as goal
 
 pub nonzero_div-rest : goal.nonzero_div-rest

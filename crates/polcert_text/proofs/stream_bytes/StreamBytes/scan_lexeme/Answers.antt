@@ -1,5 +1,5 @@
 use Rattle.std.proofs.Common.{arith}
-use Rattle.polcert_text.proofs.StreamLexemes.{lexeme_ended}
+use Rattle.polcert_text.proofs.Streams.StreamLexemes.{lexeme_ended}
 use Rattle.polcert_text.proofs.stream_bytes.StreamBytes.scan_lexeme.Goals as goal
 
 pub returns-in-Some : goal.returns-in-Some

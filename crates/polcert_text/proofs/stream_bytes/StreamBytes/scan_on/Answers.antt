@@ -1,6 +1,6 @@
 use Rattle.std.proofs.Common.{◌∙◌, length, ap, arith}
-use Rattle.polcert_text.proofs.StreamLaws.{reads_fail, not_whole_before}
-use Rattle.polcert_text.proofs.StreamLexemes.{lexeme_begins, lexeme_goes_on, lexeme_ends, lexeme_at_end}
+use Rattle.polcert_text.proofs.Streams.StreamLaws.{reads_fail, not_whole_before}
+use Rattle.polcert_text.proofs.Streams.StreamLexemes.{lexeme_begins, lexeme_goes_on, lexeme_ends, lexeme_at_end}
 use Rattle.polcert_text.proofs.stream_bytes.StreamBytes.scan_on.Goals as goal
 
 pub loop-self-init : goal.loop-self-init

@@ -1,5 +1,5 @@
 use Rattle.std.proofs.Common.{◌-◌, ◌+◌, length}
-use Rattle.polcert_text.proofs.StreamLexemes.{InLexeme}
+use Rattle.polcert_text.proofs.Streams.StreamLexemes.{InLexeme}
 use Rattle.polcert_text.proofs.stream_bytes.StreamBytes.scan_on.Given as goal
 
 abbrev pub invariant-loop-self : goal.invariant-loop-self

@@ -1,5 +1,5 @@
 use Rattle.std.proofs.Common.{sym}
-use Rattle.polcert_text.proofs.StreamGaps.{gap_begins, gap_goes_on, gap_ends, gap_at_end, found_some, found_none}
+use Rattle.polcert_text.proofs.Streams.StreamGaps.{gap_begins, gap_goes_on, gap_ends, gap_at_end, found_some, found_none}
 use Rattle.polcert_text.proofs.stream_bytes.StreamBytes.skip_gap.Goals as goal
 
 pub loop-gap-init : goal.loop-gap-init

@@ -1,5 +1,5 @@
 use Rattle.std.proofs.Common.{◌-◌, ◌+◌, length}
-use Rattle.polcert_text.proofs.StreamGaps.{InGap}
+use Rattle.polcert_text.proofs.Streams.StreamGaps.{InGap}
 use Rattle.polcert_text.proofs.stream_bytes.StreamBytes.skip_gap.Given as goal
 
 abbrev pub invariant-loop-gap : goal.invariant-loop-gap

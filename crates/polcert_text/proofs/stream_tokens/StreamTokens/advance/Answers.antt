@@ -1,6 +1,6 @@
 use Rattle.std.proofs.Common.{◌∙◌, ap, sym, subst}
-use Rattle.polcert_text.specs.Streaming.{StopsRightly}
-use Rattle.polcert_text.proofs.StreamStops.{stopped_answers}
+use Rattle.polcert_text.specs.Steps.Streaming.{StopsRightly}
+use Rattle.polcert_text.proofs.Streams.StreamStops.{stopped_answers}
 use Rattle.polcert_text.proofs.stream_tokens.StreamTokens.advance.Goals as goal
 
 pub returns-in-Some : goal.returns-in-Some

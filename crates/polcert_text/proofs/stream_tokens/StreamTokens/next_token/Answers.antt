@@ -1,7 +1,7 @@
 use Rattle.std.proofs.Common.{refl}
 use Rattle.polcert_text.specs.Reading.{lexeme_of}
-use Rattle.polcert_text.specs.Streaming.{lent_lexeme}
-use Rattle.polcert_text.proofs.StreamStops.{end_as, fault_as}
+use Rattle.polcert_text.specs.Steps.Streaming.{lent_lexeme}
+use Rattle.polcert_text.proofs.Streams.StreamStops.{end_as, fault_as}
 use Rattle.polcert_text.proofs.stream_tokens.StreamTokens.next_token.Goals as goal
 
 pub returns-in-Ok-None : goal.returns-in-Ok-None

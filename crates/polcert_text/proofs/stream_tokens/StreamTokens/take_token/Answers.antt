@@ -1,9 +1,10 @@
 use Rattle.std.proofs.Common.{◌≡◌, ◌∙◌, ◌++◌, ℕ, List, length, Some, None, ap, sym, subst, refl}
 use Rattle.polcert_text.specs.Cut.{IsFaultAt}
 use Rattle.polcert_text.specs.Reading.{IsReadAt, lexeme_of}
-use Rattle.polcert_text.specs.Streaming.{visible, skip, IsSeen, StopsRightly}
-use Rattle.polcert_text.proofs.StreamLaws.{tail_of}
-use Rattle.polcert_text.proofs.StreamTakes.{gives_end, few_bytes, token_given, fault_given, seen_more, fails_behind, ended_as, given_as}
+use Rattle.polcert_text.specs.Steps.Streaming.{IsSeen, StopsRightly}
+use Rattle.polcert_text.specs.Stream.{visible, skip}
+use Rattle.polcert_text.proofs.Streams.StreamLaws.{tail_of}
+use Rattle.polcert_text.proofs.Streams.StreamTakes.{gives_end, few_bytes, token_given, fault_given, seen_more, fails_behind, ended_as, given_as}
 use Rattle.polcert_text.proofs.stream_tokens.StreamTokens.take_token.Goals as goal
 use Rattle.polcert_text.proofs.stream_tokens.StreamTokens.take_token.Goals.{in-None, in-Some}
 

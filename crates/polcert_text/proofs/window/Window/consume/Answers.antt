@@ -1,6 +1,6 @@
 use Rattle.std.proofs.Common.{◌∙◌, ◌+◌, ◌-◌, ◌≤◌, length, drop, ap, arith}
 use Rattle.std.proofs.lemmas.List.{length-take}
-use Rattle.polcert_text.proofs.WindowLaws.{used_consumed}
+use Rattle.polcert_text.proofs.Streams.WindowLaws.{used_consumed}
 use Rattle.polcert_text.proofs.window.Window.consume.Goals as goal
 
 pub returns : goal.returns

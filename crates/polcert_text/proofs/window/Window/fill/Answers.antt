@@ -1,6 +1,6 @@
 use Rattle.std.proofs.Common.{◌≡◌, ◌∙◌, ◌++◌, ◌-◌, length, take, drop, ap, sym, arith}
 use Rattle.std.proofs.lemmas.List.{length-take-le, length-drop, take_at}
-use Rattle.polcert_text.proofs.WindowLaws.{front_filled}
+use Rattle.polcert_text.proofs.Streams.WindowLaws.{front_filled}
 use Rattle.polcert_text.proofs.window.Window.fill.Goals as goal
 
 pub returns-in-Ok-clause-ok : goal.returns-in-Ok-clause-ok

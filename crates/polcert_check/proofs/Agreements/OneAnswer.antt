@@ -1,0 +1,204 @@
+-- A check has one verdict, lowering one outcome, and a start one best node with one worth.
+use Rattle.std.proofs.Common.{◌≡◌, ◌∙◌, ℕ, ◌<◌, ℤ, pos, ◌≤ℤ◌, ◌<ℤ◌, ◌+ℤ◌, ◌*ℤ◌, ◌⊎◌, inl, inr, Some, None, sym, refl, ap, subst, arith, Bool, true, false, not, T}
+use lib.Signed.{lt_z, lt_z_no}
+use Rattle.std.proofs.lemmas.Bool.{cases_order}
+use Rattle.polcert_cells.specs.Meaning.{Meaning, start_total}
+use Rattle.polcert_policy.specs.Vectors.{PolicyVectors}
+use Rattle.polcert_check.specs.declared.fault.LowerFault.{LowerFault}
+use Rattle.polcert_check.specs.declared.fault.LowerFault.TheVariants as faults
+use Rattle.polcert_check.specs.declared.verdict.Verdict.{Verdict}
+use Rattle.polcert_check.specs.declared.verdict.Verdict.TheVariants.{Yes, Short, NoSuccessor}
+use Rattle.polcert_check.specs.Horizon.{Controller}
+use Rattle.polcert_check.specs.Shortfall.{short, PairPasses}
+use Rattle.polcert_check.specs.Verdict.{IsBefore, IsVerdict, IsLeastLacking}
+use Rattle.polcert_check.specs.Lower.{IsLeast, CanLower, IsFirstLack, IsFirstShort, IsNotMended, IsNotLowered, IsLeastConstant}
+use Rattle.polcert_check.specs.Steps.Mirrored.{IsLeastMove}
+use Rattle.polcert_check.specs.StartWorth.{start_sum, IsFirstGreatest, IsFloorQuotient, IsBestStart, IsStartWorth}
+use Rattle.polcert_check.proofs.Sums.Ring.{linear, mul_le}
+
+-- ---- the first pair
+
+abbrev Order : ℕ → ℕ → ℕ → ℕ → Type 0
+Order n s m t = IsBefore n s m t ⊎ (IsBefore m t n s ⊎ ((n ≡ m) × (s ≡ t)))
+
+order_in : (n s m t : ℕ) → n ≡ m → (s ≡ t) ⊎ ((s < t) ⊎ (t < s)) → Order n s m t
+order_in n s m t e (inl f) = inr (inr (e, f))
+order_in n s m t e (inr (inl l)) = inl (inr (e, l))
+order_in n s m t e (inr (inr l)) = inr (inl (inr (sym e, l)))
+
+order_of : (n s m t : ℕ) → (n ≡ m) ⊎ ((n < m) ⊎ (m < n)) → Order n s m t
+order_of n s m t (inl e) = order_in n s m t e (cases_order s t)
+order_of n s m t (inr (inl l)) = inl (inl l)
+order_of n s m t (inr (inr l)) = inr (inl (inl l))
+
+-- pairs that fail, before which none in range does
+record IsFirstFailing (Good : ℕ → ℕ → Type 0) (nodes states n s : ℕ) : Type 0 where
+  node : n < nodes
+  state : s < states
+  fails : Good n s → ⊥
+  before : (m t : ℕ) → m < nodes → t < states → IsBefore m t n s → Good m t
+
+first_in_order : (Good : ℕ → ℕ → Type 0) (nodes states n s m t : ℕ) → IsFirstFailing Good nodes states n s → IsFirstFailing Good nodes states m t → Order n s m t → (n ≡ m) × (s ≡ t)
+first_in_order Good nodes states n s m t h g (inl l) = absurd (h.fails (g.before n s h.node h.state l))
+first_in_order Good nodes states n s m t h g (inr (inl l)) = absurd (g.fails (h.before m t g.node g.state l))
+first_in_order Good nodes states n s m t h g (inr (inr e)) = e
+
+one_first : (Good : ℕ → ℕ → Type 0) (nodes states n s m t : ℕ) → IsFirstFailing Good nodes states n s → IsFirstFailing Good nodes states m t → (n ≡ m) × (s ≡ t)
+one_first Good nodes states n s m t h g = first_in_order Good nodes states n s m t h g (order_of n s m t (cases_order n m))
+
+-- ---- why a pair fails
+
+some_not_none : (c : Controller) (n s z : ℕ) → IsLeastLacking c n s (Some z) → IsLeastLacking c n s None → ⊥
+some_not_none c n s z lacks none = none z lacks.0 lacks.1
+
+least_in_order : (c : Controller) (n s z y : ℕ) → IsLeastLacking c n s (Some z) → IsLeastLacking c n s (Some y) → (z ≡ y) ⊎ ((z < y) ⊎ (y < z)) → z ≡ y
+least_in_order c n s z y h g (inl e) = e
+least_in_order c n s z y h g (inr (inl l)) = absurd (g.2 z l h.1)
+least_in_order c n s z y h g (inr (inr l)) = absurd (h.2 y l g.1)
+
+one_least_lacking : (c : Controller) (n s m t z y : ℕ) → n ≡ m → s ≡ t → IsLeastLacking c n s (Some z) → IsLeastLacking c m t (Some y) → z ≡ y
+one_least_lacking c n s m t z y e f h g =
+    let at_node : IsLeastLacking c m s (Some z) = subst (λ (k : ℕ). IsLeastLacking c k s (Some z)) e h in
+    let here : IsLeastLacking c m t (Some z) = subst (λ (k : ℕ). IsLeastLacking c m k (Some z)) f at_node in
+    least_in_order c m t z y here g (cases_order z y)
+
+one_amount : (c : Controller) (n s m t : ℕ) (a b : ℤ) → n ≡ m → s ≡ t → a ≡ short c n s → b ≡ short c m t → a ≡ b
+one_amount c n s m t a b e f h g = h ∙ ap (λ (k : ℕ). short c k s) e ∙ ap (λ (k : ℕ). short c m k) f ∙ sym g
+
+not_above : (x : ℤ) → x ≤ℤ pos 0 → pos 0 <ℤ x → ⊥
+not_above x l h = omega (arith, linear)
+
+short_above : (c : Controller) (n s : ℕ) (a : ℤ) → a ≡ short c n s → pos 0 <ℤ a → short c n s ≤ℤ pos 0 → ⊥
+short_above c n s a is above l = not_above (short c n s) l (subst (λ (x : ℤ). pos 0 <ℤ x) is above)
+
+-- ---- one verdict
+
+short_first : (c : Controller) (n s : ℕ) (a : ℤ) → IsVerdict c (Short n s a) → IsFirstFailing (PairPasses c) c.nodes c.cells.states n s
+short_first c n s a h = record { node = h.0; state = h.1; fails = λ p. short_above c n s a h.4 h.5 p.not_short; before = h.2 }
+
+lack_first : (c : Controller) (n s z : ℕ) → IsVerdict c (NoSuccessor n s z) → IsFirstFailing (PairPasses c) c.nodes c.cells.states n s
+lack_first c n s z h = record { node = h.0; state = h.1; fails = λ p. p.lacks_none z h.3.0 h.3.1; before = h.2 }
+
+not_both : (c : Controller) (n s m t z : ℕ) (a : ℤ) → IsVerdict c (Short n s a) → IsVerdict c (NoSuccessor m t z) → ⊥
+not_both c n s m t z a h g =
+    let same = one_first (PairPasses c) c.nodes c.cells.states n s m t (short_first c n s a h) (lack_first c m t z g) in
+    let at_node : IsLeastLacking c m s None = subst (λ (k : ℕ). IsLeastLacking c k s None) same.0 h.3 in
+    some_not_none c m t z g.3 (subst (λ (k : ℕ). IsLeastLacking c m k None) same.1 at_node)
+
+pub one_verdict : (c : Controller) (x y : Verdict) → IsVerdict c x → IsVerdict c y → x ≡ y
+one_verdict c Yes Yes h g = refl
+one_verdict c Yes (Short n s a) h g = absurd ((short_first c n s a g).fails (h n s g.0 g.1))
+one_verdict c Yes (NoSuccessor n s z) h g = absurd ((lack_first c n s z g).fails (h n s g.0 g.1))
+one_verdict c (Short n s a) Yes h g = absurd ((short_first c n s a h).fails (g n s h.0 h.1))
+one_verdict c (NoSuccessor n s z) Yes h g = absurd ((lack_first c n s z h).fails (g n s h.0 h.1))
+one_verdict c (Short n s a) (NoSuccessor m t z) h g = absurd (not_both c n s m t z a h g)
+one_verdict c (NoSuccessor m t z) (Short n s a) h g = absurd (not_both c n s m t z a g h)
+one_verdict c (Short n s a) (Short m t b) h g =
+    let same = one_first (PairPasses c) c.nodes c.cells.states n s m t (short_first c n s a h) (short_first c m t b g) in
+    let amount : a ≡ b = one_amount c n s m t a b same.0 same.1 h.4 g.4 in
+    rw (same.0, same.1, amount) refl
+one_verdict c (NoSuccessor n s z) (NoSuccessor m t y) h g =
+    let same = one_first (PairPasses c) c.nodes c.cells.states n s m t (lack_first c n s z h) (lack_first c m t y g) in
+    let observation : z ≡ y = one_least_lacking c n s m t z y same.0 same.1 h.3 g.3 in
+    rw (same.0, same.1, observation) refl
+
+-- ---- one outcome of lowering
+
+least_of : (c : Controller) (a b : ℕ) → IsLeast c a → IsLeast c b → (a ≡ b) ⊎ ((a < b) ⊎ (b < a)) → a ≡ b
+least_of c a b h g (inl e) = e
+least_of c a b h g (inr (inl l)) = absurd (g.1 a l h.0)
+least_of c a b h g (inr (inr l)) = absurd (h.1 b l g.0)
+
+one_least : (c : Controller) (a b : ℕ) → IsLeast c a → IsLeast c b → a ≡ b
+one_least c a b h g = least_of c a b h g (cases_order a b)
+
+-- `Can` says by which constants all values stay in range
+pub one_move : (c : Controller) (Can : ℕ → Type 0) (x y : ℤ) → IsLeastMove c Can x → IsLeastMove c Can y → x ≡ y
+one_move c Can x y h g = h.1 ∙ ap pos (one_least c h.0 g.0 h.2 g.2) ∙ sym g.1
+
+first_lack : (c : Controller) (n s z : ℕ) → IsFirstLack c n s z → IsFirstFailing (λ m t. IsLeastLacking c m t None) c.nodes c.cells.states n s
+first_lack c n s z h = record { node = h.0; state = h.1; fails = some_not_none c n s z h.2; before = h.3 }
+
+first_short : (c : Controller) (n s : ℕ) (a : ℤ) → IsFirstShort c n s a → IsFirstFailing (λ m t. short c m t ≤ℤ pos 0) c.nodes c.cells.states n s
+first_short c n s a h = record { node = h.0; state = h.1; fails = short_above c n s a h.2 h.3; before = h.4 }
+
+lack_and_none : (c : Controller) (n s z : ℕ) → IsFirstLack c n s z → ((m t : ℕ) → m < c.nodes → t < c.cells.states → IsLeastLacking c m t None) → ⊥
+lack_and_none c n s z h none = some_not_none c n s z h.2 (none n s h.0 h.1)
+
+pub one_fault : (c : Controller) (Can : ℕ → Type 0) (f g : LowerFault) → IsNotMended c Can f → IsNotMended c Can g → f ≡ g
+one_fault c Can (faults.NoSuccessor n s z) (faults.NoSuccessor m t y) h g =
+    let same = one_first (λ a b. IsLeastLacking c a b None) c.nodes c.cells.states n s m t (first_lack c n s z h) (first_lack c m t y g) in
+    let observation : z ≡ y = one_least_lacking c n s m t z y same.0 same.1 h.2 g.2 in
+    rw (same.0, same.1, observation) refl
+one_fault c Can (faults.NoSuccessor n s z) (faults.NoConstant m t a) h g = absurd (lack_and_none c n s z h g.0)
+one_fault c Can (faults.NoSuccessor n s z) faults.OutOfRange h g = absurd (lack_and_none c n s z h g.0)
+one_fault c Can (faults.NoConstant m t a) (faults.NoSuccessor n s z) h g = absurd (lack_and_none c n s z g h.0)
+one_fault c Can (faults.NoConstant n s a) (faults.NoConstant m t b) h g =
+    let same = one_first (λ x y. short c x y ≤ℤ pos 0) c.nodes c.cells.states n s m t (first_short c n s a h.2) (first_short c m t b g.2) in
+    let amount : a ≡ b = one_amount c n s m t a b same.0 same.1 h.2.2 g.2.2 in
+    rw (same.0, same.1, amount) refl
+one_fault c Can (faults.NoConstant n s a) faults.OutOfRange h g = absurd (h.1 g.1.0 g.1.1.0)
+one_fault c Can faults.OutOfRange (faults.NoSuccessor n s z) h g = absurd (lack_and_none c n s z g h.0)
+one_fault c Can faults.OutOfRange (faults.NoConstant n s a) h g = absurd (g.1 h.1.0 h.1.1.0)
+one_fault c Can faults.OutOfRange faults.OutOfRange h g = refl
+one_fault c Can faults.Memory f h g = absurd h
+one_fault c Can (faults.NoSuccessor n s z) faults.Memory h g = absurd g
+one_fault c Can (faults.NoConstant n s a) faults.Memory h g = absurd g
+one_fault c Can faults.OutOfRange faults.Memory h g = absurd g
+
+pub move_or_fault : (c : Controller) (Can : ℕ → Type 0) (x : ℤ) (f : LowerFault) → IsLeastMove c Can x → IsNotMended c Can f → ⊥
+move_or_fault c Can x (faults.NoSuccessor n s z) h g = (h.2.0 n s g.0 g.1).lacks_none z g.2.0 g.2.1
+move_or_fault c Can x (faults.NoConstant n s a) h g = g.1 h.0 h.2.0
+move_or_fault c Can x faults.OutOfRange h g = g.1.2 (subst (λ (by : ℕ). Can by) (one_least c h.0 g.1.0 h.2 g.1.1) h.3)
+move_or_fault c Can x faults.Memory h g = g
+
+pub one_constant : (c : Controller) (v : PolicyVectors) (x y : ℤ) → IsLeastConstant c v x → IsLeastConstant c v y → x ≡ y
+one_constant c v = one_move c (CanLower v)
+
+pub one_reason : (c : Controller) (v : PolicyVectors) (f g : LowerFault) → IsNotLowered c v f → IsNotLowered c v g → f ≡ g
+one_reason c v = one_fault c (CanLower v)
+
+pub not_lowered_has_no_constant : (c : Controller) (v : PolicyVectors) (x : ℤ) (f : LowerFault) → IsLeastConstant c v x → IsNotLowered c v f → ⊥
+not_lowered_has_no_constant c v = move_or_fault c (CanLower v)
+
+-- ---- one best node, and one worth
+
+not_greater : (x y : ℤ) → x <ℤ y → y ≤ℤ x → ⊥
+not_greater x y l h = omega (arith, linear)
+
+next_le : (x y : ℤ) → x <ℤ y → (x +ℤ pos 1) ≤ℤ y
+next_le x y l = omega (arith, linear)
+
+not_within : (x sum y : ℤ) → x ≤ℤ sum → sum <ℤ y → y ≤ℤ x → ⊥
+not_within x sum y h g l = omega (arith, linear)
+
+le_antisym : (x y : ℤ) → x ≤ℤ y → y ≤ℤ x → x ≡ y
+le_antisym x y h g = omega (arith, linear)
+
+greatest_in_order : (f : ℕ → ℤ) (count n m : ℕ) → IsFirstGreatest f count n → IsFirstGreatest f count m → (n ≡ m) ⊎ ((n < m) ⊎ (m < n)) → n ≡ m
+greatest_in_order f count n m h g (inl e) = e
+greatest_in_order f count n m h g (inr (inl l)) = absurd (not_greater (f n) (f m) (g.smaller_before n l) (h.none_greater m g.is_below))
+greatest_in_order f count n m h g (inr (inr l)) = absurd (not_greater (f m) (f n) (h.smaller_before m l) (g.none_greater n h.is_below))
+
+pub one_best : (f : ℕ → ℤ) (count n m : ℕ) → IsFirstGreatest f count n → IsFirstGreatest f count m → n ≡ m
+one_best f count n m h g = greatest_in_order f count n m h g (cases_order n m)
+
+le_or_above : (x y : ℤ) (b : Bool) → lt_z y x ≡ b → (x ≤ℤ y) ⊎ ((y +ℤ pos 1) ≤ℤ x)
+le_or_above x y true t = inr (next_le y x (record { lt = subst T (sym t) tt }))
+le_or_above x y false t = inl (lt_z_no (subst (λ (b : Bool). T (not b)) (sym t) tt))
+
+quotient_in_order : (sum : ℤ) (total : ℕ) (p q : ℤ) → IsFloorQuotient sum total p → IsFloorQuotient sum total q → (p ≤ℤ q) ⊎ ((q +ℤ pos 1) ≤ℤ p) → p ≤ℤ q
+quotient_in_order sum total p q h g (inl l) = l
+quotient_in_order sum total p q h g (inr l) = absurd (not_within (pos total *ℤ p) sum (pos total *ℤ (q +ℤ pos 1)) h.0 g.1 (mul_le total (q +ℤ pos 1) p l))
+
+quotient_le : (sum : ℤ) (total : ℕ) (p q : ℤ) → IsFloorQuotient sum total p → IsFloorQuotient sum total q → p ≤ℤ q
+quotient_le sum total p q h g = quotient_in_order sum total p q h g (le_or_above p q (lt_z q p) refl)
+
+pub one_quotient : (sum : ℤ) (total : ℕ) (p q : ℤ) → IsFloorQuotient sum total p → IsFloorQuotient sum total q → p ≡ q
+one_quotient sum total p q h g = le_antisym p q (quotient_le sum total p q h g) (quotient_le sum total q p g h)
+
+pub one_best_node : (m : Meaning) (v : PolicyVectors) (n o : ℕ) → IsBestStart m v n → IsBestStart m v o → n ≡ o
+one_best_node m v n o h g = one_best (start_sum m v) v.nodes n o h g
+
+pub one_worth : (m : Meaning) (v : PolicyVectors) (n : ℕ) (x y : ℤ) → IsStartWorth m v n x → IsStartWorth m v n y → x ≡ y
+one_worth m v n x y h g = one_quotient (start_sum m v n) (start_total m) x y h g

@@ -1,0 +1,146 @@
+-- A controller over other cells that agree in range: each step, each run and each sum is the same.
+use Rattle.std.proofs.Common.{◌≡◌, ℕ, zero, suc, ◌-◌, ◌*◌, ◌^◌, ◌<◌, ℤ, pos, ◌*ℤ◌, IsTrue, not, cond, List, [], ◌∷◌, map, flat_map, get_or, Option, Some, None, sym, refl, ap, ◌∙◌, All, length}
+use Rattle.polcert_cells.specs.Tables.{CellTable}
+use Rattle.polcert_check.specs.Horizon.{Controller, one, total_below, sum_over, step_weight, pairs, runs, is_cut, weight, rewards, end_value, reward_part, total, uncut, weights_sum, worth_sum, rewards_sum, Promise, RewardPromise, IsRunInRange}
+use Rattle.polcert_check.specs.Shortfall.{backing, short, Lacks, PairPasses, Passes}
+use Rattle.polcert_check.specs.Steps.Ranges.{IsClosed}
+use Rattle.polcert_cells.specs.SameCells.{HasSameCells}
+use Rattle.polcert_check.proofs.Sums.SumLaws.{sum_below_same, sum_over_filter, sum_over_same_all}
+use Rattle.polcert_check.proofs.Horizons.Kept.{backing_term}
+use Rattle.polcert_check.proofs.Horizons.Enumerated.{All-runs}
+
+-- the same controller over the cells of y, with the counts, the discount and the scales that it had
+abbrev pub with_cells : Controller → CellTable → Controller
+with_cells c y = record c { cells = record c.cells { t = y.t; o = y.o; r = y.r } }
+
+-- ---- the same for any cells
+pub runs_same : (c : Controller) (y : CellTable) (k : ℕ) → runs (with_cells c y) k ≡ runs c k
+runs_same c y zero = refl
+runs_same c y (suc k) = ap (λ (rs : List (List (ℕ × ℕ))). flat_map (λ q. map (λ run. q ∷ run) rs) (pairs c)) (runs_same c y k)
+
+pub is_cut_same : (c : Controller) (y : CellTable) (at : Option ℕ) (run : List (ℕ × ℕ)) → is_cut (with_cells c y) at run ≡ is_cut c at run
+is_cut_same c y None run = refl
+is_cut_same c y (Some n) [] = refl
+is_cut_same c y (Some n) (q ∷ run) = is_cut_same c y (c.next n q.1) run
+
+end_value_same : (c : Controller) (y : CellTable) (at : Option ℕ) (s : ℕ) (run : List (ℕ × ℕ)) → end_value (with_cells c y) at s run ≡ end_value c at s run
+end_value_same c y None s run = refl
+end_value_same c y (Some n) s [] = refl
+end_value_same c y (Some n) s (q ∷ run) = end_value_same c y (c.next n q.1) q.0 run
+
+-- ---- the same for cells that agree
+module _ (c : Controller) (p : IsClosed c) (y : CellTable) (same : HasSameCells c.cells y) where
+  step_same : (n s e z : ℕ) → n < c.nodes → s < c.cells.states → e < c.cells.states → z < c.cells.observations → step_weight (with_cells c y) n s e z ≡ step_weight c n s e z
+  step_same n s e z nl sl el zl =
+      let al : c.action n < c.cells.actions = p.actions_in_range n nl in
+      let t_is : c.cells.t (c.action n) s e ≡ y.t (c.action n) s e = same.t (c.action n) s e al sl el in
+      let o_is : c.cells.o (c.action n) e z ≡ y.o (c.action n) e z = same.o (c.action n) e z al el zl in
+      cc
+
+  weight_after : (n z e : ℕ) (run : List (ℕ × ℕ)) → n < c.nodes → z < c.cells.observations → ((m : ℕ) → m < c.nodes → weight (with_cells c y) (Some m) e run ≡ weight c (Some m) e run) → (at : Option ℕ) → c.next n z ≡ at → weight (with_cells c y) at e run ≡ weight c at e run
+  weight_after n z e run nl zl later None is = refl
+  weight_after n z e run nl zl later (Some m) is = later m (p.next_in_range n z m nl zl is)
+
+  pub weight_same : (run : List (ℕ × ℕ)) (n s : ℕ) → n < c.nodes → s < c.cells.states → IsRunInRange c run → weight (with_cells c y) (Some n) s run ≡ weight c (Some n) s run
+  weight_same [] n s nl sl f = refl
+  weight_same (q ∷ run) n s nl sl f =
+      let here : step_weight (with_cells c y) n s q.0 q.1 ≡ step_weight c n s q.0 q.1 = step_same n s q.0 q.1 nl sl f.0 f.1 in
+      let later : weight (with_cells c y) (c.next n q.1) q.0 run ≡ weight c (c.next n q.1) q.0 run = weight_after n q.1 q.0 run nl f.1 (λ m ml. weight_same run m q.0 ml f.0 f.2) (c.next n q.1) refl in
+      cc
+
+  rewards_after : (n z e : ℕ) (run : List (ℕ × ℕ)) → n < c.nodes → z < c.cells.observations → ((m : ℕ) → m < c.nodes → rewards (with_cells c y) (Some m) e run ≡ rewards c (Some m) e run) → (at : Option ℕ) → c.next n z ≡ at → rewards (with_cells c y) at e run ≡ rewards c at e run
+  rewards_after n z e run nl zl later None is = refl
+  rewards_after n z e run nl zl later (Some m) is = later m (p.next_in_range n z m nl zl is)
+
+  rewards_same : (run : List (ℕ × ℕ)) (n s : ℕ) → n < c.nodes → s < c.cells.states → IsRunInRange c run → rewards (with_cells c y) (Some n) s run ≡ rewards c (Some n) s run
+  rewards_same [] n s nl sl f = refl
+  rewards_same (q ∷ run) n s nl sl f =
+      let here : c.cells.r (c.action n) s q.0 q.1 ≡ y.r (c.action n) s q.0 q.1 = same.r (c.action n) s q.0 q.1 (p.actions_in_range n nl) sl f.0 f.1 in
+      let later : rewards (with_cells c y) (c.next n q.1) q.0 run ≡ rewards c (c.next n q.1) q.0 run = rewards_after n q.1 q.0 run nl f.1 (λ m ml. rewards_same run m q.0 ml f.0 f.2) (c.next n q.1) refl in
+      cc
+
+  reward_part_same : (k : ℕ) (run : List (ℕ × ℕ)) (n s : ℕ) → n < c.nodes → s < c.cells.states → IsRunInRange c run → reward_part (with_cells c y) k (Some n) s run ≡ reward_part c k (Some n) s run
+  reward_part_same k run n s nl sl f =
+      ap (λ (rs : List ℤ). total_below (λ i. pos (c.cells.discount ^ i * one ^ (k - i)) *ℤ get_or rs i (pos 0)) k) (rewards_same run n s nl sl f)
+
+  total_same : (k : ℕ) (run : List (ℕ × ℕ)) (n s : ℕ) → n < c.nodes → s < c.cells.states → IsRunInRange c run → total (with_cells c y) k (Some n) s run ≡ total c k (Some n) s run
+  total_same k run n s nl sl f =
+      let rewarded : reward_part (with_cells c y) k (Some n) s run ≡ reward_part c k (Some n) s run = reward_part_same k run n s nl sl f in
+      let ended : end_value (with_cells c y) (Some n) s run ≡ end_value c (Some n) s run = end_value_same c y (Some n) s run in
+      rw (rewarded, ended) refl
+
+  -- a sum over the uncut runs, of what is the same for each run in range
+  uncut_sum_same : (f g : List (ℕ × ℕ) → ℤ) (k n : ℕ) → ((run : List (ℕ × ℕ)) → IsRunInRange c run → f run ≡ g run) → sum_over f (uncut (with_cells c y) k (Some n)) ≡ sum_over g (uncut c k (Some n))
+  uncut_sum_same f g k n each =
+      let d : Controller = with_cells c y in
+      sum_over_filter f (λ run. not (is_cut d (Some n) run)) (runs d k)
+      ∙ ap (λ (rs : List (List (ℕ × ℕ))). sum_over (λ run. cond (not (is_cut d (Some n) run)) (f run) (pos 0)) rs) (runs_same c y k)
+      ∙ sum_over_same_all (λ run. (length run ≡ k) × IsRunInRange c run) _ (λ run. cond (not (is_cut c (Some n) run)) (g run) (pos 0)) (runs c k)
+      (λ run h. rw (is_cut_same c y (Some n) run, each run h.1) refl) (All-runs c k)
+      ∙ sym (sum_over_filter g (λ run. not (is_cut c (Some n) run)) (runs c k))
+
+  weights_sum_same : (k n s : ℕ) → n < c.nodes → s < c.cells.states → weights_sum (with_cells c y) k (Some n) s ≡ weights_sum c k (Some n) s
+  weights_sum_same k n s nl sl =
+      uncut_sum_same (λ run. pos (weight (with_cells c y) (Some n) s run)) (λ run. pos (weight c (Some n) s run)) k n
+      (λ run f. ap (λ (w : ℕ). pos w) (weight_same run n s nl sl f))
+
+  pub worth_sum_same : (k n s : ℕ) → n < c.nodes → s < c.cells.states → worth_sum (with_cells c y) k (Some n) s ≡ worth_sum c k (Some n) s
+  worth_sum_same k n s nl sl =
+      let d : Controller = with_cells c y in
+      uncut_sum_same (λ run. pos (weight d (Some n) s run) *ℤ total d k (Some n) s run) (λ run. pos (weight c (Some n) s run) *ℤ total c k (Some n) s run) k n
+      (λ run f. rw (weight_same run n s nl sl f, total_same k run n s nl sl f) refl)
+
+  rewards_sum_same : (k n s : ℕ) → n < c.nodes → s < c.cells.states → rewards_sum (with_cells c y) k (Some n) s ≡ rewards_sum c k (Some n) s
+  rewards_sum_same k n s nl sl =
+      let d : Controller = with_cells c y in
+      uncut_sum_same (λ run. pos (weight d (Some n) s run) *ℤ reward_part d k (Some n) s run) (λ run. pos (weight c (Some n) s run) *ℤ reward_part c k (Some n) s run) k n
+      (λ run f. rw (weight_same run n s nl sl f, reward_part_same k run n s nl sl f) refl)
+
+  -- ---- the promise
+  pub cut_runs_same : (k n s : ℕ) → n < c.nodes → s < c.cells.states → All (λ run. IsTrue (is_cut c (Some n) run) → weight c (Some n) s run ≡ 0) (runs c k) → All (λ run. IsTrue (is_cut (with_cells c y) (Some n) run) → weight (with_cells c y) (Some n) s run ≡ 0) (runs (with_cells c y) k)
+  cut_runs_same k n s nl sl before =
+      rw (runs_same c y k) (λ j d l cut. weight_same (get_or (runs c k) j d) n s nl sl (All-runs c k j d l).1 ∙ before j d l (sym (is_cut_same c y (Some n) (get_or (runs c k) j d)) ∙ cut))
+
+  pub promise_same : (k n s : ℕ) → n < c.nodes → s < c.cells.states → Promise c k n s → Promise (with_cells c y) k n s
+  promise_same k n s nl sl promise =
+      record {
+        cut_runs = cut_runs_same k n s nl sl promise.cut_runs;
+        uncut_runs = rw (worth_sum_same k n s nl sl) promise.uncut_runs;
+      }
+
+  pub reward_promise_same : (k n s : ℕ) → n < c.nodes → s < c.cells.states → RewardPromise c k n s → RewardPromise (with_cells c y) k n s
+  reward_promise_same k n s nl sl promise =
+      record {
+        weights = weights_sum_same k n s nl sl ∙ promise.weights;
+        rewarded = λ m most. rw (rewards_sum_same k n s nl sl) (promise.rewarded m most);
+      }
+
+  -- ---- the shortfall
+  term_same : (n s e z : ℕ) → n < c.nodes → s < c.cells.states → e < c.cells.states → z < c.cells.observations → (at : Option ℕ) → backing_term (with_cells c y) n s e z at ≡ backing_term c n s e z at
+  term_same n s e z nl sl el zl None = refl
+  term_same n s e z nl sl el zl (Some m) =
+      let weighed : step_weight (with_cells c y) n s e z ≡ step_weight c n s e z = step_same n s e z nl sl el zl in
+      let rewarded : y.r (c.action n) s e z ≡ c.cells.r (c.action n) s e z = sym (same.r (c.action n) s e z (p.actions_in_range n nl) sl el zl) in
+      rw (weighed, rewarded) refl
+
+  pub short_same : (n s : ℕ) → n < c.nodes → s < c.cells.states → short (with_cells c y) n s ≡ short c n s
+  short_same n s nl sl =
+      let backed : backing (with_cells c y) n s ≡ backing c n s = sum_below_same _ _ c.cells.states (λ e el. sum_below_same _ _ c.cells.observations (λ z zl.
+      term_same n s e z nl sl el zl (c.next n z))) in
+      rw backed refl
+
+  pub lacks_same : (n s z : ℕ) → n < c.nodes → s < c.cells.states → z < c.cells.observations → Lacks c n s z → Lacks (with_cells c y) n s z
+  lacks_same n s z nl sl zl (none, (e, el, some)) = (none, (e, el, rw (step_same n s e z nl sl el zl) some))
+
+  pub lacks_back : (n s z : ℕ) → n < c.nodes → s < c.cells.states → z < c.cells.observations → Lacks (with_cells c y) n s z → Lacks c n s z
+  lacks_back n s z nl sl zl (none, (e, el, some)) = (none, (e, el, rw (step_same n s e z nl sl el zl) at some))
+
+  pub pair_same : (n s : ℕ) → n < c.nodes → s < c.cells.states → PairPasses c n s → PairPasses (with_cells c y) n s
+  pair_same n s nl sl passes =
+      record {
+        lacks_none = λ z zl lacks. passes.lacks_none z zl (lacks_back n s z nl sl zl lacks);
+        not_short = rw (short_same n s nl sl) passes.not_short;
+      }
+
+  pub passes_same : Passes c → Passes (with_cells c y)
+  passes_same passes n s nl sl = pair_same n s nl sl (passes n s nl sl)

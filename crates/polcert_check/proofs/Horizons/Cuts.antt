@@ -1,0 +1,26 @@
+-- A run that is cut weighs nothing where no pair lacks an observation.
+use Rattle.std.proofs.Common.{◌≡◌, ℕ, ◌*◌, ◌<◌, true, List, [], ◌∷◌, Option, Some, None, refl, arith, length}
+use Rattle.std.proofs.lemmas.List.Elements.{All-weaker}
+use Rattle.polcert_check.specs.Horizon.{Controller, step_weight, runs, is_cut, weight, IsRunInRange, Promise}
+use Rattle.polcert_check.specs.Shortfall.{Lacks, Passes}
+use Rattle.polcert_check.specs.Steps.Ranges.{IsController}
+use Rattle.polcert_check.proofs.Horizons.Kept.{LacksNone, LacksNone-from_Passes, no_weight, worth_all}
+use Rattle.polcert_check.proofs.Horizons.Enumerated.{All-runs}
+
+cut_after : (c : Controller) (n s e z : ℕ) (run : List (ℕ × ℕ)) → (Lacks c n s z → ⊥) → e < c.cells.states → (at : Option ℕ) → c.next n z ≡ at → ((m : ℕ) → c.next n z ≡ Some m → is_cut c (Some m) run ≡ true → weight c (Some m) e run ≡ 0) → is_cut c at run ≡ true → step_weight c n s e z * weight c at e run ≡ 0
+cut_after c n s e z run fine el None is later cut = let h : step_weight c n s e z ≡ 0 = no_weight c n s e z fine el is in rw h refl
+cut_after c n s e z run fine el (Some m) is later cut = let h : weight c (Some m) e run ≡ 0 = later m is cut in rw h (omega arith)
+
+pub cut_weighs_nothing : (c : Controller) → IsController c → LacksNone c → (run : List (ℕ × ℕ)) (n s : ℕ) → n < c.nodes → s < c.cells.states → IsRunInRange c run → is_cut c (Some n) run ≡ true → weight c (Some n) s run ≡ 0
+cut_weighs_nothing c p fine [] n s nl sl f cut = cc
+cut_weighs_nothing c p fine (q ∷ run) n s nl sl f cut =
+    cut_after c n s q.0 q.1 run (fine n s q.1 nl sl f.1) f.0 (c.next n q.1) refl
+    (λ m is later. cut_weighs_nothing c p fine run m q.0 (p.closed.next_in_range n q.1 m nl f.1 is) f.0 f.2 later) cut
+
+-- the promise, for every number of steps
+pub promise_all : (c : Controller) → IsController c → Passes c → (k n s : ℕ) → n < c.nodes → s < c.cells.states → Promise c k n s
+promise_all c p passes k n s nl sl =
+    record {
+      cut_runs = All-weaker (λ run. (length run ≡ k) × IsRunInRange c run) (λ run. is_cut c (Some n) run ≡ true → weight c (Some n) s run ≡ 0) (λ run f. cut_weighs_nothing c p (LacksNone-from_Passes c passes) run n s nl sl f.1) (runs c k) (All-runs c k);
+      uncut_runs = worth_all c p passes k n s nl sl;
+    }

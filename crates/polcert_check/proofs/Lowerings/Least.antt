@@ -1,0 +1,126 @@
+-- The greatest short, and the least constant that it gives.
+use Rattle.std.proofs.Common.{◌≡◌, ℕ, ◌+◌, ◌-◌, ◌*◌, ◌^◌, ◌<◌, ◌≤◌, ℤ, pos, ◌≤ℤ◌, ◌<ℤ◌, inl, ⊎_elim, sym, refl, subst, arith, lit<, ◌+ℤ◌, ◌-ℤ◌, neg_ℤ, FitsSigned, to_z, of_z, unsigned_abs}
+use mir.Syntax.{w128}
+use Rattle.std.proofs.lemmas.Int.{to_z-of_z, ints, fits_signed_from_abs}
+use Rattle.polcert_check.proofs.Sums.Bounds.{fits_128}
+use Rattle.polcert_text.specs.Numbers.{largest}
+use Rattle.polcert_cells.specs.Tables.{CellTable, IsWithinLimits}
+use Rattle.polcert_check.specs.Horizon.{Controller, one, step_scale}
+use Rattle.polcert_check.specs.Shortfall.{short, Passes}
+use Rattle.polcert_check.specs.Steps.Ranges.{IsController, most_scales, most_sum}
+use Rattle.polcert_check.specs.Lower.{lowered_by, NoneLacks, IsLeast, CanLower}
+use Rattle.polcert_check.specs.Steps.Findings.{IsPair, IsWorstOf}
+use Rattle.std.proofs.Common.{w64}
+use Rattle.std.proofs.Math.Nat.{mul-le-mul}
+use Rattle.polcert_check.specs.declared.side.Side.{Side}
+use Rattle.polcert_check.specs.declared.side.Side.TheVariants.{Below, Above}
+use Rattle.polcert_check.specs.Steps.Mirrored.{turned, CanMove}
+use Rattle.polcert_check.proofs.Walking.Verdicts.{positive_product}
+use Rattle.polcert_policy.specs.Vectors.{PolicyVectors, AreProperVectors, IsInRange, value_of}
+use Rattle.polcert_check.proofs.Certificates.{value_is_in_range}
+use Rattle.polcert_check.proofs.Sums.Ring.{linear}
+use Rattle.polcert_check.proofs.Horizons.Kept.{LacksNone}
+use Rattle.polcert_check.proofs.Lowerings.Lowering.{passes_lowered, from_passes_lowered}
+
+wider : (x : ℤ) (a b : ℕ) → x ≤ℤ pos a → a ≤ b → x ≤ℤ pos b
+wider x a b h l = omega (arith, linear)
+
+mul_assoc : (a b d : ℕ) → a * b * d ≡ a * (b * d)
+mul_assoc a b d = omega arith
+
+at_most_nat : (a b : ℕ) → pos a ≤ℤ pos b → b < a → ⊥
+at_most_nat a b h l = omega (arith, linear)
+
+-- the least constant, where the discount is below 1: `by` is the worst short over the factor, rounded up
+pub least_passes : (c : Controller) → IsController c → c.cells.discount ≤ one → LacksNone c → (worst by : ℕ) → IsWorstOf c (IsPair c) worst → worst ≤ step_scale c * (one - c.cells.discount) * by → Passes (lowered_by c by)
+least_passes c p gl fine worst by w h =
+    passes_lowered c p gl by fine (λ n s nl sl. wider (short c n s) worst (step_scale c * ((one - c.cells.discount) * by)) (w.bounds n s (nl, sl)) (omega arith))
+
+pub less_fails : (c : Controller) → IsController c → c.cells.discount ≤ one → (worst d : ℕ) → IsWorstOf c (IsPair c) worst → step_scale c * (one - c.cells.discount) * d < worst → Passes (lowered_by c d) → ⊥
+less_fails c p gl worst d w h passes =
+    ⊎_elim (λ (e : worst ≡ 0). omega arith)
+    (λ (r : (n : ℕ) × (s : ℕ) × IsPair c n s × (pos worst ≡ short c n s)).
+    let le : short c r.0 r.1 ≤ℤ pos (step_scale c * ((one - c.cells.discount) * d)) = from_passes_lowered c p gl d passes r.0 r.1 r.2.0 r.2.1 in
+    at_most_nat worst (step_scale c * (one - c.cells.discount) * d) (subst (λ (x : ℤ). x ≤ℤ pos (step_scale c * (one - c.cells.discount) * d)) (sym r.3) (subst (λ (x : ℕ). short c r.0 r.1 ≤ℤ pos x) (sym (mul_assoc (step_scale c) (one - c.cells.discount) d)) le)) h)
+    w.is_reached
+
+-- ---- the value less `by`
+within : (v : ℤ) → IsInRange v → unsigned_abs v ≤ 10000000000000
+within v r = omega (arith, ints, r.0, r.1)
+
+pub low_fits : (v : ℤ) → IsInRange v → FitsSigned w128 v × FitsSigned w128 (v +ℤ pos 10000000000000)
+low_fits v r =
+    (fits_128 v 10000000000000 (within v r) (lit< tt), fits_128 (v +ℤ pos 10000000000000) 20000000000000 (omega (arith, ints, r.0, r.1)) (lit< tt))
+
+pub low_enough : (v : ℤ) (by : ℕ) → IsInRange v → by ≤ unsigned_abs (v +ℤ pos 10000000000000) → IsInRange (v +ℤ neg_ℤ (pos by))
+low_enough v by r l = (omega (arith, ints, r.0, r.1), omega (arith, ints, r.0, r.1))
+
+pub from_low_enough : (v : ℤ) (by : ℕ) → IsInRange v → IsInRange (v +ℤ neg_ℤ (pos by)) → by ≤ unsigned_abs (v +ℤ pos 10000000000000)
+from_low_enough v by r l = omega (arith, ints, r.0, r.1, l.0, l.1)
+
+low_is_small : (v : ℤ) (by : ℕ) → IsInRange v → IsInRange (v +ℤ neg_ℤ (pos by)) → by ≤ 2 * largest
+low_is_small v by r l = omega (arith, ints, r.0, r.1, l.0, l.1)
+
+-- ---- the factor by which a constant lowers each short
+pub factor_room : (t o d x : ℕ) → t * o ≤ most_scales → x ≤ 3 * most_sum → (t * o < 2 ^ 64) × (t * o * (1000000 - d) < 2 ^ 128) × (x + t * o * (1000000 - d) ≤ 2 ^ 127)
+factor_room t o d x q xl =
+    let f : t * o * (1000000 - d) ≤ most_scales * 1000000 = mul-le-mul q (at_most_million d) in
+    (omega (arith, q), omega (arith, f), omega (arith, f, xl))
+  where
+    at_most_million : (d : ℕ) → 1000000 - d ≤ 1000000
+    at_most_million d = omega arith
+
+pub factor_positive : (t o d : ℕ) → 0 < t → 0 < o → d < 1000000 → 0 < t * o * (1000000 - d)
+factor_positive t o d tl ol dl = let f : 0 < 1000000 - d = omega arith in positive_product (t * o) (1000000 - d) (positive_product t o tl ol) f
+
+pub NoneLacks-gives : (c : Controller) → NoneLacks c → LacksNone c
+NoneLacks-gives c none n s z nl sl zl = none n s nl sl z zl
+
+-- the candidate is least
+pub candidate_least : (c : Controller) → IsController c → NoneLacks c → (ts os d worst by : ℕ) → ts ≡ c.cells.t_scale → os ≡ c.cells.o_scale → d ≡ c.cells.discount → c.cells.discount < one → IsWorstOf c (IsPair c) worst → worst ≤ ts * os * (1000000 - d) * by → ((e : ℕ) → e < by → ts * os * (1000000 - d) * e < worst) → IsLeast c by
+unfolding one
+candidate_least c p none ts os d worst by te oe de gl w enough least =
+    let same : ts * os * (1000000 - d) ≡ step_scale c * (1000000 - c.cells.discount) = rw (te, oe, de) refl in (
+      least_passes c p (omega arith) (NoneLacks-gives c none) worst by w (subst (λ (x : ℕ). worst ≤ x * by) same enough),
+      (λ e el. less_fails c p (omega arith) worst e w (subst (λ (x : ℕ). x * e < worst) same (least e el))),
+    )
+
+pub least_zero : (c : Controller) → IsController c → c.cells.discount ≤ one → NoneLacks c → Passes c → IsLeast c 0
+least_zero c p gl none passes =
+    (least_passes c p gl (NoneLacks-gives c none) 0 0 (record { bounds = λ n s p. (passes n s p.0 p.1).not_short; is_reached = inl refl }) (omega arith), (λ d l. absurd (omega arith)))
+
+-- at a discount of one nothing helps a pair that is short
+pub no_constant : (c : Controller) → IsController c → c.cells.discount ≡ one → (n s : ℕ) → n < c.nodes → s < c.cells.states → pos 0 <ℤ short c n s → (by : ℕ) → Passes (lowered_by c by) → ⊥
+no_constant c p ge n s nl sl h by passes =
+    let le : short c n s ≤ℤ pos (step_scale c * ((one - c.cells.discount) * by)) = from_passes_lowered c p (omega arith) by passes n s nl sl in
+    let none : one - c.cells.discount ≡ 0 = omega arith in
+    let zero : step_scale c * ((one - c.cells.discount) * by) ≡ 0 = rw none (omega arith) in
+    positive_not (short c n s) (step_scale c * ((one - c.cells.discount) * by)) zero le h
+  where
+    positive_not : (x : ℤ) (y : ℕ) → y ≡ 0 → x ≤ℤ pos y → pos 0 <ℤ x → ⊥
+    positive_not x y e l h = omega (arith, linear)
+
+turned_in_range : (side : Side) (x : ℤ) → IsInRange x → IsInRange (turned side x)
+turned_in_range Below x r = r
+turned_in_range Above x r = (omega (arith, ints, r.0, r.1), omega (arith, ints, r.0, r.1))
+
+constant_small : (side : Side) (v : PolicyVectors) → AreProperVectors v → (by : ℕ) → CanMove side v by → by ≤ 2 * largest
+constant_small side v proper by can =
+    low_is_small (turned side (value_of v 0 0)) by (turned_in_range side (value_of v 0 0) (value_is_in_range v proper 0 0 proper.some_nodes proper.some_states)) (can 0 0 proper.some_nodes proper.some_states)
+
+pub constant_fits : (side : Side) (v : PolicyVectors) → AreProperVectors v → (by : ℕ) → CanMove side v by → FitsSigned w64 (pos by)
+constant_fits side v proper by can = let small : by ≤ 2 * largest = constant_small side v proper by can in record { sfits = omega (arith, ints) }
+
+minus : (by : ℕ) → pos 0 -ℤ pos by ≡ neg_ℤ (pos by)
+minus by = omega (arith, ints)
+
+pub negated : (v : PolicyVectors) → AreProperVectors v → (by : ℕ) → CanLower v by → (x : ℤ) → x ≡ pos by → to_z w64 (of_z w64 (pos 0 -ℤ to_z w64 (of_z w64 x))) ≡ neg_ℤ (pos by)
+negated v proper by can x e =
+    let small : by ≤ 2 * largest = constant_small Below v proper by can in
+    let fits : FitsSigned w64 (pos by) = constant_fits Below v proper by can in
+    let below : FitsSigned w64 (neg_ℤ (pos by)) = fits_signed_from_abs w64 (neg_ℤ (pos by)) (omega (arith, ints)) in
+    rw (e, to_z-of_z w64 (pos by) fits, minus by) (to_z-of_z w64 (neg_ℤ (pos by)) below)
+
+pub at_one : (m : CellTable) → IsWithinLimits m → 1000000 ≤ m.discount → m.discount ≡ one
+unfolding one
+at_one m limits h = omega (arith, limits.discount)

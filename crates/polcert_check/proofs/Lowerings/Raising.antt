@@ -1,0 +1,109 @@
+-- What lowers the mirror image raises the controller.
+use Rattle.std.proofs.Common.{◌≡◌, ◌∙◌, ℕ, ◌<◌, ℤ, pos, neg_ℤ, ◌+ℤ◌, ◌-ℤ◌, refl, sym, ap, subst, arith}
+use Rattle.std.proofs.lemmas.Int.{ints}
+use Rattle.polcert_cells.specs.Tables.{CellTable}
+use Rattle.polcert_policy.specs.Graphs.{PolicyGraph}
+use Rattle.polcert_policy.specs.Vectors.{PolicyVectors, IsInRange, value_of}
+use Rattle.polcert_check.specs.Horizon.{Controller, Fits, controller_of}
+use Rattle.polcert_check.specs.Shortfall.{short, Passes}
+use Rattle.polcert_check.specs.Steps.Ranges.{IsController}
+use Rattle.polcert_check.specs.Lower.{lowered_by, IsLeast, IsFirstShort, IsNotMended, RefusesSmallAmount}
+use Rattle.polcert_check.specs.Above.{PassesAbove}
+use Rattle.polcert_check.specs.Raise.{raised_by, IsLeastAbove, CanRaise, IsFirstLong, IsNotRaised, IsLeastRaise, RefusesSmallRaise}
+use Rattle.polcert_check.specs.declared.fault.LowerFault.{LowerFault}
+use Rattle.polcert_check.specs.declared.fault.LowerFault.TheVariants as lower
+use Rattle.polcert_check.specs.declared.fault.RaiseFault.{RaiseFault}
+use Rattle.polcert_check.specs.declared.fault.RaiseFault.TheVariants as raise
+use Rattle.polcert_check.specs.declared.side.Side.TheVariants.{Above}
+use Rattle.polcert_check.specs.Steps.Mirrored.{mirrored, CanMove, IsLeastMove, raise_of}
+use Rattle.polcert_check.proofs.Sums.Ring.{linear}
+use Rattle.polcert_check.proofs.Mirrors.Mirrored.{mirrored_short}
+use Rattle.polcert_check.proofs.Mirrors.FromAbove.{turn_short, turn_long, passes_above, passes_below}
+use Rattle.polcert_check.proofs.Agreements.Agreeing.{passes_alike}
+
+turned_sum : (x : ℤ) (by : ℕ) → neg_ℤ x -ℤ pos by ≡ neg_ℤ (x +ℤ pos by)
+turned_sum x by = omega (arith, linear)
+
+-- the mirror image less `by` is that of the controller plus `by`
+same_moved : (c : Controller) (by : ℕ) → lowered_by (mirrored c) by ≡ mirrored (raised_by c by)
+same_moved c by = λ i. record (mirrored c) { value = λ n s. turned_sum (c.value n s) by i }
+
+passes_raised : (c : Controller) (by : ℕ) → Passes (lowered_by (mirrored c) by) → PassesAbove (raised_by c by)
+passes_raised c by h = passes_above (raised_by c by) (subst Passes (same_moved c by) h)
+
+passes_lowered : (c : Controller) (by : ℕ) → PassesAbove (raised_by c by) → Passes (lowered_by (mirrored c) by)
+passes_lowered c by h = subst Passes (sym (same_moved c by)) (passes_below (raised_by c by) h)
+
+least_above : (c : Controller) (by : ℕ) → IsLeast (mirrored c) by → IsLeastAbove c by
+least_above c by h = (passes_raised c by h.0, λ d l p. h.1 d l (passes_lowered c d p))
+
+least_below : (c : Controller) (by : ℕ) → IsLeastAbove c by → IsLeast (mirrored c) by
+least_below c by h = (passes_lowered c by h.0, λ d l p. h.1 d l (passes_raised c d p))
+
+-- ---- the range
+range_up : (x : ℤ) (by : ℕ) → IsInRange (neg_ℤ x +ℤ neg_ℤ (pos by)) → IsInRange (x +ℤ pos by)
+range_up x by r = (omega (arith, ints, r.0, r.1), omega (arith, ints, r.0, r.1))
+
+range_down : (x : ℤ) (by : ℕ) → IsInRange (x +ℤ pos by) → IsInRange (neg_ℤ x +ℤ neg_ℤ (pos by))
+range_down x by r = (omega (arith, ints, r.0, r.1), omega (arith, ints, r.0, r.1))
+
+can_raise : (v : PolicyVectors) (by : ℕ) → CanMove Above v by → CanRaise v by
+can_raise v by h = λ n s nl sl. range_up (value_of v n s) by (h n s nl sl)
+
+can_move : (v : PolicyVectors) (by : ℕ) → CanRaise v by → CanMove Above v by
+can_move v by h = λ n s nl sl. range_down (value_of v n s) by (h n s nl sl)
+
+-- ---- what is answered
+pub least_raise_is : (c : Controller) (v : PolicyVectors) (x : ℤ) → IsLeastMove (mirrored c) (CanMove Above v) x → IsLeastRaise c v x
+least_raise_is c v x h = (h.0, h.1, least_above c h.0 h.2, can_raise v h.0 h.3)
+
+pub least_move_is : (c : Controller) (v : PolicyVectors) (x : ℤ) → IsLeastRaise c v x → IsLeastMove (mirrored c) (CanMove Above v) x
+least_move_is c v x h = (h.0, h.1, least_below c h.0 h.2, can_move v h.0 h.3)
+
+first_long : (c : Controller) (n s : ℕ) (amount : ℤ) → IsFirstShort (mirrored c) n s amount → IsFirstLong c n s amount
+first_long c n s amount h =
+    (h.0, h.1, h.2 ∙ mirrored_short c n s, h.3, λ m t ml tl b. turn_short (short (mirrored c) m t) (short c m t) (mirrored_short c m t) (h.4 m t ml tl b))
+
+first_short : (c : Controller) (n s : ℕ) (amount : ℤ) → IsFirstLong c n s amount → IsFirstShort (mirrored c) n s amount
+first_short c n s amount h =
+    (h.0, h.1, h.2 ∙ sym (mirrored_short c n s), h.3, λ m t ml tl b. turn_long (short (mirrored c) m t) (short c m t) (mirrored_short c m t) (h.4 m t ml tl b))
+
+pub not_raised_is : (c : Controller) (v : PolicyVectors) (fault : LowerFault) → IsNotMended (mirrored c) (CanMove Above v) fault → IsNotRaised c v (raise_of fault)
+not_raised_is c v (lower.NoSuccessor n s z) h = h
+not_raised_is c v (lower.NoConstant n s amount) h = (h.0, (λ by p. h.1 by (passes_lowered c by p)), first_long c n s amount h.2)
+not_raised_is c v lower.OutOfRange h = (h.0, (h.1.0, least_above c h.1.0 h.1.1, (λ can. h.1.2 (can_move v h.1.0 can))))
+not_raised_is c v lower.Memory h = h
+
+-- the refusal to lower the mirror image that says this from above
+abbrev pub lower_of : RaiseFault → LowerFault
+lower_of (raise.NoSuccessor n s z) = lower.NoSuccessor n s z
+lower_of (raise.NoConstant n s amount) = lower.NoConstant n s amount
+lower_of raise.OutOfRange = lower.OutOfRange
+lower_of raise.Memory = lower.Memory
+
+pub raise_again : (fault : RaiseFault) → raise_of (lower_of fault) ≡ fault
+raise_again (raise.NoSuccessor n s z) = refl
+raise_again (raise.NoConstant n s amount) = refl
+raise_again raise.OutOfRange = refl
+raise_again raise.Memory = refl
+
+pub not_mended_is : (c : Controller) (v : PolicyVectors) (fault : RaiseFault) → IsNotRaised c v fault → IsNotMended (mirrored c) (CanMove Above v) (lower_of fault)
+not_mended_is c v (raise.NoSuccessor n s z) h = h
+not_mended_is c v (raise.NoConstant n s amount) h = (h.0, (λ by p. h.1 by (passes_raised c by p)), first_short c n s amount h.2)
+not_mended_is c v raise.OutOfRange h = (h.0, (h.1.0, least_below c h.1.0 h.1.1, (λ can. h.1.2 (can_raise v h.1.0 can))))
+not_mended_is c v raise.Memory h = h
+
+pub small_raise : (c : Controller) (fault : LowerFault) → RefusesSmallAmount (mirrored c) fault → RefusesSmallRaise c (raise_of fault)
+small_raise c (lower.NoSuccessor n s z) h = h
+small_raise c (lower.NoConstant n s amount) h = h
+small_raise c lower.OutOfRange h = h
+small_raise c lower.Memory h = h
+
+-- ---- the raised vectors
+pub raised_passes : (t : CellTable) (g : PolicyGraph) (v w : PolicyVectors) → Fits t g v → IsController (controller_of t g v) → (by : ℕ) → PassesAbove (raised_by (controller_of t g v) by)
+    → ((n s : ℕ) → n < v.nodes → s < v.states → value_of w n s ≡ value_of v n s +ℤ pos by) → PassesAbove (controller_of t g w)
+raised_passes t g v w fits p by passes shifted =
+    let c : Controller = raised_by (controller_of t g v) by in
+    passes_above (controller_of t g w)
+    (passes_alike (mirrored c) (record { actions_in_range = p.closed.actions_in_range; next_in_range = p.closed.next_in_range }) (λ n s. neg_ℤ (value_of w n s))
+    (λ n s nl sl. ap neg_ℤ (shifted n s (omega (arith, nl, fits.nodes_same)) (omega (arith, sl, fits.states)))) (passes_below c passes))

@@ -1,0 +1,56 @@
+-- No shortfall is larger in size than three times the largest value on its scale.
+use Rattle.std.proofs.Common.{◌≡◌, ℕ, ◌*◌, ◌<◌, ◌≤◌, ℤ, pos, ◌+ℤ◌, ◌-ℤ◌, ◌*ℤ◌, unsigned_abs, arith}
+use Rattle.std.proofs.lemmas.Int.{ints}
+use Rattle.std.proofs.Math.Nat.{mul-le-mul_right}
+use Rattle.polcert_text.specs.Numbers.{largest}
+use Rattle.polcert_cells.specs.Tables.{IsWithinLimits}
+use Rattle.polcert_check.specs.Horizon.{Controller, one, step_scale}
+use Rattle.polcert_check.specs.Shortfall.{backing, short, most_short}
+use Rattle.polcert_check.specs.Steps.Ranges.{IsController, ValuesAreWithin, most_scales, most_sum}
+use Rattle.polcert_check.specs.Steps.Factored.{reward_ahead, value_ahead}
+use Rattle.polcert_check.specs.Steps.Followed.{followed, followed_is_proper, followed_is_within}
+use Rattle.polcert_check.proofs.Sums.Bounds.{abs-*ℤ_le}
+use Rattle.polcert_check.proofs.Sums.Scales.{scales_le, discount_le}
+use Rattle.polcert_check.proofs.Walking.Earning.{reward_ahead_le}
+use Rattle.polcert_check.proofs.Walking.Expecting.{value_ahead_le}
+use Rattle.polcert_check.proofs.Horizons.Splitting.{followed_split}
+
+-- in figures
+pub most_short_le : (c : Controller) → IsWithinLimits c.cells → most_short c ≤ 3 * most_sum
+unfolding one
+most_short_le c limits =
+    let b : ℕ = 10000000000000000000 in
+    let bound : step_scale c * b ≤ most_scales * b = mul-le-mul_right b (scales_le c.cells limits) in
+    omega (arith, bound)
+
+sum_le : (x y : ℤ) (b : ℕ) → unsigned_abs x ≤ b → unsigned_abs y ≤ b → unsigned_abs (x +ℤ y) ≤ 2 * b
+sum_le x y b h k = omega (arith, ints)
+
+difference_le : (x y : ℤ) (b : ℕ) → unsigned_abs x ≤ b → unsigned_abs y ≤ 2 * b → unsigned_abs (x -ℤ y) ≤ 3 * b
+difference_le x y b h k = omega (arith, ints)
+
+-- what is earned or expected, in millionths of it
+part_le : (t o u : ℕ) (x : ℤ) → u ≤ one → unsigned_abs x ≤ t * (o * largest) → unsigned_abs (pos u *ℤ x) ≤ t * o * one * largest
+part_le t o u x ul xl =
+    let q : unsigned_abs (pos u *ℤ x) ≤ one * (t * (o * largest)) = abs-*ℤ_le (pos u) x one (t * (o * largest)) ul xl in
+    let same : one * (t * (o * largest)) ≡ t * o * one * largest = turned t o one largest in
+    rw same at q
+  where
+    turned : (t o g l : ℕ) → g * (t * (o * l)) ≡ t * o * g * l
+    turned t o g l = omega arith
+
+-- what backs a value is at most twice the largest value on this scale
+backing_le : (c : Controller) → IsController c → IsWithinLimits c.cells → ValuesAreWithin c → (n s : ℕ) → n < c.nodes → s < c.cells.states → unsigned_abs (backing c n s) ≤ 2 * (step_scale c * one * largest)
+backing_le c p limits values n s nl sl =
+    let al : c.action n < c.cells.actions = p.closed.actions_in_range n nl in
+    let earned : unsigned_abs (reward_ahead (followed c n) (c.action n) s) ≤ c.cells.t_scale * (c.cells.o_scale * largest) =
+    reward_ahead_le (followed c n) (followed_is_proper c n p.cells) (followed_is_within c n limits) (c.action n) s al sl in
+    let expected : unsigned_abs (value_ahead c n s) ≤ c.cells.t_scale * (c.cells.o_scale * largest) = value_ahead_le c p limits values n s nl sl in
+    rw (followed_split c n s) (sum_le (pos one *ℤ reward_ahead (followed c n) (c.action n) s) (pos c.cells.discount *ℤ value_ahead c n s) (step_scale c * one * largest)
+    (part_le c.cells.t_scale c.cells.o_scale one (reward_ahead (followed c n) (c.action n) s) (omega arith) earned)
+    (part_le c.cells.t_scale c.cells.o_scale c.cells.discount (value_ahead c n s) (discount_le c.cells limits) expected))
+
+pub short_le : (c : Controller) → IsController c → IsWithinLimits c.cells → ValuesAreWithin c → (n s : ℕ) → n < c.nodes → s < c.cells.states → unsigned_abs (short c n s) ≤ most_short c
+short_le c p limits values n s nl sl =
+    let top : unsigned_abs (pos (step_scale c * one) *ℤ c.value n s) ≤ step_scale c * one * largest = abs-*ℤ_le (pos (step_scale c * one)) (c.value n s) (step_scale c * one) largest (omega arith) (values n s nl sl) in
+    difference_le (pos (step_scale c * one) *ℤ c.value n s) (backing c n s) (step_scale c * one * largest) top (backing_le c p limits values n s nl sl)

@@ -1,0 +1,199 @@
+-- What passes from below in the mirror image passes from above, and its promises are promises from above.
+use Rattle.std.proofs.Common.{◌≡◌, ◌∙◌, ℕ, ◌*◌, ◌^◌, ◌<◌, ℤ, pos, neg_ℤ, ◌+ℤ◌, ◌*ℤ◌, ◌≤ℤ◌, IsTrue, All, Some, List, ◌∷◌, [], refl, sym, subst, arith}
+use Rattle.std.proofs.lemmas.List.Elements.{All-weaker}
+use Rattle.polcert_check.specs.declared.above.AboveVerdict.{AboveVerdict}
+use Rattle.polcert_check.specs.declared.above.AboveVerdict.TheVariants as above
+use Rattle.polcert_check.specs.declared.verdict.Verdict.{Verdict}
+use Rattle.polcert_check.specs.declared.verdict.Verdict.TheVariants.{Yes, Short, NoSuccessor}
+use Rattle.polcert_check.specs.declared.side.Side.TheVariants.{Above}
+use Rattle.polcert_check.specs.Horizon.{Controller, one, step_scale, runs, is_cut, weight, worth_sum, rewards_sum, Promise, RewardPromise, AtMost, MeetsEveryHorizon, MeetsHorizon, HasCutRun}
+use Rattle.polcert_check.specs.Shortfall.{short, PairPasses, Passes}
+use Rattle.polcert_check.specs.Verdict.{PassesBefore, IsVerdict, NamesSmallAmount}
+use Rattle.polcert_check.specs.Above.{PromiseAbove, AtLeast, RewardPromiseAbove, MeetsEveryHorizonAbove, MeetsHorizonAbove, PairPassesAbove, PassesAbove, PassesAboveBefore, IsAboveVerdict, NamesSmallAmountAbove}
+use Rattle.polcert_check.specs.Steps.Mirrored.{mirrored, above_of}
+use Rattle.polcert_check.specs.Steps.Ranges.{IsController}
+use Rattle.polcert_check.proofs.Horizons.EveryHorizon.{every_horizon, passes_if_promised}
+use Rattle.polcert_check.proofs.Sums.Ring.{linear}
+use Rattle.polcert_check.proofs.Mirrors.Sides.{sided_proper}
+use Rattle.polcert_check.proofs.Mirrors.Mirrored.{neg_product, mirrored_short, mirrored_runs, mirrored_cut, mirrored_weight, mirrored_weights, mirrored_worth, mirrored_earned}
+
+-- ---- numbers
+turn_le : (x y : ℤ) → neg_ℤ x ≤ℤ neg_ℤ y → y ≤ℤ x
+turn_le x y h = omega (arith, linear)
+
+turn_back : (x y : ℤ) → y ≤ℤ x → neg_ℤ x ≤ℤ neg_ℤ y
+turn_back x y h = omega (arith, linear)
+
+turn_up : (x y : ℤ) → neg_ℤ y ≤ℤ x → neg_ℤ x ≤ℤ y
+turn_up x y h = omega (arith, linear)
+
+turn_le_sum : (x r y : ℤ) → neg_ℤ x ≤ℤ (neg_ℤ r +ℤ neg_ℤ y) → (r +ℤ y) ≤ℤ x
+turn_le_sum x r y h = omega (arith, linear)
+
+turn_back_sum : (x r y : ℤ) → (r +ℤ neg_ℤ y) ≤ℤ x → neg_ℤ x ≤ℤ (neg_ℤ r +ℤ y)
+turn_back_sum x r y h = omega (arith, linear)
+
+pub turn_short : (x y : ℤ) → x ≡ neg_ℤ y → x ≤ℤ pos 0 → pos 0 ≤ℤ y
+turn_short x y e h = omega (arith, linear)
+
+pub turn_long : (x y : ℤ) → x ≡ neg_ℤ y → pos 0 ≤ℤ y → x ≤ℤ pos 0
+turn_long x y e h = omega (arith, linear)
+
+-- ---- pairs
+pub pair_above : (c : Controller) (n s : ℕ) → PairPasses (mirrored c) n s → PairPassesAbove c n s
+pair_above c n s h = record { lacks_none = h.lacks_none; not_long = turn_short (short (mirrored c) n s) (short c n s) (mirrored_short c n s) h.not_short }
+
+pub pair_below : (c : Controller) (n s : ℕ) → PairPassesAbove c n s → PairPasses (mirrored c) n s
+pair_below c n s h = record { lacks_none = h.lacks_none; not_short = turn_long (short (mirrored c) n s) (short c n s) (mirrored_short c n s) h.not_long }
+
+pub passes_above : (c : Controller) → Passes (mirrored c) → PassesAbove c
+passes_above c h = λ n s nl sl. pair_above c n s (h n s nl sl)
+
+pub passes_below : (c : Controller) → PassesAbove c → Passes (mirrored c)
+passes_below c h = λ n s nl sl. pair_below c n s (h n s nl sl)
+
+before_above : (c : Controller) (n s : ℕ) → PassesBefore (mirrored c) n s → PassesAboveBefore c n s
+before_above c n s h = λ m t ml tl b. pair_above c m t (h m t ml tl b)
+
+before_below : (c : Controller) (n s : ℕ) → PassesAboveBefore c n s → PassesBefore (mirrored c) n s
+before_below c n s h = λ m t ml tl b. pair_below c m t (h m t ml tl b)
+
+-- the verdict on the mirror image that says this from above
+abbrev pub below_of : AboveVerdict → Verdict
+below_of above.Yes = Yes
+below_of (above.Long n s amount) = Short n s amount
+below_of (above.NoSuccessor n s z) = NoSuccessor n s z
+
+pub above_again : (v : AboveVerdict) → above_of (below_of v) ≡ v
+above_again above.Yes = refl
+above_again (above.Long n s amount) = refl
+above_again (above.NoSuccessor n s z) = refl
+
+pub verdict_above : (c : Controller) (v : Verdict) → IsVerdict (mirrored c) v → IsAboveVerdict c (above_of v)
+verdict_above c Yes h = passes_above c h
+verdict_above c (Short n s amount) h = (h.0, h.1, before_above c n s h.2, h.3, h.4 ∙ mirrored_short c n s, h.5)
+verdict_above c (NoSuccessor n s z) h = (h.0, h.1, before_above c n s h.2, h.3)
+
+pub verdict_below : (c : Controller) (v : AboveVerdict) → IsAboveVerdict c v → IsVerdict (mirrored c) (below_of v)
+verdict_below c above.Yes h = passes_below c h
+verdict_below c (above.Long n s amount) h = (h.0, h.1, before_below c n s h.2, h.3, h.4 ∙ sym (mirrored_short c n s), h.5)
+verdict_below c (above.NoSuccessor n s z) h = (h.0, h.1, before_below c n s h.2, h.3)
+
+pub small_above : (c : Controller) (v : Verdict) → NamesSmallAmount (mirrored c) v → NamesSmallAmountAbove c (above_of v)
+small_above c Yes h = h
+small_above c (Short n s amount) h = h
+small_above c (NoSuccessor n s z) h = h
+
+-- ---- promises
+abbrev CutsWeighNothing : Controller → ℕ → ℕ → List (ℕ × ℕ) → Type 0
+CutsWeighNothing c n s run = IsTrue (is_cut c (Some n) run) → weight c (Some n) s run ≡ 0
+
+cut_above : (c : Controller) (k n s : ℕ) → All (CutsWeighNothing (mirrored c) n s) (runs (mirrored c) k)
+    → All (CutsWeighNothing c n s) (runs c k)
+cut_above c k n s h =
+    All-weaker (CutsWeighNothing (mirrored c) n s) (CutsWeighNothing c n s)
+    (λ run is cut. sym (mirrored_weight c (Some n) s run) ∙ is (subst (λ b. IsTrue b) (sym (mirrored_cut c (Some n) run)) cut))
+    (runs c k)
+    (subst (λ rs. All (CutsWeighNothing (mirrored c) n s) rs) (mirrored_runs c k) h)
+
+cut_below : (c : Controller) (k n s : ℕ) → All (CutsWeighNothing c n s) (runs c k)
+    → All (CutsWeighNothing (mirrored c) n s) (runs (mirrored c) k)
+cut_below c k n s h =
+    subst (λ rs. All (CutsWeighNothing (mirrored c) n s) rs) (sym (mirrored_runs c k))
+    (All-weaker (CutsWeighNothing c n s) (CutsWeighNothing (mirrored c) n s)
+    (λ run is cut. mirrored_weight c (Some n) s run ∙ is (subst (λ b. IsTrue b) (mirrored_cut c (Some n) run) cut))
+    (runs c k) h)
+
+pub promise_above : (c : Controller) (k n s : ℕ) → Promise (mirrored c) k n s → PromiseAbove c k n s
+promise_above c k n s h =
+    let x : ℤ = pos (step_scale c ^ k * one ^ k) in
+    record {
+      cut_runs = cut_above c k n s h.cut_runs;
+      uncut_runs = turn_le (x *ℤ c.value n s) (worth_sum c k (Some n) s)
+          (subst (λ (y : ℤ). y ≤ℤ neg_ℤ (worth_sum c k (Some n) s)) (neg_product x (c.value n s))
+          (subst (λ (y : ℤ). (x *ℤ neg_ℤ (c.value n s)) ≤ℤ y) (mirrored_worth c k (Some n) s) h.uncut_runs));
+    }
+
+pub promise_below : (c : Controller) (k n s : ℕ) → PromiseAbove c k n s → Promise (mirrored c) k n s
+promise_below c k n s h =
+    let x : ℤ = pos (step_scale c ^ k * one ^ k) in
+    record {
+      cut_runs = cut_below c k n s h.cut_runs;
+      uncut_runs = subst (λ (y : ℤ). (x *ℤ neg_ℤ (c.value n s)) ≤ℤ y) (sym (mirrored_worth c k (Some n) s))
+          (subst (λ (y : ℤ). y ≤ℤ neg_ℤ (worth_sum c k (Some n) s)) (sym (neg_product x (c.value n s)))
+          (turn_back (x *ℤ c.value n s) (worth_sum c k (Some n) s) h.uncut_runs));
+    }
+
+at_most : (c : Controller) (m : ℤ) → AtLeast c m → AtMost (mirrored c) (neg_ℤ m)
+at_most c m h = λ n s nl sl. turn_back (c.value n s) m (h n s nl sl)
+
+pub rewards_above : (c : Controller) (k n s : ℕ) → RewardPromise (mirrored c) k n s → RewardPromiseAbove c k n s
+rewards_above c k n s h =
+    let x : ℤ = pos (step_scale c ^ k * one ^ k) in
+    let y : ℤ = pos (c.cells.discount ^ k * step_scale c ^ k) in
+    record {
+      weights = sym (mirrored_weights c k (Some n) s) ∙ h.weights;
+      rewarded = λ m least. turn_le_sum (x *ℤ c.value n s) (rewards_sum c k (Some n) s) (y *ℤ m)
+          (subst (λ (z : ℤ). z ≤ℤ (neg_ℤ (rewards_sum c k (Some n) s) +ℤ neg_ℤ (y *ℤ m))) (neg_product x (c.value n s))
+          (subst (λ (z : ℤ). (x *ℤ neg_ℤ (c.value n s)) ≤ℤ (neg_ℤ (rewards_sum c k (Some n) s) +ℤ z)) (neg_product y m)
+          (subst (λ (z : ℤ). (x *ℤ neg_ℤ (c.value n s)) ≤ℤ (z +ℤ y *ℤ neg_ℤ m)) (mirrored_earned c k (Some n) s) (h.rewarded (neg_ℤ m) (at_most c m least)))));
+    }
+
+at_least : (c : Controller) (m : ℤ) → AtMost (mirrored c) m → AtLeast c (neg_ℤ m)
+at_least c m h = λ n s nl sl. turn_up m (c.value n s) (h n s nl sl)
+
+pub rewards_below : (c : Controller) (k n s : ℕ) → RewardPromiseAbove c k n s → RewardPromise (mirrored c) k n s
+rewards_below c k n s h =
+    let x : ℤ = pos (step_scale c ^ k * one ^ k) in
+    let y : ℤ = pos (c.cells.discount ^ k * step_scale c ^ k) in
+    record {
+      weights = mirrored_weights c k (Some n) s ∙ h.weights;
+      rewarded = λ m most. subst (λ (z : ℤ). z ≤ℤ (rewards_sum (mirrored c) k (Some n) s +ℤ y *ℤ m)) (sym (neg_product x (c.value n s)))
+          (subst (λ (z : ℤ). neg_ℤ (x *ℤ c.value n s) ≤ℤ (z +ℤ y *ℤ m)) (sym (mirrored_earned c k (Some n) s))
+          (turn_back_sum (x *ℤ c.value n s) (rewards_sum c k (Some n) s) (y *ℤ m)
+          (subst (λ (z : ℤ). (rewards_sum c k (Some n) s +ℤ z) ≤ℤ (x *ℤ c.value n s)) (neg_product y m) (h.rewarded (neg_ℤ m) (at_least c m most)))));
+    }
+
+pub every_horizon_above : (c : Controller) → MeetsEveryHorizon (mirrored c) → MeetsEveryHorizonAbove c
+every_horizon_above c h = λ k n s nl sl. let both = h k n s nl sl in (promise_above c k n s both.0, rewards_above c k n s both.1)
+
+cut_run_above : (c : Controller) (n s z : ℕ) → HasCutRun (mirrored c) n s z → HasCutRun c n s z
+cut_run_above c n s z h =
+    let run : List (ℕ × ℕ) = (h.0, z) ∷ [] in (
+      h.0,
+      h.1,
+      subst (λ b. IsTrue b) (mirrored_cut c (Some n) run) h.2,
+      subst (λ (w : ℕ). 0 < w) (mirrored_weight c (Some n) s run) h.3,
+    )
+
+every_horizon_below : (c : Controller) → MeetsEveryHorizonAbove c → MeetsEveryHorizon (mirrored c)
+every_horizon_below c h = λ k n s nl sl. let both = h k n s nl sl in (promise_below c k n s both.0, rewards_below c k n s both.1)
+
+cut_run_below : (c : Controller) (n s z : ℕ) → HasCutRun c n s z → HasCutRun (mirrored c) n s z
+cut_run_below c n s z h =
+    let run : List (ℕ × ℕ) = (h.0, z) ∷ [] in (
+      h.0,
+      h.1,
+      subst (λ b. IsTrue b) (sym (mirrored_cut c (Some n) run)) h.2,
+      subst (λ (w : ℕ). 0 < w) (sym (mirrored_weight c (Some n) s run)) h.3,
+    )
+
+pub horizon_above : (c : Controller) (v : Verdict) → MeetsHorizon (mirrored c) v → MeetsHorizonAbove c (above_of v)
+horizon_above c Yes h = every_horizon_above c h
+horizon_above c (Short n s amount) h = λ p. h (promise_below c 1 n s p)
+horizon_above c (NoSuccessor n s z) h = ((λ p. h.0 (promise_below c 1 n s p)), cut_run_above c n s z h.1)
+
+pub horizon_below : (c : Controller) (v : AboveVerdict) → MeetsHorizonAbove c v → MeetsHorizon (mirrored c) (below_of v)
+horizon_below c above.Yes h = every_horizon_below c h
+horizon_below c (above.Long n s amount) h = λ p. h (promise_above c 1 n s p)
+horizon_below c (above.NoSuccessor n s z) h = ((λ p. h.0 (promise_above c 1 n s p)), cut_run_below c n s z h.1)
+
+-- ---- where every pair passes, and only there
+pub horizons_above : (c : Controller) → IsController c → PassesAbove c → MeetsEveryHorizonAbove c
+horizons_above c p h = every_horizon_above c (every_horizon (mirrored c) (sided_proper Above c p) (passes_below c h))
+
+pub promised_above : (c : Controller) → IsController c → PassesAbove c → (k n s : ℕ) → n < c.nodes → s < c.cells.states → PromiseAbove c k n s
+promised_above c p h k n s nl sl = (horizons_above c p h k n s nl sl).0
+
+pub passes_if_promised_above : (c : Controller) (n s : ℕ) → PromiseAbove c 1 n s → PairPassesAbove c n s
+passes_if_promised_above c n s h = pair_above c n s (passes_if_promised (mirrored c) n s (promise_below c 1 n s h))

@@ -1,0 +1,140 @@
+-- What is so of a controller, and what of its mirror image: each sum of rewards and values is negated, and weights stay.
+use Rattle.std.proofs.Common.{◌≡◌, ◌∙◌, ℕ, zero, suc, ◌-◌, ◌*◌, ◌^◌, ℤ, pos, neg_ℤ, ◌+ℤ◌, ◌-ℤ◌, ◌*ℤ◌, Bool, not, cond, Option, Some, None, List, [], ◌∷◌, map, filter, flat_map, get_or, refl, sym, ap, arith}
+use Rattle.polcert_check.specs.Horizon.{Controller, one, total_below, sum_over, step_weight, step_scale, pairs, runs, is_cut, weight, rewards, end_value, reward_part, total, uncut, weights_sum, worth_sum, rewards_sum}
+use Rattle.polcert_check.specs.Shortfall.{at_node, backing, short}
+use Rattle.polcert_check.specs.Steps.Mirrored.{mirrored}
+use Rattle.polcert_check.proofs.Sums.Ring.{linear, *ℤ-+ℤ}
+use Rattle.polcert_check.proofs.Sums.SumLaws.{sum_below_same, sum_over_same}
+
+-- ---- numbers
+neg_sum : (x y : ℤ) → neg_ℤ x +ℤ neg_ℤ y ≡ neg_ℤ (x +ℤ y)
+neg_sum x y = omega (arith, linear)
+
+neg_difference : (x y : ℤ) → neg_ℤ x -ℤ neg_ℤ y ≡ neg_ℤ (x -ℤ y)
+neg_difference x y = omega (arith, linear)
+
+from_zero : (x y : ℤ) → x +ℤ y ≡ pos 0 → y ≡ neg_ℤ x
+from_zero x y e = omega (arith, linear)
+
+neg_cancels : (x : ℤ) → x +ℤ neg_ℤ x ≡ pos 0
+neg_cancels x = omega (arith, linear)
+
+times_zero : (x : ℤ) → x *ℤ pos 0 ≡ pos 0
+times_zero x = let e : x *ℤ pos 0 ≡ x *ℤ pos 0 +ℤ x *ℤ pos 0 = *ℤ-+ℤ x (pos 0) (pos 0) in omega (arith, linear)
+
+pub neg_product : (x y : ℤ) → x *ℤ neg_ℤ y ≡ neg_ℤ (x *ℤ y)
+neg_product x y = from_zero (x *ℤ y) (x *ℤ neg_ℤ y) (sym (*ℤ-+ℤ x y (neg_ℤ y)) ∙ ap (λ (z : ℤ). x *ℤ z) (neg_cancels y) ∙ times_zero x)
+
+-- ---- sums
+pub sum_below_neg : (f : ℕ → ℤ) (n : ℕ) → total_below (λ i. neg_ℤ (f i)) n ≡ neg_ℤ (total_below f n)
+sum_below_neg f zero = refl
+sum_below_neg f (suc n) = ap (λ (x : ℤ). x +ℤ neg_ℤ (f n)) (sum_below_neg f n) ∙ neg_sum (total_below f n) (f n)
+
+sum_over_neg : {X : Type 0} (f : X → ℤ) (xs : List X) → sum_over (λ x. neg_ℤ (f x)) xs ≡ neg_ℤ (sum_over f xs)
+sum_over_neg f [] = refl
+sum_over_neg f (x ∷ xs) = ap (λ (y : ℤ). neg_ℤ (f x) +ℤ y) (sum_over_neg f xs) ∙ neg_sum (f x) (sum_over f xs)
+
+get_neg : (xs : List ℤ) (i : ℕ) → get_or (map neg_ℤ xs) i (pos 0) ≡ neg_ℤ (get_or xs i (pos 0))
+get_neg [] i = refl
+get_neg (x ∷ xs) zero = refl
+get_neg (x ∷ xs) (suc i) = get_neg xs i
+
+-- ---- one step
+mirrored_step : (c : Controller) (n s e z : ℕ) (at : Option ℕ)
+    → at_node (λ m. pos (step_weight c n s e z) *ℤ (pos one *ℤ neg_ℤ (c.cells.r (c.action n) s e z) +ℤ pos c.cells.discount *ℤ neg_ℤ (c.value m e))) at
+    ≡ neg_ℤ (at_node (λ m. pos (step_weight c n s e z) *ℤ (pos one *ℤ c.cells.r (c.action n) s e z +ℤ pos c.cells.discount *ℤ c.value m e)) at)
+mirrored_step c n s e z None = refl
+mirrored_step c n s e z (Some m) =
+    let w : ℤ = pos (step_weight c n s e z) in
+    let r : ℤ = c.cells.r (c.action n) s e z in
+    let g : ℤ = pos c.cells.discount in
+    let v : ℤ = c.value m e in
+    ap (λ (x : ℤ). w *ℤ (x +ℤ g *ℤ neg_ℤ v)) (neg_product (pos one) r)
+    ∙ ap (λ (x : ℤ). w *ℤ (neg_ℤ (pos one *ℤ r) +ℤ x)) (neg_product g v)
+    ∙ ap (λ (x : ℤ). w *ℤ x) (neg_sum (pos one *ℤ r) (g *ℤ v))
+    ∙ neg_product w (pos one *ℤ r +ℤ g *ℤ v)
+
+pub mirrored_backing : (c : Controller) (n s : ℕ) → backing (mirrored c) n s ≡ neg_ℤ (backing c n s)
+mirrored_backing c n s =
+    let term = λ (e z : ℕ). at_node (λ m. pos (step_weight c n s e z) *ℤ (pos one *ℤ c.cells.r (c.action n) s e z +ℤ pos c.cells.discount *ℤ c.value m e)) (c.next n z) in
+    sum_below_same _ (λ e. neg_ℤ (total_below (term e) c.cells.observations)) c.cells.states
+    (λ e _. sum_below_same _ (λ z. neg_ℤ (term e z)) c.cells.observations (λ z _. mirrored_step c n s e z (c.next n z)) ∙ sum_below_neg (term e) c.cells.observations)
+    ∙ sum_below_neg (λ e. total_below (term e) c.cells.observations) c.cells.states
+
+pub mirrored_short : (c : Controller) (n s : ℕ) → short (mirrored c) n s ≡ neg_ℤ (short c n s)
+mirrored_short c n s =
+    let q : ℤ = pos (step_scale c * one) in
+    ap (λ (x : ℤ). x -ℤ backing (mirrored c) n s) (neg_product q (c.value n s))
+    ∙ ap (λ (x : ℤ). neg_ℤ (q *ℤ c.value n s) -ℤ x) (mirrored_backing c n s)
+    ∙ neg_difference (q *ℤ c.value n s) (backing c n s)
+
+-- ---- runs
+pub mirrored_runs : (c : Controller) (k : ℕ) → runs (mirrored c) k ≡ runs c k
+mirrored_runs c zero = refl
+mirrored_runs c (suc k) = ap (λ rs. flat_map (λ p. map (λ run. p ∷ run) rs) (pairs c)) (mirrored_runs c k)
+
+pub mirrored_cut : (c : Controller) (at : Option ℕ) (run : List (ℕ × ℕ)) → is_cut (mirrored c) at run ≡ is_cut c at run
+mirrored_cut c None run = refl
+mirrored_cut c (Some n) [] = refl
+mirrored_cut c (Some n) (p ∷ run) = mirrored_cut c (c.next n p.1) run
+
+pub mirrored_weight : (c : Controller) (at : Option ℕ) (s : ℕ) (run : List (ℕ × ℕ)) → weight (mirrored c) at s run ≡ weight c at s run
+mirrored_weight c None s run = refl
+mirrored_weight c (Some n) s [] = refl
+mirrored_weight c (Some n) s (p ∷ run) = ap (λ w. step_weight c n s p.0 p.1 * w) (mirrored_weight c (c.next n p.1) p.0 run)
+
+mirrored_rewards : (c : Controller) (at : Option ℕ) (s : ℕ) (run : List (ℕ × ℕ)) → rewards (mirrored c) at s run ≡ map neg_ℤ (rewards c at s run)
+mirrored_rewards c None s run = refl
+mirrored_rewards c (Some n) s [] = refl
+mirrored_rewards c (Some n) s (p ∷ run) = ap (λ rs. neg_ℤ (c.cells.r (c.action n) s p.0 p.1) ∷ rs) (mirrored_rewards c (c.next n p.1) p.0 run)
+
+mirrored_end : (c : Controller) (at : Option ℕ) (s : ℕ) (run : List (ℕ × ℕ)) → end_value (mirrored c) at s run ≡ neg_ℤ (end_value c at s run)
+mirrored_end c None s run = refl
+mirrored_end c (Some n) s [] = refl
+mirrored_end c (Some n) s (p ∷ run) = mirrored_end c (c.next n p.1) p.0 run
+
+mirrored_part : (c : Controller) (k : ℕ) (at : Option ℕ) (s : ℕ) (run : List (ℕ × ℕ)) → reward_part (mirrored c) k at s run ≡ neg_ℤ (reward_part c k at s run)
+mirrored_part c k at s run =
+    let factor = λ (i : ℕ). pos (c.cells.discount ^ i * one ^ (k - i)) in
+    let earned = λ (i : ℕ). get_or (rewards c at s run) i (pos 0) in
+    sum_below_same _ (λ i. neg_ℤ (factor i *ℤ earned i)) k
+    (λ i _. ap (λ rs. factor i *ℤ get_or rs i (pos 0)) (mirrored_rewards c at s run) ∙ ap (λ (x : ℤ). factor i *ℤ x) (get_neg (rewards c at s run) i) ∙ neg_product (factor i) (earned i))
+    ∙ sum_below_neg (λ i. factor i *ℤ earned i) k
+
+mirrored_total : (c : Controller) (k : ℕ) (at : Option ℕ) (s : ℕ) (run : List (ℕ × ℕ)) → total (mirrored c) k at s run ≡ neg_ℤ (total c k at s run)
+mirrored_total c k at s run =
+    let g : ℤ = pos (c.cells.discount ^ k) in
+    ap (λ (x : ℤ). x +ℤ g *ℤ end_value (mirrored c) at s run) (mirrored_part c k at s run)
+    ∙ ap (λ (x : ℤ). neg_ℤ (reward_part c k at s run) +ℤ g *ℤ x) (mirrored_end c at s run)
+    ∙ ap (λ (x : ℤ). neg_ℤ (reward_part c k at s run) +ℤ x) (neg_product g (end_value c at s run))
+    ∙ neg_sum (reward_part c k at s run) (g *ℤ end_value c at s run)
+
+-- the same runs are left
+kept_same : {X : Type 0} (p q : X → Bool) (xs : List X) → ((x : X) → p x ≡ q x) → filter p xs ≡ filter q xs
+kept_same p q [] h = refl
+kept_same p q (x ∷ xs) h = ap (λ b. cond b (x ∷ filter p xs) (filter p xs)) (h x) ∙ ap (λ ys. cond (q x) (x ∷ ys) ys) (kept_same p q xs h)
+
+mirrored_uncut : (c : Controller) (k : ℕ) (at : Option ℕ) → uncut (mirrored c) k at ≡ uncut c k at
+mirrored_uncut c k at =
+    kept_same (λ run. not (is_cut (mirrored c) at run)) (λ run. not (is_cut c at run)) (runs (mirrored c) k) (λ run. ap not (mirrored_cut c at run))
+    ∙ ap (λ rs. filter (λ run. not (is_cut c at run)) rs) (mirrored_runs c k)
+
+-- ---- sums over the runs
+pub mirrored_weights : (c : Controller) (k : ℕ) (at : Option ℕ) (s : ℕ) → weights_sum (mirrored c) k at s ≡ weights_sum c k at s
+mirrored_weights c k at s =
+    ap (λ rs. sum_over (λ run. pos (weight (mirrored c) at s run)) rs) (mirrored_uncut c k at)
+    ∙ sum_over_same _ (λ run. pos (weight c at s run)) (uncut c k at) (λ run. ap pos (mirrored_weight c at s run))
+
+mirrored_mean : (c : Controller) (k : ℕ) (at : Option ℕ) (s : ℕ) (f g : List (ℕ × ℕ) → ℤ) → ((run : List (ℕ × ℕ)) → f run ≡ neg_ℤ (g run))
+    → sum_over (λ run. pos (weight (mirrored c) at s run) *ℤ f run) (uncut (mirrored c) k at) ≡ neg_ℤ (sum_over (λ run. pos (weight c at s run) *ℤ g run) (uncut c k at))
+mirrored_mean c k at s f g h =
+    ap (λ rs. sum_over (λ run. pos (weight (mirrored c) at s run) *ℤ f run) rs) (mirrored_uncut c k at)
+    ∙ sum_over_same _ (λ run. neg_ℤ (pos (weight c at s run) *ℤ g run)) (uncut c k at)
+    (λ run. ap (λ w. pos w *ℤ f run) (mirrored_weight c at s run) ∙ ap (λ (x : ℤ). pos (weight c at s run) *ℤ x) (h run) ∙ neg_product (pos (weight c at s run)) (g run))
+    ∙ sum_over_neg (λ run. pos (weight c at s run) *ℤ g run) (uncut c k at)
+
+pub mirrored_worth : (c : Controller) (k : ℕ) (at : Option ℕ) (s : ℕ) → worth_sum (mirrored c) k at s ≡ neg_ℤ (worth_sum c k at s)
+mirrored_worth c k at s = mirrored_mean c k at s (total (mirrored c) k at s) (total c k at s) (mirrored_total c k at s)
+
+pub mirrored_earned : (c : Controller) (k : ℕ) (at : Option ℕ) (s : ℕ) → rewards_sum (mirrored c) k at s ≡ neg_ℤ (rewards_sum c k at s)
+mirrored_earned c k at s = mirrored_mean c k at s (reward_part (mirrored c) k at s) (reward_part c k at s) (mirrored_part c k at s)

@@ -1,0 +1,59 @@
+-- Absolute values, and which sums fit 128 bits.
+use Rattle.std.proofs.Common.{◌≡◌, ℕ, zero, suc, ◌+◌, ◌*◌, ◌^◌, ◌<◌, ◌≤◌, ℤ, pos, ◌+ℤ◌, ◌*ℤ◌, ◌≤ℤ◌, unsigned_abs, FitsSigned, ap, arith, lit<, ◌⊎◌, inl, inr}
+use mir.Syntax.{w128}
+use Rattle.std.proofs.lemmas.Int.{ints, unsigned_abs-mul, fits_signed_from_abs}
+use Rattle.std.proofs.Math.Nat.{mul-le-mul}
+use Rattle.std.proofs.lemmas.Bool.{cases_lt}
+use Rattle.std.proofs.Math.IntN.{*ℤ_comm}
+use Rattle.polcert_text.specs.Numbers.{largest}
+use Rattle.polcert_check.specs.Horizon.{total_below}
+use Rattle.polcert_check.specs.Steps.Ranges.{most_scales, most_sum}
+use Rattle.polcert_check.proofs.Sums.Ring.{linear, mul_le, +ℤ-*ℤ}
+
+pub abs-+ℤ : (a b : ℤ) → unsigned_abs (a +ℤ b) ≤ unsigned_abs a + unsigned_abs b
+abs-+ℤ a b = omega (arith, ints)
+
+pub abs-*ℤ_le : (a b : ℤ) (m n : ℕ) → unsigned_abs a ≤ m → unsigned_abs b ≤ n → unsigned_abs (a *ℤ b) ≤ m * n
+abs-*ℤ_le a b m n h k = rw (unsigned_abs-mul a b) (mul-le-mul h k)
+
+pub fits_128 : (z : ℤ) (m : ℕ) → unsigned_abs z ≤ m → m < 2 ^ 127 → FitsSigned w128 z
+fits_128 z m h k = fits_signed_from_abs w128 z (omega arith)
+
+-- ---- bounds of sums
+pub abs_sum_le : (f : ℕ → ℤ) (w : ℕ → ℕ) (b n : ℕ) → ((i : ℕ) → i < n → unsigned_abs (f i) ≤ w i * b) → pos (unsigned_abs (total_below f n)) ≤ℤ (total_below (λ i. pos (w i)) n *ℤ pos b)
+abs_sum_le f w b zero h = omega (arith, ints)
+abs_sum_le f w b (suc n) h =
+    let before : pos (unsigned_abs (total_below f n)) ≤ℤ (total_below (λ i. pos (w i)) n *ℤ pos b) = abs_sum_le f w b n (λ i l. h i (omega arith)) in
+    let here : unsigned_abs (f n) ≤ w n * b = h n (omega arith) in
+    let both : unsigned_abs (total_below f n +ℤ f n) ≤ unsigned_abs (total_below f n) + unsigned_abs (f n) = abs-+ℤ (total_below f n) (f n) in
+    rw (+ℤ-*ℤ (total_below (λ i. pos (w i)) n) (pos (w n)) (pos b)) (omega (arith, linear))
+
+pub sum_below_upto : (w : ℕ → ℕ) (i n : ℕ) → i ≤ n → total_below (λ i. pos (w i)) i ≤ℤ total_below (λ i. pos (w i)) n
+sum_below_upto w i zero h = let e : i ≡ 0 = omega arith in rw e (omega (arith, linear))
+sum_below_upto w i (suc n) h = go (cases_lt n i) (λ l. sum_below_upto w i n l)
+  where
+    go : (n < i) ⊎ (i ≤ n) → (i ≤ n → total_below (λ i. pos (w i)) i ≤ℤ total_below (λ i. pos (w i)) n) → total_below (λ i. pos (w i)) i ≤ℤ (total_below (λ i. pos (w i)) n +ℤ pos (w n))
+    go (inl l) before = let e : i ≡ suc n = omega arith in rw e (omega (arith, linear))
+    go (inr l) before = let b : total_below (λ i. pos (w i)) i ≤ℤ total_below (λ i. pos (w i)) n = before l in omega (arith, linear)
+
+-- a part of the sum of terms that are at most w times b, where all w sum to the scale
+pub abs_part_le : (f : ℕ → ℤ) (w : ℕ → ℕ) (b i n scale : ℕ) → total_below (λ i. pos (w i)) n ≡ pos scale → i ≤ n → ((i : ℕ) → i < n → unsigned_abs (f i) ≤ w i * b) → unsigned_abs (total_below f i) ≤ scale * b
+abs_part_le f w b i n scale all l h =
+    let part : pos (unsigned_abs (total_below f i)) ≤ℤ (total_below (λ i. pos (w i)) i *ℤ pos b) = abs_sum_le f w b i (λ j k. h j (omega arith)) in
+    let up : (pos b *ℤ total_below (λ i. pos (w i)) i) ≤ℤ (pos b *ℤ total_below (λ i. pos (w i)) n) = mul_le b _ _ (sum_below_upto w i n l) in
+    let is : pos b *ℤ total_below (λ i. pos (w i)) n ≡ pos (b * scale) = ap (λ (x : ℤ). pos b *ℤ x) all in
+    let turn : total_below (λ i. pos (w i)) i *ℤ pos b ≡ pos b *ℤ total_below (λ i. pos (w i)) i = *ℤ_comm (total_below (λ i. pos (w i)) i) (pos b) in
+    omega (arith, linear)
+
+pub term_le : (w : ℕ → ℕ) (i n scale : ℕ) → total_below (λ i. pos (w i)) n ≡ pos scale → i < n → w i ≤ scale
+term_le w i n scale all l =
+    let h : (total_below (λ i. pos (w i)) i +ℤ pos (w i)) ≤ℤ total_below (λ i. pos (w i)) n = sum_below_upto w (suc i) n l in
+    let low : pos 0 ≤ℤ total_below (λ i. pos (w i)) i = sum_below_upto w 0 i (omega arith) in
+    omega (arith, linear)
+
+-- a value on the scale of one step
+pub scaled_fits : (t o : ℕ) (v : ℤ) → t * o ≤ most_scales → unsigned_abs v ≤ largest → FitsSigned w128 (pos (t * o) *ℤ pos 1000000) × FitsSigned w128 v × FitsSigned w128 ((pos (t * o) *ℤ pos 1000000) *ℤ v) × (unsigned_abs ((pos (t * o) *ℤ pos 1000000) *ℤ v) ≤ most_sum) × (t * o < 2 ^ 64)
+scaled_fits t o v q vl =
+    let s : unsigned_abs (pos (t * o) *ℤ pos 1000000) ≤ most_scales * 1000000 = abs-*ℤ_le (pos (t * o)) (pos 1000000) most_scales 1000000 q (omega arith) in
+    let b : unsigned_abs ((pos (t * o) *ℤ pos 1000000) *ℤ v) ≤ most_sum = abs-*ℤ_le (pos (t * o) *ℤ pos 1000000) v (most_scales * 1000000) largest s vl in
+    (fits_128 _ (most_scales * 1000000) s (lit< tt), fits_128 v largest vl (lit< tt), fits_128 _ most_sum b (lit< tt), b, omega (arith, q))

@@ -1,0 +1,8 @@
+-- What nobody has to believe: only contracts of private functions, and of layers below the crates that callers use, cite these.
+pub mod Certificate
+pub mod Factored
+pub mod Findings
+pub mod Followed
+pub mod Mirrored
+pub mod Ranges
+pub mod Walks

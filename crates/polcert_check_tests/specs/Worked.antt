@@ -1,0 +1,2 @@
+-- Worked examples, and what the definitions say of them.
+pub mod Examples

@@ -1,0 +1,163 @@
+-- Full forms, typed line by line.
+use Rattle.std.specs.Prelude.{ℕ, Bool, List, [], ◌∷◌, ◌++◌, None, codes}
+use Rattle.polcert_cells.specs.declared.elements.Elements.TheVariants.{Count}
+use Rattle.polcert_cells.specs.declared.entry.Place.TheVariants.{Only}
+use Rattle.polcert_cells.specs.declared.entry.Body.TheVariants.{Probabilities}
+use Rattle.polcert_cells.specs.Meaning.{Meaning, meaning_of}
+use Rattle.polcert_examples.specs.Worked.Examples.{transition, rewards, whole}
+
+abbrev pub tiger_form : List ℕ
+tiger_form =
+    codes "discount: 0.95\n"
+    ++ codes "values: reward\n"
+    ++ codes "states: tiger-left tiger-right\n"
+    ++ codes "actions: listen open-left open-right\n"
+    ++ codes "observations: tiger-left tiger-right\n"
+    ++ codes "start: uniform\n"
+    ++ codes "T: 0 : 0\n"
+    ++ codes "1 0\n"
+    ++ codes "T: 0 : 1\n"
+    ++ codes "0 1\n"
+    ++ codes "T: 1 : 0\n"
+    ++ codes "uniform\n"
+    ++ codes "T: 1 : 1\n"
+    ++ codes "uniform\n"
+    ++ codes "T: 2 : 0\n"
+    ++ codes "uniform\n"
+    ++ codes "T: 2 : 1\n"
+    ++ codes "uniform\n"
+    ++ codes "O: 0 : 0\n"
+    ++ codes "0.85 0.15\n"
+    ++ codes "O: 0 : 1\n"
+    ++ codes "0.15 0.85\n"
+    ++ codes "O: 1 : 0\n"
+    ++ codes "uniform\n"
+    ++ codes "O: 1 : 1\n"
+    ++ codes "uniform\n"
+    ++ codes "O: 2 : 0\n"
+    ++ codes "uniform\n"
+    ++ codes "O: 2 : 1\n"
+    ++ codes "uniform\n"
+    ++ codes "R: 0 : 0 : 0\n"
+    ++ codes "-1 -1\n"
+    ++ codes "R: 0 : 0 : 1\n"
+    ++ codes "-1 -1\n"
+    ++ codes "R: 0 : 1 : 0\n"
+    ++ codes "-1 -1\n"
+    ++ codes "R: 0 : 1 : 1\n"
+    ++ codes "-1 -1\n"
+    ++ codes "R: 1 : 0 : 0\n"
+    ++ codes "-100 -100\n"
+    ++ codes "R: 1 : 0 : 1\n"
+    ++ codes "-100 -100\n"
+    ++ codes "R: 1 : 1 : 0\n"
+    ++ codes "10 10\n"
+    ++ codes "R: 1 : 1 : 1\n"
+    ++ codes "10 10\n"
+    ++ codes "R: 2 : 0 : 0\n"
+    ++ codes "10 10\n"
+    ++ codes "R: 2 : 0 : 1\n"
+    ++ codes "10 10\n"
+    ++ codes "R: 2 : 1 : 0\n"
+    ++ codes "-100 -100\n"
+    ++ codes "R: 2 : 1 : 1\n"
+    ++ codes "-100 -100\n"
+
+abbrev pub first_form : List ℕ
+first_form =
+    codes "discount: 0.95\n"
+    ++ codes "values: reward\n"
+    ++ codes "states: 2\n"
+    ++ codes "actions: 1\n"
+    ++ codes "observations: 2\n"
+    ++ codes "start: uniform\n"
+    ++ codes "T: 0 : 0\n"
+    ++ codes "1 0\n"
+    ++ codes "T: 0 : 1\n"
+    ++ codes "0 1\n"
+    ++ codes "O: 0 : 0\n"
+    ++ codes "0.85 0.15\n"
+    ++ codes "O: 0 : 1\n"
+    ++ codes "0.15 0.85\n"
+    ++ codes "R: 0 : 0 : 0\n"
+    ++ codes "-1 0\n"
+
+-- the row of thirds is `uniform`
+abbrev pub thirds_form : List ℕ
+thirds_form =
+    codes "discount: 1\n"
+    ++ codes "values: reward\n"
+    ++ codes "states: 3\n"
+    ++ codes "actions: 1\n"
+    ++ codes "observations: 1\n"
+    ++ codes "start: uniform\n"
+    ++ codes "T: 0 : 0\n"
+    ++ codes "uniform\n"
+    ++ codes "T: 0 : 1\n"
+    ++ codes "uniform\n"
+    ++ codes "T: 0 : 2\n"
+    ++ codes "uniform\n"
+    ++ codes "O: 0 : 0\n"
+    ++ codes "uniform\n"
+    ++ codes "O: 0 : 1\n"
+    ++ codes "uniform\n"
+    ++ codes "O: 0 : 2\n"
+    ++ codes "uniform\n"
+
+-- behind `uniform` the columns of another weight, one by one
+abbrev pub sixths_form : List ℕ
+sixths_form =
+    codes "discount: 1\n"
+    ++ codes "values: reward\n"
+    ++ codes "states: 6\n"
+    ++ codes "actions: 1\n"
+    ++ codes "observations: 1\n"
+    ++ codes "start: uniform\n"
+    ++ codes "T: 0 : 0\n"
+    ++ codes "uniform\n"
+    ++ codes "T: 0 : 0 : 0 0.5\n"
+    ++ codes "T: 0 : 0 : 1 0\n"
+    ++ codes "T: 0 : 0 : 2 0\n"
+    ++ codes "T: 0 : 1\n"
+    ++ codes "0 1 0 0 0 0\n"
+    ++ codes "T: 0 : 2\n"
+    ++ codes "0 0 1 0 0 0\n"
+    ++ codes "T: 0 : 3\n"
+    ++ codes "0 0 0 1 0 0\n"
+    ++ codes "T: 0 : 4\n"
+    ++ codes "0 0 0 0 1 0\n"
+    ++ codes "T: 0 : 5\n"
+    ++ codes "0 0 0 0 0 1\n"
+    ++ codes "O: 0 : 0\n"
+    ++ codes "uniform\n"
+    ++ codes "O: 0 : 1\n"
+    ++ codes "uniform\n"
+    ++ codes "O: 0 : 2\n"
+    ++ codes "uniform\n"
+    ++ codes "O: 0 : 3\n"
+    ++ codes "uniform\n"
+    ++ codes "O: 0 : 4\n"
+    ++ codes "uniform\n"
+    ++ codes "O: 0 : 5\n"
+    ++ codes "uniform\n"
+
+-- an MDP of two states, with rewards or costs: `T: 0 0 1 1 0 R: 0 : 0 : 1 1`
+abbrev pub two_states : Bool → Meaning
+two_states costs = meaning_of (record { discount = 500_000; costs = costs; states = Count 2; actions = Count 1; observations = None }) None
+    (transition (Only 0 ∷ []) (Probabilities (0 ∷ 1_000_000 ∷ 1_000_000 ∷ 0 ∷ []))
+    ∷ rewards (Only 0 ∷ Only 0 ∷ Only 1 ∷ []) (whole 1 ∷ []) ∷ [])
+
+-- where this stands behind `values:`
+abbrev pub two_states_form : List ℕ → List ℕ
+two_states_form values =
+    codes "discount: 0.5\n"
+    ++ codes "values: " ++ values ++ codes "\n"
+    ++ codes "states: 2\n"
+    ++ codes "actions: 1\n"
+    ++ codes "start: uniform\n"
+    ++ codes "T: 0 : 0\n"
+    ++ codes "0 1\n"
+    ++ codes "T: 0 : 1\n"
+    ++ codes "1 0\n"
+    ++ codes "R: 0 : 0\n"
+    ++ codes "0 1\n"

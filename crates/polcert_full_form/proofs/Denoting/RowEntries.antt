@@ -1,0 +1,258 @@
+-- The entries of a row as it is printed give the row's weights back.
+use Rattle.std.proofs.Common.{◌≡◌, ◌∙◌, ℕ, zero, suc, ◌+◌, ◌*◌, ◌/◌, ◌%◌, ◌<◌, ◌==◌, ◌≢◌, ◌⊎◌, ⊎_elim, inl, inr, Bool, true, false, ◌&&◌, cond, Some, List, [], ◌∷◌, ◌++◌, drop, get_or, refl, sym, ap, subst, arith}
+use Rattle.std.specs.List.{list_any}
+use Rattle.std.proofs.lemmas.Bool.Decides.{nat_tests}
+use Rattle.std.proofs.lemmas.Nat.{div-mul-add, div-add-mod'}
+use Rattle.std.proofs.lemmas.List.FromFn.{get_or-map-range_with_len}
+use Rattle.polcert_cells.specs.declared.entry.Table.{Table}
+use Rattle.polcert_cells.specs.declared.entry.Table.TheVariants.{Transition, Observation, Reward}
+use Rattle.polcert_cells.specs.declared.entry.Place.TheVariants.{Only}
+use Rattle.polcert_cells.specs.declared.entry.Body.{Body}
+use Rattle.polcert_cells.specs.declared.entry.Body.TheVariants.{Probabilities, Uniform}
+use Rattle.polcert_cells.specs.declared.entry.Entry.{Entry}
+use Rattle.polcert_cells.specs.declared.elements.Elements.{Elements}
+use Rattle.polcert_cells.specs.Numbers.{one}
+use Rattle.polcert_cells.specs.Elements.{count_of}
+use Rattle.polcert_cells.specs.Preamble.{Preamble, is_mdp, dimensions, named, columns, observed}
+use Rattle.polcert_cells.specs.Entry.{forms, MayBeGiven}
+use Rattle.polcert_cells.specs.Cells.{fit_places, is_table, covers, weight_of, row_major}
+use Rattle.polcert_cells.proofs.Basics.{and_true, is_true_or_false, true≢false}
+use Rattle.polcert_format.specs.FullForm.{for_each, values, all_below, is_uniform, is_decimal}
+use Rattle.polcert_full_form.proofs.Denoting.Covering.{last_of, none_of, last_behind, last_before, none_both, none_of_each, last_of_each}
+
+-- ---- the entries
+abbrev pub whole_row : Table → ℕ → ℕ → Body → Entry
+whole_row table a s body = record { table = table; places = Only a ∷ Only s ∷ []; body = body }
+
+abbrev pub one_cell : Table → ℕ → ℕ → ℕ → ℕ → Entry
+one_cell table a s c p = record { table = table; places = Only a ∷ Only s ∷ Only c ∷ []; body = Probabilities (p ∷ []) }
+
+abbrev pub cell_entries : Table → ℕ → ℕ → ℕ → (ℕ → ℕ) → ℕ → List Entry
+cell_entries table a s n w c = cond (w c == one) [] (one_cell table a s c (w c / n) ∷ [])
+
+abbrev pub single_cells : Table → ℕ → ℕ → ℕ → (ℕ → ℕ) → List Entry
+single_cells table a s n w = whole_row table a s Uniform ∷ [] ++ for_each n (cell_entries table a s n w)
+
+abbrev pub decimal_row : Table → ℕ → ℕ → ℕ → (ℕ → ℕ) → List Entry
+decimal_row table a s n w = whole_row table a s (Probabilities (values n (λ c. w c / n))) ∷ []
+
+abbrev pub uniform_row : Table → ℕ → ℕ → List Entry
+uniform_row table a s = whole_row table a s Uniform ∷ []
+
+abbrev pub row_entries : Table → ℕ → ℕ → ℕ → (ℕ → ℕ) → List Entry
+row_entries table a s n w =
+    cond (is_uniform n w) (uniform_row table a s) (cond (is_decimal n w) (decimal_row table a s n w) (single_cells table a s n w))
+
+-- a weight of one part in n, or of a number of millionths
+abbrev pub Fits : ℕ → ℕ → Type 0
+Fits n w = (w ≡ one) ⊎ ((q : ℕ) × (w ≡ q * n))
+
+-- ---- tests
+pub test_below : (n c : ℕ) (test : ℕ → Bool) → all_below n test ≡ true → c < n → test c ≡ true
+test_below zero c test e l = absurd (omega (arith, l))
+test_below (suc n) c test e l =
+    let both = and_true (all_below n test) (test n) e in
+    ⊎_elim (λ same. subst (λ x. test x ≡ true) (sym same) both.1) (λ less. test_below n c test both.0 less) (here_or_before c n l)
+  where
+    here_or_before : (i n : ℕ) → i < suc n → (i ≡ n) ⊎ (i < n)
+    here_or_before i n l = grind arith
+
+pub test_same : (m n : ℕ) → (m == n) ≡ true → m ≡ n
+test_same m n e = grind (arith, nat_tests)
+
+-- a number is the same as another, or not
+pub same_or_other : (c k : ℕ) → (c ≡ k) ⊎ (c ≢ k)
+same_or_other zero zero = inl refl
+same_or_other zero (suc k) = inr (λ e. absurd (cc))
+same_or_other (suc c) zero = inr (λ e. absurd (cc))
+same_or_other (suc c) (suc k) = ⊎_elim (λ e. inl (ap suc e)) (λ n. inr (λ e. n (omega (arith, e)))) (same_or_other c k)
+
+pub test_itself : (n : ℕ) → (n == n) ≡ true
+test_itself n = grind (arith, nat_tests)
+
+pub test_apart : (m n : ℕ) → (m ≡ n → ⊥) → (m == n) ≡ false
+test_apart m n h = ⊎_elim (λ e. absurd (h (test_same m n e))) (λ e. e) (is_true_or_false (m == n))
+
+pub table_itself : (table : Table) → is_table table table ≡ true
+table_itself Transition = refl
+table_itself Observation = refl
+table_itself Reward = refl
+
+-- a weight of this share, and the share back
+share_of_multiple : (n q : ℕ) → 0 < n → q * n / n * n ≡ q * n
+share_of_multiple n q l =
+    let none : q * n ≡ q * n + 0 = omega arith in
+    ap (λ x. x * n) (ap (λ x. x / n) none ∙ div-mul-add q n 0 l)
+
+share_back : (n w : ℕ) → 0 < n → Fits n w → (w == one) ≡ false → w / n * n ≡ w
+share_back n w l f e = ⊎_elim
+    (λ u. absurd (true≢false (ap (λ x. x == one) u ∙ test_itself one) e))
+    (λ m. ap (λ x. x / n * n) m.1 ∙ share_of_multiple n m.0 l ∙ sym m.1)
+    f
+
+share_exact : (n w : ℕ) → (w % n == 0) ≡ true → w / n * n ≡ w
+share_exact n w e =
+    let none : w % n ≡ 0 = test_same (w % n) 0 e in
+    let all : w / n * n + w % n ≡ w = div-add-mod' w n in
+    omega (arith, none, all)
+
+-- ---- what they cover
+pub here : (t x y z : Bool) → t ≡ true → x ≡ true → y ≡ true → z ≡ true → (t && (x && (y && z))) ≡ true
+here t x y z a b c d = λ i. a i && (b i && (c i && d i))
+
+pub row_covers : (table : Table) (a s c : ℕ) (body : Body) → covers table (a ∷ s ∷ c ∷ []) (whole_row table a s body) ≡ true
+row_covers table a s c body = here _ _ _ true (table_itself table) (test_itself a) (test_itself s) refl
+
+cell_covers : (table : Table) (a s c p : ℕ) → covers table (a ∷ s ∷ c ∷ []) (one_cell table a s c p) ≡ true
+cell_covers table a s c p = here _ _ _ _ (table_itself table) (test_itself a) (test_itself s) (λ i. test_itself c i && true)
+
+pub away : (t x y z : Bool) → (t && (x && y)) ≡ false → (t && (x && (y && z))) ≡ false
+away true true true z e = absurd (cc)
+away true true false z e = refl
+away true false y z e = refl
+away false x y z e = refl
+
+other_column : (t x y z : Bool) → z ≡ false → (t && (x && (y && (z && true)))) ≡ false
+other_column true true true z e = λ i. e i && true
+other_column true true false z e = refl
+other_column true false y z e = refl
+other_column false x y z e = refl
+
+-- the row of another place or table
+abbrev pub IsOtherRow : Table → ℕ → ℕ → Table → ℕ → ℕ → Type 0
+IsOtherRow table a s asked i j = (is_table table asked && ((a == i) && (s == j))) ≡ false
+
+module _ (table asked : Table) (a s i j : ℕ) (more : List ℕ) (apart : IsOtherRow table a s asked i j) where
+  pub row_elsewhere : (body : Body) → none_of (covers asked (i ∷ j ∷ more)) (whole_row table a s body ∷ []) ≡ false
+  row_elsewhere body = simp (away (is_table table asked) (a == i) (s == j) true apart)
+
+  cell_elsewhere : (c p : ℕ) → none_of (covers asked (i ∷ j ∷ more)) (one_cell table a s c p ∷ []) ≡ false
+  cell_elsewhere c p = simp (away (is_table table asked) (a == i) (s == j) (fit_places (Only c ∷ []) more) apart)
+
+  cells_elsewhere : (n : ℕ) (w : ℕ → ℕ) (c : ℕ) → none_of (covers asked (i ∷ j ∷ more)) (cell_entries table a s n w c) ≡ false
+  cells_elsewhere n w c = at (w c == one)
+    where
+      at : (b : Bool) → none_of (covers asked (i ∷ j ∷ more)) (cond b [] (one_cell table a s c (w c / n) ∷ [])) ≡ false
+      at true = refl
+      at false = cell_elsewhere c (w c / n)
+
+  pub entries_elsewhere : (n : ℕ) (w : ℕ → ℕ) → none_of (covers asked (i ∷ j ∷ more)) (row_entries table a s n w) ≡ false
+  entries_elsewhere n w = at (is_uniform n w) (is_decimal n w)
+    where
+      at : (u d : Bool) → none_of (covers asked (i ∷ j ∷ more)) (cond u (uniform_row table a s) (cond d (decimal_row table a s n w) (single_cells table a s n w))) ≡ false
+      at true d = row_elsewhere Uniform
+      at false true = row_elsewhere (Probabilities (values n (λ c. w c / n)))
+      at false false = none_both (covers asked (i ∷ j ∷ more)) (whole_row table a s Uniform ∷ []) (for_each n (cell_entries table a s n w)) (row_elsewhere Uniform)
+          (none_of_each (covers asked (i ∷ j ∷ more)) n (cell_entries table a s n w) (λ c l. cells_elsewhere n w c))
+
+-- ---- the weights
+-- a table of weights: each row is by action and state, and has this number of columns
+pub record HasRows (p : Preamble) (table : Table) (n : ℕ) : Type 0 where
+  pub column : Elements
+  pub given : MayBeGiven p table
+  pub dimensions_are : dimensions p table ≡ p.actions ∷ p.states ∷ column ∷ []
+  pub named_are : named p table ≡ p.actions ∷ p.states ∷ column ∷ []
+  pub columns_are : columns p table ≡ n
+  pub count : count_of column ≡ n
+  pub uniform : list_any (λ k. k == 2) (forms (is_mdp p) table Uniform) ≡ true
+  pub row : (ps : List ℕ) → list_any (λ k. k == 2) (forms (is_mdp p) table (Probabilities ps)) ≡ true
+  pub cell : (ps : List ℕ) → list_any (λ k. k == 3) (forms (is_mdp p) table (Probabilities ps)) ≡ true
+
+pub transition_rows : (p : Preamble) → HasRows p Transition (count_of p.states)
+transition_rows p = record { column = p.states; given = tt; dimensions_are = refl; named_are = refl; columns_are = refl; count = refl; uniform = refl; row = λ ps. refl; cell = λ ps. refl }
+
+pub observation_rows : (p : Preamble) → is_mdp p ≡ false → HasRows p Observation (count_of (observed p))
+observation_rows p seen = record { column = observed p; given = seen; dimensions_are = refl; named_are = refl; columns_are = refl; count = refl; uniform = refl; row = λ ps. refl; cell = λ ps. refl }
+
+module _ (p : Preamble) (table : Table) (a s n : ℕ) (w : ℕ → ℕ) (rows : HasRows p table n) (some : 0 < n) where
+  -- the entry that covers the cell last, and its weight there
+  pub record Covered (es : List Entry) (c : ℕ) : Type 0 where
+    pub entry : Entry
+    pub last : last_of (covers table (a ∷ s ∷ c ∷ [])) es ≡ Some entry
+    pub weight : weight_of p (a ∷ s ∷ c ∷ []) entry ≡ w c
+
+  found_alone : (c : ℕ) (e : Entry) → covers table (a ∷ s ∷ c ∷ []) e ≡ true → last_of (covers table (a ∷ s ∷ c ∷ [])) (e ∷ []) ≡ Some e
+  found_alone c e h = simp h
+
+  uniform_covered : (c : ℕ) → w c ≡ one → Covered (uniform_row table a s) c
+  uniform_covered c e = record {
+    entry = whole_row table a s Uniform;
+    last = found_alone c (whole_row table a s Uniform) (row_covers table a s c Uniform);
+    weight = sym e;
+  }
+
+  decimal_weight : (c : ℕ) → c < n → (w c % n == 0) ≡ true → weight_of p (a ∷ s ∷ c ∷ []) (whole_row table a s (Probabilities (values n (λ c. w c / n)))) ≡ w c
+  decimal_weight c l e =
+      let place : c * 1 + 0 ≡ c = omega arith in
+      (λ i. get_or (values n (λ c. w c / n)) (row_major (left i) (c ∷ [])) 0 * rows.columns_are i)
+      ∙ ap (λ k. get_or (values n (λ c. w c / n)) k 0 * n) place
+      ∙ ap (λ x. x * n) (get_or-map-range_with_len (λ c. w c / n) 0 n c c 0 l (omega arith))
+      ∙ share_exact n (w c) e
+    where
+      left : drop 2 (dimensions p table) ≡ rows.column ∷ []
+      left = ap (drop 2) rows.dimensions_are
+
+  decimal_covered : (c : ℕ) → c < n → (w c % n == 0) ≡ true → Covered (decimal_row table a s n w) c
+  decimal_covered c l e = record {
+    entry = whole_row table a s (Probabilities (values n (λ c. w c / n)));
+    last = found_alone c (whole_row table a s (Probabilities (values n (λ c. w c / n)))) (row_covers table a s c (Probabilities (values n (λ c. w c / n))));
+    weight = decimal_weight c l e;
+  }
+
+  cell_weight : (c : ℕ) → Fits n (w c) → (w c == one) ≡ false → weight_of p (a ∷ s ∷ c ∷ []) (one_cell table a s c (w c / n)) ≡ w c
+  cell_weight c f e =
+      (λ i. get_or (w c / n ∷ []) (row_major (left i) []) 0 * rows.columns_are i) ∙ share_back n (w c) some f e
+    where
+      left : drop 3 (dimensions p table) ≡ []
+      left = ap (drop 3) rows.dimensions_are
+
+  other_cells : (c d : ℕ) → (c ≡ d → ⊥) → none_of (covers table (a ∷ s ∷ c ∷ [])) (cell_entries table a s n w d) ≡ false
+  other_cells c d apart = at (w d == one)
+    where
+      at : (b : Bool) → none_of (covers table (a ∷ s ∷ c ∷ [])) (cond b [] (one_cell table a s d (w d / n) ∷ [])) ≡ false
+      at true = refl
+      at false = simp (other_column (is_table table table) (a == a) (s == s) (d == c) (test_apart d c (λ e. apart (sym e))))
+
+  cells_covered : (c : ℕ) → c < n → Fits n (w c) → Covered (single_cells table a s n w) c
+  cells_covered c l f = at (w c == one) refl
+    where
+      test : Entry → Bool
+      test = covers table (a ∷ s ∷ c ∷ [])
+
+      at : (b : Bool) → (w c == one) ≡ b → Covered (single_cells table a s n w) c
+      at true e =
+          let same_one : w c ≡ one = test_same (w c) one e in
+          let none : none_of (covers table (a ∷ s ∷ c ∷ [])) (for_each n (cell_entries table a s n w)) ≡ false =
+          none_of_each (covers table (a ∷ s ∷ c ∷ [])) n (cell_entries table a s n w) (λ d m. empty_or_other d e) in
+          record {
+            entry = whole_row table a s Uniform;
+            last = last_before (covers table (a ∷ s ∷ c ∷ [])) (uniform_row table a s) (for_each n (cell_entries table a s n w)) none ∙ found_alone c (whole_row table a s Uniform) (row_covers table a s c Uniform);
+            weight = sym same_one;
+          }
+        where
+          empty_or_other : (d : ℕ) → (w c == one) ≡ true → none_of (covers table (a ∷ s ∷ c ∷ [])) (cell_entries table a s n w d) ≡ false
+          empty_or_other d e = ⊎_elim
+              (λ same. ap (λ b. none_of (covers table (a ∷ s ∷ c ∷ [])) (cond b [] (one_cell table a s d (w d / n) ∷ []))) (ap (λ x. w x == one) (sym (test_same c d same)) ∙ e))
+              (λ other. other_cells c d (λ k. true≢false (ap (λ x. c == x) (sym k) ∙ test_itself c) other))
+              (is_true_or_false (c == d))
+      at false e =
+          let alone : last_of (covers table (a ∷ s ∷ c ∷ [])) (cell_entries table a s n w c) ≡ Some (one_cell table a s c (w c / n)) =
+          ap (λ b. last_of (covers table (a ∷ s ∷ c ∷ [])) (cond b [] (one_cell table a s c (w c / n) ∷ []))) e ∙ found_alone c (one_cell table a s c (w c / n)) (cell_covers table a s c (w c / n)) in
+          record {
+            entry = one_cell table a s c (w c / n);
+            last = last_behind (covers table (a ∷ s ∷ c ∷ [])) (uniform_row table a s) (for_each n (cell_entries table a s n w)) (one_cell table a s c (w c / n))
+                (last_of_each (covers table (a ∷ s ∷ c ∷ [])) n c (cell_entries table a s n w) (one_cell table a s c (w c / n)) l alone (λ d m apart. other_cells c d apart));
+            weight = cell_weight c f e;
+          }
+
+  -- the entries of the printed row give the row back
+  pub row_covered : (c : ℕ) → c < n → Fits n (w c) → Covered (row_entries table a s n w) c
+  row_covered c l f = at (is_uniform n w) (is_decimal n w) refl refl
+    where
+      at : (u d : Bool) → is_uniform n w ≡ u → is_decimal n w ≡ d → Covered (row_entries table a s n w) c
+      at true d e g = subst (λ b. Covered (cond b (uniform_row table a s) (cond (is_decimal n w) (decimal_row table a s n w) (single_cells table a s n w))) c) (sym e)
+          (uniform_covered c (test_same (w c) one (test_below n c (λ c. w c == one) e l)))
+      at false true e g = subst (λ b. Covered (cond b (uniform_row table a s) (cond (is_decimal n w) (decimal_row table a s n w) (single_cells table a s n w))) c) (sym e)
+          (subst (λ b. Covered (cond b (decimal_row table a s n w) (single_cells table a s n w)) c) (sym g) (decimal_covered c l (test_below n c (λ c. w c % n == 0) g l)))
+      at false false e g = subst (λ b. Covered (cond b (uniform_row table a s) (cond (is_decimal n w) (decimal_row table a s n w) (single_cells table a s n w))) c) (sym e)
+          (subst (λ b. Covered (cond b (decimal_row table a s n w) (single_cells table a s n w)) c) (sym g) (cells_covered c l f))

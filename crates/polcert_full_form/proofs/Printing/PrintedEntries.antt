@@ -1,0 +1,151 @@
+-- The lines of an entry are an item, and that entry.
+use Rattle.std.proofs.Common.{◌≡◌, ◌∙◌, ℕ, zero, suc, ◌^◌, ◌<◌, ◌≤◌, ◌==◌, true, false, Some, List, [], ◌∷◌, ◌++◌, length, drop, codes, decimal, refl, sym, ap, subst, arith, append_assoc, append-nil}
+use Rattle.std.specs.List.{list_any}
+use Rattle.polcert_text.specs.Bytes.{class_of}
+use Rattle.polcert_text.specs.Lexemes.{kind_of}
+use Rattle.polcert_text.specs.Cut.{Lexeme}
+use Rattle.polcert_text.specs.declared.lexeme.TokenKind.TheVariants.{Name, Colon}
+use Rattle.polcert_cells.specs.declared.entry.Table.{Table}
+use Rattle.polcert_cells.specs.declared.entry.Table.TheVariants.{Transition, Observation, Reward}
+use Rattle.polcert_cells.specs.declared.entry.Place.TheVariants.{Only}
+use Rattle.polcert_cells.specs.declared.entry.Body.{Body}
+use Rattle.polcert_cells.specs.declared.entry.Entry.{Entry}
+use Rattle.polcert_cells.specs.declared.elements.Elements.{Elements}
+use Rattle.polcert_cells.specs.declared.shares.Shares.{Shares}
+use Rattle.polcert_cells.specs.declared.words.Topic.TheVariants.{Cells}
+use Rattle.polcert_cells.specs.Words.{topic, topic_of, begins_item}
+use Rattle.polcert_cells.specs.Elements.{count_of, by_number}
+use Rattle.polcert_cells.specs.Preamble.{Preamble, is_mdp, dimensions, named}
+use Rattle.polcert_cells.specs.Entry.{cells_in, forms, MayBeGiven, ArePlaces, IsBody, IsEntry}
+use Rattle.polcert_cells.specs.Entry as entries
+use Rattle.polcert_format.proofs.CellLimits.{printable_cells}
+use Rattle.polcert_format.specs.Text as texts
+use Rattle.polcert_format.specs.Text.{Known, IsComplete}
+use Rattle.polcert_format.specs.FullForm.{for_each, table_word}
+use Rattle.polcert_text.proofs.Printing.PrintedWords.{key, word_text, IsPiece}
+use Rattle.polcert_full_form.proofs.Printing.PrintedNumbers.{numeral_at, whole_at}
+use Rattle.polcert_full_form.proofs.Writable.Printable.{HasRoom}
+use Rattle.polcert_full_form.proofs.Printing.PrintedItems.{AreItems, Prints, prints_nothing, prints_then, one_item}
+
+abbrev pub letter : Table → List ℕ
+letter Transition = codes "T"
+letter Observation = codes "O"
+letter Reward = codes "R"
+
+known_topic : (table : Table) → topic_of (letter table) ≡ Some (Cells table)
+unfolding topic_of
+known_topic Transition = refl
+known_topic Observation = refl
+known_topic Reward = refl
+
+name_topic : (l : Lexeme) → l.kind ≡ Name → topic l ≡ topic_of l.bytes
+name_topic l k = simp k
+
+letter_topic : (table : Table) (l : Lexeme) → l.kind ≡ Name → l.bytes ≡ letter table → topic l ≡ Some (Cells table)
+letter_topic table l k b = name_topic l k ∙ ap topic_of b ∙ known_topic table
+
+letter_name : (table : Table) → kind_of (letter table) ≡ Some Name
+unfolding class_of
+letter_name Transition = refl
+letter_name Observation = refl
+letter_name Reward = refl
+
+letter_short : (table : Table) → length (letter table) ≤ 400
+letter_short Transition = omega arith
+letter_short Observation = omega arith
+letter_short Reward = omega arith
+
+pub letter_piece : (table : Table) → IsPiece Name (letter table)
+letter_piece table = record { kind_is = letter_name table; short = letter_short table }
+
+pub text_letter : (table : Table) → word_text (key (letter table)) ≡ table_word table
+text_letter Transition = refl
+text_letter Observation = refl
+text_letter Reward = refl
+
+abbrev pub name_at : ℕ → List ℕ → Lexeme
+name_at place bytes = record { kind = Name; place = place; bytes = bytes }
+
+abbrev pub colon_at : ℕ → Lexeme
+colon_at place = record { kind = Colon; place = place; bytes = codes ":" }
+
+-- what is known behind a whole preamble, a start item and some entries
+abbrev pub known_of : Preamble → Shares → List Entry → Known
+known_of p start es = record {
+  discount = Some p.discount;
+  costs = Some p.costs;
+  states = Some p.states;
+  actions = Some p.actions;
+  observations = p.observations;
+  start = Some start;
+  entries = es;
+}
+
+pub complete : (p : Preamble) (start : Shares) (es : List Entry) → HasRoom p → IsComplete (known_of p start es) p
+complete p start es room = record {
+  lines = record { discount = refl; costs = refl; states = refl; actions = refl; observations = refl };
+  pairs = room.pairs;
+}
+
+module _ (p : Preamble) (start : Shares) (room : HasRoom p) where
+  -- The text is further entries behind any that came before.
+  abbrev pub PrintsEntries : List ℕ → List Entry → Type 0
+  PrintsEntries text new = (es : List Entry) → Prints text (known_of p start es) (known_of p start (es ++ new))
+
+  pub no_entries : PrintsEntries [] []
+  no_entries es = subst (λ xs. Prints [] (known_of p start es) (known_of p start xs)) (sym (append-nil es)) (prints_nothing (known_of p start es))
+
+  pub entries_then : (s t : List ℕ) (xs ys : List Entry) → PrintsEntries s xs → PrintsEntries t ys → PrintsEntries (s ++ t) (xs ++ ys)
+  entries_then s t xs ys a b es =
+      subst (λ zs. Prints (s ++ t) (known_of p start es) (known_of p start zs)) (append_assoc es xs ys)
+      (prints_then s t (known_of p start es) (known_of p start (es ++ xs)) (known_of p start ((es ++ xs) ++ ys)) (a es) (b (es ++ xs)))
+
+  pub entries_each : (n : ℕ) (f : ℕ → List ℕ) (g : ℕ → List Entry) → ((i : ℕ) → i < n → PrintsEntries (f i) (g i)) → PrintsEntries (for_each n f) (for_each n g)
+  entries_each zero f g h = no_entries
+  entries_each (suc n) f g h = entries_then (for_each n f) (f n) (for_each n g) (g n) (entries_each n f g (λ i l. h i (omega (arith, l)))) (h n (omega arith))
+
+  -- ---- one entry
+  right_entry : (table : Table) (word : Lexeme) (body : List Lexeme) (e : Entry) (es : List Entry) → word.kind ≡ Name → word.bytes ≡ letter table → list_any begins_item body ≡ false
+      → MayBeGiven p table → IsEntry p table body e → AreItems (word ∷ body) (known_of p start es) (known_of p start (es ++ e ∷ []))
+  right_entry table word body e es k b none given a =
+      one_item word body (Cells table) (known_of p start es) (known_of p start (es ++ e ∷ [])) (letter_topic table word k b) none (texts.entry (complete p start es room) given a (printable_cells p (es ++ e ∷ []) room.printable))
+
+  -- two places before a body
+  pub two_places : (table : Table) (a s : ℕ) (column names : List Elements) (body : Body) → MayBeGiven p table → dimensions p table ≡ p.actions ∷ p.states ∷ column → named p table ≡ p.actions ∷ p.states ∷ names → a < count_of p.actions → s < count_of p.states
+      → a < 2 ^ 64 → s < 2 ^ 64 → list_any (λ n. n == 2) (forms (is_mdp p) table body) ≡ true
+      → (rest : List Lexeme) → IsBody (cells_in column) rest body → list_any begins_item rest ≡ false → (p0 p1 p2 p3 p4 : ℕ) (es : List Entry)
+      → AreItems (name_at p0 (letter table) ∷ colon_at p1 ∷ numeral_at p2 (decimal a) ∷ colon_at p3 ∷ numeral_at p4 (decimal s) ∷ rest) (known_of p start es)
+      (known_of p start (es ++ record { table = table; places = Only a ∷ Only s ∷ []; body = body } ∷ []))
+  two_places table a s column names body given dims names_are l k al sl form rest b none p0 p1 p2 p3 p4 es =
+      right_entry table (name_at p0 (letter table)) _ (record { table = table; places = Only a ∷ Only s ∷ []; body = body }) es refl refl none given
+      (record {
+        pattern = colon_at p1 ∷ numeral_at p2 (decimal a) ∷ colon_at p3 ∷ numeral_at p4 (decimal s) ∷ [];
+        rest = rest;
+        whole = refl;
+        table_is = refl;
+        form = form;
+        places = subst (λ ds. ArePlaces ds (colon_at p1 ∷ numeral_at p2 (decimal a) ∷ colon_at p3 ∷ numeral_at p4 (decimal s) ∷ []) (Only a ∷ Only s ∷ [])) (sym names_are)
+            (entries.more refl (by_number (whole_at p2 a al) l) (entries.more refl (by_number (whole_at p4 s sl) k) entries.none));
+        body = subst (λ ds. IsBody (cells_in (drop 2 ds)) rest body) (sym dims) b;
+      })
+
+  -- three places before a body
+  pub three_places : (table : Table) (a s c : ℕ) (column : Elements) (more names : List Elements) (body : Body) → MayBeGiven p table → dimensions p table ≡ p.actions ∷ p.states ∷ column ∷ more
+      → named p table ≡ p.actions ∷ p.states ∷ column ∷ names
+      → a < count_of p.actions → s < count_of p.states → c < count_of column
+      → a < 2 ^ 64 → s < 2 ^ 64 → c < 2 ^ 64 → list_any (λ n. n == 3) (forms (is_mdp p) table body) ≡ true
+      → (rest : List Lexeme) → IsBody (cells_in more) rest body → list_any begins_item rest ≡ false → (p0 p1 p2 p3 p4 p5 p6 : ℕ) (es : List Entry)
+      → AreItems (name_at p0 (letter table) ∷ colon_at p1 ∷ numeral_at p2 (decimal a) ∷ colon_at p3 ∷ numeral_at p4 (decimal s) ∷ colon_at p5 ∷ numeral_at p6 (decimal c) ∷ rest) (known_of p start es)
+      (known_of p start (es ++ record { table = table; places = Only a ∷ Only s ∷ Only c ∷ []; body = body } ∷ []))
+  three_places table a s c column more names body given dims names_are l k d al sl cl form rest b none p0 p1 p2 p3 p4 p5 p6 es =
+      right_entry table (name_at p0 (letter table)) _ (record { table = table; places = Only a ∷ Only s ∷ Only c ∷ []; body = body }) es refl refl none given
+      (record {
+        pattern = colon_at p1 ∷ numeral_at p2 (decimal a) ∷ colon_at p3 ∷ numeral_at p4 (decimal s) ∷ colon_at p5 ∷ numeral_at p6 (decimal c) ∷ [];
+        rest = rest;
+        whole = refl;
+        table_is = refl;
+        form = form;
+        places = subst (λ ds. ArePlaces ds (colon_at p1 ∷ numeral_at p2 (decimal a) ∷ colon_at p3 ∷ numeral_at p4 (decimal s) ∷ colon_at p5 ∷ numeral_at p6 (decimal c) ∷ []) (Only a ∷ Only s ∷ Only c ∷ [])) (sym names_are)
+            (entries.more refl (by_number (whole_at p2 a al) l) (entries.more refl (by_number (whole_at p4 s sl) k) (entries.more refl (by_number (whole_at p6 c cl) d) entries.none)));
+        body = subst (λ ds. IsBody (cells_in (drop 3 ds)) rest body) (sym dims) b;
+      })

@@ -1,0 +1,102 @@
+-- Numbers as they are written are the numbers that a reader takes.
+use Rattle.std.proofs.Common.{◌≡◌, ℕ, ℤ, suc, ◌^◌, ◌<◌, ◌≤◌, Bool, true, false, ◌||◌, pos, negsuc, List, [], ◌∷◌, ◌++◌, length, map, decimal, codes, refl, arith, unsigned_abs}
+use Rattle.std.specs.List.{list_all, list_any}
+use Rattle.std.proofs.lemmas.Fmt.{decimal_is_IsNumeral, decimal_nonempty}
+use Rattle.polcert_text.specs.Bytes.{is_digit}
+use Rattle.polcert_text.specs.Lexemes.{are_digits}
+use Rattle.polcert_text.specs.Cut.{Lexeme}
+use Rattle.polcert_text.specs.declared.lexeme.TokenKind.TheVariants.{Numeral, Minus, Plus}
+use Rattle.polcert_text.specs.Millionths.{unsigned_text, scaled_text}
+use Rattle.polcert_text.specs.Numbers.{largest, signed}
+use Rattle.polcert_text.proofs.Printing.WrittenNumbers.{plain_size, readable_written}
+use Rattle.polcert_text.proofs.Printing.PrintLaws.{written_exact, decimal_digits}
+use Rattle.polcert_cells.specs.Words.{begins_item}
+use Rattle.polcert_cells.specs.Numbers.{IsWhole, IsMillionths, AreNumbers}
+use Rattle.polcert_cells.specs.Numbers as numbers
+use Rattle.polcert_text.proofs.Printing.Numerals.{IsPlain, plain_decimal}
+use Rattle.polcert_text.proofs.Printing.PrintedCut.{Printed, lexemes_at}
+use Rattle.polcert_text.proofs.Printing.PrintedWords.{Word, plain, minus, word_text, spelled, spelled_line, IsPiece, IsSpelling, AreSpellings}
+
+abbrev pub numeral_at : ℕ → List ℕ → Lexeme
+numeral_at place bytes = record { kind = Numeral; place = place; bytes = bytes }
+
+pub millionths_at : (negative : Bool) (place n : ℕ) → n ≤ largest → IsMillionths negative (numeral_at place (unsigned_text n)) (signed negative n)
+millionths_at negative place n l = record {
+  kind = refl;
+  readable = readable_written n l;
+  exact = (written_exact n (omega (arith, l)) negative).1;
+}
+
+-- ---- the word of a number
+abbrev pub number_word : ℤ → Word
+number_word (pos n) = plain Numeral (unsigned_text n)
+number_word (negsuc n) = minus (unsigned_text (suc n))
+
+pub text_number : (h : ℤ) → word_text (number_word h) ≡ scaled_text h
+text_number (pos n) = refl
+text_number (negsuc n) = refl
+
+pub text_numbers : (hs : List ℤ) → map word_text (map number_word hs) ≡ map scaled_text hs
+text_numbers [] = refl
+text_numbers (h ∷ hs) = λ i. text_number h i ∷ text_numbers hs i
+
+-- all of them are within the limit
+abbrev pub AreSmall : List ℤ → Type 0
+AreSmall [] = Unit {0}
+AreSmall (h ∷ hs) = (unsigned_abs h ≤ largest) × AreSmall hs
+
+pub numeral_piece : (bs : List ℕ) → IsPlain bs → IsPiece Numeral bs
+numeral_piece bs p = record { kind_is = p.kind; short = omega (arith, p.short) }
+
+pub spells_number : (h : ℤ) → unsigned_abs h ≤ largest → IsSpelling (number_word h)
+spells_number (pos n) l = numeral_piece (unsigned_text n) (plain_size n l)
+spells_number (negsuc n) l = plain_size (suc n) l
+
+pub spells_numbers : (hs : List ℤ) → AreSmall hs → AreSpellings (map number_word hs)
+spells_numbers [] a = tt
+spells_numbers (h ∷ hs) a = (spells_number h a.0, spells_numbers hs a.1)
+
+-- a number before numbers
+number_before : (h : ℤ) (hs : List ℤ) (behind : List ℕ) (us : List Printed) → unsigned_abs h ≤ largest → ((place : ℕ) → AreNumbers (lexemes_at place us) hs)
+    → (place : ℕ) → AreNumbers (lexemes_at place (spelled (number_word h) behind ++ us)) (h ∷ hs)
+number_before (pos n) hs behind us l more place = numbers.unsigned (millionths_at false _ n l) (more _)
+number_before (negsuc n) hs behind us l more place = numbers.minus refl (millionths_at true _ (suc n) l) (more _)
+
+last_number : (h : ℤ) (behind : List ℕ) → unsigned_abs h ≤ largest → (place : ℕ) → AreNumbers (lexemes_at place (spelled (number_word h) behind)) (h ∷ [])
+last_number (pos n) behind l place = numbers.unsigned (millionths_at false _ n l) numbers.none
+last_number (negsuc n) behind l place = numbers.minus refl (millionths_at true _ (suc n) l) numbers.none
+
+pub numbers_at : (h : ℤ) (hs : List ℤ) → AreSmall (h ∷ hs) → (place : ℕ) → AreNumbers (lexemes_at place (spelled_line (number_word h) (map number_word hs))) (h ∷ hs)
+numbers_at h [] a place = last_number h (codes "\n") a.0 place
+numbers_at h (g ∷ gs) a place = number_before h (g ∷ gs) (codes " ") (spelled_line (number_word g) (map number_word gs)) a.0 (numbers_at g gs a.1) place
+
+-- no item begins among numbers
+numeral_begins_none : (l : Lexeme) → l.kind ≡ Numeral → begins_item l ≡ false
+numeral_begins_none l e = simp e
+
+pub numbers_inside : {ls : List Lexeme} {hs : List ℤ} → AreNumbers ls hs → list_any begins_item ls ≡ false
+numbers_inside numbers.none = refl
+numbers_inside (numbers.unsigned {l = l} a more) = λ i. numeral_begins_none l a.kind i || numbers_inside more i
+numbers_inside (numbers.plus {sign = s} {l = l} e a more) = (λ i. sign_none s e i || (numeral_begins_none l a.kind i || numbers_inside more i))
+  where
+    sign_none : (s : Lexeme) → s.kind ≡ Plus → begins_item s ≡ false
+    sign_none s e = simp e
+numbers_inside (numbers.minus {sign = s} {l = l} e a more) = (λ i. sign_none s e i || (numeral_begins_none l a.kind i || numbers_inside more i))
+  where
+    sign_none : (s : Lexeme) → s.kind ≡ Minus → begins_item s ≡ false
+    sign_none s e = simp e
+
+-- ---- whole numbers
+pub whole_at : (place n : ℕ) → n < 2 ^ 64 → IsWhole (numeral_at place (decimal n)) n
+whole_at place n l = record {
+  kind = refl;
+  digits = digits_some (decimal n) (decimal_digits n l) (decimal_nonempty n l);
+  value = (decimal_is_IsNumeral n l).1;
+}
+  where
+    digits_some : (bs : List ℕ) → list_all is_digit bs ≡ true → 0 < length bs → are_digits bs ≡ true
+    digits_some [] h p = absurd (omega (arith, p))
+    digits_some (b ∷ bs) h p = simp h
+
+pub whole_piece : (n : ℕ) → n < 10 ^ 19 → IsPiece Numeral (decimal n)
+whole_piece n l = numeral_piece (decimal n) (plain_decimal n l)

@@ -1,0 +1,225 @@
+-- The printed preamble is read as the preamble.
+use Rattle.std.proofs.Common.{◌≡◌, ◌≢◌, ◌∙◌, ℕ, suc, ◌≤◌, Bool, true, false, is_some, Option, Some, None, List, [], ◌∷◌, length, map, All, AllPairs, codes, decimal, refl, sym, ap, subst, arith}
+use Rattle.std.specs.List.{list_any}
+use Rattle.std.specs.Option.{ForSome}
+use Rattle.std.proofs.lemmas.List.Elements.{All-cons, All-nil, All-head, All-tail}
+use Rattle.std.specs.Prelude.{bytes_eq}
+use Rattle.polcert_text.specs.Bytes.{class_of}
+use Rattle.polcert_text.specs.Millionths.{unsigned_text}
+use Rattle.polcert_text.specs.Numbers.{largest}
+use Rattle.polcert_text.specs.Cut.{Lexeme}
+use Rattle.polcert_text.specs.declared.lexeme.TokenKind.TheVariants.{Name, Numeral, Colon}
+use Rattle.polcert_cells.specs.declared.elements.Elements.{Elements}
+use Rattle.polcert_cells.specs.declared.elements.Elements.TheVariants.{Count, Names}
+use Rattle.polcert_cells.specs.declared.words.Topic.{Topic}
+use Rattle.polcert_cells.specs.declared.words.Topic.TheVariants.{Discount, Values, States, Actions, Observations}
+use Rattle.polcert_cells.specs.Words.{topic_of, is_reserved, inner_words, begins_item, IsName}
+use Rattle.polcert_cells.specs.Numbers.{one}
+use Rattle.polcert_cells.specs.Numbers as numbers
+use Rattle.polcert_cells.specs.Elements.{most_states, most_actions, most_observations, most_elements, AreElements, counted, named}
+use Rattle.polcert_cells.specs.Preamble.{Preamble}
+use Rattle.polcert_format.specs.Text as texts
+use Rattle.polcert_format.specs.Text.{Known, nothing_known, IsRight}
+use Rattle.polcert_cells.specs.Meaning.{Meaning}
+use Rattle.polcert_cells.proofs.Basics.{or_false, or_false_from}
+use Rattle.polcert_text.specs.Lines.{line}
+use Rattle.polcert_format.specs.Writable.{IsWritableName}
+use Rattle.polcert_format.specs.FullForm.{millionths_text, values_word, element_words, observations_line, preamble_text}
+use Rattle.polcert_text.proofs.Printing.PrintedCut.{Printed, text_of, lexemes_at, ArePrinted}
+use Rattle.polcert_text.proofs.Printing.PrintedWords.{Word, plain, key, word_text, spelled_line, IsPiece, AreSpellings, text_line, line_printed}
+use Rattle.polcert_text.proofs.Printing.WrittenNumbers.{plain_size}
+use Rattle.polcert_full_form.proofs.Printing.PrintedNumbers.{whole_at, whole_piece, numeral_piece, millionths_at}
+use Rattle.polcert_full_form.proofs.Printing.PrintedItems.{Prints, prints_nothing, prints_then, one_item}
+
+-- ---- elements
+-- a count of at most so many, or different names that a text may give
+abbrev pub AreWritable : ℕ → Elements → Type 0
+AreWritable most (Count n) = (1 ≤ n) × (n ≤ most)
+AreWritable most (Names names) = All IsWritableName names × (1 ≤ length names) × (length names ≤ most) × AllPairs (λ x y. x ≢ y) names
+
+abbrev name_word : List ℕ → Word
+name_word name = plain Name name
+
+text_names : (names : List (List ℕ)) → map word_text (map name_word names) ≡ names
+text_names [] = refl
+text_names (x ∷ xs) = ap (λ ys. x ∷ ys) (text_names xs)
+
+name_piece : (name : List ℕ) → IsWritableName name → IsPiece Name name
+name_piece name w = record { kind_is = w.kind; short = w.short }
+
+spells_names : (names : List (List ℕ)) → All IsWritableName names → AreSpellings (map name_word names)
+spells_names [] a = tt
+spells_names (x ∷ xs) a = (name_piece x (All-head IsWritableName x xs a), spells_names xs (All-tail IsWritableName x xs a))
+
+name_is : (place : ℕ) (name : List ℕ) → IsWritableName name → IsName (record { kind = Name; place = place; bytes = name })
+name_is place name w = record { kind = refl; free = w.free }
+
+-- the lexemes of a line of names
+bytes_of_names : (x : List ℕ) (xs : List (List ℕ)) (place : ℕ) → map (λ l. l.bytes) (lexemes_at place (spelled_line (name_word x) (map name_word xs))) ≡ x ∷ xs
+bytes_of_names x [] place = refl
+bytes_of_names x (y ∷ ys) place = ap (λ zs. x ∷ zs) (bytes_of_names y ys _)
+
+names_are : (x : List ℕ) (xs : List (List ℕ)) (place : ℕ) → All IsWritableName (x ∷ xs) → All IsName (lexemes_at place (spelled_line (name_word x) (map name_word xs)))
+names_are x [] place a = All-cons IsName _ [] (name_is place x (All-head IsWritableName x [] a)) (All-nil IsName)
+names_are x (y ∷ ys) place a = All-cons IsName _ _ (name_is place x (All-head IsWritableName x (y ∷ ys) a)) (names_are y ys _ (All-tail IsWritableName x (y ∷ ys) a))
+
+reserved_topic : (name : List ℕ) → is_reserved name ≡ false → is_some (topic_of name) ≡ false
+unfolding is_reserved
+reserved_topic name e = (or_false (is_some (topic_of name)) (list_any (bytes_eq name) inner_words) e).0
+
+name_begins_none : (l : Lexeme) → IsName l → begins_item l ≡ false
+name_begins_none l n = simp n.kind (reserved_topic l.bytes n.free)
+
+names_begin_none : (ls : List Lexeme) → All IsName ls → list_any begins_item ls ≡ false
+names_begin_none [] a = refl
+names_begin_none (l ∷ ls) a = or_false_from (begins_item l) (list_any begins_item ls) (name_begins_none l (All-head IsName l ls a)) (names_begin_none ls (All-tail IsName l ls a))
+
+length-map_bytes : (ls : List Lexeme) → length (map (λ (l : Lexeme). l.bytes) ls) ≡ length ls
+length-map_bytes [] = refl
+length-map_bytes (l ∷ ls) = ap suc (length-map_bytes ls)
+
+-- what stands behind the colon of such a line
+record IsElementsLine (most : ℕ) (word : List ℕ) (elements : Elements) : Type 0 where
+  lexemes : List Printed
+  text_is : text_of (record { kind = Name; bytes = word; behind = [] } ∷ record { kind = Colon; bytes = codes ":"; behind = codes " " } ∷ lexemes) ≡ line (word_text (key word) ∷ element_words elements)
+  printed : ArePrinted (record { kind = Name; bytes = word; behind = [] } ∷ record { kind = Colon; bytes = codes ":"; behind = codes " " } ∷ lexemes)
+  are : (place : ℕ) → AreElements most (lexemes_at place lexemes) elements
+  begin_none : (place : ℕ) → list_any begins_item (lexemes_at place lexemes) ≡ false
+
+elements_line : (most : ℕ) → most ≤ most_elements → (word : List ℕ) (elements : Elements) → IsPiece Name word → AreWritable most elements → IsElementsLine most word elements
+elements_line most few word (Count n) piece w = record {
+  lexemes = spelled_line (plain Numeral (decimal n)) [];
+  text_is = text_line (key word) (plain Numeral (decimal n) ∷ []);
+  printed = line_printed (key word) (plain Numeral (decimal n) ∷ []) piece (whole_piece n (omega (arith, few, w.1)), tt);
+  are = λ place. counted (whole_at place n (omega (arith, few, w.1))) w.0 w.1;
+  begin_none = λ place. refl;
+}
+elements_line most few word (Names []) piece w = absurd (omega (arith, w.1))
+elements_line most few word (Names (x ∷ xs)) piece w = record {
+  lexemes = spelled_line (name_word x) (map name_word xs);
+  text_is = text_line (key word) (map name_word (x ∷ xs)) ∙ ap (λ ws. line (word_text (key word) ∷ ws)) (text_names (x ∷ xs));
+  printed = line_printed (key word) (map name_word (x ∷ xs)) piece (spells_names (x ∷ xs) w.0);
+  are = λ place.
+      let ls = lexemes_at place (spelled_line (name_word x) (map name_word xs)) in
+      let same = bytes_of_names x xs place in
+      let count : length ls ≡ length (x ∷ xs) = sym (length-map_bytes ls) ∙ ap length same in
+      subst (λ names. AreElements most ls (Names names)) same
+      (named (names_are x xs place w.0) (omega (arith, count, w.1)) (omega (arith, count, w.2)) (subst (AllPairs (λ x y. x ≢ y)) (sym same) w.3));
+  begin_none = λ place. names_begin_none _ (names_are x xs place w.0);
+}
+
+-- ---- words
+record IsItemWord (word : List ℕ) (t : Topic) : Type 0 where
+  piece : IsPiece Name word
+  topic_is : topic_of word ≡ Some t
+
+discount_word : IsItemWord (codes "discount") Discount
+unfolding class_of topic_of
+discount_word = record { piece = record { kind_is = refl; short = omega arith }; topic_is = refl }
+
+values_is_word : IsItemWord (codes "values") Values
+unfolding class_of topic_of
+values_is_word = record { piece = record { kind_is = refl; short = omega arith }; topic_is = refl }
+
+states_word : IsItemWord (codes "states") States
+unfolding class_of topic_of
+states_word = record { piece = record { kind_is = refl; short = omega arith }; topic_is = refl }
+
+actions_word : IsItemWord (codes "actions") Actions
+unfolding class_of topic_of
+actions_word = record { piece = record { kind_is = refl; short = omega arith }; topic_is = refl }
+
+observations_word : IsItemWord (codes "observations") Observations
+unfolding class_of topic_of
+observations_word = record { piece = record { kind_is = refl; short = omega arith }; topic_is = refl }
+
+cost_piece : IsPiece Name (codes "cost")
+unfolding class_of
+cost_piece = record { kind_is = refl; short = omega arith }
+
+reward_piece : IsPiece Name (codes "reward")
+unfolding class_of
+reward_piece = record { kind_is = refl; short = omega arith }
+
+-- ---- the lines
+discount_prints : (k : Known) (g : ℕ) → texts.IsInPreamble k → k.discount ≡ None → g ≤ one → Prints (line (codes "discount:" ∷ millionths_text g ∷ [])) k (record k { discount = Some g })
+discount_prints k g fresh new small =
+    let within : g ≤ largest = omega (arith, small) in
+    record {
+      lexemes = spelled_line (key (codes "discount")) (plain Numeral (unsigned_text g) ∷ []);
+      text_is = text_line (key (codes "discount")) (plain Numeral (unsigned_text g) ∷ []);
+      printed = line_printed (key (codes "discount")) (plain Numeral (unsigned_text g) ∷ []) discount_word.piece (numeral_piece (unsigned_text g) (plain_size g within), tt);
+      items = λ place. one_item _ _ Discount k (record k { discount = Some g }) discount_word.topic_is refl
+          (texts.discount fresh new refl (numbers.unsigned (millionths_at false _ g within) numbers.none) small);
+    }
+
+reward_begins_none : (place : ℕ) → begins_item (record { kind = Name; place = place; bytes = codes "reward" }) ≡ false
+unfolding topic_of
+reward_begins_none place = refl
+
+cost_begins_none : (place : ℕ) → begins_item (record { kind = Name; place = place; bytes = codes "cost" }) ≡ false
+unfolding topic_of
+cost_begins_none place = refl
+
+values_prints : (k : Known) (costs : Bool) → texts.IsInPreamble k → k.costs ≡ None → Prints (line (codes "values:" ∷ values_word costs ∷ [])) k (record k { costs = Some costs })
+values_prints k true fresh new = record {
+  lexemes = spelled_line (key (codes "values")) (plain Name (codes "cost") ∷ []);
+  text_is = text_line (key (codes "values")) (plain Name (codes "cost") ∷ []);
+  printed = line_printed (key (codes "values")) (plain Name (codes "cost") ∷ []) values_is_word.piece (cost_piece, tt);
+  items = λ place. one_item _ _ Values k (record k { costs = Some true }) values_is_word.topic_is (or_false_from _ _ (cost_begins_none place) refl) (texts.costs fresh new refl (record { kind = refl; bytes = refl }));
+}
+values_prints k false fresh new = record {
+  lexemes = spelled_line (key (codes "values")) (plain Name (codes "reward") ∷ []);
+  text_is = text_line (key (codes "values")) (plain Name (codes "reward") ∷ []);
+  printed = line_printed (key (codes "values")) (plain Name (codes "reward") ∷ []) values_is_word.piece (reward_piece, tt);
+  items = λ place. one_item _ _ Values k (record k { costs = Some false }) values_is_word.topic_is (or_false_from _ _ (reward_begins_none place) refl) (texts.rewards fresh new refl (record { kind = refl; bytes = refl }));
+}
+
+elements_print : (most : ℕ) → most ≤ most_elements → (word : List ℕ) (t : Topic) (elements : Elements) (k next : Known) → IsItemWord word t → AreWritable most elements
+    → ((colon : Lexeme) (ls : List Lexeme) → colon.kind ≡ Colon → AreElements most ls elements → IsRight k t (colon ∷ ls) next)
+    → Prints (line (word_text (key word) ∷ element_words elements)) k next
+elements_print most few word t elements k next w e right =
+    let l = elements_line most few word elements w.piece e in
+    record {
+      lexemes = record { kind = Name; bytes = word; behind = [] } ∷ record { kind = Colon; bytes = codes ":"; behind = codes " " } ∷ l.lexemes;
+      text_is = l.text_is;
+      printed = l.printed;
+      items = λ place. one_item _ _ t k next w.topic_is (l.begin_none _) (right _ _ refl (l.are _));
+    }
+
+-- ---- the preamble
+-- what is known behind these lines
+abbrev pub lines_known : Preamble → Known
+lines_known p = record nothing_known {
+  discount = Some p.discount;
+  costs = Some p.costs;
+  states = Some p.states;
+  actions = Some p.actions;
+  observations = p.observations;
+}
+
+-- the line of observations, where there is one
+observations_print : (k : Known) (o : Option Elements) → texts.IsInPreamble k → k.observations ≡ None → ForSome o (AreWritable most_observations) → Prints (observations_line o) k (record k { observations = o })
+observations_print k None fresh new w = subst (λ o. Prints [] k (record k { observations = o })) new (prints_nothing k)
+observations_print k (Some elements) fresh new w =
+    elements_print most_observations (omega arith) (codes "observations") Observations elements k (record k { observations = Some elements }) observations_word (w elements refl) (λ colon ls c a. texts.observations fresh new c a)
+
+pub preamble_prints : (m : Meaning) → m.preamble.discount ≤ one → AreWritable most_states m.preamble.states → AreWritable most_actions m.preamble.actions → ForSome m.preamble.observations (AreWritable most_observations)
+    → Prints (preamble_text m) nothing_known (lines_known m.preamble)
+preamble_prints m small states actions observations =
+    let p = m.preamble in
+    let k1 : Known = record nothing_known { discount = Some p.discount } in
+    let k2 : Known = record k1 { costs = Some p.costs } in
+    let k3 : Known = record k2 { states = Some p.states } in
+    let k4 : Known = record k3 { actions = Some p.actions } in
+    let k5 : Known = record k4 { observations = p.observations } in
+    let fresh : (k : Known) → k.start ≡ None → k.entries ≡ [] → texts.IsInPreamble k = λ k s e. record { no_start = s; no_entry = e } in
+    prints_then _ _ nothing_known k4 k5
+    (prints_then _ _ nothing_known k3 k4
+    (prints_then _ _ nothing_known k2 k3
+    (prints_then _ _ nothing_known k1 k2
+    (discount_prints nothing_known p.discount (fresh nothing_known refl refl) refl small)
+    (values_prints k1 p.costs (fresh k1 refl refl) refl))
+    (elements_print most_states (omega arith) (codes "states") States p.states k2 k3 states_word states (λ colon ls c a. texts.states (fresh k2 refl refl) refl c a)))
+    (elements_print most_actions (omega arith) (codes "actions") Actions p.actions k3 k4 actions_word actions (λ colon ls c a. texts.actions (fresh k3 refl refl) refl c a)))
+    (observations_print k4 p.observations (fresh k4 refl refl) refl observations)

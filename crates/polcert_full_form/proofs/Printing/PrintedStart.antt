@@ -1,0 +1,246 @@
+-- The printed start item is read as the start.
+use Rattle.std.proofs.Common.{◌≡◌, ◌∙◌, ℕ, zero, suc, ◌+◌, ◌<◌, ◌≤◌, ◌==◌, ◌||◌, ◌⊎◌, ⊎_elim, Bool, true, false, cond, Some, List, [], ◌∷◌, length, get_or, map, filter, sum, codes, decimal, pos, refl, sym, ap, subst, arith}
+use Rattle.std.specs.List.{list_any, list_all, range_with_len, AllZip}
+use Rattle.std.proofs.lemmas.List.FromFn.{fill_by_all}
+use Rattle.std.proofs.lemmas.List.Sums.{sum-map, sum_by-cons}
+use Rattle.polcert_text.specs.Bytes.{class_of}
+use Rattle.polcert_text.specs.Millionths.{scaled_text}
+use Rattle.polcert_text.specs.Cut.{Lexeme}
+use Rattle.polcert_text.specs.declared.lexeme.TokenKind.TheVariants.{Name, Numeral}
+use Rattle.polcert_cells.specs.declared.elements.Elements.{Elements}
+use Rattle.polcert_cells.specs.declared.shares.Shares.{Shares}
+use Rattle.polcert_cells.specs.declared.words.Topic.TheVariants.{Start}
+use Rattle.polcert_cells.specs.Words.{topic_of, begins_item}
+use Rattle.polcert_cells.specs.Numbers.{one}
+use Rattle.polcert_cells.specs.Elements.{count_of, StandsFor, by_number, most_states}
+use Rattle.polcert_cells.specs.Preamble.{Preamble}
+use Rattle.polcert_cells.specs.Start.{alike, all_states, is_level, shares_of, included, IsStart, IsStartBody}
+use Rattle.polcert_cells.specs.Start as starts
+use Rattle.polcert_format.specs.Text as texts
+use Rattle.polcert_format.specs.Text.{Known}
+use Rattle.polcert_cells.proofs.Basics.{and_true, true≢false, or_false_from}
+use Rattle.polcert_text.specs.Lines.{line}
+use Rattle.polcert_format.specs.Writable.{IsMillionthsStart}
+use Rattle.polcert_format.specs.FullForm.{millionths_text, chosen, is_whole, is_choice, start_text}
+use Rattle.polcert_text.proofs.Printing.PrintedCut.{Printed, text_of, lexemes_at, ArePrinted}
+use Rattle.polcert_text.proofs.Printing.PrintedWords.{Word, plain, key, word_text, spelled_line, IsPiece, AreSpellings, text_line, line_printed}
+use Rattle.polcert_full_form.proofs.Writable.Printable.{HasRoom}
+use Rattle.polcert_full_form.proofs.Printing.PrintedNumbers.{whole_at, whole_piece, number_word, text_numbers, AreSmall, spells_numbers, numbers_at, numbers_inside}
+use Rattle.polcert_full_form.proofs.Printing.NumberLines.{map_twice}
+use Rattle.polcert_full_form.proofs.Printing.PrintedItems.{AreItems, Prints, one_item}
+use Rattle.polcert_full_form.proofs.Printing.PrintedEntries.{known_of}
+use Rattle.polcert_full_form.proofs.Printing.PrintedPreamble.{lines_known}
+use Rattle.polcert_full_form.proofs.Denoting.RowEntries.{test_same, test_itself, test_apart}
+
+-- ---- the states that are chosen
+abbrev listed : List ℕ → ℕ → Bool
+listed ss s = list_any (λ n. n == s) ss
+
+none_below : (p : ℕ → Bool) (a n s : ℕ) → s < a → listed (filter p (range_with_len a n)) s ≡ false
+none_below p a zero s l = refl
+none_below p a (suc n) s l = at (none_below p (a + 1) n s (omega (arith, l))) (p a)
+  where
+    at : listed (filter p (range_with_len (a + 1) n)) s ≡ false → (b : Bool) → listed (cond b (a ∷ filter p (range_with_len (a + 1) n)) (filter p (range_with_len (a + 1) n))) s ≡ false
+    at more true = or_false_from (a == s) _ (test_apart a s (λ e. omega (arith, e, l))) more
+    at more false = more
+
+here_or_later : (a s n : ℕ) → a ≤ s → s < a + suc n → (s ≡ a) ⊎ ((a + 1 ≤ s) × (s < a + 1 + n))
+here_or_later a s n l m = grind arith
+
+listed_is : (p : ℕ → Bool) (a n s : ℕ) → a ≤ s → s < a + n → listed (filter p (range_with_len a n)) s ≡ p s
+listed_is p a zero s l m = absurd (omega (arith, l, m))
+listed_is p a (suc n) s l m = at (listed_is p (a + 1) n s) (p a) refl
+  where
+    rest : List ℕ
+    rest = filter p (range_with_len (a + 1) n)
+
+    at : (a + 1 ≤ s → s < a + 1 + n → listed rest s ≡ p s) → (b : Bool) → p a ≡ b → listed (cond (p a) (a ∷ rest) rest) s ≡ p s
+    at more true e = ap (λ b. listed (cond b (a ∷ rest) rest) s) e ∙ ⊎_elim
+        (λ same. ap (λ b. b || listed rest s) (ap (λ x. a == x) same ∙ test_itself a) ∙ sym (ap p same ∙ e))
+        (λ later. ap (λ b. b || listed rest s) (test_apart a s (λ q. omega (arith, q, later.0))) ∙ more later.0 later.1)
+        (here_or_later a s n l m)
+    at more false e = ap (λ b. listed (cond b (a ∷ rest) rest) s) e ∙ ⊎_elim
+        (λ same. none_below p (a + 1) n s (omega (arith, same)) ∙ sym (ap p same ∙ e))
+        (λ later. more later.0 later.1)
+        (here_or_later a s n l m)
+
+-- each of them is below the count
+abbrev AllBelow : ℕ → List ℕ → Type 0
+AllBelow n [] = Unit {0}
+AllBelow n (s ∷ ss) = (s < n) × AllBelow n ss
+
+chosen_below : (p : ℕ → Bool) (m a n : ℕ) → a + n ≤ m → AllBelow m (filter p (range_with_len a n))
+chosen_below p m a zero l = tt
+chosen_below p m a (suc n) l = at (chosen_below p m (a + 1) n (omega (arith, l))) (p a)
+  where
+    at : AllBelow m (filter p (range_with_len (a + 1) n)) → (b : Bool) → AllBelow m (cond b (a ∷ filter p (range_with_len (a + 1) n)) (filter p (range_with_len (a + 1) n)))
+    at more true = (omega (arith, l), more)
+    at more false = more
+
+-- ---- weights of 0 and 1
+all_at : (test : ℕ → Bool) (ws : List ℕ) (i : ℕ) → list_all test ws ≡ true → i < length ws → test (get_or ws i 0) ≡ true
+all_at test [] i e l = absurd (omega (arith, l))
+all_at test (w ∷ ws) zero e l = (and_true (test w) (list_all test ws) e).0
+all_at test (w ∷ ws) (suc i) e l = all_at test ws i (and_true (test w) (list_all test ws) e).1 (omega (arith, l))
+
+zero_or_one : (w : ℕ) → (w == 0 || w == 1) ≡ true → cond (w == 1) 1 0 ≡ w
+zero_or_one zero e = refl
+zero_or_one (suc zero) e = refl
+zero_or_one (suc (suc w)) e = let more = above w in absurd (true≢false e (or_false_from _ _ (test_apart (suc (suc w)) 0 (λ q. omega (arith, q))) (test_apart (suc (suc w)) 1 (λ q. omega (arith, q)))))
+  where
+    above : (w : ℕ) → 0 < suc (suc w)
+    above w = omega arith
+
+shares_are : (start : Shares) (n : ℕ) (picks : ℕ → Bool) → length start.weights ≡ n → ((s : ℕ) → s < n → get_or start.weights s 0 ≡ cond (picks s) 1 0) → start.total ≡ sum start.weights
+    → start ≡ alike n picks
+shares_are start n picks count weights total =
+    let same : start.weights ≡ (alike n picks).weights = fill_by_all (λ s. cond (picks s) 1 0) start.weights n 0 count weights in
+    let totals : start.total ≡ (alike n picks).total = total ∙ ap sum same ∙ sum-map (λ s. cond (picks s) 1 0) (range_with_len 0 n) in
+    λ i. record { weights = same i; total = totals i }
+
+-- the included states make the start
+chosen_start : (start : Shares) (n : ℕ) → is_choice start ≡ true → length start.weights ≡ n → start ≡ alike n (included (chosen start))
+chosen_start start n e count =
+    let both = and_true (list_all (λ w. w == 0 || w == 1) start.weights) (start.total == sum start.weights) e in
+    shares_are start n (included (chosen start)) count
+    (λ s l. let inside : s < length start.weights = omega (arith, l, count) in
+    sym (zero_or_one (get_or start.weights s 0) (all_at (λ w. w == 0 || w == 1) start.weights s both.0 inside))
+    ∙ ap (λ b. cond b 1 0) (sym (listed_is (λ s. get_or start.weights s 0 == 1) 0 (length start.weights) s (omega arith) (omega (arith, inside)))))
+    (test_same start.total (sum start.weights) both.1)
+
+sum_of_ones : (ws : List ℕ) → list_all (λ w. w == 1) ws ≡ true → sum ws ≡ length ws
+sum_of_ones [] e = refl
+sum_of_ones (w ∷ ws) e =
+    let both = and_true (w == 1) (list_all (λ w. w == 1) ws) e in
+    let here = test_same w 1 both.0 in
+    let rest = sum_of_ones ws both.1 in
+    let sums = sum_by-cons (λ y. y) w ws in
+    omega (arith, here, rest, sums)
+
+whole_start : (start : Shares) (states : Elements) → is_whole start ≡ true → length start.weights ≡ count_of states → start ≡ all_states states
+whole_start start states e count =
+    let both = and_true (list_all (λ w. w == 1) start.weights) (start.total == length start.weights) e in
+    shares_are start (count_of states) (λ s. true) count
+    (λ s l. test_same _ 1 (all_at (λ w. w == 1) start.weights s both.0 (omega (arith, l, count))))
+    (test_same start.total (length start.weights) both.1 ∙ sym (sum_of_ones start.weights both.0))
+
+-- ---- words
+start_piece : IsPiece Name (codes "start")
+unfolding class_of
+start_piece = record { kind_is = refl; short = omega arith }
+
+start_topic : topic_of (codes "start") ≡ Some Start
+unfolding topic_of
+start_topic = refl
+
+include_piece : IsPiece Name (codes "include")
+unfolding class_of
+include_piece = record { kind_is = refl; short = omega arith }
+
+uniform_piece : IsPiece Name (codes "uniform")
+unfolding class_of
+uniform_piece = record { kind_is = refl; short = omega arith }
+
+uniform_begins_none : (place : ℕ) → begins_item (record { kind = Name; place = place; bytes = codes "uniform" }) ≡ false
+unfolding topic_of
+uniform_begins_none place = refl
+
+include_begins_none : (place : ℕ) → begins_item (record { kind = Name; place = place; bytes = codes "include" }) ≡ false
+unfolding topic_of
+include_begins_none place = refl
+
+-- ---- a list of states
+abbrev state_word : ℕ → Word
+state_word s = plain Numeral (decimal s)
+
+text_states : (ss : List ℕ) → map word_text (map state_word ss) ≡ map decimal ss
+text_states [] = refl
+text_states (s ∷ ss) = ap (λ ws. decimal s ∷ ws) (text_states ss)
+
+spells_states : (ss : List ℕ) → AllBelow most_states ss → AreSpellings (map state_word ss)
+spells_states [] a = tt
+spells_states (s ∷ ss) a = (whole_piece s (omega (arith, a.0)), spells_states ss a.1)
+
+states_at : (states : Elements) (s : ℕ) (ss : List ℕ) → count_of states ≤ most_states → AllBelow (count_of states) (s ∷ ss) → (place : ℕ)
+    → AllZip (StandsFor states) (lexemes_at place (spelled_line (state_word s) (map state_word ss))) (s ∷ ss)
+states_at states s [] few a place = (by_number (whole_at place s (omega (arith, a.0, few))) a.0, tt)
+states_at states s (r ∷ rs) few a place = (by_number (whole_at place s (omega (arith, a.0, few))) a.0, states_at states r rs few a.1 _)
+
+states_begin_none : (s : ℕ) (ss : List ℕ) (place : ℕ) → list_any begins_item (lexemes_at place (spelled_line (state_word s) (map state_word ss))) ≡ false
+states_begin_none s [] place = refl
+states_begin_none s (r ∷ rs) place = states_begin_none r rs _
+
+below_more : (n m : ℕ) (ss : List ℕ) → n ≤ m → AllBelow n ss → AllBelow m ss
+below_more n m [] l a = tt
+below_more n m (s ∷ ss) l a = (omega (arith, l, a.0), below_more n m ss l a.1)
+
+-- ---- the three forms
+module _ (p : Preamble) (start : Shares) (room : HasRoom p) (few : count_of p.states ≤ most_states) (count : length start.weights ≡ count_of p.states) where
+  prints_start : (us : List Printed) (text : List ℕ) → text_of us ≡ text → ArePrinted us
+      → ((place : ℕ) → AreItems (lexemes_at place us) (lines_known p) (known_of p start [])) → Prints text (lines_known p) (known_of p start [])
+  prints_start us text e made items = record { lexemes = us; text_is = e; printed = made; items = items }
+
+  right_start : (word : Lexeme) (body : List Lexeme) → word.kind ≡ Name → word.bytes ≡ codes "start" → list_any begins_item body ≡ false → IsStart p.states body start
+      → AreItems (word ∷ body) (lines_known p) (known_of p start [])
+  right_start word body k b none s =
+      one_item word body Start (lines_known p) (known_of p start []) (simp k (ap topic_of b ∙ start_topic)) none
+      (texts.start (record { no_start = refl; no_entry = refl })
+      (record { lines = record { discount = refl; costs = refl; states = refl; actions = refl; observations = refl }; pairs = room.pairs }) s)
+
+  uniform_prints : is_whole start ≡ true → Prints (line (codes "start:" ∷ codes "uniform" ∷ [])) (lines_known p) (known_of p start [])
+  uniform_prints e = prints_start (spelled_line (key (codes "start")) (plain Name (codes "uniform") ∷ [])) _
+      (text_line (key (codes "start")) (plain Name (codes "uniform") ∷ []))
+      (line_printed (key (codes "start")) (plain Name (codes "uniform") ∷ []) start_piece (uniform_piece, tt))
+      (λ place. right_start _ _ refl refl (or_false_from _ _ (uniform_begins_none place) refl)
+      (starts.plain refl (subst (IsStartBody p.states _) (sym (whole_start start p.states e count)) (starts.uniform (record { kind = refl; bytes = refl })))))
+
+  include_prints : is_choice start ≡ true → 0 < start.total → Prints (line (codes "start" ∷ codes "include:" ∷ map decimal (chosen start))) (lines_known p) (known_of p start [])
+  include_prints e some = at (chosen start) same (chosen_below _ (count_of p.states) 0 (length start.weights) (omega (arith, count)))
+    where
+      same : start ≡ alike (count_of p.states) (included (chosen start))
+      same = chosen_start start (count_of p.states) e count
+
+      at : (ss : List ℕ) → start ≡ alike (count_of p.states) (included ss) → AllBelow (count_of p.states) ss
+          → Prints (line (codes "start" ∷ codes "include:" ∷ map decimal ss)) (lines_known p) (known_of p start [])
+      at [] is below = prints_start (spelled_line (plain Name (codes "start")) (key (codes "include") ∷ [])) _
+          (text_line (plain Name (codes "start")) (key (codes "include") ∷ []))
+          (line_printed (plain Name (codes "start")) (key (codes "include") ∷ []) start_piece (include_piece, tt))
+          (λ place. right_start _ _ refl refl (or_false_from _ _ (include_begins_none place) refl)
+          (subst (IsStart p.states _) (sym is) (starts.include [] (record { kind = refl; bytes = refl }) refl tt (subst (λ n. 0 < n) (ap (λ x. x.total) is) some))))
+      at (s ∷ ss) is below = prints_start (spelled_line (plain Name (codes "start")) (key (codes "include") ∷ map state_word (s ∷ ss))) _
+          (text_line (plain Name (codes "start")) (key (codes "include") ∷ map state_word (s ∷ ss)) ∙ ap (λ ws. line (codes "start" ∷ codes "include:" ∷ ws)) (text_states (s ∷ ss)))
+          (line_printed (plain Name (codes "start")) (key (codes "include") ∷ map state_word (s ∷ ss)) start_piece (include_piece, spells_states (s ∷ ss) (below_more (count_of p.states) most_states (s ∷ ss) few below)))
+          (λ place. right_start _ _ refl refl (or_false_from _ _ (include_begins_none place) (states_begin_none s ss _))
+          (subst (IsStart p.states _) (sym is) (starts.include (s ∷ ss) (record { kind = refl; bytes = refl }) refl (states_at p.states s ss few below _) (subst (λ n. 0 < n) (ap (λ x. x.total) is) some))))
+
+  small_shares : (ws : List ℕ) → sum ws ≤ one → AreSmall (map pos ws)
+  small_shares [] l = tt
+  small_shares (w ∷ ws) l = let sums = sum_by-cons (λ y. y) w ws in (omega (arith, sums, l), small_shares ws (omega (arith, sums, l)))
+
+  shares_back : (ws : List ℕ) → is_level ws ≡ false → start.weights ≡ ws → start.total ≡ one → shares_of ws ≡ start
+  shares_back ws e w t = simp e (λ i. record { weights = sym w i; total = sym t i })
+
+  millionths_prints : IsMillionthsStart (count_of p.states) start → sum start.weights ≡ start.total → Prints (line (codes "start:" ∷ map millionths_text start.weights)) (lines_known p) (known_of p start [])
+  millionths_prints m adds = at start.weights refl
+    where
+      at : (ws : List ℕ) → start.weights ≡ ws → Prints (line (codes "start:" ∷ map millionths_text ws)) (lines_known p) (known_of p start [])
+      at [] is = absurd (let e = ap length is in omega (arith, e, count, m.several))
+      at (w ∷ ws) is =
+          let small = small_shares (w ∷ ws) (let e = ap sum is in omega (arith, e, adds, m.total_is)) in
+          let numbers : map scaled_text (map pos (w ∷ ws)) ≡ map millionths_text (w ∷ ws) = map_twice pos scaled_text (w ∷ ws) in
+          prints_start (spelled_line (key (codes "start")) (map number_word (map pos (w ∷ ws)))) _
+          (text_line (key (codes "start")) (map number_word (map pos (w ∷ ws))) ∙ ap (λ ts. line (codes "start:" ∷ ts)) (text_numbers (map pos (w ∷ ws)) ∙ numbers))
+          (line_printed (key (codes "start")) (map number_word (map pos (w ∷ ws))) start_piece (spells_numbers (map pos (w ∷ ws)) small))
+          (λ place. right_start _ _ refl refl (numbers_inside (numbers_at (pos w) (map pos ws) small _))
+          (starts.plain refl (subst (IsStartBody p.states _) (shares_back (w ∷ ws) (ap is_level (sym is) ∙ m.uneven) is m.total_is)
+          (starts.probabilities (w ∷ ws) m.several (numbers_at (pos w) (map pos ws) small _) (sym (ap length is) ∙ count) (sym (ap sum is) ∙ adds ∙ m.total_is)))))
+
+  -- states that are alike, or millionths
+  pub start_prints : sum start.weights ≡ start.total → 0 < start.total → (is_choice start ≡ true) ⊎ IsMillionthsStart (count_of p.states) start → Prints (start_text start) (lines_known p) (known_of p start [])
+  start_prints adds some form = at (is_whole start) (is_choice start) refl refl
+    where
+      at : (u c : Bool) → is_whole start ≡ u → is_choice start ≡ c
+          → Prints (cond u (line (codes "start:" ∷ codes "uniform" ∷ [])) (cond c (line (codes "start" ∷ codes "include:" ∷ map decimal (chosen start))) (line (codes "start:" ∷ map millionths_text start.weights)))) (lines_known p) (known_of p start [])
+      at true c e f = uniform_prints e
+      at false true e f = include_prints f some
+      at false false e f = ⊎_elim (λ yes. absurd (true≢false yes f)) (λ m. millionths_prints m adds) form

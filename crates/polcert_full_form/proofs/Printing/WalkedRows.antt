@@ -1,0 +1,115 @@
+-- A row that is walked from one weight above 0 to the next: what is known of the columns passed, and what is printed of them.
+use Rattle.std.proofs.Common.{◌≡◌, ◌≢◌, ◌∙◌, ℕ, zero, suc, ◌+◌, ◌-◌, ◌/◌, ◌%◌, ◌<◌, ◌≤◌, ◌==◌, ⊎_elim, Bool, true, false, Some, None, [], ◌∷◌, ◌++◌, pos, refl, sym, ap, subst, arith, codes, decimal}
+use Rattle.std.proofs.Math.Nat.{zero-div, zero-mod}
+use Rattle.polcert_cells.specs.declared.entry.Table.{Table}
+use Rattle.polcert_cells.specs.declared.entry.Table.TheVariants.{Transition, Observation, Reward}
+use Rattle.polcert_cells.specs.Cursors.{IsNext}
+use Rattle.polcert_cells.specs.LentRows.{reached}
+use Rattle.polcert_cells.specs.declared.row.Row.{Row}
+use Rattle.polcert_cells.specs.declared.row.Row.TheVariants.{Sparse, Filled, Single}
+use Rattle.polcert_cells.specs.Numbers.{one}
+use Rattle.polcert_cells.specs.Preamble.{columns}
+use Rattle.polcert_cells.specs.Rows.{IsWeighted}
+use Rattle.polcert_cells.specs.Meaning.{HasLimitedNumbers, states_of, actions_of}
+use Rattle.polcert_tables.specs.Kept.{Kept, meaning}
+use Rattle.polcert_tables.specs.Steps.RowSums.{row_of}
+use Rattle.polcert_text.specs.Lines.{line}
+use Rattle.polcert_format.specs.FullForm.{all_below, is_uniform, is_decimal, millionths_text, row_words, cell_text}
+use Rattle.polcert_full_form.specs.Steps.Printing.{AreSmallWeights, number_text, decimal_text, cell_line}
+use Rattle.polcert_cells.proofs.Basics.{true≢false}
+use Rattle.polcert_full_form.proofs.Printing.PrintedParts as texts
+use Rattle.polcert_full_form.proofs.Denoting.RowEntries.{same_or_other, test_apart, test_itself}
+
+-- ---- the weights of a model
+pub row_small : (d : Kept) → HasLimitedNumbers (meaning d) → (table : Table) → IsWeighted table → (a s : ℕ) → a < actions_of (meaning d) → s < states_of (meaning d)
+    → AreSmallWeights (columns d.preamble table) (row_of d table a s)
+row_small d l Transition w a s x y c z = l.t a s c x y z
+row_small d l Observation w a s x y c z = l.o a s c x y z
+row_small d l Reward w a s x y c z = absurd w
+
+-- ---- the walk
+-- it begins at the first column
+pub at_start : (row : Row) → reached (Some row) 0 ≡ 0
+at_start (Sparse cells) = refl
+at_start (Filled weights) = refl
+at_start (Single cell) = refl
+
+-- ---- tests of all columns
+-- a test goes on holding
+test_on : (test : ℕ → Bool) (k j : ℕ) → true ≡ all_below k test → ((i : ℕ) → i < j → test (k + i) ≡ true) → true ≡ all_below (k + j) test
+test_on test k zero before h = let same : k ≡ k + 0 = omega arith in subst (λ n. true ≡ all_below n test) same before
+test_on test k (suc j) before h =
+    let next : k + j + 1 ≡ k + suc j = omega arith in
+    subst (λ n. true ≡ all_below n test) next (texts.test_more (k + j) test (test_on test k j before (λ i l. h i (omega (arith, l)))) (h j (omega arith)))
+
+test_up_to : (test : ℕ → Bool) (k m : ℕ) → k ≤ m → true ≡ all_below k test → ((i : ℕ) → k ≤ i → i < m → test i ≡ true) → true ≡ all_below m test
+test_up_to test k m l before h =
+    let whole : k + (m - k) ≡ m = omega (arith, l) in
+    subst (λ n. true ≡ all_below n test) whole (test_on test k (m - k) before (λ i j. h (k + i) (omega arith) (omega (arith, j, l))))
+
+-- where not all columns have one part there is one
+pub some_columns : (n : ℕ) (w : ℕ → ℕ) → is_uniform n w ≡ false → 0 < n
+some_columns zero w e = absurd (true≢false refl e)
+some_columns (suc n) w e = omega arith
+
+module _ (n : ℕ) (w : ℕ → ℕ) where
+  is_other : (c : ℕ) → w c ≡ 0 → (w c == one) ≡ false
+  is_other c e = test_apart (w c) one (λ same. absurd (omega (arith, e, same)))
+
+  -- ---- whether all have one part
+  pub uniform_gap : (k column weight : ℕ) → IsNext w n k (Some (column, weight)) → column ≢ k → false ≡ is_uniform n w
+  uniform_gap k column weight next apart =
+      let low = next.0 in
+      let high = next.1 in
+      texts.test_fails n k (λ c. w c == one) (omega (arith, low, high)) (is_other k (next.4 k (omega arith) (omega (arith, low, apart))))
+
+  pub uniform_other : (k column weight : ℕ) → IsNext w n k (Some (column, weight)) → weight ≢ one → false ≡ is_uniform n w
+  uniform_other k column weight next apart =
+      texts.test_fails n column (λ c. w c == one) next.1 (test_apart (w column) one (λ same. apart (next.2 ∙ same)))
+
+  pub uniform_more : (k column weight : ℕ) → IsNext w n k (Some (column, weight)) → column ≡ k → weight ≡ one → true ≡ all_below k (λ c. w c == one)
+      → true ≡ all_below (column + 1) (λ c. w c == one)
+  uniform_more k column weight next here is before =
+      texts.test_more column (λ c. w c == one) (subst (λ m. true ≡ all_below m (λ c. w c == one)) (sym here) before)
+      (ap (λ x. x == one) (sym next.2 ∙ is) ∙ test_itself one)
+
+  pub uniform_end : (k : ℕ) → k ≤ n → IsNext w n k None → true ≡ all_below k (λ c. w c == one) → (k == n) ≡ is_uniform n w
+  uniform_end k l none before = ⊎_elim
+      (λ (e : k ≡ n). ap (λ m. m == n) e ∙ test_itself n ∙ subst (λ m. true ≡ all_below m (λ c. w c == one)) e before)
+      (λ (apart : k ≢ n). test_apart k n apart ∙ texts.test_fails n k (λ c. w c == one) (omega (arith, l, apart)) (is_other k (none k (omega arith) (omega (arith, l, apart)))))
+      (same_or_other k n)
+
+  -- ---- whether all are millionths
+  is_multiple : (c : ℕ) → w c ≡ 0 → (w c % n == 0) ≡ true
+  is_multiple c e = ap (λ x. x % n == 0) e ∙ ap (λ x. x == 0) (zero-mod n)
+
+  pub decimal_other : (k column weight : ℕ) → IsNext w n k (Some (column, weight)) → weight % n ≢ 0 → false ≡ is_decimal n w
+  decimal_other k column weight next apart =
+      texts.test_fails n column (λ c. w c % n == 0) next.1 (test_apart (w column % n) 0 (λ same. apart (ap (λ x. x % n) next.2 ∙ same)))
+
+  pub decimal_more : (k column weight : ℕ) → IsNext w n k (Some (column, weight)) → weight % n ≡ 0 → true ≡ all_below k (λ c. w c % n == 0)
+      → true ≡ all_below (column + 1) (λ c. w c % n == 0)
+  decimal_more k column weight next is before =
+      texts.test_more column (λ c. w c % n == 0)
+      (test_up_to (λ c. w c % n == 0) k column next.0 before (λ i l m. is_multiple i (next.4 i l m)))
+      (ap (λ x. x % n == 0) (sym next.2) ∙ ap (λ x. x == 0) is)
+
+  pub decimal_end : (k : ℕ) → k ≤ n → IsNext w n k None → true ≡ all_below k (λ c. w c % n == 0) → true ≡ is_decimal n w
+  decimal_end k l none before = test_up_to (λ c. w c % n == 0) k n l before (λ i m j. is_multiple i (none i m j))
+
+  -- ---- what is printed of a column
+  pub zero_decimal : (c : ℕ) → c < n → w c ≡ 0 → number_text c (pos 0) ≡ decimal_text n w c
+  zero_decimal c l e = ap (λ q. number_text c (pos q)) (sym (ap (λ x. x / n) e ∙ zero-div n))
+
+  pub step_decimal : (c weight : ℕ) → weight ≡ w c → number_text c (pos (weight / n)) ≡ decimal_text n w c
+  step_decimal c weight e = ap (λ x. number_text c (pos (x / n))) e
+
+  module _ (table : Table) (a s : ℕ) where
+    pub zero_cell : (c : ℕ) → c < n → w c ≡ 0 → cell_line table a s c (pos 0) ≡ cell_text table a s n w c
+    zero_cell c l e =
+        texts.cell_is table a s c 0
+        ∙ ap (λ q. line (row_words table a s ++ codes ":" ∷ decimal c ∷ millionths_text q ∷ [])) (sym (ap (λ x. x / n) e ∙ zero-div n))
+        ∙ texts.cell_single table a s n w c (is_other c e)
+
+    pub step_cell : (c weight : ℕ) → weight ≡ w c → cell_text table a s n (λ i. weight) c ≡ cell_text table a s n w c
+    step_cell c weight e = ap (λ x. cell_text table a s n (λ i. x) c) e

@@ -1,0 +1,298 @@
+-- The full form is shorter than a text may be.
+use Rattle.std.proofs.Common.{◌≡◌, ◌∙◌, ℕ, zero, suc, ◌+◌, ◌*◌, ◌/◌, ◌<◌, ◌≤◌, ◌==◌, Bool, true, false, cond, Option, Some, None, List, [], ◌∷◌, ◌++◌, length, get_or, map, filter, sum, All, codes, decimal, ℤ, pos, negsuc, refl, sym, ap, subst, arith, length-append, unsigned_abs}
+use Rattle.std.specs.List.{range_with_len}
+use Rattle.std.specs.Option.{ForSome}
+use Rattle.std.proofs.Math.Nat.{mul_assoc, mul-le-mul_right}
+use Rattle.std.proofs.lemmas.Nat.{div_below}
+use Rattle.std.proofs.lemmas.Fmt.{length-decimal-le}
+use Rattle.std.proofs.lemmas.List.Elements.{All-head, All-tail}
+use Rattle.std.proofs.lemmas.List.Sums.{sum_by-cons}
+use Rattle.polcert_text.specs.Cut.{text_limit}
+use Rattle.polcert_text.specs.Millionths.{unsigned_text, scaled_text}
+use Rattle.polcert_text.specs.Numbers.{largest}
+use Rattle.polcert_cells.specs.declared.entry.Table.{Table}
+use Rattle.polcert_cells.specs.declared.entry.Table.TheVariants.{Transition, Observation, Reward}
+use Rattle.polcert_cells.specs.declared.elements.Elements.{Elements}
+use Rattle.polcert_cells.specs.declared.elements.Elements.TheVariants.{Count, Names}
+use Rattle.polcert_cells.specs.declared.shares.Shares.{Shares}
+use Rattle.polcert_cells.specs.Numbers.{one}
+use Rattle.polcert_format.specs.Limits.{most_cells}
+use Rattle.polcert_format.specs.Printable.{IsPrintable}
+use Rattle.polcert_cells.specs.Elements.{count_of, most_states, most_actions, most_observations, most_elements}
+use Rattle.polcert_cells.specs.Preamble.{is_mdp, rewarded}
+use Rattle.polcert_cells.specs.Meaning.{Meaning, HasLimitedNumbers, states_of, actions_of, observations_of}
+use Rattle.polcert_text.specs.Lines.{line}
+use Rattle.polcert_format.specs.FullForm.{for_each, values, all_below, millionths_text, values_word, element_words, observations_line, preamble_text, chosen, is_whole, is_choice, start_text, table_word, row_words, is_uniform, is_decimal, cell_text, row_text, transitions_text, observations_text, written, is_zero, reward_words, rewards_row, rewards_from, rewards_text, full_form}
+use Rattle.polcert_text.proofs.Printing.WrittenNumbers.{plain_size}
+use Rattle.polcert_full_form.proofs.Printing.PrintedPreamble.{AreWritable}
+use Rattle.polcert_format.specs.Writable.{IsWritableName}
+use Rattle.polcert_full_form.proofs.Denoting.Observing.{one_rewarded, seen_rewarded}
+
+-- ---- lines
+-- the bytes of the words, and one behind each
+abbrev words_length : List (List ℕ) → ℕ
+words_length [] = 0
+words_length (w ∷ ws) = length w + 1 + words_length ws
+
+line_length : (ws : List (List ℕ)) → length (line ws) ≤ words_length ws + 1
+line_length [] = omega arith
+line_length (w ∷ []) = omega (arith, length-append w (codes "\n"))
+line_length (w ∷ v ∷ ws) =
+    let rest = line_length (v ∷ ws) in
+    omega (arith, rest, length-append (w ++ codes " ") (line (v ∷ ws)), length-append w (codes " "))
+
+each_length : (n b : ℕ) (f : ℕ → List ℕ) → ((i : ℕ) → i < n → length (f i) ≤ b) → length (for_each n f) ≤ n * b
+each_length zero b f h = omega arith
+each_length (suc n) b f h =
+    let before = each_length n b f (λ i l. h i (omega (arith, l))) in
+    let here = h n (omega arith) in
+    omega (arith, before, here, length-append (for_each n f) (f n))
+
+words_from : (k n b : ℕ) (f : ℕ → List ℕ) → ((i : ℕ) → i < k + n → length (f i) ≤ b) → words_length (map f (range_with_len k n)) ≤ n * (b + 1)
+words_from k zero b f h = omega arith
+words_from k (suc n) b f h =
+    let rest = words_from (k + 1) n b f (λ i l. h i (omega (arith, l))) in
+    let here = h k (omega arith) in
+    omega (arith, rest, here)
+
+words_of_values : (n b : ℕ) (f : ℕ → List ℕ) → ((i : ℕ) → i < n → length (f i) ≤ b) → words_length (values n f) ≤ n * (b + 1)
+words_of_values n b f h = words_from 0 n b f (λ i l. h i (omega (arith, l)))
+
+-- ---- words
+index_length : (i : ℕ) → i < most_elements → length (decimal i) ≤ 4
+index_length i l = length-decimal-le 4 i (omega arith) (omega (arith, l)) (omega (arith, l))
+
+unsigned_length : (n : ℕ) → n ≤ largest → length (unsigned_text n) ≤ 30
+unsigned_length n l = (plain_size n l).short
+
+scaled_length : (h : ℤ) → unsigned_abs h ≤ largest → length (scaled_text h) ≤ 31
+scaled_length (pos n) l = let m = unsigned_length n l in omega (arith, m)
+scaled_length (negsuc n) l = let m = unsigned_length (suc n) l in omega (arith, m)
+
+table_length : (table : Table) → length (table_word table) ≤ 2
+table_length Transition = omega arith
+table_length Observation = omega arith
+table_length Reward = omega arith
+
+-- ---- rows
+an_element : (a : ℕ) → a < most_actions → a < most_elements
+an_element a l = omega (arith, l)
+
+module _ (table : Table) (a s n : ℕ) (w : ℕ → ℕ) (la : a < most_actions) (ls : s < most_states) (some : 0 < n) (few : n ≤ most_elements) (within : (c : ℕ) → c < n → w c ≤ one * n) where
+  share_small : (c : ℕ) → c < n → w c / n ≤ largest
+  share_small c d =
+      let m = within c d in
+      let below : w c < (one + 1) * n = omega (arith, m, some) in
+      let q = div_below (w c) n (one + 1) some below in
+      omega (arith, q)
+
+  head_length : length (line (row_words table a s)) ≤ 16
+  head_length = omega (arith, line_length (row_words table a s), table_length table, index_length a (an_element a la), index_length s ls)
+
+  cell_length : (c : ℕ) → c < n → length (cell_text table a s n w c) ≤ 54
+  cell_length c d = at (w c == one)
+    where
+      at : (b : Bool) → length (cond b [] (line (row_words table a s ++ codes ":" ∷ decimal c ∷ millionths_text (w c / n) ∷ []))) ≤ 54
+      at true = omega arith
+      at false = omega (arith, line_length (row_words table a s ++ codes ":" ∷ decimal c ∷ millionths_text (w c / n) ∷ []), table_length table, index_length a (an_element a la), index_length s ls, index_length c (omega (arith, d, few)), unsigned_length (w c / n) (share_small c d))
+
+  row_length : length (row_text table a s n w) ≤ n * 80
+  row_length = at (is_uniform n w) (is_decimal n w)
+    where
+      uniform_length : length (line (codes "uniform" ∷ [])) ≤ 9
+      uniform_length = line_length (codes "uniform" ∷ [])
+
+      numbers_length : length (line (values n (λ c. millionths_text (w c / n)))) ≤ n * 31 + 1
+      numbers_length =
+          let all = words_of_values n 30 (λ c. millionths_text (w c / n)) (λ c d. unsigned_length (w c / n) (share_small c d)) in
+          omega (arith, all, line_length (values n (λ c. millionths_text (w c / n))))
+
+      cells_length : length (line (codes "uniform" ∷ []) ++ for_each n (cell_text table a s n w)) ≤ 9 + n * 54
+      cells_length =
+          let all = each_length n 54 (cell_text table a s n w) cell_length in
+          omega (arith, all, uniform_length, length-append (line (codes "uniform" ∷ [])) (for_each n (cell_text table a s n w)))
+
+      at : (u d : Bool) → length (line (row_words table a s) ++ cond u (line (codes "uniform" ∷ [])) (cond d (line (values n (λ c. millionths_text (w c / n)))) (line (codes "uniform" ∷ []) ++ for_each n (cell_text table a s n w)))) ≤ n * 80
+      at true d = omega (arith, some, head_length, uniform_length, length-append (line (row_words table a s)) (line (codes "uniform" ∷ [])))
+      at false true = omega (arith, some, head_length, numbers_length, length-append (line (row_words table a s)) (line (values n (λ c. millionths_text (w c / n)))))
+      at false false = omega (arith, some, head_length, cells_length, length-append (line (row_words table a s)) (line (codes "uniform" ∷ []) ++ for_each n (cell_text table a s n w)))
+
+rewards_length : (costs : Bool) (words : List (List ℕ)) (n : ℕ) (r : ℕ → ℤ) → length (line words) ≤ 23 → 0 < n → ((z : ℕ) → z < n → unsigned_abs (written costs (r z)) ≤ largest) → length (rewards_row costs words n r) ≤ n * 56
+rewards_length costs words n r head some small = at (all_below n (λ z. is_zero (r z)))
+  where
+    numbers_length : length (line (values n (λ z. scaled_text (written costs (r z))))) ≤ n * 32 + 1
+    numbers_length =
+        let all = words_of_values n 31 (λ z. scaled_text (written costs (r z))) (λ z d. scaled_length (written costs (r z)) (small z d)) in
+        omega (arith, all, line_length (values n (λ z. scaled_text (written costs (r z)))))
+
+    at : (b : Bool) → length (cond b [] (line words ++ line (values n (λ z. scaled_text (written costs (r z)))))) ≤ n * 56
+    at true = omega arith
+    at false = omega (arith, some, head, numbers_length, length-append (line words) (line (values n (λ z. scaled_text (written costs (r z))))))
+
+-- the lines that begin a row of rewards
+cell_head : (a s e : ℕ) → a < most_actions → s < most_states → e < most_states → length (line (reward_words a s e)) ≤ 23
+cell_head a s e la ls le = omega (arith, line_length (reward_words a s e), index_length a (an_element a la), index_length s ls, index_length e le)
+
+row_head : (a s : ℕ) → a < most_actions → s < most_states → length (line (row_words Reward a s)) ≤ 23
+row_head a s la ls = omega (arith, line_length (row_words Reward a s), index_length a (an_element a la), index_length s ls)
+
+-- ---- the preamble and the start
+names_length : (names : List (List ℕ)) → All IsWritableName names → words_length names ≤ length names * 401
+names_length [] a = omega arith
+names_length (x ∷ xs) a =
+    let rest = names_length xs (All-tail IsWritableName x xs a) in
+    let here = (All-head IsWritableName x xs a).short in
+    omega (arith, rest, here)
+
+elements_length : (word : List ℕ) (elements : Elements) → length word ≤ 20 → AreWritable most_elements elements → length (line (word ∷ element_words elements)) ≤ 4_100_000
+elements_length word (Count n) l w =
+    let count : length (decimal n) ≤ 5 = length-decimal-le 5 n (omega arith) (omega (arith, w.1)) (omega (arith, w.1)) in
+    omega (arith, l, count, line_length (word ∷ decimal n ∷ []))
+elements_length word (Names names) l w = omega (arith, l, names_length names w.0, w.2, line_length (word ∷ names))
+
+more_may : (elements : Elements) → AreWritable most_actions elements → AreWritable most_elements elements
+more_may (Count n) w = (w.0, omega (arith, w.1))
+more_may (Names names) w = (w.0, w.1, omega (arith, w.2), w.3)
+
+preamble_length : (m : Meaning) → m.preamble.discount ≤ one → AreWritable most_states m.preamble.states → AreWritable most_actions m.preamble.actions → ForSome m.preamble.observations (AreWritable most_observations) → length (preamble_text m) ≤ 13_000_000
+preamble_length m small states actions observations =
+    let p = m.preamble in
+    let d = line (codes "discount:" ∷ millionths_text p.discount ∷ []) in
+    let v = line (codes "values:" ∷ values_word p.costs ∷ []) in
+    let s = line (codes "states:" ∷ element_words p.states) in
+    let a = line (codes "actions:" ∷ element_words p.actions) in
+    let o = observations_line p.observations in
+    omega (
+      arith,
+      line_length (codes "discount:" ∷ millionths_text p.discount ∷ []),
+      unsigned_length p.discount (omega (arith, small)),
+      values_length p.costs,
+      elements_length (codes "states:") p.states (omega arith) states,
+      elements_length (codes "actions:") p.actions (omega arith) (more_may p.actions actions),
+      observed_length p.observations observations,
+      length-append (d ++ v ++ s ++ a) o,
+      length-append (d ++ v ++ s) a,
+      length-append (d ++ v) s,
+      length-append d v,
+    )
+  where
+    observed_length : (o : Option Elements) → ForSome o (AreWritable most_observations) → length (observations_line o) ≤ 4_100_000
+    observed_length None w = omega arith
+    observed_length (Some elements) w = elements_length (codes "observations:") elements (omega arith) (w elements refl)
+
+    values_length : (costs : Bool) → length (line (codes "values:" ∷ values_word costs ∷ [])) ≤ 20
+    values_length true = omega arith
+    values_length false = omega arith
+
+states_length : (p : ℕ → Bool) (k n : ℕ) → k + n ≤ most_states → words_length (map decimal (filter p (range_with_len k n))) ≤ n * 5
+states_length p k zero l = omega arith
+states_length p k (suc n) l = at (states_length p (k + 1) n (omega (arith, l))) (p k)
+  where
+    at : words_length (map decimal (filter p (range_with_len (k + 1) n))) ≤ n * 5 → (b : Bool)
+        → words_length (map decimal (cond b (k ∷ filter p (range_with_len (k + 1) n)) (filter p (range_with_len (k + 1) n)))) ≤ suc n * 5
+    at rest true = omega (arith, rest, index_length k (omega (arith, l)))
+    at rest false = omega (arith, rest)
+
+weights_length : (ws : List ℕ) → sum ws ≤ one → words_length (map millionths_text ws) ≤ length ws * 31
+weights_length [] l = omega arith
+weights_length (w ∷ ws) l =
+    let sums = sum_by-cons (λ y. y) w ws in
+    let rest = weights_length ws (omega (arith, sums, l)) in
+    omega (arith, rest, unsigned_length w (omega (arith, sums, l)))
+
+start_length : (start : Shares) → length start.weights ≤ most_states → sum start.weights ≤ one → length (start_text start) ≤ 400_000
+start_length start few small = at (is_whole start) (is_choice start)
+  where
+    at : (u c : Bool) → length (cond u (line (codes "start:" ∷ codes "uniform" ∷ [])) (cond c (line (codes "start" ∷ codes "include:" ∷ map decimal (chosen start))) (line (codes "start:" ∷ map millionths_text start.weights)))) ≤ 400_000
+    at true c = omega arith
+    at false true = omega (arith, few, line_length (codes "start" ∷ codes "include:" ∷ map decimal (chosen start)), states_length (λ s. get_or start.weights s 0 == 1) 0 (length start.weights) (omega (arith, few)))
+    at false false = omega (arith, few, line_length (codes "start:" ∷ map millionths_text start.weights), weights_length start.weights small)
+
+-- ---- the whole
+grouped : (a s n k : ℕ) → a * (s * (n * k)) ≡ a * s * n * k
+grouped a s n k = ap (λ x. a * x) (sym (mul_assoc s n k)) ∙ sym (mul_assoc a (s * n) k) ∙ ap (λ x. x * k) (sym (mul_assoc a s n))
+
+cells_bound : (a s n k : ℕ) → a * s * n ≤ most_cells → a * (s * (n * k)) ≤ most_cells * k
+cells_bound a s n k l = subst (λ x. x ≤ most_cells * k) (sym (grouped a s n k)) (mul-le-mul_right k l)
+
+module _ (m : Meaning) (limits : HasLimitedNumbers m) (printable : IsPrintable m.preamble) (states : AreWritable most_states m.preamble.states) (actions : AreWritable most_actions m.preamble.actions) (observations : ForSome m.preamble.observations (AreWritable most_observations))
+    (small : (a s e z : ℕ) → a < actions_of m → s < states_of m → e < states_of m → z < observations_of m → unsigned_abs (written m.preamble.costs (m.r a s e z)) ≤ largest) where
+  transitions_length : length (transitions_text m) ≤ most_cells * 80
+  transitions_length =
+      let A = actions_of m in
+      let S = states_of m in
+      let all : length (transitions_text m) ≤ A * (S * (S * 80)) =
+      each_length A (S * (S * 80)) (λ a. for_each S (λ s. row_text Transition a s S (m.t a s))) (λ a l. each_length S (S * 80) (λ s. row_text Transition a s S (m.t a s)) (λ s k.
+      row_length Transition a s S (m.t a s) (omega (arith, l, limits.actions.1)) (omega (arith, k, limits.states.1)) (omega (arith, k)) limits.states.1 (λ c d. limits.t a s c l k d))) in
+      omega (arith, all, cells_bound A S S 80 printable.transitions)
+
+  seen_length : length (for_each (actions_of m) (λ a. for_each (states_of m) (λ e. row_text Observation a e (observations_of m) (m.o a e)))) ≤ most_cells * 80
+  seen_length =
+      let A = actions_of m in
+      let S = states_of m in
+      let Z = observations_of m in
+      let all : length (for_each A (λ a. for_each S (λ e. row_text Observation a e Z (m.o a e)))) ≤ A * (S * (Z * 80)) =
+      each_length A (S * (Z * 80)) (λ a. for_each S (λ e. row_text Observation a e Z (m.o a e))) (λ a l. each_length S (Z * 80) (λ e. row_text Observation a e Z (m.o a e)) (λ s k.
+      row_length Observation a s Z (m.o a s) (omega (arith, l, limits.actions.1)) (omega (arith, k, limits.states.1)) limits.observations.0 limits.observations.1 (λ c d. limits.o a s c l k d))) in
+      omega (arith, all, cells_bound A S Z 80 printable.observations)
+
+  observations_length : length (observations_text m) ≤ most_cells * 80
+  observations_length = at (is_mdp m.preamble)
+    where
+      at : (b : Bool) → length (cond b [] (for_each (actions_of m) (λ a. for_each (states_of m) (λ e. row_text Observation a e (observations_of m) (m.o a e))))) ≤ most_cells * 80
+      at true = omega arith
+      at false = seen_length
+
+  -- the rewards of an action in a state: a number for each end state and each thing that a reward depends on
+  from_length : (a s : ℕ) → a < actions_of m → s < states_of m → length (rewards_from m a s) ≤ states_of m * (count_of (rewarded m.preamble) * 56)
+  from_length a s l k = at (is_mdp m.preamble) refl
+    where
+      S : ℕ
+      S = states_of m
+
+      Z : ℕ
+      Z = observations_of m
+
+      costs : Bool
+      costs = m.preamble.costs
+
+      at : (b : Bool) → is_mdp m.preamble ≡ b
+          → length (cond b (rewards_row costs (row_words Reward a s) S (λ e. m.r a s e 0)) (for_each S (λ e. rewards_row costs (reward_words a s e) Z (m.r a s e)))) ≤ S * (count_of (rewarded m.preamble) * 56)
+      at true mdp = subst (λ n. length (rewards_row costs (row_words Reward a s) S (λ e. m.r a s e 0)) ≤ S * (n * 56)) (sym (one_rewarded m.preamble mdp))
+          (rewards_length costs (row_words Reward a s) S (λ e. m.r a s e 0) (row_head a s (omega (arith, l, limits.actions.1)) (omega (arith, k, limits.states.1))) limits.states.0
+          (λ e d. small a s e 0 l k d limits.observations.0))
+      at false seen = subst (λ n. length (for_each S (λ e. rewards_row costs (reward_words a s e) Z (m.r a s e))) ≤ S * (n * 56)) (sym (seen_rewarded m.preamble seen))
+          (each_length S (Z * 56) (λ e. rewards_row costs (reward_words a s e) Z (m.r a s e)) (λ e d.
+          rewards_length costs (reward_words a s e) Z (m.r a s e) (cell_head a s e (omega (arith, l, limits.actions.1)) (omega (arith, k, limits.states.1)) (omega (arith, d, limits.states.1))) limits.observations.0
+          (λ z x. small a s e z l k d x)))
+
+  rewards_short : length (rewards_text m) ≤ most_cells * 56
+  rewards_short =
+      let A = actions_of m in
+      let S = states_of m in
+      let R = count_of (rewarded m.preamble) in
+      let all : length (rewards_text m) ≤ A * (S * (S * (R * 56))) =
+      each_length A (S * (S * (R * 56))) (λ a. for_each S (rewards_from m a)) (λ a l. each_length S (S * (R * 56)) (rewards_from m a) (λ s k. from_length a s l k)) in
+      let same : A * (S * (S * (R * 56))) ≡ A * S * S * R * 56 = grouped A S S (R * 56) ∙ sym (mul_assoc (A * S * S) R 56) in
+      let bound : A * S * S * R * 56 ≤ most_cells * 56 = mul-le-mul_right 56 printable.rewards in
+      omega (arith, all, same, bound)
+
+  pub form_short : length (full_form m) < text_limit
+  form_short =
+      let t = transitions_text m in
+      let o = observations_text m in
+      let r = rewards_text m in
+      let p = preamble_text m in
+      let s = start_text m.start in
+      omega (
+        arith,
+        preamble_length m limits.discount states actions observations,
+        start_length m.start (omega (arith, limits.start_count, limits.states.1)) (omega (arith, limits.start_sum, limits.start_most)),
+        transitions_length,
+        observations_length,
+        rewards_short,
+        length-append (p ++ s ++ t ++ o) r,
+        length-append (p ++ s ++ t) o,
+        length-append (p ++ s) t,
+        length-append p s,
+      )

@@ -1,0 +1,13 @@
+-- What is not too large to print is within the limits of a text's cells.
+use Rattle.polcert_cells.specs.Preamble.{Preamble}
+use Rattle.polcert_cells.specs.Meaning.{Meaning, HasLimitedNumbers}
+use Rattle.polcert_format.specs.Limits.{HasFewPairs}
+use Rattle.polcert_format.specs.Printable.{IsPrintable}
+
+-- there is room for what is printed behind this preamble, and for the cells of a text
+pub record HasRoom (p : Preamble) : Type 0 where
+  pub printable : IsPrintable p
+  pub pairs : HasFewPairs p
+
+pub has_room : (m : Meaning) → HasLimitedNumbers m → IsPrintable m.preamble → HasRoom m.preamble
+has_room m limits printable = record { printable = printable; pairs = limits.pairs }

@@ -1,0 +1,168 @@
+-- The full form of a model that is not too large to print is a text of that model.
+use Rattle.std.proofs.Common.{◌≡◌, ◌∙◌, ℕ, zero, suc, ◌*◌, ◌/◌, ◌%◌, ◌<◌, ◌≤◌, ◌⊎◌, ⊎_elim, inl, inr, ◌==◌, Bool, true, false, cond, Some, unwrap_or, List, [], ◌∷◌, ◌++◌, ◌≢◌, All, AllPairs, ℤ, pos, negsuc, neg_ℤ, refl, sym, ap, subst, unsigned_abs, length, arith}
+use Rattle.std.proofs.Math.Nat.{mul-mod_left, mod-add-div'}
+use Rattle.polcert_text.specs.Cut.{text_limit}
+use Rattle.polcert_text.specs.Numbers.{largest}
+use Rattle.polcert_cells.specs.declared.entry.Table.TheVariants.{Transition, Observation}
+use Rattle.polcert_cells.specs.Elements.{count_of, most_states, most_actions, most_observations}
+use Rattle.polcert_cells.specs.Preamble.{Preamble, is_mdp}
+use Rattle.polcert_cells.specs.Cells.{weight}
+use Rattle.std.specs.Option.{ForSome}
+use Rattle.polcert_cells.specs.Meaning.{Meaning, meaning_of, states_of, actions_of, observations_of, IsSame, HasProperRows, HasLimitedNumbers, IsCount}
+use Rattle.polcert_format.specs.Text.{nothing_known, IsModelText}
+use Rattle.polcert_format.specs.Printable.{IsPrintable}
+use Rattle.polcert_format.specs.FullForm.{for_each, row_text, written, is_choice, transitions_text, observations_text, rewards_text, full_form}
+use Rattle.polcert_cells.specs.Numbers.{one}
+use Rattle.polcert_format.specs.Writable.{IsWritableName, HasProperNames, IsMillionthsStart, IsWritableWeight, IsEndObserved, IsWritable}
+use Rattle.polcert_tables.specs.Kept.{Kept, meaning}
+use Rattle.polcert_cells.specs.declared.elements.Elements.{Elements}
+use Rattle.polcert_cells.specs.declared.elements.Elements.TheVariants.{Count, Names}
+use Rattle.polcert_cells.proofs.Basics.{is_true_or_false, true≢false}
+use Rattle.polcert_full_form.proofs.Writable.Printable.{HasRoom, has_room}
+use Rattle.polcert_full_form.proofs.Printing.PrintedItems.{Prints, prints_then, text_from_items}
+use Rattle.polcert_full_form.proofs.Printing.PrintedEntries.{known_of, complete, PrintsEntries, no_entries, entries_each}
+use Rattle.polcert_full_form.proofs.Printing.PrintedPreamble.{AreWritable, lines_known, preamble_prints}
+use Rattle.polcert_full_form.proofs.Printing.PrintedStart.{start_prints}
+use Rattle.polcert_full_form.proofs.Denoting.RowEntries.{Fits, same_or_other, transition_rows, observation_rows}
+use Rattle.polcert_full_form.proofs.Printing.PrintedRows.{row_prints, from_prints}
+use Rattle.polcert_full_form.proofs.Denoting.ModelEntries.{transition_entries, seen_entries, observation_entries, rewards_entries, all_entries, transition_back, observation_back, reward_again}
+use Rattle.polcert_full_form.proofs.Writable.FormLength.{form_short}
+
+-- What has to be known of a model, beside that it is not too large, for its full form to be a text.
+pub record CanBeWritten (m : Meaning) : Type 0 where
+  pub limits : HasLimitedNumbers m
+  pub rows : HasProperRows m
+  pub states : AreWritable most_states m.preamble.states
+  pub actions : AreWritable most_actions m.preamble.actions
+  pub observations : ForSome m.preamble.observations (AreWritable most_observations)
+  pub start : (is_choice m.start ≡ true) ⊎ IsMillionthsStart (states_of m) m.start
+  pub t : (a s e : ℕ) → a < actions_of m → s < states_of m → e < states_of m → Fits (states_of m) (m.t a s e)
+  pub o : (a e z : ℕ) → a < actions_of m → e < states_of m → z < observations_of m → Fits (observations_of m) (m.o a e z)
+  pub mdp : is_mdp m.preamble ≡ true → IsEndObserved m
+
+abs_neg : (h : ℤ) → unsigned_abs (neg_ℤ h) ≡ unsigned_abs h
+abs_neg (pos zero) = refl
+abs_neg (pos (suc n)) = refl
+abs_neg (negsuc n) = refl
+
+abs_written : (costs : Bool) (h : ℤ) → unsigned_abs (written costs h) ≡ unsigned_abs h
+abs_written true h = abs_neg h
+abs_written false h = refl
+
+module _ (m : Meaning) (w : CanBeWritten m) (printable : IsPrintable m.preamble) where
+  abbrev p : Preamble
+  p = m.preamble
+
+  room : HasRoom p
+  room = has_room m w.limits printable
+
+  small : (a s e z : ℕ) → a < actions_of m → s < states_of m → e < states_of m → z < observations_of m → unsigned_abs (written p.costs (m.r a s e z)) ≤ largest
+  small a s e z l k d x = subst (λ n. n ≤ largest) (sym (abs_written p.costs (m.r a s e z))) (w.limits.r a s e z l k d x)
+
+  transitions_print : PrintsEntries p m.start room (transitions_text m) (transition_entries m)
+  transitions_print =
+      entries_each p m.start room (actions_of m) _ _ (λ a l. entries_each p m.start room (states_of m) _ _ (λ s k.
+      row_prints p m.start room w.limits.actions.1 w.limits.states.1 Transition a s (states_of m) (m.t a s) (transition_rows p) l k w.limits.states.0 w.limits.states.1 (λ c d. w.limits.t a s c l k d)))
+
+  observations_print : PrintsEntries p m.start room (observations_text m) (observation_entries m)
+  observations_print = at (is_mdp p) refl
+    where
+      at : (b : Bool) → is_mdp p ≡ b → PrintsEntries p m.start room
+          (cond b [] (for_each (actions_of m) (λ a. for_each (states_of m) (λ e. row_text Observation a e (observations_of m) (m.o a e))))) (cond b [] (seen_entries m))
+      at true mdp = no_entries p m.start room
+      at false seen =
+          entries_each p m.start room (actions_of m) _ _ (λ a l. entries_each p m.start room (states_of m) _ _ (λ e k.
+          row_prints p m.start room w.limits.actions.1 w.limits.states.1 Observation a e (observations_of m) (m.o a e) (observation_rows p seen) l k w.limits.observations.0 w.limits.observations.1 (λ c d. w.limits.o a e c l k d)))
+
+  all_rewards_print : PrintsEntries p m.start room (rewards_text m) (rewards_entries m)
+  all_rewards_print =
+      entries_each p m.start room (actions_of m) _ _ (λ a l. entries_each p m.start room (states_of m) _ _ (λ s k.
+      from_prints p m.start room w.limits.actions.1 w.limits.states.1 (is_mdp p) a s (states_of m) (observations_of m) (m.r a s) refl l k refl refl w.limits.states.0 w.limits.observations.0 (λ e z d x. small a s e z l k d x)))
+
+  all_print : Prints (full_form m) nothing_known (known_of p m.start (all_entries m))
+  all_print =
+      let t = transition_entries m in
+      let o = observation_entries m in
+      prints_then _ _ nothing_known (known_of p m.start (t ++ o)) (known_of p m.start (all_entries m))
+      (prints_then _ _ nothing_known (known_of p m.start t) (known_of p m.start (t ++ o))
+      (prints_then _ _ nothing_known (known_of p m.start []) (known_of p m.start t)
+      (prints_then _ _ nothing_known (lines_known p) (known_of p m.start [])
+      (preamble_prints m w.limits.discount w.states w.actions w.observations)
+      (start_prints p m.start room w.limits.states.1 w.limits.start_count w.limits.start_sum w.limits.start_some w.start))
+      (transitions_print []))
+      (observations_print t))
+      (all_rewards_print (t ++ o))
+
+  same_again : IsSame m (meaning_of p (Some m.start) (all_entries m))
+  same_again = record {
+    preamble = refl;
+    start = refl;
+    t = λ a s e l k d. sym (transition_back m a s e l k d (w.t a s e l k d));
+    o = seen_again (is_mdp p) refl;
+    r = λ a s e z l k d x. paid_again (is_mdp p) refl a s e z l k d x ∙ sym (reward_again m a s e z l k d x);
+  }
+    where
+      seen_again : (b : Bool) → is_mdp p ≡ b → (a e z : ℕ) → a < actions_of m → e < states_of m → z < observations_of m
+          → m.o a e z ≡ cond b (cond (e == z) (one * states_of m) 0) (weight p (all_entries m) Observation (a ∷ e ∷ z ∷ []))
+      seen_again true mdp a e z l k d = (w.mdp mdp).o a e z l k d
+      seen_again false seen a e z l k d = sym (observation_back m a e z seen l k d (w.o a e z l k d))
+
+      paid_again : (b : Bool) → is_mdp p ≡ b → (a s e z : ℕ) → a < actions_of m → s < states_of m → e < states_of m → z < observations_of m → m.r a s e z ≡ m.r a s e (cond b 0 z)
+      paid_again true mdp a s e z l k d x = (w.mdp mdp).r a s e z l k d x
+      paid_again false seen a s e z l k d x = refl
+
+  pub printed_short : length (full_form m) < text_limit
+  printed_short = form_short m w.limits printable w.states w.actions w.observations small
+
+  pub written_reads_back : IsModelText (full_form m) m
+  written_reads_back =
+      text_from_items (full_form m) m p (known_of p m.start (all_entries m)) (omega (arith, printed_short)) all_print
+      (complete p m.start (all_entries m) room) same_again w.rows
+
+-- ---- what a model keeps can be written
+weight_there : (n w : ℕ) → Fits n w → IsWritableWeight n w
+weight_there n w f other = ⊎_elim (λ e. absurd (other e)) (λ m. ap (λ k. k % n) m.1 ∙ mul-mod_left m.0 n) f
+
+weight_back : (n w : ℕ) → IsWritableWeight n w → Fits n w
+weight_back n w f = ⊎_elim (λ e. inl e) (λ other. let none = f other in let all = mod-add-div' w n in inr (w / n, omega (arith, none, all))) (same_or_other w one)
+
+listed : (most : ℕ) (e : Elements) → IsCount most (count_of e) → HasProperNames e → AreWritable most e
+listed most (Count n) count names = count
+listed most (Names xs) count names = let proper = names xs refl in (proper.0, count.0, count.1, proper.1)
+
+pub kept_writes : (d : Kept) → HasProperRows (meaning d) → HasLimitedNumbers (meaning d) → IsWritable (meaning d) → CanBeWritten (meaning d)
+kept_writes d rows limits w = record {
+  limits = limits;
+  rows = rows;
+  states = listed most_states d.preamble.states limits.states w.states;
+  actions = listed most_actions d.preamble.actions limits.actions w.actions;
+  observations = λ e is. listed most_observations e (subst (λ o. IsCount most_observations (count_of (unwrap_or o d.preamble.states))) is limits.observations) (w.observations e is);
+  start = ⊎_elim (λ yes. inl yes) (λ no. inr (w.start no)) (is_true_or_false (is_choice (meaning d).start));
+  t = λ a s e i j k. weight_back (states_of (meaning d)) ((meaning d).t a s e) (w.t a s e i j k);
+  o = λ a e z i j k. weight_back (observations_of (meaning d)) ((meaning d).o a e z) (w.o a e z i j k);
+  mdp = w.mdp;
+}
+
+pub kept_reads_back : (d : Kept) → HasProperRows (meaning d) → HasLimitedNumbers (meaning d) → IsWritable (meaning d) → IsPrintable d.preamble → IsModelText (full_form (meaning d)) (meaning d)
+kept_reads_back d rows limits w = written_reads_back (meaning d) (kept_writes d rows limits w)
+
+pub kept_short : (d : Kept) → HasProperRows (meaning d) → HasLimitedNumbers (meaning d) → IsWritable (meaning d) → IsPrintable d.preamble → length (full_form (meaning d)) < text_limit
+kept_short d rows limits w = printed_short (meaning d) (kept_writes d rows limits w)
+
+named : (most : ℕ) (e : Elements) → AreWritable most e → HasProperNames e
+named most (Count n) w = λ names e. absurd (cc)
+named most (Names xs) w = λ names e. subst (λ ns. All IsWritableName ns × AllPairs (λ x y. x ≢ y) ns) (same xs names e) (w.0, w.3)
+  where
+    same : (xs ys : List (List ℕ)) → Names xs ≡ Names ys → xs ≡ ys
+    same xs ys e = cc
+
+pub written_writable : (m : Meaning) → CanBeWritten m → IsWritable m
+written_writable m c = record {
+  states = named most_states m.preamble.states c.states;
+  actions = named most_actions m.preamble.actions c.actions;
+  observations = λ e is. named most_observations e (c.observations e is);
+  start = λ no. ⊎_elim (λ yes. absurd (true≢false yes no)) (λ x. x) c.start;
+  t = λ a s e i j k. weight_there (states_of m) (m.t a s e) (c.t a s e i j k);
+  o = λ a e z i j k. weight_there (observations_of m) (m.o a e z) (c.o a e z i j k);
+  mdp = c.mdp;
+}

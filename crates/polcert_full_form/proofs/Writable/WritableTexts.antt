@@ -1,0 +1,157 @@
+-- What a text denotes can be written, where it is not too large: its names are names, its start has a form, and so has each weight.
+use Rattle.std.proofs.Common.{◌≡◌, ◌∙◌, ℕ, ◌*◌, ◌≤◌, ◌==◌, true, cond, Option, Some, None, unwrap_or, List, [], ◌∷◌, ◌++◌, length, flat_map, map, All, sym, ap, subst, arith}
+use Rattle.std.specs.Option.{ForSome}
+use Rattle.std.proofs.lemmas.List.{length-map}
+use Rattle.std.proofs.lemmas.List.Elements.{All-cons, All-nil, All-head, All-tail}
+use Rattle.polcert_text.specs.Lexemes.{kind_of}
+use Rattle.polcert_text.specs.Cut.{Lexeme, Rest, TakesToken, IsCut}
+use Rattle.polcert_text.specs.declared.tokens.TokenFault.{TokenFault}
+use Rattle.polcert_cells.specs.declared.elements.Elements.{Elements}
+use Rattle.polcert_cells.specs.declared.shares.Shares.{Shares}
+use Rattle.polcert_cells.specs.declared.words.Topic.{Topic}
+use Rattle.polcert_cells.specs.declared.entry.Table.TheVariants.{Transition, Observation}
+use Rattle.polcert_cells.specs.declared.entry.Entry.{Entry}
+use Rattle.polcert_cells.specs.Words.{IsName}
+use Rattle.polcert_cells.specs.Elements.{count_of, most_states, most_actions, most_observations, AreElements, counted, named}
+use Rattle.polcert_format.specs.Items.{Item, lexemes_of}
+use Rattle.polcert_cells.specs.Preamble.{Preamble, is_mdp, observed}
+use Rattle.polcert_cells.specs.Meaning.{Meaning, meaning_of, observation_weight, IsSame, states_of, observations_of}
+use Rattle.polcert_cells.specs.Numbers.{one}
+use Rattle.polcert_cells.specs.Cells.{weight, reward}
+use Rattle.polcert_cells.specs.Start.{all_states}
+use Rattle.polcert_format.specs.Text as texts
+use Rattle.polcert_format.specs.Text.{Known, nothing_known, IsRight, AreRight, IsModelText}
+use Rattle.polcert_format.specs.Printable.{IsPrintable}
+use Rattle.polcert_format.proofs.LimitLaws.{within_limits}
+use Rattle.polcert_format.proofs.TextLaws.{one_model}
+use Rattle.polcert_format.specs.FullForm.{full_form}
+use Rattle.polcert_full_form.proofs.Printing.PrintedPreamble.{AreWritable}
+use Rattle.polcert_format.specs.Writable.{IsWritableName, IsEndObserved, IsWritable}
+use Rattle.polcert_full_form.proofs.Denoting.RowEntries.{Fits}
+use Rattle.polcert_full_form.proofs.Denoting.WeightForms.{weight_fits, observation_fits}
+use Rattle.polcert_full_form.proofs.Denoting.StartShapes.{HasShape, start_shape, alike_shape}
+use Rattle.polcert_full_form.proofs.Writable.WritableModels.{CanBeWritten, written_writable, written_reads_back}
+
+-- ---- the lexemes of a text
+record IsOfText (l : Lexeme) : Type 0 where
+  kind : kind_of l.bytes ≡ Some l.kind
+  short : length l.bytes ≤ 400
+
+abbrev AreOfText : List Lexeme → Type 0
+AreOfText [] = Unit {0}
+AreOfText (l ∷ ls) = IsOfText l × AreOfText ls
+
+taken_of_text : (old new : Rest) (l : Lexeme) → TakesToken old l new → IsOfText l
+taken_of_text old new l t = record { kind = ap kind_of t.token_at.bytes_are ∙ t.token_at.lexeme.lexeme; short = t.token_at.short }
+
+cut_of_text : (rest : Rest) (ls : List Lexeme) (x : Option TokenFault) → IsCut rest ls x → AreOfText ls
+cut_of_text rest [] x c = tt
+cut_of_text rest (l ∷ ls) x c = (taken_of_text rest c.0 l c.1, cut_of_text c.0 ls x c.2)
+
+front_of_text : (xs ys : List Lexeme) → AreOfText (xs ++ ys) → AreOfText xs × AreOfText ys
+front_of_text [] ys a = (tt, a)
+front_of_text (x ∷ xs) ys a = let rest = front_of_text xs ys a.1 in ((a.0, rest.0), rest.1)
+
+-- ---- names
+names_writable : (ls : List Lexeme) → AreOfText ls → All IsName ls → All IsWritableName (map (λ l. l.bytes) ls)
+names_writable [] a n = All-nil IsWritableName
+names_writable (l ∷ ls) a n =
+    let name = All-head IsName l ls n in
+    All-cons IsWritableName l.bytes (map (λ (x : Lexeme). x.bytes) ls) (record { kind = a.0.kind ∙ ap Some name.kind; free = name.free; short = a.0.short })
+    (names_writable ls a.1 (All-tail IsName l ls n))
+
+elements_writable : (most : ℕ) (ls : List Lexeme) (e : Elements) → AreOfText ls → AreElements most ls e → AreWritable most e
+elements_writable most ls e a (counted w l m) = (l, m)
+elements_writable most ls e a (named n l m d) =
+    let count : length (map (λ (x : Lexeme). x.bytes) ls) ≡ length ls = length-map ls (λ (x : Lexeme). x.bytes) in
+    (names_writable ls a n, omega (arith, count, l), omega (arith, count, m), d)
+
+-- ---- what is known
+abbrev OneWritable : ℕ → Option Elements → Type 0
+OneWritable most None = Unit {0}
+OneWritable most (Some e) = AreWritable most e
+
+each_writable : (most : ℕ) (o : Option Elements) → OneWritable most o → ForSome o (AreWritable most)
+each_writable most None w e is = absurd cc
+each_writable most (Some x) w e is = subst (AreWritable most) (same x e is) w
+  where
+    same : (x y : Elements) → Some x ≡ Some y → x ≡ y
+    same x y e = cc
+
+abbrev StartHasShape : Option Elements → Option Shares → Type 0
+StartHasShape states None = Unit {0}
+StartHasShape None (Some start) = ⊥
+StartHasShape (Some states) (Some start) = HasShape (count_of states) start
+
+record KnownWritable (k : Known) : Type 0 where
+  states : OneWritable most_states k.states
+  actions : OneWritable most_actions k.actions
+  observations : OneWritable most_observations k.observations
+  start : StartHasShape k.states k.start
+
+right_writable : (k : Known) (t : Topic) (ls : List Lexeme) (next : Known) → AreOfText ls → KnownWritable k → IsRight k t ls next → KnownWritable next
+right_writable k t ls next a w (texts.discount p e c n l) = record { states = w.states; actions = w.actions; observations = w.observations; start = w.start }
+right_writable k t ls next a w (texts.rewards p e c v) = record { states = w.states; actions = w.actions; observations = w.observations; start = w.start }
+right_writable k t ls next a w (texts.costs p e c v) = record { states = w.states; actions = w.actions; observations = w.observations; start = w.start }
+right_writable k t ls next a w (texts.states {elements = found} p e c b) = record { states = elements_writable most_states _ found a.1 b; actions = w.actions; observations = w.observations; start = subst (StartHasShape (Some found)) (sym p.no_start) tt }
+right_writable k t ls next a w (texts.actions {elements = found} p e c b) = record { states = w.states; actions = elements_writable most_actions _ found a.1 b; observations = w.observations; start = w.start }
+right_writable k t ls next a w (texts.observations {elements = found} p e c b) = record { states = w.states; actions = w.actions; observations = elements_writable most_observations _ found a.1 b; start = w.start }
+right_writable k t ls next a w (texts.start {p = q} {shares = shares} p c b) = record { states = w.states; actions = w.actions; observations = w.observations; start = subst (λ o. StartHasShape o (Some shares)) (sym c.lines.states) (start_shape q.states _ shares b) }
+right_writable k t ls next a w (texts.entry c given b few) = record { states = w.states; actions = w.actions; observations = w.observations; start = w.start }
+
+all_writable : (k : Known) (items : List Item) (end : Known) → AreOfText (flat_map lexemes_of items) → KnownWritable k → AreRight k items end → KnownWritable end
+all_writable k items end a w texts.none = w
+all_writable k (item ∷ items) end a w (texts.more {next = next} t e here behind) =
+    let parts = front_of_text (lexemes_of item) (flat_map lexemes_of items) a in
+    all_writable next items end parts.1 (right_writable k t item.body next parts.0.1 w here) behind
+
+shape_or_all : (e : Elements) (start : Option Shares) → StartHasShape (Some e) start → HasShape (count_of e) (unwrap_or start (all_states e))
+shape_or_all e None s = alike_shape (count_of e) (count_of e) (λ s. true)
+shape_or_all e (Some start) s = s
+
+-- in an MDP the end state is observed
+end_observed : (m : Meaning) (p : Preamble) (start : Option Shares) (es : List Entry) → IsSame m (meaning_of p start es) → is_mdp p ≡ true → IsEndObserved m
+end_observed m p start es same mdp = record {
+  o = λ a e z l k b. same.o a e z l k b
+      ∙ ap (λ y. cond y (cond (e == z) (one * count_of p.states) 0) (weight p es Observation (a ∷ e ∷ z ∷ []))) mdp
+      ∙ ap (λ (q : Preamble). cond (e == z) (one * count_of q.states) 0) (sym same.preamble);
+  r = λ a s e z l k b x. same.r a s e z l k b x
+      ∙ ap (λ y. reward p es (a ∷ s ∷ e ∷ cond y 0 z ∷ [])) mdp
+      ∙ sym (same.r a s e 0 l k b (omega (arith, x)) ∙ ap (λ y. reward p es (a ∷ s ∷ e ∷ cond y 0 0 ∷ [])) mdp);
+}
+
+-- what a text denotes can be written
+pub text_writes : (text : List ℕ) (m : Meaning) → IsModelText text m → CanBeWritten m
+text_writes text m x =
+    let d = x.denotes in
+    let r = d.right in
+    let c = r.complete in
+    let of_text : AreOfText (flat_map lexemes_of r.items) = subst AreOfText r.divided.whole (cut_of_text _ x.lexemes None x.cut) in
+    let w = all_writable nothing_known r.items d.known of_text (record { states = tt; actions = tt; observations = tt; start = tt }) r.right in
+    let p : m.preamble ≡ d.preamble = d.same.preamble in
+    let shape : HasShape (count_of d.preamble.states) (unwrap_or d.known.start (all_states d.preamble.states)) =
+    shape_or_all d.preamble.states d.known.start (subst (λ o. StartHasShape o d.known.start) c.lines.states w.start) in
+    record {
+      limits = within_limits x.lexemes m d;
+      rows = d.rows;
+      states = subst (λ (q : Preamble). AreWritable most_states q.states) (sym p) (subst (OneWritable most_states) c.lines.states w.states);
+      actions = subst (λ (q : Preamble). AreWritable most_actions q.actions) (sym p) (subst (OneWritable most_actions) c.lines.actions w.actions);
+      observations = subst (λ (q : Preamble). ForSome q.observations (AreWritable most_observations)) (sym p) (each_writable most_observations d.preamble.observations (subst (OneWritable most_observations) c.lines.observations w.observations));
+      start = subst (λ (q : Preamble). HasShape (count_of q.states) m.start) (sym p) (subst (HasShape (count_of d.preamble.states)) (sym d.same.start) shape);
+      t = λ a s e l k b. subst (Fits (states_of m)) (sym (d.same.t a s e l k b))
+          (subst (λ (q : Preamble). Fits (count_of q.states) (weight d.preamble d.known.entries Transition (a ∷ s ∷ e ∷ []))) (sym p) (weight_fits d.preamble d.known.entries Transition (a ∷ s ∷ e ∷ [])));
+      o = λ a e z l k b. subst (Fits (observations_of m)) (sym (d.same.o a e z l k b))
+          (subst (λ (q : Preamble). Fits (count_of (observed q)) (observation_weight d.preamble d.known.entries a e z)) (sym p) (observation_fits d.preamble d.known.entries a e z));
+      mdp = λ mdp. end_observed m d.preamble d.known.start d.known.entries d.same (subst (λ (q : Preamble). is_mdp q ≡ true) p mdp);
+    }
+
+-- the full form of what a text denotes is a text of it
+pub reads_back : (text : List ℕ) (m : Meaning) → IsModelText text m → IsPrintable m.preamble → IsModelText (full_form m) m
+reads_back text m x = written_reads_back m (text_writes text m x)
+
+-- models of one full form are equal
+pub one_form : (text other : List ℕ) (m n : Meaning) → IsModelText text m → IsModelText other n → IsPrintable m.preamble → IsPrintable n.preamble → full_form m ≡ full_form n → IsSame m n
+one_form text other m n x y p q e = one_model (full_form m) m n (reads_back text m x p) (subst (λ t. IsModelText t n) (sym e) (reads_back other n y q))
+
+pub text_writable : (text : List ℕ) (m : Meaning) → IsModelText text m → IsWritable m
+text_writable text m x = written_writable m (text_writes text m x)

@@ -1,8 +1,0 @@
-use Rattle.std.proofs.Common.{◌≡◌, true, ◌==◌, ◌||◌}
-use Rattle.polcert_tables.specs.Contents.{meaning}
-use Rattle.polcert_full_form.specs.PrintSteps.{share_of}
-use Rattle.polcert_full_form.proofs.print.is_choice.Given as goal
-use Rattle.polcert_format.specs.FullForm.{all_below}
-
-abbrev pub invariant-loop-state : goal.invariant-loop-state
-invariant-loop-state l = true ≡ all_below l.state (λ s. share_of (meaning l.model).start s == 0 || share_of (meaning l.model).start s == 1)

@@ -1,0 +1,263 @@
+//! Writes models.
+ghost use Rattle.std.specs.Prelude.{◌≡◌, ◌==◌, ◌||◌, ◌++◌, ◌<◌, length, codes, decimal};
+ghost use Rattle.polcert_text.specs.Sink.{WritesText};
+ghost use Rattle.polcert_tables.specs.Contents.{meaning};
+ghost use Rattle.polcert_tables.specs.Kept.{meaning as kept_meaning};
+ghost use Rattle.polcert_cells.specs.Meaning.{states_of};
+ghost use Rattle.polcert_format.specs.Printable.{IsPrintable};
+ghost use Rattle.polcert_format.specs.Text.{IsModelText};
+ghost use Rattle.polcert_format.specs.FullForm.{for_each, all_below, full_form, observations_line};
+ghost use Rattle.polcert_format.specs.FullForm.{observations_text, preamble_text, start_text};
+ghost use Rattle.polcert_full_form.specs.Steps.Printing.{values_line, settings_text, elements_text, elements_line};
+ghost use Rattle.polcert_full_form.specs.Steps.Printing.{name_text, share_of, chosen_text, share_text, behind_blank};
+ghost use Rattle.polcert_full_form.specs.Steps.StartForms.{start_word, start_part};
+
+use crate::print_rewards::write_rewards;
+use crate::print_rows::write_rows;
+use crate::print_words::write_number;
+use polcert_cells::{Elements, Kind, Names, Table};
+use polcert_tables::{Draft, Model};
+use polcert_text::{Sink, SinkFailed, write_all, write_scaled};
+
+/// How the line of a start that is not the same for all states gives them.
+#[derive(Clone, Copy)]
+enum StartForm {
+    /// The states that have a share of 1.
+    Chosen,
+    /// The share of each state.
+    Each,
+}
+
+/// Writes the full form of a model: the preamble, the start, each row of T and O, and the rewards that are
+/// not all 0, with numbers in their shortest decimal form. Equal models have the same full form. `printable`
+/// tells whether a model may be written.
+///
+/// # Errors
+///
+/// Where the sink failed, which then took a beginning of the text.
+pub fn write_model<W: Sink>(model: &Model, out: &mut W) -> Result<(), SinkFailed>
+    requires printable { IsPrintable (meaning model.now).preamble }
+    ensures written { WritesText W.writes W.failures out.old (full_form (meaning model.now)) result out.new }
+
+    // The text is one of this model.
+    ensures reads_back { IsModelText (full_form (meaning model.now)) (meaning model.now) }
+{
+    write_preamble(model, out)?;
+    write_start(model, out)?;
+    write_rows(model, Table::Transition, out)?;
+    write_observation_rows(model, out)?;
+    write_rewards(model, out)
+}
+
+/// Writes the rows of O, which an MDP leaves out.
+fn write_observation_rows<W: Sink>(model: &Model, out: &mut W) -> Result<(), SinkFailed>
+    ensures { WritesText W.writes W.failures out.old (observations_text (meaning model.now)) result out.new }
+{
+    if model.is_mdp() {
+        Ok(())
+    } else {
+        write_rows(model, Table::Observation, out)
+    }
+}
+
+fn write_preamble<W: Sink>(model: &Model, out: &mut W) -> Result<(), SinkFailed>
+    ensures { WritesText W.writes W.failures out.old (preamble_text (meaning model.now)) result out.new }
+{
+    let draft = model.draft();
+    write_settings(model, out)?;
+    write_elements(b"states:", draft.elements(Kind::State), out)?;
+    write_elements(b"actions:", draft.elements(Kind::Action), out)?;
+    write_observations(draft, out)
+}
+
+/// Writes the line of observations, which an MDP leaves out.
+fn write_observations<W: Sink>(draft: &Draft, out: &mut W) -> Result<(), SinkFailed>
+    ensures { WritesText W.writes W.failures out.old
+        (observations_line (kept_meaning draft.now).preamble.observations) result out.new }
+{
+    match draft.observations_line() {
+        Some(elements) => write_elements(b"observations:", elements, out),
+        None => Ok(()),
+    }
+}
+
+/// Writes the lines of the discount and of the kind of values.
+fn write_settings<W: Sink>(model: &Model, out: &mut W) -> Result<(), SinkFailed>
+    ensures { WritesText W.writes W.failures out.old (settings_text (meaning model.now)) result out.new }
+{
+    write_all(out, b"discount: ")?;
+    write_scaled(model.discount() as i64, out)?;
+    write_all(out, values_line(model.is_cost()))
+}
+
+/// The end of the discount's line, and the line of the kind of values.
+fn values_line(is_cost: bool) -> &'static [u8]
+    ensures { result.now ≡ values_line is_cost }
+{
+    if is_cost {
+        b"\nvalues: cost\n"
+    } else {
+        b"\nvalues: reward\n"
+    }
+}
+
+/// Writes the line of the elements of one kind, behind its word.
+fn write_elements<W: Sink>(word: &[u8], elements: &Elements, out: &mut W) -> Result<(), SinkFailed>
+    ensures { WritesText W.writes W.failures out.old (elements_line word.now elements.now) result out.new }
+{
+    write_all(out, word)?;
+    write_element_words(elements, out)?;
+    write_all(out, b"\n")
+}
+
+/// Writes a count, or names.
+fn write_element_words<W: Sink>(elements: &Elements, out: &mut W) -> Result<(), SinkFailed>
+    ensures { WritesText W.writes W.failures out.old (elements_text elements.now) result out.new }
+{
+    match elements {
+        Elements::Count(count) => write_number_word(*count, out),
+        Elements::Names(names) => write_names(names, out),
+    }
+}
+
+fn write_names<W: Sink>(names: &Names, out: &mut W) -> Result<(), SinkFailed>
+    ensures { WritesText W.writes W.failures out.old
+        (for_each (length names.now) (name_text names.now)) result out.new }
+{
+    for number in 0..names.len() {
+        write_name(names, number, out)?;
+    }
+    Ok(())
+}
+
+fn write_name<W: Sink>(names: &Names, number: usize, out: &mut W) -> Result<(), SinkFailed>
+    requires { number < length names.now }
+    ensures { WritesText W.writes W.failures out.old (name_text names.now number) result out.new }
+{
+    match names.at(number) {
+        Some(name) => {
+            write_all(out, b" ")?;
+            write_all(out, name.as_bytes())
+        }
+        None => unreachable!(),
+    }
+}
+
+/// Writes a blank and a number.
+fn write_number_word<W: Sink>(number: usize, out: &mut W) -> Result<(), SinkFailed>
+    ensures { WritesText W.writes W.failures out.old (behind_blank (decimal number)) result out.new }
+{
+    write_all(out, b" ")?;
+    write_number(number, out)
+}
+
+fn write_start<W: Sink>(model: &Model, out: &mut W) -> Result<(), SinkFailed>
+    ensures { WritesText W.writes W.failures out.old (start_text (meaning model.now).start) result out.new }
+{
+    if is_whole(model) {
+        write_all(out, b"start: uniform\n")
+    } else if is_choice(model) {
+        write_start_line(model, StartForm::Chosen, out)
+    } else {
+        write_start_line(model, StartForm::Each, out)
+    }
+}
+
+/// Whether all states have a share of 1.
+fn is_whole(model: &Model) -> bool
+    ensures { result ≡ all_below (states_of (meaning model.now))
+        (λ s. share_of (meaning model.now).start s == 1) }
+{
+    for state in 0..model.states() {
+        if model.start_weight(state) != 1 {
+            return false;
+        }
+    }
+    true
+}
+
+/// Whether all states have a share of 0 or 1.
+fn is_choice(model: &Model) -> bool
+    ensures { result ≡ all_below (states_of (meaning model.now))
+        (λ s. share_of (meaning model.now).start s == 0 || share_of (meaning model.now).start s == 1) }
+{
+    for state in 0..model.states() {
+        if model.start_weight(state) > 1 {
+            return false;
+        }
+    }
+    true
+}
+
+/// Writes the line of the states, in this form.
+fn write_start_line<W: Sink>(model: &Model, form: StartForm, out: &mut W) -> Result<(), SinkFailed>
+    ensures { WritesText W.writes W.failures out.old
+        (start_word form ++ for_each (states_of (meaning model.now))
+        (start_part form (meaning model.now).start) ++ codes "\n")
+        result out.new }
+{
+    write_all(out, start_word(form))?;
+    write_start_parts(model, form, out)?;
+    write_all(out, b"\n")
+}
+
+fn start_word(form: StartForm) -> &'static [u8]
+    ensures { result.now ≡ start_word form }
+{
+    match form {
+        StartForm::Chosen => b"start include:",
+        StartForm::Each => b"start:",
+    }
+}
+
+fn write_start_parts<W: Sink>(model: &Model, form: StartForm, out: &mut W) -> Result<(), SinkFailed>
+    ensures { WritesText W.writes W.failures out.old
+        (for_each (states_of (meaning model.now)) (start_part form (meaning model.now).start)) result
+        out.new }
+{
+    for state in 0..model.states() {
+        write_start_part(model, form, state, out)?;
+    }
+    Ok(())
+}
+
+fn write_start_part<W: Sink>(
+    model: &Model,
+    form: StartForm,
+    state: usize,
+    out: &mut W,
+) -> Result<(), SinkFailed>
+    requires { state < states_of (meaning model.now) }
+    ensures { WritesText W.writes W.failures out.old
+        (start_part form (meaning model.now).start state) result out.new }
+{
+    match form {
+        StartForm::Chosen => write_state_if_chosen(model, state, out),
+        StartForm::Each => write_share(model, state, out),
+    }
+}
+
+fn write_state_if_chosen<W: Sink>(
+    model: &Model,
+    state: usize,
+    out: &mut W,
+) -> Result<(), SinkFailed>
+    requires { state < states_of (meaning model.now) }
+    ensures { WritesText W.writes W.failures out.old
+        (chosen_text (meaning model.now).start state) result out.new }
+{
+    if model.start_weight(state) == 1 {
+        write_number_word(state, out)
+    } else {
+        Ok(())
+    }
+}
+
+fn write_share<W: Sink>(model: &Model, state: usize, out: &mut W) -> Result<(), SinkFailed>
+    requires { state < states_of (meaning model.now) }
+    ensures { WritesText W.writes W.failures out.old
+        (share_text (meaning model.now).start state) result out.new }
+{
+    write_all(out, b" ")?;
+    write_scaled(model.start_weight(state) as i64, out)
+}

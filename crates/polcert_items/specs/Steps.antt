@@ -1,0 +1,11 @@
+-- What nobody has to believe: only contracts of private functions, and of layers below the crates that callers use, cite these.
+pub mod Ahead
+pub mod Covering
+pub mod Elements
+pub mod Entries
+pub mod Items
+pub mod Known
+pub mod Lines
+pub mod Numbers
+pub mod Start
+pub mod Wants

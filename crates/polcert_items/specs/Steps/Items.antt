@@ -1,0 +1,133 @@
+-- An item, token by token: what is still to come of an item that was read so far.
+-- Nobody has to believe this: only contracts of private functions cite it.
+use Rattle.std.specs.Prelude.{◌≡◌, ℕ, Bool, true, false, Option, Some, None, List, [], ◌∷◌, ◌++◌}
+use Rattle.polcert_text.specs.Cut.{Lexeme}
+use Rattle.polcert_format.specs.declared.fault.ItemFault.{ItemFault}
+use Rattle.polcert_format.specs.declared.fault.ItemFault.TheVariants.{BadShape, BadCount, DuplicateName, WrongNumberCount, ProbabilityRange, DiscountRange, StartSum, StartEmpty}
+use Rattle.polcert_cells.specs.declared.entry.Entry.{Entry}
+use Rattle.polcert_cells.specs.declared.entry.Table.{Table}
+use Rattle.polcert_items.specs.declared.item.ItemContents.TheVariants as said
+use Rattle.polcert_items.specs.declared.item.ItemReader.{ItemReader}
+use Rattle.polcert_items.specs.declared.item.ItemReader.TheVariants as items
+use Rattle.polcert_items.specs.declared.elements_reader.ElementsReader.TheVariants as elements
+use Rattle.polcert_items.specs.declared.preamble_lines.DiscountReader.TheVariants as discount
+use Rattle.polcert_items.specs.declared.preamble_lines.ValuesReader.TheVariants as values
+use Rattle.polcert_items.specs.declared.entry_reader.EntryReader.{EntryReader}
+use Rattle.polcert_items.specs.declared.entry_reader.EntryState.TheVariants as states
+use Rattle.polcert_items.specs.declared.signed_number.Refusal.{Refusal}
+use Rattle.polcert_items.specs.declared.signed_number.Sign.{Sign}
+use Rattle.polcert_items.specs.declared.stop.ItemEnd.{ItemEnd}
+use Rattle.polcert_items.specs.declared.stop.ItemEnd.TheVariants as ends
+use Rattle.polcert_cells.specs.declared.words.Topic.{Topic}
+use Rattle.polcert_cells.specs.declared.words.Topic.TheVariants.{Discount, Values, States, Actions, Observations, Start, Cells}
+use Rattle.polcert_cells.specs.declared.elements.Elements.{Elements}
+use Rattle.polcert_cells.specs.declared.shares.Shares.{Shares}
+use Rattle.polcert_cells.specs.Elements.{most_states, most_actions, most_observations}
+use Rattle.polcert_format.specs.Text.{Known}
+use Rattle.polcert_format.specs.Reasons.{ends_in_sign, IsNoFraction, IsOfElements, IsOfProbabilities, IsRepeated}
+use Rattle.polcert_items.specs.Steps.Numbers.{SignEnds, is_negative, number_place}
+use Rattle.polcert_items.specs.Steps.Lines.{DiscountGoes, discount_sign, ValuesGoes}
+use Rattle.polcert_items.specs.Steps.Elements.{ElementsGo, IsElementsRead, AreElementsSeen}
+use Rattle.polcert_format.specs.FirstNumber.{IsLate}
+use Rattle.polcert_format.specs.KnownPreamble.{preamble_in, indices_in}
+use Rattle.polcert_items.specs.Steps.Entries.{EntryGoes, IsWithinIndices, entry_sign, AreSome}
+use Rattle.polcert_items.specs.Steps.Start.{StartGoes, StartGives, new_start, pending, IsStartWithin, IsStartSeen, IsReasonAt, IsStartReason}
+use Rattle.polcert_items.specs.Steps.Known.{learned}
+
+-- the lexemes end the item, and this is known behind it
+abbrev pub ItemGoes : Known → ItemReader → List Lexeme → Known → Type 0
+ItemGoes k (items.Discount r) ls next = (g : ℕ) × (DiscountGoes r ls g × (next ≡ learned k (said.Discount g)))
+ItemGoes k (items.Values r) ls next = (b : Bool) × (ValuesGoes r ls b × (next ≡ learned k (said.Costs b)))
+ItemGoes k (items.States r) ls next = (e : Elements) × (ElementsGo most_states r ls e × (next ≡ learned k (said.States e)))
+ItemGoes k (items.Actions r) ls next = (e : Elements) × (ElementsGo most_actions r ls e × (next ≡ learned k (said.Actions e)))
+ItemGoes k (items.Observations r) ls next = (e : Elements) × (ElementsGo most_observations r ls e × (next ≡ learned k (said.Observations e)))
+ItemGoes k (items.Start r) ls next = (found : Shares) × (StartGives (preamble_in k).states r ls found × (next ≡ learned k (said.Start found)))
+ItemGoes k (items.Entry r) ls next = (e : Entry) × (EntryGoes (preamble_in k) r ls e × (next ≡ learned k (said.Entry e)))
+
+-- The lexemes give the item its form, whatever is decided at its end.
+abbrev pub ItemForms : Known → ItemReader → List Lexeme → Unit {0} → Type 0
+ItemForms k (items.Start r) ls none = StartGoes (preamble_in k).states r ls None
+ItemForms k item ls none = (next : Known) × ItemGoes k item ls next
+
+abbrev pub topic_in : ItemReader → Topic
+topic_in (items.Discount r) = Discount
+topic_in (items.Values r) = Values
+topic_in (items.States r) = States
+topic_in (items.Actions r) = Actions
+topic_in (items.Observations r) = Observations
+topic_in (items.Start r) = Start
+topic_in (items.Entry r) = Cells r.table
+
+-- the sign before the next token (a start item keeps its own account of signs)
+abbrev pub sign_in : ItemReader → Option Sign
+sign_in (items.Discount r) = discount_sign r
+sign_in (items.Entry r) = entry_sign r.state
+sign_in _ = None
+
+-- a number that has no value, where anything follows it
+abbrev pub pending_in : ItemReader → Option Refusal
+pending_in (items.Start r) = pending r
+pending_in _ = None
+
+-- what was read is within its limits
+abbrev pub IsItemWithin : Known → ItemReader → Type 0
+IsItemWithin k (items.States r) = IsElementsRead most_states r
+IsItemWithin k (items.Actions r) = IsElementsRead most_actions r
+IsItemWithin k (items.Observations r) = IsElementsRead most_observations r
+IsItemWithin k (items.Start r) = (states : Elements) × ((k.states ≡ Some states) × IsStartWithin states r)
+IsItemWithin k (items.Entry r) = IsWithinIndices (indices_in k r.table) r
+IsItemWithin k _ = Unit {0}
+
+abbrev pub new_entry : Table → EntryReader
+new_entry table = record { table = table; places = []; state = states.Colon }
+
+-- the reader of an item of this topic, before its first token
+abbrev pub new_item : Topic → ItemReader
+new_item Discount = items.Discount discount.Colon
+new_item Values = items.Values values.Colon
+new_item States = items.States elements.Colon
+new_item Actions = items.Actions elements.Colon
+new_item Observations = items.Observations elements.Colon
+new_item Start = items.Start new_start
+new_item (Cells table) = items.Entry (new_entry table)
+
+-- what the body so far has to do with the state of its reader, with so many states
+abbrev pub IsSeen : ℕ → List Lexeme → ItemReader → Type 0
+IsSeen count body (items.States r) = (ends_in_sign body ≡ false) × AreElementsSeen body r
+IsSeen count body (items.Actions r) = (ends_in_sign body ≡ false) × AreElementsSeen body r
+IsSeen count body (items.Observations r) = (ends_in_sign body ≡ false) × AreElementsSeen body r
+IsSeen count body (items.Start r) = IsStartSeen count body r
+IsSeen count body item = SignEnds (sign_in item) body
+
+-- why a token is refused in an item of this topic, behind this sign and body; some reasons are of some topics alone
+abbrev pub IsTokenReason : Topic → Option Sign → List Lexeme → Lexeme → ItemFault → ℕ → Type 0
+IsTokenReason t sign body l DiscountRange place = (t ≡ Discount) × (place ≡ number_place sign l) × IsNoFraction (is_negative sign) l
+IsTokenReason t sign body l ProbabilityRange place = IsOfProbabilities t × IsReasonAt sign l ProbabilityRange place
+IsTokenReason t sign body l DuplicateName place = (place ≡ l.place) × IsOfElements t × ((behind : List Lexeme) → IsRepeated (body ++ l ∷ behind) place)
+IsTokenReason t sign body l BadCount place = (place ≡ l.place) × IsOfElements t
+IsTokenReason t sign body l kind place = IsReasonAt sign l kind place
+
+-- why a token is refused: for itself, or in a start item perhaps for a number before it
+pub data IsItemReason (item : ItemReader) (body : List Lexeme) (l : Lexeme) (kind : ItemFault) (place : ℕ) : Type 0 where
+  of_token : (topic_in item ≡ Start → ⊥) → IsTokenReason (topic_in item) (sign_in item) body l kind place → IsItemReason item body l kind place
+  of_start : topic_in item ≡ Start → IsStartReason (body ++ l ∷ []) kind place → IsItemReason item body l kind place
+
+-- why an item of this topic cannot end, besides a wrong shape
+abbrev pub IsEndReason : Topic → ItemFault → Type 0
+IsEndReason t BadCount = IsOfElements t
+IsEndReason t BadShape = Unit {0}
+IsEndReason t WrongNumberCount = Unit {0}
+IsEndReason t StartSum = t ≡ Start
+IsEndReason t StartEmpty = t ≡ Start
+IsEndReason t _ = ⊥
+
+-- why an item of this topic and body cannot end, and where, with so many states
+abbrev pub IsItemEndReason : ℕ → Topic → List Lexeme → ItemEnd → Type 0
+IsItemEndReason count t body (ends.AtEnd kind) = IsEndReason t kind
+IsItemEndReason count t body (ends.At r) = (t ≡ Start) × IsStartReason body r.kind r.place × IsLate count body true r.kind r.place
+IsItemEndReason count t body ends.Memory = Unit {0}
+
+-- in an entry, every index of its table numbers something
+abbrev pub HasElements : Known → Topic → Type 0
+HasElements k (Cells table) = AreSome (indices_in k table)
+HasElements k _ = Unit {0}

@@ -1,0 +1,95 @@
+-- A number of an item, token by token: what is still to come of a list of numbers behind a sign, and what a token says
+-- in a number's place.
+-- Nobody has to believe this: only contracts of private functions cite it.
+use Rattle.std.specs.Prelude.{◌≡◌, ℕ, ◌≤◌, Bool, true, false, Option, Some, None, List, [], ◌∷◌, ◌++◌, ℤ, pos, codes, All}
+use Rattle.polcert_text.specs.Cut.{Lexeme}
+use Rattle.polcert_text.specs.declared.lexeme.TokenKind.{TokenKind}
+use Rattle.polcert_text.specs.declared.lexeme.TokenKind.TheVariants.{Plus, Minus}
+use Rattle.polcert_format.specs.declared.fault.ItemFault.{ItemFault}
+use Rattle.polcert_format.specs.declared.fault.ItemFault.TheVariants.{Number, BadShape, WrongNumberCount, ProbabilityRange, DiscountRange, Reset}
+use Rattle.polcert_items.specs.declared.signed_number.Sign.{Sign}
+use Rattle.polcert_items.specs.declared.signed_number.Step.{Step}
+use Rattle.polcert_items.specs.declared.signed_number.Step.TheVariants as steps
+use Rattle.polcert_items.specs.declared.signed_number.Range.{Range}
+use Rattle.polcert_items.specs.declared.signed_number.Range.TheVariants as ranges
+use Rattle.polcert_cells.specs.Words.{IsWord}
+use Rattle.polcert_cells.specs.Numbers.{IsMillionths, AreNumbers, one}
+use Rattle.polcert_format.specs.Reasons.{IsRefusedNumber, IsNoFraction, is_sign, ends_in_sign}
+
+-- behind a sign, if there is one, the lexemes go on as these numbers
+abbrev pub AreNumbersBehind : Option Sign → List Lexeme → List ℤ → Type 0
+AreNumbersBehind None ls hs = AreNumbers ls hs
+AreNumbersBehind (Some sign) (l ∷ ls) (h ∷ hs) = IsMillionths sign.negative l h × AreNumbers ls hs
+AreNumbersBehind (Some sign) _ _ = ⊥
+
+-- a number from 0 to one, or any
+abbrev pub IsInRange : Range → ℤ → Type 0
+IsInRange ranges.Reward h = Unit {0}
+IsInRange _ h = (p : ℕ) × ((h ≡ pos p) × (p ≤ one))
+
+abbrev pub is_negative : Option Sign → Bool
+is_negative None = false
+is_negative (Some sign) = sign.negative
+
+-- where a number stands: at its sign, if it has one
+abbrev pub number_place : Option Sign → Lexeme → ℕ
+number_place None l = l.place
+number_place (Some sign) l = sign.place
+
+-- the sign is this lexeme
+pub data IsSignAt (sign : Sign) (l : Lexeme) : Type 0 where
+  plus : l.kind ≡ Plus → sign.negative ≡ false → sign.place ≡ l.place → IsSignAt sign l
+  minus : l.kind ≡ Minus → sign.negative ≡ true → sign.place ≡ l.place → IsSignAt sign l
+
+-- the token is a sign and none stands before it, or the numeral of a number in the range
+abbrev pub IsStep : Range → Option Sign → Lexeme → Step → Type 0
+IsStep range sign l (steps.Sign s) = (sign ≡ None) × IsSignAt s l
+IsStep range sign l (steps.Value h) = IsMillionths (is_negative sign) l h × IsInRange range h
+
+-- no numbers in the range go on with this lexeme
+abbrev pub IsNoNumber : Range → Option Sign → Lexeme → Type 0
+IsNoNumber range sign l = (ls : List Lexeme) (hs : List ℤ) → AreNumbersBehind sign (l ∷ ls) hs → All (IsInRange range) hs → ⊥
+
+-- why a token that has no place here is refused
+abbrev pub IsMisplaced : Lexeme → ItemFault → ℕ → Type 0
+IsMisplaced l Reset place = (place ≡ l.place) × IsWord (codes "reset") l
+IsMisplaced l BadShape place = place ≡ l.place
+IsMisplaced l _ place = ⊥
+
+-- why a token behind the last number is refused
+abbrev pub IsBehindNumbers : Lexeme → ItemFault → ℕ → Type 0
+IsBehindNumbers l WrongNumberCount place = place ≡ l.place
+IsBehindNumbers l kind place = IsMisplaced l kind place
+
+-- why a token is refused in a number's place, and where
+abbrev pub IsNumberReason : Range → Option Sign → Lexeme → ItemFault → ℕ → Type 0
+IsNumberReason range sign l (Number reason) place = (place ≡ number_place sign l) × IsRefusedNumber reason (is_negative sign) l
+IsNumberReason range sign l DiscountRange place = (range ≡ ranges.Discount) × (place ≡ number_place sign l) × IsNoFraction (is_negative sign) l
+IsNumberReason range sign l ProbabilityRange place = (range ≡ ranges.Probability) × (place ≡ number_place sign l) × IsNoFraction (is_negative sign) l
+IsNumberReason range sign l kind place = IsMisplaced l kind place
+
+-- no number goes on with this lexeme, and it is refused for this reason at this place
+pub record RefusesNumber (range : Range) (sign : Option Sign) (l : Lexeme) (kind : ItemFault) (place : ℕ) : Type 0 where
+  pub none : IsNoNumber range sign l
+  pub reason : IsNumberReason range sign l kind place
+
+-- the kind of a sign's token
+abbrev pub IsSignKind : Bool → TokenKind → Type 0
+IsSignKind false kind = kind ≡ Plus
+IsSignKind true kind = kind ≡ Minus
+
+-- the reason for a number out of its range
+abbrev pub IsRangeFault : Range → ItemFault → Type 0
+IsRangeFault ranges.Discount kind = kind ≡ DiscountRange
+IsRangeFault ranges.Probability kind = kind ≡ ProbabilityRange
+IsRangeFault ranges.Reward kind = ⊥
+
+-- the sign that waits for its numeral is this lexeme, and otherwise it is no sign
+abbrev pub SignIs : Option Sign → Lexeme → Type 0
+SignIs None l = is_sign l.kind ≡ false
+SignIs (Some sign) l = IsSignAt sign l
+
+-- the sign that waits for its numeral ends the body, and otherwise no sign does
+abbrev pub SignEnds : Option Sign → List Lexeme → Type 0
+SignEnds None body = ends_in_sign body ≡ false
+SignEnds (Some sign) body = (before : List Lexeme) × ((l : Lexeme) × ((body ≡ before ++ l ∷ []) × IsSignAt sign l))

@@ -1,0 +1,143 @@
+//! The lines of the preamble, read token by token behind their word.
+ghost use Rattle.std.specs.Prelude.{◌≡◌, false, None, OnOk, OnErr, IfOk, IfErr, [], ◌∷◌, ◌≢◌};
+ghost use Rattle.polcert_text.specs.Reading.{lexeme_of};
+ghost use Rattle.polcert_items.specs.Steps.Numbers.{IsMisplaced, SignIs};
+ghost use Rattle.polcert_items.specs.Steps.Lines.{Takes, CannotTake, CannotEnd, DiscountGoes, DiscountReason, ValuesGoes, WordRest, discount_sign};
+ghost use Rattle.polcert_items.specs.Steps.Items.{IsEndReason};
+ghost use Rattle.polcert_format.specs.Reasons.{is_sign};
+ghost use Rattle.polcert_format.specs.Misfits.{misfit, IsMisfit, Mark};
+ghost use Rattle.polcert_items.specs.Steps.Wants.{Leads, discount_wants, values_want};
+
+use crate::signed_number::{Range, Refusal, Sign, Step, behind_numbers, misplaced, number_step};
+use polcert_cells::{Topic, is_word};
+use polcert_format::ItemFault;
+use polcert_text::{Token, TokenKind};
+
+/// `discount:` and a number, in millionths.
+#[derive(Clone, Copy, Debug, PartialEq, Eq)]
+pub enum DiscountReader {
+    Colon,
+    Number(Option<Sign>),
+    Said(u32),
+}
+
+impl DiscountReader {
+    /// Goes on with a token of the line.
+    pub fn feed(&mut self, token: Token<'_>) -> Result<(), Refusal>
+        ensures takes { OnOk result (Takes DiscountGoes self.old (lexeme_of token.entry) self.new) }
+        ensures refused { OnErr result (CannotTake DiscountGoes self.old (lexeme_of token.entry)) }
+        ensures reason { IfErr result (λ r. DiscountReason self.old (lexeme_of token.entry) r.kind r.place) }
+        ensures sign { OnOk result (SignIs (discount_sign self.new) (lexeme_of token.entry)) }
+        ensures leads { OnOk result
+            (Leads (discount_wants self.old) (lexeme_of token.entry) (discount_wants self.new)) }
+        ensures kind { IfErr result
+            (λ r. IsMisfit (discount_wants self.old []) (lexeme_of token.entry) r.kind) }
+    {
+        match *self {
+            DiscountReader::Colon => {
+                colon(token)?;
+                *self = DiscountReader::Number(None);
+                Ok(())
+            }
+            DiscountReader::Number(sign) => {
+                *self = match number_step(sign, token, Range::Discount)? {
+                    Step::Sign(sign) => DiscountReader::Number(Some(sign)),
+                    Step::Value(value) => DiscountReader::Said(value as u32),
+                };
+                Ok(())
+            }
+            DiscountReader::Said(_) => Err(behind_numbers(token)),
+        }
+    }
+
+    /// What the line says, or why it cannot end here.
+    pub fn end(self) -> Result<u32, ItemFault>
+        ensures said { IfOk result (DiscountGoes self []) }
+        ensures reason { IfErr result (IsEndReason Topic.Discount) }
+        ensures refused { OnErr result (CannotEnd DiscountGoes self) }
+        ensures kind { IfErr result (λ kind. kind ≡ misfit (discount_wants self []) None) }
+    {
+        match self {
+            DiscountReader::Number(None) => Err(ItemFault::WrongNumberCount),
+            DiscountReader::Said(discount) => Ok(discount),
+            _ => Err(ItemFault::BadShape),
+        }
+    }
+}
+
+/// `values:` and `reward` or `cost`. It says whether rewards are written as costs.
+#[derive(Clone, Copy, Debug, PartialEq, Eq)]
+pub enum ValuesReader {
+    Colon,
+    Word,
+    Said(bool),
+}
+
+impl ValuesReader {
+    /// Goes on with a token of the line.
+    pub fn feed(&mut self, token: Token<'_>) -> Result<(), Refusal>
+        ensures takes { OnOk result (Takes ValuesGoes self.old (lexeme_of token.entry) self.new) }
+        ensures refused { OnErr result (CannotTake ValuesGoes self.old (lexeme_of token.entry)) }
+        ensures reason { IfErr result (λ r. IsMisplaced (lexeme_of token.entry) r.kind r.place) }
+        ensures sign { OnOk result (is_sign (lexeme_of token.entry).kind ≡ false) }
+        ensures leads { OnOk result
+            (Leads (values_want self.old) (lexeme_of token.entry) (values_want self.new)) }
+        ensures kind { IfErr result (λ r. IsMisfit (values_want self.old []) (lexeme_of token.entry) r.kind) }
+    {
+        match *self {
+            ValuesReader::Colon => {
+                colon(token)?;
+                *self = ValuesReader::Word;
+                Ok(())
+            }
+            ValuesReader::Word => {
+                *self = ValuesReader::Said(costs_of(token)?);
+                Ok(())
+            }
+            ValuesReader::Said(_) => Err(misplaced(token)),
+        }
+    }
+
+    /// What the line says, or why it cannot end here.
+    pub fn end(self) -> Result<bool, ItemFault>
+        ensures said { IfOk result (ValuesGoes self []) }
+        ensures reason { IfErr result (IsEndReason Topic.Values) }
+        ensures refused { OnErr result (CannotEnd ValuesGoes self) }
+        ensures kind { IfErr result (λ kind. kind ≡ misfit (values_want self []) None) }
+    {
+        match self {
+            ValuesReader::Said(costs) => Ok(costs),
+            _ => Err(ItemFault::BadShape),
+        }
+    }
+}
+
+/// Whether the word says that costs are written.
+fn costs_of(token: Token<'_>) -> Result<bool, Refusal>
+    ensures word { IfOk result (WordRest (lexeme_of token.entry ∷ [])) }
+    ensures refused { OnErr result (CannotTake ValuesGoes ValuesReader.Word (lexeme_of token.entry)) }
+    ensures reason { IfErr result (λ r. IsMisplaced (lexeme_of token.entry) r.kind r.place) }
+    ensures sign { OnOk result (is_sign (lexeme_of token.entry).kind ≡ false) }
+    ensures kind { IfErr result (λ r. IsMisfit Mark (lexeme_of token.entry) r.kind) }
+{
+    if is_word(&token, b"reward") {
+        return Ok(false);
+    }
+    if is_word(&token, b"cost") {
+        return Ok(true);
+    }
+    Err(misplaced(token))
+}
+
+/// The colon behind an item's word.
+pub fn colon(token: Token<'_>) -> Result<(), Refusal>
+    ensures ok { OnOk result ((lexeme_of token.entry).kind ≡ TokenKind.Colon) }
+    ensures refused { OnErr result ((lexeme_of token.entry).kind ≢ TokenKind.Colon) }
+    ensures reason { IfErr result (λ r. IsMisplaced (lexeme_of token.entry) r.kind r.place) }
+    ensures kind { IfErr result (λ r. IsMisfit Mark (lexeme_of token.entry) r.kind) }
+{
+    match token.kind {
+        TokenKind::Colon => Ok(()),
+        _ => Err(misplaced(token)),
+    }
+}

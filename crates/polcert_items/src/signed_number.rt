@@ -1,0 +1,176 @@
+//! A number of an item: a numeral, perhaps behind a sign.
+ghost use Rattle.std.specs.Prelude.{◌≡◌, IfOk, IfErr, MatchOption, Some, false};
+ghost use Rattle.polcert_text.specs.Reading.{lexeme_of};
+ghost use Rattle.polcert_items.specs.Steps.Numbers.{IsStep, RefusesNumber, IsMisplaced, IsBehindNumbers};
+ghost use Rattle.polcert_items.specs.Steps.Numbers.{IsInRange, IsSignKind, IsRangeFault, is_negative, number_place};
+ghost use Rattle.polcert_format.specs.Misfits.{misfit, IsMisfit, begins_number, EndOfNumbers, EndOfWord};
+ghost use Rattle.polcert_items.specs.Steps.Wants.{number_wants};
+
+use polcert_cells::is_word;
+use polcert_format::ItemFault;
+use polcert_text::{Token, TokenKind, scaled_of};
+
+/// Why an item is refused, and the offset where.
+#[derive(Clone, Copy, Debug, PartialEq, Eq)]
+pub struct Refusal {
+    pub kind: ItemFault,
+    pub place: u64,
+}
+
+/// A sign whose numeral is still to come, and the offset where it stands.
+#[derive(Clone, Copy, Debug, PartialEq, Eq)]
+pub struct Sign {
+    pub negative: bool,
+    pub place: u64,
+}
+
+/// Which numbers may stand in a place.
+#[derive(Clone, Copy, Debug, PartialEq, Eq)]
+pub enum Range {
+    /// From 0 to 1.
+    Discount,
+    /// From 0 to 1.
+    Probability,
+    /// Any number.
+    Reward,
+}
+
+/// What a token says in a number's place: a sign, or with the sign before it the number in millionths.
+#[derive(Clone, Copy, Debug, PartialEq, Eq)]
+pub enum Step {
+    Sign(Sign),
+    Value(i64),
+}
+
+const ONE: i64 = 1_000_000;
+
+/// What the token says in a number's place, behind this sign.
+#[inline(always)]
+pub fn number_step(sign: Option<Sign>, token: Token<'_>, range: Range) -> Result<Step, Refusal>
+    ensures step { IfOk result (IsStep range sign (lexeme_of token.entry)) }
+    ensures refused { IfErr result (λ r. RefusesNumber range sign (lexeme_of token.entry) r.kind r.place) }
+    ensures kind { IfErr result (λ r. IsMisfit (number_wants sign) (lexeme_of token.entry) r.kind) }
+{
+    match token.kind {
+        TokenKind::Numeral => numeral_step(sign, token, range),
+        TokenKind::Plus => sign_step(sign, token, false, range),
+        TokenKind::Minus => sign_step(sign, token, true, range),
+        _ => Err(misplaced(token)),
+    }
+}
+
+fn sign_step(
+    sign: Option<Sign>,
+    token: Token<'_>,
+    negative: bool,
+    range: Range,
+) -> Result<Step, Refusal>
+    requires { IsSignKind negative token.kind }
+    ensures step { IfOk result (IsStep range sign (lexeme_of token.entry)) }
+    ensures refused { IfErr result (λ r. RefusesNumber range sign (lexeme_of token.entry) r.kind r.place) }
+    ensures kind { IfErr result (λ r. IsMisfit (number_wants sign) (lexeme_of token.entry) r.kind) }
+{
+    match sign {
+        Some(_) => Err(misplaced(token)),
+        None => Ok(Step::Sign(Sign {
+            negative,
+            place: token.place,
+        })),
+    }
+}
+
+#[inline(always)]
+fn numeral_step(sign: Option<Sign>, token: Token<'_>, range: Range) -> Result<Step, Refusal>
+    requires { token.kind ≡ TokenKind.Numeral }
+    ensures step { IfOk result (IsStep range sign (lexeme_of token.entry)) }
+    ensures refused { IfErr result (λ r. RefusesNumber range sign (lexeme_of token.entry) r.kind r.place) }
+    ensures kind { IfErr result (λ r. IsMisfit (number_wants sign) (lexeme_of token.entry) r.kind) }
+{
+    let place = number_place(sign, token);
+    match scaled_of(is_negative(sign), token.bytes) {
+        Ok(value) => match range_fault(range, value) {
+            None => Ok(Step::Value(value)),
+            Some(kind) => Err(Refusal { kind, place }),
+        },
+        Err(fault) => Err(Refusal {
+            kind: ItemFault::Number(fault),
+            place,
+        }),
+    }
+}
+
+#[inline(always)]
+fn is_negative(sign: Option<Sign>) -> bool
+    ensures { result ≡ is_negative sign }
+{
+    match sign {
+        Some(sign) => sign.negative,
+        None => false,
+    }
+}
+
+/// Where a number stands: at its sign, if it has one.
+#[inline(always)]
+pub fn number_place(sign: Option<Sign>, token: Token<'_>) -> u64
+    ensures { result ≡ number_place sign (lexeme_of token.entry) }
+{
+    match sign {
+        Some(sign) => sign.place,
+        None => token.place,
+    }
+}
+
+/// Why the number may not stand in such a place, if it may not.
+#[inline(always)]
+fn range_fault(range: Range, value: i64) -> Option<ItemFault>
+    ensures { MatchOption result (IsInRange range value)
+        (λ kind. (IsInRange range value → ⊥) × IsRangeFault range kind) }
+{
+    match range {
+        Range::Reward => None,
+        Range::Discount if value < 0 || ONE < value => Some(ItemFault::DiscountRange),
+        Range::Probability if value < 0 || ONE < value => Some(ItemFault::ProbabilityRange),
+        Range::Discount | Range::Probability => None,
+    }
+}
+
+/// A token that no form has in its place.
+pub fn misplaced(token: Token<'_>) -> Refusal
+    ensures reason { IsMisplaced (lexeme_of token.entry) result.kind result.place }
+    ensures kind { result.kind ≡ misfit EndOfWord (Some (lexeme_of token.entry)) }
+{
+    let kind = if is_word(&token, b"reset") {
+        ItemFault::Reset
+    } else {
+        ItemFault::BadShape
+    };
+    Refusal {
+        kind,
+        place: token.place,
+    }
+}
+
+/// A token behind the last number of a list.
+pub fn behind_numbers(token: Token<'_>) -> Refusal
+    ensures reason { IsBehindNumbers (lexeme_of token.entry) result.kind result.place }
+    ensures kind { result.kind ≡ misfit EndOfNumbers (Some (lexeme_of token.entry)) }
+{
+    if begins_number(token.kind) {
+        Refusal {
+            kind: ItemFault::WrongNumberCount,
+            place: token.place,
+        }
+    } else {
+        misplaced(token)
+    }
+}
+
+/// Whether a number may begin so: it is a numeral, or a sign.
+pub fn begins_number(kind: TokenKind) -> bool
+    ensures { result ≡ begins_number kind }
+{
+    match kind {
+        TokenKind::Numeral | TokenKind::Plus | TokenKind::Minus => true,
+        _ => false,
+    }
+}

@@ -1,0 +1,2 @@
+-- What nobody has to believe: only contracts of private functions, and of layers below the crates that callers use, cite these.
+pub mod Texts

@@ -1,0 +1,13 @@
+use Rattle.std.proofs.Common.{rules}
+use Rattle.polcert_text.proofs.Printing.Taking.{front_then, wrote_front, wrote_next}
+use Rattle.polcert_policy.specs.FullForm.{action_text, values_text}
+use Rattle.polcert_policy.proofs.print_vectors.write_vector.Goals as goal
+
+pub returns-in_err-write_action : goal.returns-in_err-write_action
+returns-in_err-write_action g c =
+    wrote_front _ _ (search rules) (front_then (values_text c.args.vectors.now c.args.node c.args.vectors.now.states) c.in_err-write_action.ensures.err) c.in_err-write_action.ensures.count
+
+pub returns : goal.returns
+returns g c =
+    wrote_next (action_text c.args.graph.now c.args.node) (values_text c.args.vectors.now c.args.node c.args.vectors.now.states) _
+    c.in_ok-write_action.ensures.ok c.in_ok-write_action.ensures.same_count c.write_values.ensures

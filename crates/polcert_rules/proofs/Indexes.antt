@@ -1,0 +1,8 @@
+-- Indexes of entries: how they are built, and what they find.
+pub mod Building
+pub mod BuiltLaws
+pub mod Greatest
+pub mod KeptLaws
+pub mod Matching
+pub mod Newer
+pub mod NotedLaws

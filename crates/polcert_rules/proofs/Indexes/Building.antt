@@ -1,0 +1,204 @@
+-- Building an index.
+use Rattle.std.proofs.Common.{◌≡◌, ◌∙◌, ℕ, zero, suc, ◌+◌, ◌<◌, ◌≤◌, ◌⊎◌, inl, inr, ⊎_elim, Bool, true, false, cond, eqb, max, Some, List, [], ◌∷◌, length, get_or, Contains, All, refl, sym, ap, subst, arith}
+use Rattle.std.specs.List.{slice_get}
+use Rattle.std.specs.List.Sorted.{IsPermutation, IsNonDecreasingBy}
+use Rattle.std.proofs.lemmas.Bool.Decides.{nat_tests}
+use Rattle.std.proofs.lemmas.Bool.{cases_lt}
+use Rattle.std.proofs.lemmas.List.Kept.{AllPairs-cons}
+use Rattle.std.proofs.lemmas.List.Elements.{All-nil, All-cons}
+use Rattle.std.proofs.lemmas.List.Sorted.{Contains-permutation, IsPermutation-sym}
+use Rattle.polcert_cells.specs.declared.entry.Entry.{Entry}
+use Rattle.polcert_rules.specs.declared.rule.Rule.{Rule}
+use Rattle.polcert_rules.specs.Keys.{key_of}
+use Rattle.polcert_rules.specs.Steps.Newest.{IsRising, IsEntry, IsIndexOf, rules_from, newest_from, newest_of_each}
+
+-- ---- being one of a list, by recursion on it
+abbrev pub Among : Rule → List Rule → Type 0
+Among r [] = ⊥
+Among r (x ∷ xs) = (x ≡ r) ⊎ Among r xs
+
+pub among_from : (xs : List Rule) (r : Rule) → Contains xs r → Among r xs
+among_from [] r (k, l, e) = absurd (omega arith)
+among_from (x ∷ xs) r (k, l, e) = at (λ c. among_from xs r c) k l e
+  where
+    at : (Contains xs r → Among r xs) → (k : ℕ) → k < length (x ∷ xs) → get_or (x ∷ xs) k r ≡ r → (x ≡ r) ⊎ Among r xs
+    at later zero l e = inl e
+    at later (suc k) l e = inr (later (k, omega arith, e))
+
+pub contains_from : (xs : List Rule) (r : Rule) → Among r xs → Contains xs r
+contains_from [] r a = absurd a
+contains_from (x ∷ xs) r a = ⊎_elim
+    (λ e. (0, omega arith, e))
+    (λ b. let c = contains_from xs r b in (suc c.0, (let l = c.1 in omega arith), c.2)) a
+
+-- ---- a rule for each entry
+rules_sound : (n : ℕ) (es : List Entry) (r : Rule) → Among r (rules_from n es) → (k : ℕ) × (e : Entry) × (r.number ≡ n + k) × (slice_get es k ≡ Some e) × (key_of e ≡ r.key)
+rules_sound n [] r a = absurd a
+rules_sound n (e ∷ es) r a = ⊎_elim
+    (λ is. (0, e, (let f : n ≡ r.number = ap (λ (x : Rule). x.number) is in omega arith), refl, ap (λ (x : Rule). x.key) is))
+    (λ b. let i = rules_sound (n + 1) es r b in (suc i.0, i.1, (let f = i.2 in omega arith), i.3, i.4)) a
+
+rules_complete : (n : ℕ) (es : List Entry) (k : ℕ) (e : Entry) → slice_get es k ≡ Some e → Among (record { key = key_of e; number = n + k }) (rules_from n es)
+rules_complete n [] k e is = cc
+rules_complete n (x ∷ es) zero e is =
+    let same : x ≡ e = cc in
+    let at : n ≡ n + 0 = omega arith in
+    inl (ap (λ (y : Entry). numbered_rule (key_of y) n) same ∙ ap (numbered_rule (key_of e)) at)
+  where
+    numbered_rule : ℕ → ℕ → Rule
+    numbered_rule key number = record { key = key; number = number }
+rules_complete n (x ∷ es) (suc k) e is =
+    let at : n + 1 + k ≡ n + suc k = omega arith in
+    inr (subst (λ m. Among (record { key = key_of e; number = m }) (rules_from (n + 1) es)) at (rules_complete (n + 1) es k e is))
+
+-- ---- of each key the newest
+-- a rule with the same key, and a number as great
+pub record Stands (xs : List Rule) (r : Rule) : Type 0 where
+  pub rule : Rule
+  pub among : Among rule xs
+  pub key : rule.key ≡ r.key
+  pub number : r.number ≤ rule.number
+
+abbrev pub rule_of : ℕ → ℕ → Rule
+rule_of key number = record { key = key; number = number }
+
+abbrev joined : Rule → Rule → Rule
+joined last r = rule_of last.key (max last.number r.number)
+
+itself : (last r : Rule) (rs : List Rule) → last ≡ r → Stands (last ∷ rs) r
+itself last r rs e = record { rule = last; among = inl refl; key = ap (λ (x : Rule). x.key) e; number = (let f : last.number ≡ r.number = ap (λ (x : Rule). x.number) e in omega arith) }
+
+-- what stands for a rule stands for one that it stands for
+stands_for : (xs : List Rule) (r q : Rule) → q.key ≡ r.key → r.number ≤ q.number → Stands xs q → Stands xs r
+stands_for xs r q key number i = record { rule = i.rule; among = i.among; key = i.key ∙ key; number = (let f = i.number in omega arith) }
+
+none_lost : (last : Rule) (rs : List Rule) (r : Rule) → Among r (last ∷ rs) → Stands (newest_from last rs) r
+none_lost last [] r a = ⊎_elim (itself last r []) (λ n. absurd n) a
+none_lost last (s ∷ rs) r a = at (λ m q b. none_lost m rs q b) (eqb s.key last.key) refl
+  where
+    at : ((m q : Rule) → Among q (m ∷ rs) → Stands (newest_from m rs) q) → (b : Bool) → eqb s.key last.key ≡ b → Stands (cond b (newest_from (joined last s) rs) (last ∷ newest_from s rs)) r
+    at ih true e =
+        let same : s.key ≡ last.key = grind (arith, nat_tests) in
+        let here = ih (joined last s) (joined last s) (inl refl) in
+        ⊎_elim
+        (λ is. let n : last.number ≡ r.number = ap (λ (x : Rule). x.number) is in
+        stands_for _ r (joined last s) (ap (λ (x : Rule). x.key) is) (omega arith) here)
+        (λ b. ⊎_elim
+        (λ is. let n : s.number ≡ r.number = ap (λ (x : Rule). x.number) is in
+        stands_for _ r (joined last s) (sym same ∙ ap (λ (x : Rule). x.key) is) (omega arith) here)
+        (λ more. ih (joined last s) r (inr more)) b) a
+    at ih false e = ⊎_elim (itself last r (newest_from s rs))
+        (λ b. let i = ih s r b in record { rule = i.rule; among = inr i.among; key = i.key; number = i.number }) a
+
+-- the greater number is one of the two
+one_of_two : (last s r : Rule) (rs : List Rule) → s.key ≡ last.key → joined last s ≡ r → Among r (last ∷ s ∷ rs)
+one_of_two last s r rs same e = ⊎_elim
+    (λ less. let top : max last.number s.number ≡ s.number = omega arith in
+    inr (inl (ap (λ k. rule_of k s.number) same ∙ ap (rule_of last.key) (sym top) ∙ e)))
+    (λ ge. let top : max last.number s.number ≡ last.number = omega arith in
+    inl (ap (rule_of last.key) (sym top) ∙ e))
+    (cases_lt last.number s.number)
+
+none_new : (last : Rule) (rs : List Rule) (r : Rule) → Among r (newest_from last rs) → Among r (last ∷ rs)
+none_new last [] r a = a
+none_new last (s ∷ rs) r a = at (λ m b. none_new m rs r b) (eqb s.key last.key) refl a
+  where
+    at : ((m : Rule) → Among r (newest_from m rs) → Among r (m ∷ rs)) → (b : Bool) → eqb s.key last.key ≡ b
+        → Among r (cond b (newest_from (joined last s) rs) (last ∷ newest_from s rs)) → Among r (last ∷ s ∷ rs)
+    at ih true e a =
+        let same : s.key ≡ last.key = grind (arith, nat_tests) in
+        ⊎_elim (one_of_two last s r rs same) (λ b. inr (inr b)) (ih (joined last s) a)
+    at ih false e a = ⊎_elim inl (λ b. inr (ih s b)) a
+
+-- ---- keys in order
+abbrev RisesFrom : ℕ → List Rule → Type 0
+RisesFrom k [] = Unit {0}
+RisesFrom k (x ∷ xs) = (k ≤ x.key) × RisesFrom x.key xs
+
+abbrev RisesAbove : ℕ → List Rule → Type 0
+RisesAbove k [] = Unit {0}
+RisesAbove k (x ∷ xs) = (k < x.key) × RisesAbove x.key xs
+
+rises_from : (x : Rule) (xs : List Rule) → IsNonDecreasingBy (λ r. r.key) (x ∷ xs) → RisesFrom x.key xs
+rises_from x [] up = tt
+rises_from x (y ∷ ys) up = (up 0 1 x (omega arith) (omega arith), rises_from y ys (λ i j d le l. up (suc i) (suc j) d (omega arith) (omega arith)))
+
+above_all : (k : ℕ) (xs : List Rule) → RisesAbove k xs → All (λ r. k < r.key) xs
+above_all k [] up = All-nil (λ r. k < r.key)
+above_all k (x ∷ xs) up =
+    All-cons (λ r. k < r.key) x xs up.0 (above_all k xs (lower k x.key xs up.0 up.1))
+  where
+    lower : (j k : ℕ) (xs : List Rule) → j < k → RisesAbove k xs → RisesAbove j xs
+    lower j k [] l up = tt
+    lower j k (x ∷ xs) l up = ((let f = up.0 in omega arith), up.1)
+
+rising_from : (k : ℕ) (xs : List Rule) → RisesAbove k xs → IsRising xs
+rising_from k [] up = λ i j d less l. absurd (omega arith)
+rising_from k (x ∷ xs) up = AllPairs-cons (λ x y. x.key < y.key) x xs (above_all x.key xs up.1) (rising_from x.key xs up.1)
+
+newest_rises : (j : ℕ) (last : Rule) (rs : List Rule) → j < last.key → RisesFrom last.key rs → RisesAbove j (newest_from last rs)
+newest_rises j last [] l up = (l, tt)
+newest_rises j last (s ∷ rs) l up = at (λ j m l up. newest_rises j m rs l up) (eqb s.key last.key) refl
+  where
+    at : ((j : ℕ) (m : Rule) → j < m.key → RisesFrom m.key rs → RisesAbove j (newest_from m rs)) → (b : Bool) → eqb s.key last.key ≡ b
+        → RisesAbove j (cond b (newest_from (joined last s) rs) (last ∷ newest_from s rs))
+    at ih true e =
+        let same : s.key ≡ last.key = grind (arith, nat_tests) in
+        ih j (joined last s) l (subst (λ k. RisesFrom k rs) same up.1)
+    at ih false e =
+        let f = up.0 in
+        let other : last.key < s.key = grind (arith, nat_tests) in
+        (l, ih last.key s other up.1)
+
+abbrev RisesAt : ℕ → List Rule → Type 0
+RisesAt k [] = Unit {0}
+RisesAt k (x ∷ xs) = (x.key ≡ k) × RisesAbove x.key xs
+
+newest_rises_at : (last : Rule) (rs : List Rule) → RisesFrom last.key rs → RisesAt last.key (newest_from last rs)
+newest_rises_at last [] up = (refl, tt)
+newest_rises_at last (s ∷ rs) up = at (λ m up. newest_rises_at m rs up) (eqb s.key last.key) refl
+  where
+    at : ((m : Rule) → RisesFrom m.key rs → RisesAt m.key (newest_from m rs)) → (b : Bool) → eqb s.key last.key ≡ b
+        → RisesAt last.key (cond b (newest_from (joined last s) rs) (last ∷ newest_from s rs))
+    at ih true e =
+        let same : s.key ≡ last.key = grind (arith, nat_tests) in
+        ih (joined last s) (subst (λ k. RisesFrom k rs) same up.1)
+    at ih false e =
+        let f = up.0 in
+        let other : last.key < s.key = grind (arith, nat_tests) in
+        (refl, newest_rises last.key s rs other up.1)
+
+rising_at : (k : ℕ) (xs : List Rule) → RisesAt k xs → IsRising xs
+rising_at k [] up = λ i j d less l. absurd (omega arith)
+rising_at k (x ∷ xs) up = AllPairs-cons (λ x y. x.key < y.key) x xs (above_all x.key xs up.1) (rising_from x.key xs up.1)
+
+-- the newest of each key, in the order of their keys
+pub each_rises : (xs : List Rule) → IsNonDecreasingBy (λ r. r.key) xs → IsRising (newest_of_each xs)
+each_rises [] up = λ i j d less l. absurd (omega arith)
+each_rises (x ∷ xs) up = rising_at x.key (newest_from x xs) (newest_rises_at x xs (rises_from x xs up))
+
+pub each_old : (xs : List Rule) (r : Rule) → Among r (newest_of_each xs) → Among r xs
+each_old [] r a = a
+each_old (x ∷ xs) r a = none_new x xs r a
+
+pub each_kept : (xs : List Rule) (r : Rule) → Among r xs → Stands (newest_of_each xs) r
+each_kept [] r a = absurd a
+each_kept (x ∷ xs) r a = none_lost x xs r a
+
+pub is_index : (entries : List Entry) (sorted : List Rule) → IsPermutation (rules_from 0 entries) sorted → IsIndexOf entries (newest_of_each sorted)
+is_index entries sorted p = record { sound = sound; complete = complete }
+  where
+    sound : (r : Rule) → Contains (newest_of_each sorted) r → IsEntry entries r
+    sound r c =
+        let old : Contains sorted r = contains_from sorted r (each_old sorted r (among_from (newest_of_each sorted) r c)) in
+        let first : Contains (rules_from 0 entries) r = Contains-permutation sorted (rules_from 0 entries) r (IsPermutation-sym (rules_from 0 entries) sorted p) old in
+        let found = rules_sound 0 entries r (among_from (rules_from 0 entries) r first) in
+        let at : found.0 ≡ r.number = let e = found.2 in omega arith in
+        (found.1, subst (λ k. slice_get entries k ≡ Some found.1) at found.3, found.4)
+
+    complete : (n : ℕ) (e : Entry) → slice_get entries n ≡ Some e → (r : Rule) × Contains (newest_of_each sorted) r × (r.key ≡ key_of e) × (n ≤ r.number)
+    complete n e is =
+        let first : Contains (rules_from 0 entries) (rule_of (key_of e) (0 + n)) = contains_from (rules_from 0 entries) _ (rules_complete 0 entries n e is) in
+        let old : Contains sorted (rule_of (key_of e) (0 + n)) = Contains-permutation (rules_from 0 entries) sorted _ p first in
+        let stands = each_kept sorted (rule_of (key_of e) (0 + n)) (among_from sorted _ old) in
+        (stands.rule, contains_from (newest_of_each sorted) stands.rule stands.among, stands.key, (let l = stands.number in omega arith))

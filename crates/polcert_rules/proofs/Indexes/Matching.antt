@@ -1,0 +1,126 @@
+-- The newest rule is the one that the function of the rules gives.
+use Rattle.std.proofs.Common.{◌≡◌, ◌∙◌, ℕ, zero, suc, ◌+◌, ◌*◌, ◌^◌, ◌≤◌, Bool, true, false, cond, leb, ◌⊎◌, inl, inr, ⊎_elim, Option, Some, None, List, [], ◌∷◌, Contains, refl, sym, ap, subst, arith}
+use Rattle.std.specs.Prelude.{◌||◌, ◌==◌}
+use Rattle.std.proofs.lemmas.Bool.Decides.{nat_tests}
+use Rattle.polcert_cells.specs.declared.entry.Place.{Place}
+use Rattle.polcert_rules.specs.declared.rule.Rule.{Rule}
+use Rattle.polcert_rules.specs.Keys.{key_base, key_in, Fits}
+use Rattle.polcert_rules.specs.Steps.Newest.{IsNewest}
+use Rattle.polcert_rules.specs.Matching.{later, fits_key, newest_by, newest_in}
+use Rattle.polcert_rules.proofs.Keyed.Fitting.{same_number, equal_numbers, fits_end, fits_here, fits_next, fits_every, fits_only}
+use Rattle.polcert_rules.proofs.Indexes.Newer.{newest_of_part}
+use Rattle.polcert_rules.proofs.Indexes.Building.{among_from, contains_from}
+
+-- ---- a key that fits
+one_of : (a b : Bool) → (a || b) ≡ true → (a ≡ true) ⊎ (b ≡ true)
+one_of true b e = inl refl
+one_of false b e = inr e
+
+first_of_two : (a b : Bool) → a ≡ true → (a || b) ≡ true
+first_of_two a b e = ap (λ x. x || b) e
+
+second_of_two : (a b : Bool) → b ≡ true → (a || b) ≡ true
+second_of_two true b e = refl
+second_of_two false b e = e
+
+equal_by : (a b : ℕ) → a ≡ b → (a == b) ≡ true
+equal_by a b e = ap (λ x. x == b) e ∙ equal_numbers b
+
+-- where there is no room, no place counts
+no_room : (low key : ℕ) (indices : List ℕ) → Fits zero low indices key → key ≡ low
+no_room low key indices f = at f.places f.is
+  where
+    at : (ps : List Place) → key ≡ key_in zero low ps → key ≡ low
+    at [] is = is
+    at (p ∷ ps) is = is
+
+pub fits_is : (levels low : ℕ) (indices : List ℕ) (key : ℕ) → fits_key levels low indices key ≡ true → Fits levels low indices key
+fits_is levels low [] key e = fits_here levels low key [] (same_number key low e)
+fits_is zero low (i ∷ indices) key e = fits_here zero low key (i ∷ indices) (same_number key low e)
+fits_is (suc m) low (i ∷ indices) key e = ⊎_elim
+    (λ here. fits_here (suc m) low key (i ∷ indices) (same_number key low here))
+    (λ next. ⊎_elim
+    (λ every. fits_every m low i indices key (fits_is m (low + key_base ^ m) indices key every))
+    (λ only. fits_only m low i indices key (fits_is m (low + (i + 2) * key_base ^ m) indices key only))
+    (one_of _ _ next))
+    (one_of (key == low) _ e)
+
+pub is_fits : (levels low : ℕ) (indices : List ℕ) (key : ℕ) → Fits levels low indices key → fits_key levels low indices key ≡ true
+is_fits levels low [] key f = equal_by key low (fits_end levels low key f)
+is_fits zero low (i ∷ indices) key f = equal_by key low (no_room low key (i ∷ indices) f)
+is_fits (suc m) low (i ∷ indices) key f = ⊎_elim
+    (λ here. first_of_two _ _ (equal_by key low here))
+    (λ next. second_of_two (key == low) _ (⊎_elim
+    (λ every. first_of_two _ _ (is_fits m (low + key_base ^ m) indices key every))
+    (λ only. second_of_two (fits_key m (low + key_base ^ m) indices key) _ (is_fits m (low + (i + 2) * key_base ^ m) indices key only))
+    next))
+    (fits_next m low i indices key f)
+
+-- ---- the newest of rules
+behind : (r q : Rule) (rs : List Rule) → Contains rs q → Contains (r ∷ rs) q
+behind r q rs c = contains_from (r ∷ rs) q (inr (among_from rs q c))
+
+in_front : (r : Rule) (rs : List Rule) → Contains (r ∷ rs) r
+in_front r rs = contains_from (r ∷ rs) r (inl refl)
+
+front_or_behind : (r q : Rule) (rs : List Rule) → Contains (r ∷ rs) q → (r ≡ q) ⊎ Contains rs q
+front_or_behind r q rs c = ⊎_elim inl (λ a. inr (contains_from rs q a)) (among_from (r ∷ rs) q c)
+
+number_of : (r q : Rule) → r ≡ q → r.number ≡ q.number
+number_of r q e = ap (λ (x : Rule). x.number) e
+
+-- the first rule passes
+with_first : (r : Rule) (rs : List Rule) (P : ℕ → Type 0) (x : Option ℕ) → P r.key → IsNewest rs P x → IsNewest (r ∷ rs) P (later (Some r.number) x)
+with_first r rs P None p n = (
+  record { rule = r; among = in_front r rs; passes = p; is = refl },
+  λ q c own. ⊎_elim (λ same. let e = number_of r q same in omega arith) (λ b. absurd (n q b own)) (front_or_behind r q rs c),
+)
+with_first r rs P (Some m) p n = at (leb r.number m) refl
+  where
+    at : (b : Bool) → leb r.number m ≡ b → IsNewest (r ∷ rs) P (cond b (Some m) (Some r.number))
+    at true e =
+        let less : r.number ≤ m = grind (arith, nat_tests) in (
+          record { rule = n.0.rule; among = behind r n.0.rule rs n.0.among; passes = n.0.passes; is = n.0.is },
+          λ q c own. ⊎_elim (λ same. let f = number_of r q same in omega arith) (λ b. n.1 q b own) (front_or_behind r q rs c),
+        )
+    at false e =
+        let more : m ≤ r.number = grind (arith, nat_tests) in (
+          record { rule = r; among = in_front r rs; passes = p; is = refl },
+          λ q c own. ⊎_elim (λ same. let f = number_of r q same in omega arith) (λ b. let s = n.1 q b own in omega arith) (front_or_behind r q rs c),
+        )
+
+-- the first rule does not pass
+without_first : (r : Rule) (rs : List Rule) (P : ℕ → Type 0) (x : Option ℕ) → (P r.key → ⊥) → IsNewest rs P x → IsNewest (r ∷ rs) P x
+without_first r rs P x fails n = newest_of_part (r ∷ rs) rs P x (λ q c. behind r q rs c)
+    (λ q c own. ⊎_elim (λ same. absurd (fails (subst (λ (y : Rule). P y.key) (sym same) own))) (λ b. b) (front_or_behind r q rs c)) n
+
+not_both : (b : Bool) → b ≡ false → b ≡ true → ⊥
+not_both b f t = cc
+
+pub newest_by_is : (rules : List Rule) (passes : ℕ → Bool) (P : ℕ → Type 0) → ((k : ℕ) → passes k ≡ true → P k) → ((k : ℕ) → P k → passes k ≡ true) → IsNewest rules P (newest_by passes rules)
+newest_by_is [] passes P sound complete = λ r c p. among_from [] r c
+newest_by_is (r ∷ rs) passes P sound complete = at (newest_by passes rs) (newest_by_is rs passes P sound complete) (passes r.key) refl
+  where
+    at : (x : Option ℕ) → IsNewest rs P x → (b : Bool) → passes r.key ≡ b → IsNewest (r ∷ rs) P (cond b (later (Some r.number) x) x)
+    at x n true e = with_first r rs P x (sound r.key e) n
+    at x n false e = without_first r rs P x (λ p. not_both (passes r.key) e (complete r.key p)) n
+
+-- there is one newest number
+pub one_newest : (rules : List Rule) (P : ℕ → Type 0) (m n : Option ℕ) → IsNewest rules P m → IsNewest rules P n → m ≡ n
+one_newest rules P None None x y = refl
+one_newest rules P None (Some n) x y = absurd (x y.0.rule y.0.among y.0.passes)
+one_newest rules P (Some m) None x y = absurd (y x.0.rule x.0.among x.0.passes)
+one_newest rules P (Some m) (Some n) x y =
+    let up : x.0.rule.number ≤ n = y.1 x.0.rule x.0.among x.0.passes in
+    let down : y.0.rule.number ≤ m = x.1 y.0.rule y.0.among y.0.passes in
+    let one : x.0.rule.number ≡ m = x.0.is in
+    let other : y.0.rule.number ≡ n = y.0.is in
+    let same : m ≡ n = omega arith in
+    ap Some same
+
+-- ---- the newest rule, computed
+pub newest_is : (levels low : ℕ) (rules : List Rule) (indices : List ℕ) → IsNewest rules (Fits levels low indices) (newest_in levels low rules indices)
+newest_is levels low rules indices = newest_by_is rules (fits_key levels low indices) (Fits levels low indices) (fits_is levels low indices) (is_fits levels low indices)
+
+pub newest_computes : (levels low : ℕ) (rules : List Rule) (indices : List ℕ) (found : Option ℕ) → IsNewest rules (Fits levels low indices) found → found ≡ newest_in levels low rules indices
+newest_computes levels low rules indices found n = one_newest rules (Fits levels low indices) found (newest_in levels low rules indices) n (newest_is levels low rules indices)

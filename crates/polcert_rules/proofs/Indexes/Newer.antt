@@ -1,0 +1,157 @@
+-- The newest of several.
+use Rattle.std.proofs.Common.{◌≡◌, ◌∙◌, ℕ, zero, suc, ◌+◌, ◌-◌, ◌*◌, ◌^◌, ◌<◌, ◌≤◌, ◌↔◌, Bool, true, false, cond, leb, ◌⊎◌, inl, inr, ⊎_elim, Option, Some, None, List, [], ◌∷◌, Contains, get_or, length, refl, sym, ap, subst, arith}
+use Rattle.std.specs.List.{slice_get}
+use Rattle.std.proofs.lemmas.Bool.Decides.{nat_tests}
+use Rattle.std.proofs.lemmas.Option.{slice_get_within, get_or_from_slice_get}
+use Rattle.polcert_rules.specs.declared.rule.Rule.{Rule}
+use Rattle.polcert_rules.specs.Steps.Newest.{IsRising, IsNewest}
+use Rattle.polcert_rules.specs.Matching.{later}
+use Rattle.polcert_rules.specs.Keys.{key_base, AreIndices, Fits}
+use Rattle.polcert_rules.proofs.Keyed.Fitting.{fits_low, fits_high, fits_next, fits_here, fits_end, fits_every, fits_only, digit_below, power_next, power_some}
+
+pub newest_as : (rules : List Rule) (P Q : ℕ → Type 0) (x : Option ℕ) → ((k : ℕ) → P k → Q k) → ((k : ℕ) → Q k → P k) → IsNewest rules P x → IsNewest rules Q x
+newest_as rules P Q None f g n = λ r c q. n r c (g r.key q)
+newest_as rules P Q (Some m) f g n =
+    (record { rule = n.0.rule; among = n.0.among; passes = f n.0.rule.key n.0.passes; is = n.0.is }, λ r c q. n.1 r c (g r.key q))
+
+-- from a part of the rules that has all that pass
+pub newest_of_part : (rules part : List Rule) (P : ℕ → Type 0) (x : Option ℕ) → ((r : Rule) → Contains part r → Contains rules r)
+    → ((r : Rule) → Contains rules r → P r.key → Contains part r) → IsNewest part P x → IsNewest rules P x
+newest_of_part rules part P None out in_part n = λ r c p. n r (in_part r c p) p
+newest_of_part rules part P (Some m) out in_part n =
+    (record { rule = n.0.rule; among = out n.0.rule n.0.among; passes = n.0.passes; is = n.0.is }, λ r c p. n.1 r (in_part r c p) p)
+
+pub newest_of_two : (rules : List Rule) (P Q : ℕ → Type 0) (a b : Option ℕ) → IsNewest rules P a → IsNewest rules Q b → IsNewest rules (λ k. P k ⊎ Q k) (later a b)
+newest_of_two rules P Q None None x y = λ r c e. ⊎_elim (x r c) (y r c) e
+newest_of_two rules P Q None (Some n) x y =
+    (record { rule = y.0.rule; among = y.0.among; passes = inr y.0.passes; is = y.0.is }, λ r c e. ⊎_elim (λ p. absurd (x r c p)) (y.1 r c) e)
+newest_of_two rules P Q (Some m) None x y =
+    (record { rule = x.0.rule; among = x.0.among; passes = inl x.0.passes; is = x.0.is }, λ r c e. ⊎_elim (x.1 r c) (λ q. absurd (y r c q)) e)
+newest_of_two rules P Q (Some m) (Some n) x y = at (leb m n) refl
+  where
+    at : (b : Bool) → leb m n ≡ b → IsNewest rules (λ k. P k ⊎ Q k) (cond b (Some n) (Some m))
+    at true e =
+        let less : m ≤ n = grind (arith, nat_tests) in (
+          record { rule = y.0.rule; among = y.0.among; passes = inr y.0.passes; is = y.0.is },
+          λ r c e. ⊎_elim (λ p. let s = x.1 r c p in omega arith) (y.1 r c) e,
+        )
+    at false e =
+        let more : n ≤ m = grind (arith, nat_tests) in (
+          record { rule = x.0.rule; among = x.0.among; passes = inl x.0.passes; is = x.0.is },
+          λ r c e. ⊎_elim (x.1 r c) (λ q. let s = y.1 r c q in omega arith) e,
+        )
+
+-- the rules from a key on, below so many further keys
+abbrev pub IsSpan : List Rule → List Rule → ℕ → ℕ → Type 0
+IsSpan rules part low size = (r : Rule) → Contains part r ↔ (Contains rules r × (low ≤ r.key) × (r.key < low + size))
+
+-- what a span has is what all rules have
+pub newest_of_span : (rules part : List Rule) (m low : ℕ) (indices : List ℕ) (x : Option ℕ) → AreIndices m indices → IsSpan rules part low (key_base ^ m)
+    → IsNewest part (Fits m low indices) x → IsNewest rules (Fits m low indices) x
+newest_of_span rules part m low indices x a span n =
+    newest_of_part rules part (Fits m low indices) x (λ r c. ((span r).0 c).0)
+    (λ r c f. (span r).1 (c, fits_low m low indices r.key f, fits_high m low indices r.key a f)) n
+
+-- one place more: no place, `*`, or the index
+pub newest_of_three : (rules : List Rule) (m low i : ℕ) (indices : List ℕ) (here every only : Option ℕ) → IsNewest rules (λ k. k ≡ low) here
+    → IsNewest rules (Fits m (low + key_base ^ m) indices) every → IsNewest rules (Fits m (low + (i + 2) * key_base ^ m) indices) only
+    → IsNewest rules (Fits (suc m) low (i ∷ indices)) (later here (later every only))
+newest_of_three rules m low i indices here every only h e o =
+    let two = newest_of_two rules _ _ every only e o in
+    let three = newest_of_two rules _ _ here (later every only) h two in
+    newest_as rules (λ k. (k ≡ low) ⊎ (Fits m (low + key_base ^ m) indices k ⊎ Fits m (low + (i + 2) * key_base ^ m) indices k)) (Fits (suc m) low (i ∷ indices)) _
+    (λ k f. ⊎_elim (fits_here (suc m) low k (i ∷ indices)) (λ g. ⊎_elim (fits_every m low i indices k) (fits_only m low i indices k) g) f)
+    (λ k f. fits_next m low i indices k f) three
+
+-- from the parts that have the rules with these places
+pub newest_next : (rules evens onlys : List Rule) (m low i : ℕ) (indices : List ℕ) (here every only : Option ℕ) → AreIndices m indices
+    → IsNewest rules (λ k. k ≡ low) here
+    → IsSpan rules evens (low + key_base ^ m) (key_base ^ m) → IsNewest evens (Fits m (low + key_base ^ m) indices) every
+    → IsSpan rules onlys (low + (i + 2) * key_base ^ m) (key_base ^ m) → IsNewest onlys (Fits m (low + (i + 2) * key_base ^ m) indices) only
+    → IsNewest rules (Fits (suc m) low (i ∷ indices)) (later here (later every only))
+newest_next rules evens onlys m low i indices here every only a h spanned e spanned_only o =
+    newest_of_three rules m low i indices here every only h
+    (newest_of_span rules evens m (low + key_base ^ m) indices every a spanned e)
+    (newest_of_span rules onlys m (low + (i + 2) * key_base ^ m) indices only a spanned_only o)
+
+-- the rule of the key itself, from the part that begins with it
+pub newest_here : (rules part : List Rule) (low size : ℕ) (here : Option ℕ) → 1 ≤ size → IsSpan rules part low size → IsNewest part (λ k. k ≡ low) here → IsNewest rules (λ k. k ≡ low) here
+newest_here rules part low size here some span n =
+    newest_of_part rules part (λ k. k ≡ low) here (λ r c. ((span r).0 c).0) (λ r c e. (span r).1 (c, omega (arith, e), omega (arith, e, some))) n
+
+pub newest_end : (rules : List Rule) (m low : ℕ) (here : Option ℕ) → IsNewest rules (λ k. k ≡ low) here → IsNewest rules (Fits m low []) here
+newest_end rules m low here n = newest_as rules (λ k. k ≡ low) (Fits m low []) here (λ k e. fits_here m low k [] e) (λ k f. fits_end m low k f) n
+
+-- a level is left where an index is
+pub some_level : (m i : ℕ) (indices : List ℕ) → AreIndices m (i ∷ indices) → (suc (m - 1) ≡ m) × (i + 2 < key_base) × AreIndices (m - 1) indices
+some_level zero i indices a = absurd a
+some_level (suc m) i indices a =
+    let e : suc m - 1 ≡ m = omega arith in
+    let f : suc (suc m - 1) ≡ suc m = ap suc e in
+    (f, a.0, subst (λ k. AreIndices k indices) (sym e) a.1)
+
+-- the first rule has the lowest key
+pub after_first : (rules : List Rule) (x : Rule) → IsRising rules → slice_get rules 0 ≡ Some x → (r : Rule) → Contains rules r → (r ≡ x) ⊎ (x.key < r.key)
+after_first rules x up is r (k, l, e) = ⊎_elim
+    (λ zero_at. let at : k ≡ 0 = omega arith in
+    inl (sym e ∙ ap (λ i. get_or rules i r) at ∙ get_or_from_slice_get rules 0 x r is))
+    (λ some. let less = up 0 k r some l in
+    let first : get_or rules 0 r ≡ x = get_or_from_slice_get rules 0 x r is in
+    inr (subst (λ (y : Rule). x.key < y.key) e (subst (λ (y : Rule). y.key < (get_or rules k r).key) first less)))
+    (cases_le k)
+  where
+    cases_le : (k : ℕ) → (k ≤ 0) ⊎ (0 < k)
+    cases_le zero = inl (omega arith)
+    cases_le (suc k) = inr (omega arith)
+
+pub first_is : (rules : List Rule) (x : Rule) (key : ℕ) → IsRising rules → slice_get rules 0 ≡ Some x → x.key ≡ key → IsNewest rules (λ k. k ≡ key) (Some x.number)
+first_is rules x key up is here =
+    let inside = slice_get_within rules 0 x is in (
+      record { rule = x; among = (0, inside, get_or_from_slice_get rules 0 x x is); passes = here; is = refl },
+      λ r c e. ⊎_elim (λ same. let n : r.number ≡ x.number = ap (λ (y : Rule). y.number) same in omega arith) (λ less. absurd (omega arith)) (after_first rules x up is r c),
+    )
+
+pub first_is_not : (rules : List Rule) (x : Rule) (key : ℕ) → IsRising rules → ((r : Rule) → Contains rules r → key ≤ r.key) → slice_get rules 0 ≡ Some x
+    → (x.key ≡ key → ⊥) → IsNewest rules (λ k. k ≡ key) None
+first_is_not rules x key up from is other r c e =
+    let inside = slice_get_within rules 0 x is in
+    let low : key ≤ x.key = from x (0, inside, get_or_from_slice_get rules 0 x x is) in
+    ⊎_elim (λ same. other (ap (λ (y : Rule). y.key) (sym same) ∙ e)) (λ less. absurd (omega arith)) (after_first rules x up is r c)
+
+-- what is known where there is one more index
+pub record IsDeeper (m low i : ℕ) (indices : List ℕ) (step : ℕ) : Type 0 where
+  pub level : suc (m - 1) ≡ m
+  pub indices_are : AreIndices (m - 1) indices
+  pub step_is : step ≡ key_base ^ (m - 1)
+  pub only : low + (i + 2) * step + step ≤ low + key_base ^ m
+  pub every : low + step + step ≤ low + key_base ^ m
+  pub some : 1 ≤ step
+
+-- the keys of the next places have room where those of these have
+pub is_deeper : (m low i : ℕ) (indices : List ℕ) (step : ℕ) → AreIndices m (i ∷ indices) → step ≡ key_base ^ (m - 1) → IsDeeper m low i indices step
+is_deeper m low i indices step a is =
+    let some = some_level m i indices a in
+    let top = digit_below (i + 2) step some.1 in
+    let top_every = digit_below 1 step (omega arith) in
+    let next : key_base ^ suc (m - 1) ≡ key_base * key_base ^ (m - 1) = power_next (m - 1) in
+    let whole : key_base ^ suc (m - 1) ≡ key_base ^ m = ap (λ k. key_base ^ k) some.0 in
+    let one : 1 ≤ key_base ^ (m - 1) = power_some (m - 1) in
+    record { level = some.0; indices_are = some.2; step_is = is; only = omega arith; every = omega arith; some = omega arith }
+
+-- `newest_next`, at the code's numbers
+pub newest_deeper : (rules evens onlys : List Rule) (m low i : ℕ) (indices : List ℕ) (step : ℕ) (here every only : Option ℕ) → IsDeeper m low i indices step
+    → IsNewest rules (λ k. k ≡ low) here
+    → IsSpan rules evens (low + step) step → IsNewest evens (Fits (m - 1) (low + step) indices) every
+    → IsSpan rules onlys (low + (i + 2) * step) step → IsNewest onlys (Fits (m - 1) (low + (i + 2) * step) indices) only
+    → IsNewest rules (Fits m low (i ∷ indices)) (later here (later every only))
+newest_deeper rules evens onlys m low i indices step here every only d h spanned e spanned_only o =
+    subst (λ k. IsNewest rules (Fits k low (i ∷ indices)) (later here (later every only))) d.level
+    (newest_next rules evens onlys (m - 1) low i indices here every only d.indices_are h
+    (subst (λ s. IsSpan rules evens (low + s) s) d.step_is spanned)
+    (subst (λ s. IsNewest evens (Fits (m - 1) (low + s) indices) every) d.step_is e)
+    (subst (λ s. IsSpan rules onlys (low + (i + 2) * s) s) d.step_is spanned_only)
+    (subst (λ s. IsNewest onlys (Fits (m - 1) (low + (i + 2) * s) indices) only) d.step_is o))
+
+pub no_more : (indices : List ℕ) → length indices ≡ 0 → indices ≡ []
+no_more [] e = refl
+no_more (i ∷ indices) e = absurd (omega arith)

@@ -1,0 +1,160 @@
+-- The newest rules of cells that have all indices but the last in common, step by step.
+use Rattle.std.proofs.Common.{◌≡◌, ◌∙◌, ℕ, zero, suc, ◌+◌, ◌-◌, ◌*◌, ◌^◌, ◌<◌, ◌≤◌, ◌↔◌, Bool, true, false, cond, leb, ◌⊎◌, inl, inr, ⊎_elim, Option, Some, None, List, [], ◌∷◌, ◌++◌, Contains, length, refl, sym, ap, subst, arith}
+use Rattle.std.proofs.lemmas.Bool.{cases_lt}
+use Rattle.std.proofs.lemmas.Bool.Decides.{nat_tests}
+use Rattle.std.proofs.lemmas.List.Elements.{Contains-append_left, Contains-append_right, Contains-append_cases}
+use Rattle.polcert_rules.specs.declared.rule.Rule.{Rule}
+use Rattle.polcert_rules.specs.Keys.{key_base, AreIndices, Fits}
+use Rattle.polcert_rules.specs.Steps.Newest.{IsNewest}
+use Rattle.polcert_rules.specs.Matching.{later}
+use Rattle.polcert_rules.specs.Steps.Noting.{IsNoted, IsLastPlace}
+use Rattle.polcert_rules.proofs.Keyed.Fitting.{fits_next, fits_here, fits_end, fits_every, fits_only}
+use Rattle.polcert_rules.proofs.Indexes.Newer.{newest_as, newest_of_part, newest_of_two, newest_of_three, newest_deeper, is_deeper, IsSpan}
+
+-- ---- the later of two numbers
+pub later_none : (x : Option ℕ) → later x None ≡ x
+later_none None = refl
+later_none (Some m) = refl
+
+-- as a greatest: this is what it does
+later_left : (m n : ℕ) → n ≤ m → later (Some m) (Some n) ≡ Some m
+later_left m n l = at (leb m n) refl
+  where
+    at : (b : Bool) → leb m n ≡ b → cond b (Some n) (Some m) ≡ Some m
+    at true e = let same : n ≡ m = grind (arith, nat_tests) in ap Some same
+    at false e = refl
+
+later_right : (m n : ℕ) → m ≤ n → later (Some m) (Some n) ≡ Some n
+later_right m n l = at (leb m n) refl
+  where
+    at : (b : Bool) → leb m n ≡ b → cond b (Some n) (Some m) ≡ Some n
+    at true e = refl
+    at false e = absurd (grind (arith, nat_tests))
+
+by_order : (m n : ℕ) → (m ≤ n) ⊎ (n ≤ m)
+by_order m n = at (leb m n) refl
+  where
+    at : (b : Bool) → leb m n ≡ b → (m ≤ n) ⊎ (n ≤ m)
+    at true e = inl (grind (arith, nat_tests))
+    at false e = inr (grind (arith, nat_tests))
+
+pub later_of_later : (x y z : Option ℕ) → later (later x y) z ≡ later x (later y z)
+later_of_later None y z = refl
+later_of_later (Some m) None z = refl
+later_of_later (Some m) (Some n) None = later_none (later (Some m) (Some n))
+later_of_later (Some m) (Some n) (Some k) = at (by_order m n) (by_order n k) (by_order m k)
+  where
+    at : (m ≤ n) ⊎ (n ≤ m) → (n ≤ k) ⊎ (k ≤ n) → (m ≤ k) ⊎ (k ≤ m) → later (later (Some m) (Some n)) (Some k) ≡ later (Some m) (later (Some n) (Some k))
+    at (inl a) (inl b) _ = ap (λ x. later x (Some k)) (later_right m n a) ∙ later_right n k b ∙ sym (ap (later (Some m)) (later_right n k b) ∙ later_right m k (omega arith))
+    at (inl a) (inr b) _ = ap (λ x. later x (Some k)) (later_right m n a) ∙ later_left n k b ∙ sym (ap (later (Some m)) (later_left n k b) ∙ later_right m n a)
+    at (inr a) (inl b) _ = ap (λ x. later x (Some k)) (later_left m n a) ∙ sym (ap (later (Some m)) (later_right n k b))
+    at (inr a) (inr b) _ = ap (λ x. later x (Some k)) (later_left m n a) ∙ later_left m k (omega arith) ∙ sym (ap (later (Some m)) (later_left n k b) ∙ later_left m n a)
+
+-- ---- rule after rule
+pub only_one : (r y : Rule) → Contains (r ∷ []) y → r ≡ y
+only_one r y (zero, l, e) = e
+only_one r y (suc k, l, e) = absurd (omega arith)
+
+newest_skip : (xs : List Rule) (r : Rule) (P : ℕ → Type 0) (x : Option ℕ) → IsNewest xs P x → (P r.key → ⊥) → IsNewest (xs ++ r ∷ []) P x
+newest_skip xs r P None n d = λ y c p. ⊎_elim (λ old. n y old p) (λ new. d (subst (λ (z : Rule). P z.key) (sym (only_one r y new)) p)) (Contains-append_cases xs (r ∷ []) y c)
+newest_skip xs r P (Some m) n d = (
+  record { rule = n.0.rule; among = Contains-append_left xs (r ∷ []) n.0.rule n.0.among; passes = n.0.passes; is = n.0.is },
+  λ y c p. ⊎_elim (λ old. n.1 y old p) (λ new. absurd (d (subst (λ (z : Rule). P z.key) (sym (only_one r y new)) p))) (Contains-append_cases xs (r ∷ []) y c),
+)
+
+number_le : (r y : Rule) (n : ℕ) → r ≡ y → r.number ≤ n → y.number ≤ n
+number_le r y n e l = subst (λ (z : Rule). z.number ≤ n) e l
+
+newest_hit : (xs : List Rule) (r : Rule) (P : ℕ → Type 0) (x : Option ℕ) → IsNewest xs P x → P r.key → IsNewest (xs ++ r ∷ []) P (later x (Some r.number))
+newest_hit xs r P None n h = (
+  record { rule = r; among = Contains-append_right xs (r ∷ []) r (0, omega arith, refl); passes = h; is = refl },
+  λ y c p. ⊎_elim (λ old. absurd (n y old p)) (λ new. number_le r y r.number (only_one r y new) (omega arith)) (Contains-append_cases xs (r ∷ []) y c),
+)
+newest_hit xs r P (Some m) n h = at (by_order m r.number)
+  where
+    at : (m ≤ r.number) ⊎ (r.number ≤ m) → IsNewest (xs ++ r ∷ []) P (later (Some m) (Some r.number))
+    at (inl l) =
+        subst (IsNewest (xs ++ r ∷ []) P) (sym (later_right m r.number l)) (
+          record { rule = r; among = Contains-append_right xs (r ∷ []) r (0, omega arith, refl); passes = h; is = refl },
+          λ y c p. ⊎_elim (λ old. let low = n.1 y old p in omega arith) (λ new. number_le r y r.number (only_one r y new) (omega arith)) (Contains-append_cases xs (r ∷ []) y c),
+        )
+    at (inr l) =
+        subst (IsNewest (xs ++ r ∷ []) P) (sym (later_left m r.number l)) (
+          record { rule = n.0.rule; among = Contains-append_left xs (r ∷ []) n.0.rule n.0.among; passes = n.0.passes; is = n.0.is },
+          λ y c p. ⊎_elim (λ old. n.1 y old p) (λ new. number_le r y m (only_one r y new) l) (Contains-append_cases xs (r ∷ []) y c),
+        )
+
+pub noted_skip : (xs : List Rule) (r : Rule) (P : ℕ → Type 0) (before old new : Option ℕ) → IsNoted xs P before old → (P r.key → ⊥) → new ≡ old → IsNoted (xs ++ r ∷ []) P before new
+noted_skip xs r P before old new n d e = record { found = n.found; newest = newest_skip xs r P n.found n.newest d; is = e ∙ n.is }
+
+pub noted_hit : (xs : List Rule) (r : Rule) (P : ℕ → Type 0) (before old new : Option ℕ) → IsNoted xs P before old → P r.key → new ≡ later old (Some r.number) → IsNoted (xs ++ r ∷ []) P before new
+noted_hit xs r P before old new n h e = record {
+  found = later n.found (Some r.number);
+  newest = newest_hit xs r P n.found n.newest h;
+  is = e ∙ ap (λ x. later x (Some r.number)) n.is ∙ later_of_later before n.found (Some r.number);
+}
+
+-- whether two numbers are the same
+pub same_or_not : (a b : ℕ) → (a ≡ b) ⊎ (a ≡ b → ⊥)
+same_or_not a b = ⊎_elim (λ l. inr (λ e. omega arith)) (λ g. ⊎_elim (λ l. inr (λ e. omega arith)) (λ h. inl (omega arith)) (cases_lt b a)) (cases_lt a b)
+
+-- ---- place after place
+pub one_more_index : (m : ℕ) (indices : List ℕ) (z : ℕ) → AreIndices m indices → m ≡ length indices + 1 → z + 2 < key_base → AreIndices m (indices ++ z ∷ [])
+one_more_index zero [] z a e l = absurd (omega arith)
+one_more_index zero (i ∷ indices) z a e l = absurd a
+one_more_index (suc m) [] z a e l = (l, tt)
+one_more_index (suc m) (i ∷ indices) z a e l = (a.0, one_more_index m indices z a.1 (omega arith) l)
+
+-- the last place: `*`, or the number itself, as the rules from their keys on have it
+pub noted_last : (rules behind named : List Rule) (low first count i start : ℕ) (here before between after : Option ℕ) → i < count → start ≡ low + 2 + first
+    → ((r : Rule) → Contains behind r ↔ (Contains rules r × (low + 1 ≤ r.key))) → IsNewest behind (λ k. k ≡ low + 1) here → between ≡ later before here
+    → IsSpan rules named start count → IsNoted named (λ k. k ≡ start + i) between after → IsNoted rules (IsLastPlace low (first + i)) before after
+noted_last rules behind named low first count i start here before between after l is from h e span n = record {
+  found = later here n.found;
+  newest = newest_as rules (λ k. (k ≡ low + 1) ⊎ (k ≡ start + i)) (IsLastPlace low (first + i)) (later here n.found)
+      (λ k f. ⊎_elim (λ every. inl every) (λ only. inr (omega arith)) f)
+      (λ k f. ⊎_elim (λ every. inl every) (λ only. inr (omega arith)) f)
+      (newest_of_two rules (λ k. k ≡ low + 1) (λ k. k ≡ start + i) here n.found
+      (newest_of_part rules behind (λ k. k ≡ low + 1) here (λ r c. ((from r).0 c).0) (λ r c f. (from r).1 (c, omega arith)) h)
+      (newest_of_part rules named (λ k. k ≡ start + i) n.found (λ r c. ((span r).0 c).0) (λ r c f. (span r).1 (c, omega arith, omega arith)) n.newest));
+  is = n.is ∙ ap (λ x. later x n.found) e ∙ later_of_later before here n.found;
+}
+
+pub noted_end : (rules : List Rule) (low z : ℕ) (here before between after : Option ℕ) → IsNewest rules (λ k. k ≡ low) here → between ≡ later before here
+    → IsNoted rules (IsLastPlace low z) between after → IsNoted rules (Fits 1 low (z ∷ [])) before after
+noted_end rules low z here before between after h e n = record {
+  found = later here n.found;
+  newest = newest_as rules (λ k. (k ≡ low) ⊎ IsLastPlace low z k) (Fits 1 low (z ∷ [])) (later here n.found)
+      (λ k f. ⊎_elim (fits_here 1 low k (z ∷ [])) (λ g. ⊎_elim (λ i. fits_every 0 low z [] k (fits_here 0 (low + key_base ^ 0) k [] i)) (λ i. fits_only 0 low z [] k (fits_here 0 (low + (z + 2) * key_base ^ 0) k [] (omega arith))) g) f)
+      (λ k f. ⊎_elim (λ i. inl i) (λ g. inr (⊎_elim (λ i. inl (fits_end 0 (low + key_base ^ 0) k i)) (λ i. inr (let j = fits_end 0 (low + (z + 2) * key_base ^ 0) k i in omega arith)) g)) (fits_next 0 low z [] k f))
+      (newest_of_two rules (λ k. k ≡ low) (IsLastPlace low z) here n.found h n.newest);
+  is = n.is ∙ ap (λ x. later x n.found) e ∙ later_of_later before here n.found;
+}
+
+pub noted_deeper : (rules evens onlys : List Rule) (m low i : ℕ) (rest : List ℕ) (z step : ℕ) (here before first second after : Option ℕ)
+    → AreIndices m (i ∷ rest) → m ≡ length (i ∷ rest) + 1 → z + 2 < key_base → step ≡ key_base ^ (m - 1)
+    → IsNewest rules (λ k. k ≡ low) here → first ≡ later before here
+    → IsSpan rules evens (low + step) step → IsNoted evens (Fits (m - 1) (low + step) (rest ++ z ∷ [])) first second
+    → IsSpan rules onlys (low + (i + 2) * step) step → IsNoted onlys (Fits (m - 1) (low + (i + 2) * step) (rest ++ z ∷ [])) second after
+    → IsNoted rules (Fits m low (i ∷ (rest ++ z ∷ []))) before after
+noted_deeper rules evens onlys m low i rest z step here before first second after a size l is h e spanned n spanned_only o =
+    let d = is_deeper m low i (rest ++ z ∷ []) step (one_more_index m (i ∷ rest) z a size l) is in
+    record {
+      found = later here (later n.found o.found);
+      newest = newest_deeper rules evens onlys m low i (rest ++ z ∷ []) step here n.found o.found d h spanned n.newest spanned_only o.newest;
+      is = o.is ∙ ap (λ x. later x o.found) (n.is ∙ ap (λ x. later x n.found) e) ∙ later_of_later (later before here) n.found o.found ∙ later_of_later before here (later n.found o.found);
+    }
+
+-- the same of all rules
+pub noted_of_three : (rules : List Rule) (m low i : ℕ) (indices : List ℕ) (here before first second after : Option ℕ)
+    → IsNewest rules (λ k. k ≡ low) here → first ≡ later before here → IsNoted rules (Fits m (low + key_base ^ m) indices) first second
+    → IsNoted rules (Fits m (low + (i + 2) * key_base ^ m) indices) second after → IsNoted rules (Fits (suc m) low (i ∷ indices)) before after
+noted_of_three rules m low i indices here before first second after h e n o = record {
+  found = later here (later n.found o.found);
+  newest = newest_of_three rules m low i indices here n.found o.found h n.newest o.newest;
+  is = o.is ∙ ap (λ x. later x o.found) (n.is ∙ ap (λ x. later x n.found) e) ∙ later_of_later (later before here) n.found o.found ∙ later_of_later before here (later n.found o.found);
+}
+
+-- where nothing was noted before, the newest is noted
+pub noted_first : (rules : List Rule) (P : ℕ → Type 0) (before after : Option ℕ) → before ≡ None → IsNoted rules P before after → IsNewest rules P after
+noted_first rules P before after none n = subst (IsNewest rules P) (sym (n.is ∙ ap (λ x. later x n.found) none)) n.newest

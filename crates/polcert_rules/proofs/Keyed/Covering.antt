@@ -1,0 +1,127 @@
+-- An entry covers a cell exactly where its key fits the indices: the newest that fits is the last that covers.
+use Rattle.std.proofs.Common.{◌≡◌, ◌∙◌, ℕ, zero, suc, ◌+◌, ◌*◌, ◌^◌, ◌≤◌, Bool, true, false, ◌&&◌, ◌||◌, Option, Some, None, List, [], ◌∷◌, ◌++◌, take, drop, All, refl, sym, ap, subst, arith}
+use Rattle.std.specs.List.{slice_get, list_any}
+use Rattle.std.proofs.lemmas.List.{drop_more, take-append-drop}
+use Rattle.std.proofs.lemmas.Option.{slice_get_within, get_or_from_slice_get}
+use Rattle.polcert_cells.specs.declared.entry.Table.{Table}
+use Rattle.polcert_cells.specs.declared.entry.Table.TheVariants.{Transition, Observation, Reward}
+use Rattle.polcert_cells.specs.declared.entry.Place.{Place}
+use Rattle.polcert_cells.specs.declared.entry.Entry.{Entry}
+use Rattle.polcert_cells.specs.Cells.{is_table, fit_places, covers, IsLastCovering, last, none}
+use Rattle.polcert_rules.specs.declared.rule.Rule.{Rule}
+use Rattle.polcert_rules.specs.Keys.{key_base, key_in, key_of, table_digit, table_key, AreDigits, AreIndices, Fits, most_places}
+use Rattle.polcert_rules.specs.Steps.Newest.{IsNewest, IsIndexOf, AreKeyed, IsLastNumber, entry_at}
+use Rattle.polcert_rules.proofs.Keyed.Fitting.{and_true, fit_digits}
+use Rattle.polcert_rules.proofs.Keyed.Keying.{same_digit, same_places}
+use Rattle.polcert_rules.proofs.Indexes.Newer.{IsSpan, newest_of_span}
+
+pub same_table : (t u : Table) → is_table t u ≡ true → t ≡ u
+same_table Transition Transition e = refl
+same_table Transition Observation e = cc
+same_table Transition Reward e = cc
+same_table Observation Transition e = cc
+same_table Observation Observation e = refl
+same_table Observation Reward e = cc
+same_table Reward Transition e = cc
+same_table Reward Observation e = cc
+same_table Reward Reward e = refl
+
+equal_table : (t : Table) → is_table t t ≡ true
+equal_table Transition = refl
+equal_table Observation = refl
+equal_table Reward = refl
+
+table_of_digit : (t u : Table) → table_digit t ≡ table_digit u → t ≡ u
+table_of_digit Transition Transition e = refl
+table_of_digit Transition Observation e = absurd (omega arith)
+table_of_digit Transition Reward e = absurd (omega arith)
+table_of_digit Observation Transition e = absurd (omega arith)
+table_of_digit Observation Observation e = refl
+table_of_digit Observation Reward e = absurd (omega arith)
+table_of_digit Reward Transition e = absurd (omega arith)
+table_of_digit Reward Observation e = absurd (omega arith)
+table_of_digit Reward Reward e = refl
+
+-- the one fact: what covers fits, and what fits covers
+pub covered_fits : (table : Table) (indices : List ℕ) (e : Entry) → covers table indices e ≡ true → Fits most_places (table_key table) indices (key_of e)
+covered_fits table indices e c =
+    let both = and_true (is_table e.table table) (fit_places e.places indices) c in
+    record { places = e.places; fits = both.1; is = ap (λ t. key_in most_places (table_key t) e.places) (same_table e.table table both.0) }
+
+pub same_keys : (t u : Table) (ps qs : List Place) → AreDigits most_places ps → AreDigits most_places qs → key_in most_places (table_key t) ps ≡ key_in most_places (table_key u) qs
+    → (t ≡ u) × (ps ≡ qs)
+same_keys t u ps qs a b e =
+    let zero_t : 0 + table_key t ≡ table_key t = omega arith in
+    let zero_u : 0 + table_key u ≡ table_key u = omega arith in
+    let moved : key_in most_places (0 + table_digit t * key_base ^ most_places) ps ≡ key_in most_places (0 + table_digit u * key_base ^ most_places) qs =
+    ap (λ l. key_in most_places l ps) zero_t ∙ e ∙ ap (λ l. key_in most_places l qs) (sym zero_u) in
+    let tables : t ≡ u = table_of_digit t u (same_digit most_places 0 (table_digit t) (table_digit u) ps qs a b moved) in
+    (tables, same_places most_places (table_key t) ps qs a b (e ∙ ap (λ v. key_in most_places (table_key v) qs) (sym tables)))
+
+pub fits_covered : (table : Table) (indices : List ℕ) (e : Entry) → AreDigits most_places e.places → AreIndices most_places indices
+    → Fits most_places (table_key table) indices (key_of e) → covers table indices e ≡ true
+fits_covered table indices e digits a f =
+    let same = same_keys e.table table e.places f.places digits (fit_digits most_places f.places indices a f.fits) f.is in
+    let first : is_table e.table table ≡ true = ap (λ t. is_table t table) same.0 ∙ equal_table table in
+    ap (λ b. b && fit_places e.places indices) first ∙ ap (λ ps. fit_places ps indices) same.1 ∙ f.fits
+
+-- ---- the last that covers
+false_from : (b : Bool) → (b ≡ true → ⊥) → b ≡ false
+false_from true no_true = absurd (no_true refl)
+false_from false no_true = refl
+
+none_of : (p : Entry → Bool) (es : List Entry) → ((k : ℕ) (e : Entry) → slice_get es k ≡ Some e → p e ≡ true → ⊥) → list_any p es ≡ false
+none_of p [] h = refl
+none_of p (e ∷ es) h =
+    let here : p e ≡ false = false_from (p e) (h 0 e refl) in
+    let rest : list_any p es ≡ false = none_of p es (λ k x is. h (suc k) x is) in
+    ap (λ b. b || list_any p es) here ∙ rest
+
+slice_get-drop : (n : ℕ) (es : List Entry) (k : ℕ) → slice_get (drop n es) k ≡ slice_get es (n + k)
+slice_get-drop zero es k = let e : k ≡ 0 + k = omega arith in ap (slice_get es) e
+slice_get-drop (suc n) [] k = refl
+slice_get-drop (suc n) (e ∷ es) k = let f : suc (n + k) ≡ suc n + k = omega arith in slice_get-drop n es k ∙ ap (slice_get (e ∷ es)) f
+
+last_at : (entries : List Entry) (table : Table) (indices : List ℕ) (n : ℕ) (e : Entry) → slice_get entries n ≡ Some e → covers table indices e ≡ true
+    → ((k : ℕ) (x : Entry) → slice_get entries k ≡ Some x → covers table indices x ≡ true → k ≤ n) → IsLastCovering entries table indices (Some e)
+last_at entries table indices n e is covered greatest =
+    let inside = slice_get_within entries n e is in
+    let split : drop n entries ≡ e ∷ drop (n + 1) entries =
+    drop_more entries n e inside ∙ ap (λ (x : Entry). x ∷ drop (n + 1) entries) (get_or_from_slice_get entries n e e is) in
+    last (take n entries) e (drop (n + 1) entries) (sym (take-append-drop n entries) ∙ ap (λ (xs : List Entry). take n entries ++ xs) split) covered
+    (none_of (covers table indices) (drop (n + 1) entries)
+    (λ k x found c. let at = greatest (n + 1 + k) x (sym (slice_get-drop (n + 1) entries k) ∙ found) c in absurd (omega arith)))
+
+-- the entry of the last number is the last
+pub last_is : (entries : List Entry) (table : Table) (indices : List ℕ) (number : Option ℕ) → IsLastNumber entries table indices number → IsLastCovering entries table indices (entry_at entries number)
+last_is entries table indices None l = none (none_of (covers table indices) entries l)
+last_is entries table indices (Some n) l =
+    subst (IsLastCovering entries table indices) (sym l.0.1) (last_at entries table indices n l.0.0 l.0.1 l.0.2 l.1)
+
+pub keyed_at : (P : Entry → Type 0) (entries : List Entry) (k : ℕ) (e : Entry) → All P entries → slice_get entries k ≡ Some e → P e
+keyed_at P entries k e keyed is = subst P (get_or_from_slice_get entries k e e is) (keyed k e (slice_get_within entries k e is))
+
+pub last_number : (entries : List Entry) (rules : List Rule) (table : Table) (indices : List ℕ) (result : Option ℕ) → AreKeyed entries → IsIndexOf entries rules
+    → AreIndices most_places indices → IsNewest rules (Fits most_places (table_key table) indices) result → IsLastNumber entries table indices result
+last_number entries rules table indices None keyed index a n = λ k e is c.
+    let r = index.complete k e is in
+    n r.0 r.1 (subst (Fits most_places (table_key table) indices) (sym r.2) (covered_fits table indices e c))
+last_number entries rules table indices (Some m) keyed index a n =
+    let entry = index.sound n.0.rule n.0.among in
+    let is : slice_get entries m ≡ Some entry.0 = subst (λ k. slice_get entries k ≡ Some entry.0) n.0.is entry.1 in
+    let digits : AreDigits most_places entry.0.places = keyed_at (λ (e : Entry). AreDigits most_places e.places) entries m entry.0 keyed is in
+    let covered : covers table indices entry.0 ≡ true = fits_covered table indices entry.0 digits a (subst (Fits most_places (table_key table) indices) (sym entry.2) n.0.passes) in (
+      (entry.0, is, covered),
+      λ k x found c.
+          let r = index.complete k x found in
+          let l = n.1 r.0 r.1 (subst (Fits most_places (table_key table) indices) (sym r.2) (covered_fits table indices x c)) in
+          let low = r.3 in omega arith,
+    )
+
+-- from the part of the rules that has the table's
+pub newest_in : (rules part : List Rule) (table : Table) (indices : List ℕ) (low size : ℕ) (result : Option ℕ) → low ≡ table_key table → size ≡ key_base ^ most_places
+    → AreIndices most_places indices → IsSpan rules part low size → IsNewest part (Fits most_places low indices) result
+    → IsNewest rules (Fits most_places (table_key table) indices) result
+newest_in rules part table indices low size result at full a span n =
+    let whole = newest_of_span rules part most_places low indices result a (subst (IsSpan rules part low) full span) n in
+    subst (λ l. IsNewest rules (Fits most_places l indices) result) at whole

@@ -1,0 +1,139 @@
+-- The part of a rising list between two keys.
+use Rattle.std.proofs.Common.{◌≡◌, ◌∙◌, ℕ, ◌+◌, ◌-◌, ◌<◌, ◌≤◌, ◌↔◌, ◌⊎◌, Some, true, false, ltb, leb, List, length, take, drop, get_or, ⊎_elim, sym, ap, subst, arith, length-drop, length-take, take_all, get_or-drop, get_or-take, Contains}
+use Rattle.std.specs.List.{slice_get}
+use Rattle.std.specs.List.Sorted.{IsPartitionPoint, IsPartitionedBy, IsNonDecreasingBy}
+use Rattle.std.proofs.lemmas.Bool.{cases_lt}
+use Rattle.std.proofs.lemmas.Bool.Decides.{nat_tests}
+use Rattle.std.proofs.lemmas.List.{take-append-drop}
+use Rattle.std.proofs.lemmas.List.Elements.{Contains-append_left, Contains-append_right, Contains-append_cases}
+use Rattle.std.proofs.lemmas.List.Sorted.{IsPartitionedBy-ltb}
+use Rattle.std.proofs.lemmas.Option.{get_or_from_slice_get}
+use Rattle.polcert_rules.specs.declared.rule.Rule.{Rule}
+use Rattle.polcert_rules.specs.Steps.Newest.{IsRising, IsCut}
+use Rattle.polcert_rules.proofs.Indexes.Newer.{after_first}
+
+pub below : (a b : ℕ) → ltb a b ≡ true → a < b
+below a b e = grind (arith, nat_tests)
+
+not_below : (a b : ℕ) → ltb a b ≡ false → b ≤ a
+not_below a b e = grind (arith, nat_tests)
+
+pub rising_drop : (n : ℕ) (xs : List Rule) → IsRising xs → IsRising (drop n xs)
+rising_drop n xs up i j d less l =
+    let inside : n + j < length xs = omega (arith, length-drop n xs, l) in
+    let here = up (n + i) (n + j) d (omega arith) inside in
+    rw (get_or-drop n xs i d, get_or-drop n xs j d) here
+
+pub rising_take : (n : ℕ) (xs : List Rule) → n ≤ length xs → IsRising xs → IsRising (take n xs)
+rising_take n xs few up i j d less l =
+    let size = length-take n xs in
+    let in_j : j < n = omega (arith, size, l) in
+    let in_i : i < n = omega arith in
+    let here = up i j d less (omega arith) in
+    rw (get_or-take n xs i d in_i, get_or-take n xs j d in_j) here
+
+-- keys that rise are in order
+pub in_order : (xs : List Rule) → IsRising xs → IsNonDecreasingBy (λ r. r.key) xs
+in_order xs up i j d le l = ⊎_elim
+    (λ less. let here = up i j d less l in omega arith)
+    (λ ge. let same : j ≡ i = omega arith in subst (λ k. (get_or xs i d).key ≤ (get_or xs k d).key) (sym same) (omega arith))
+    (cases_lt i j)
+
+-- the test that the parts are found by
+pub parted : (xs : List Rule) (limit : ℕ) → IsRising xs → IsPartitionedBy (λ r. ltb r.key limit) xs
+parted xs limit up = IsPartitionedBy-ltb (λ r. r.key) xs limit (in_order xs up)
+
+abbrev pub Cut : List Rule → ℕ → ℕ → Type 0
+Cut xs limit n = IsPartitionPoint (λ r. ltb r.key limit ≡ true) (λ r. ltb r.key limit ≡ false) xs n
+
+pub kept_drop : (xs : List Rule) (n limit : ℕ) → n ≤ length xs → Cut xs limit n → (r : Rule) → Contains (drop n xs) r ↔ (Contains xs r × (limit ≤ r.key))
+kept_drop xs n limit few cut r = (forth, back)
+  where
+    forth : Contains (drop n xs) r → Contains xs r × (limit ≤ r.key)
+    forth (k, l, e) =
+        let inside : n + k < length xs = omega (arith, length-drop n xs, l) in
+        let found : get_or xs (n + k) r ≡ r = sym (get_or-drop n xs k r) ∙ e in
+        let high : ltb (get_or xs (n + k) r).key limit ≡ false = cut.1 (n + k) r (omega arith) inside in
+        ((n + k, inside, found), not_below r.key limit (subst (λ (x : Rule). ltb x.key limit ≡ false) found high))
+
+    back : Contains xs r × (limit ≤ r.key) → Contains (drop n xs) r
+    back ((k, l, e), high) = ⊎_elim
+        (λ less. let low : ltb (get_or xs k r).key limit ≡ true = cut.0 k r (omega arith) less in
+        let small = below r.key limit (subst (λ (x : Rule). ltb x.key limit ≡ true) e low) in
+        absurd (omega arith))
+        (λ ge. let at : n + (k - n) ≡ k = omega arith in
+        (k - n, omega (arith, length-drop n xs), get_or-drop n xs (k - n) r ∙ ap (λ i. get_or xs i r) at ∙ e))
+        (cases_lt k n)
+
+pub kept_take : (xs : List Rule) (n limit : ℕ) → n ≤ length xs → Cut xs limit n → (r : Rule) → Contains (take n xs) r ↔ (Contains xs r × (r.key < limit))
+kept_take xs n limit few cut r = (forth, back)
+  where
+    size : length (take n xs) ≡ n
+    size = let s = length-take n xs in omega (arith, s)
+
+    forth : Contains (take n xs) r → Contains xs r × (r.key < limit)
+    forth (k, l, e) =
+        let inside : k < n = omega (arith, size, l) in
+        let found : get_or xs k r ≡ r = sym (get_or-take n xs k r inside) ∙ e in
+        let low : ltb (get_or xs k r).key limit ≡ true = cut.0 k r (omega arith) inside in
+        ((k, omega arith, found), below r.key limit (subst (λ (x : Rule). ltb x.key limit ≡ true) found low))
+
+    back : Contains xs r × (r.key < limit) → Contains (take n xs) r
+    back ((k, l, e), low) = ⊎_elim
+        (λ less. (k, omega (arith, size), get_or-take n xs k r less ∙ e))
+        (λ ge. let high : ltb (get_or xs k r).key limit ≡ false = cut.1 k r ge l in
+        let big = not_below r.key limit (subst (λ (x : Rule). ltb x.key limit ≡ false) e high) in
+        absurd (omega arith))
+        (cases_lt k n)
+
+-- the code's form of the elements from an index on
+pub drop_whole : (n : ℕ) (xs : List Rule) → take (length xs - n) (drop n xs) ≡ drop n xs
+drop_whole n xs = take_all (length xs - n) (drop n xs) (omega (arith, length-drop n xs))
+
+pub at_most : (a b : ℕ) → leb a b ≡ true → a ≤ b
+at_most a b e = grind (arith, nat_tests)
+
+-- ---- a cut that is known
+of_front : (rules : List Rule) (place : ℕ) (r : Rule) → Contains (take place rules) r → Contains rules r
+of_front rules place r c = subst (λ (xs : List Rule). Contains xs r) (take-append-drop place rules) (Contains-append_left (take place rules) (drop place rules) r c)
+
+of_rest : (rules : List Rule) (place : ℕ) (r : Rule) → Contains (drop place rules) r → Contains rules r
+of_rest rules place r c = subst (λ (xs : List Rule). Contains xs r) (take-append-drop place rules) (Contains-append_right (take place rules) (drop place rules) r c)
+
+front_or_rest : (rules : List Rule) (place : ℕ) (r : Rule) → Contains rules r → Contains (take place rules) r ⊎ Contains (drop place rules) r
+front_or_rest rules place r c = Contains-append_cases (take place rules) (drop place rules) r (subst (λ (xs : List Rule). Contains xs r) (sym (take-append-drop place rules)) c)
+
+pub cut_front : (rules : List Rule) (key place : ℕ) → IsCut rules key place → (r : Rule) → Contains (take place rules) r ↔ (Contains rules r × (r.key < key))
+cut_front rules key place cut r =
+    ((λ c. (of_front rules place r c, cut.front r c)), (λ h. ⊎_elim (λ c. c) (λ c. let high = cut.rest r c in let low = h.1 in absurd (omega arith)) (front_or_rest rules place r h.0)))
+
+pub cut_rest : (rules : List Rule) (key place : ℕ) → IsCut rules key place → (r : Rule) → Contains (drop place rules) r ↔ (Contains rules r × (key ≤ r.key))
+cut_rest rules key place cut r =
+    ((λ c. (of_rest rules place r c, cut.rest r c)), (λ h. ⊎_elim (λ c. let low = cut.front r c in let high = h.1 in absurd (omega arith)) (λ c. c) (front_or_rest rules place r h.0)))
+
+-- where the others are not below the key, those in front are all that are
+pub near_front : (rules : List Rule) (key place : ℕ) → ((r : Rule) → Contains (drop place rules) r → key ≤ r.key) → (r : Rule)
+    → (Contains (take place rules) r × (r.key < key)) ↔ (Contains rules r × (r.key < key))
+near_front rules key place above r =
+    ((λ h. (of_front rules place r h.0, h.1)), (λ h. (⊎_elim (λ c. c) (λ c. let high = above r c in let low = h.1 in absurd (omega arith)) (front_or_rest rules place r h.0), h.1)))
+
+-- ---- the first and the last of a rising list
+pub below_last : (rules : List Rule) (x : Rule) (key : ℕ) → IsRising rules → slice_get rules (length rules - 1) ≡ Some x → x.key < key → (r : Rule) → Contains rules r → r.key < key
+below_last rules x key up is less r (k, l, e) = ⊎_elim
+    (λ before.
+    let inside : length rules - 1 < length rules = omega arith in
+    let rise = up k (length rules - 1) r before inside in
+    let end : get_or rules (length rules - 1) r ≡ x = get_or_from_slice_get rules (length rules - 1) x r is in
+    let here : (get_or rules k r).key ≡ r.key = ap (λ (y : Rule). y.key) e in
+    let there : (get_or rules (length rules - 1) r).key ≡ x.key = ap (λ (y : Rule). y.key) end in
+    omega (arith, rise, here, there, less))
+    (λ ge.
+    let last : k ≡ length rules - 1 = omega arith in
+    let same : (get_or rules k r).key ≡ x.key = ap (λ n. (get_or rules n r).key) last ∙ ap (λ (y : Rule). y.key) (get_or_from_slice_get rules (length rules - 1) x r is) in
+    let here : (get_or rules k r).key ≡ r.key = ap (λ (y : Rule). y.key) e in
+    omega (arith, same, here, less))
+    (cases_lt k (length rules - 1))
+
+pub above_first : (rules : List Rule) (x : Rule) (key : ℕ) → IsRising rules → slice_get rules 0 ≡ Some x → key ≤ x.key → (r : Rule) → Contains rules r → key ≤ r.key
+above_first rules x key up is less r among =
+    ⊎_elim (λ same. let here : r.key ≡ x.key = ap (λ (y : Rule). y.key) same in omega (arith, here, less)) (λ more. omega (arith, more, less)) (after_first rules x up is r among)

@@ -1,0 +1,97 @@
+-- The key of an entry, place by place; and that a key is that of one pattern.
+use Rattle.std.proofs.Common.{◌≡◌, ◌∙◌, ℕ, zero, suc, ◌+◌, ◌-◌, ◌*◌, ◌^◌, ◌<◌, ◌≤◌, ⊎_elim, List, [], ◌∷◌, length, drop, get_or, refl, sym, ap, subst, arith, suc-mul}
+use Rattle.std.proofs.Math.Nat.{mul-le-mul_right}
+use Rattle.std.proofs.lemmas.Bool.{cases_lt}
+use Rattle.std.proofs.lemmas.List.{drop_more}
+use Rattle.polcert_cells.specs.declared.entry.Place.{Place}
+use Rattle.polcert_cells.specs.declared.entry.Place.TheVariants.{Every, Only}
+use Rattle.polcert_rules.specs.Keys.{key_base, digit, key_in, AreDigits, most_places}
+use Rattle.polcert_rules.proofs.Keyed.Fitting.{digit_below, power_next, power_some, key_low, key_high}
+
+digit_some : (p : Place) → 1 ≤ digit p
+digit_some Every = omega arith
+digit_some (Only n) = omega arith
+
+same_place : (p q : Place) → digit p ≡ digit q → p ≡ q
+same_place Every Every e = refl
+same_place Every (Only n) e = absurd (omega arith)
+same_place (Only n) Every e = absurd (omega arith)
+same_place (Only m) (Only n) e = let f : m ≡ n = omega arith in ap Only f
+
+-- a place more is a greater key
+beyond : (m low : ℕ) (p : Place) (ps : List Place) → low ≡ key_in m (low + digit p * key_base ^ m) ps → ⊥
+beyond m low p ps e =
+    let some = digit_some p in
+    let above : 1 * key_base ^ m ≤ digit p * key_base ^ m = mul-le-mul_right (key_base ^ m) some in
+    let one = power_some m in
+    let high = key_low m (low + digit p * key_base ^ m) ps in
+    omega arith
+
+-- a lower digit is a lower key
+lower_digit : (m low c d : ℕ) (ps qs : List Place) → AreDigits m ps → c < d → key_in m (low + c * key_base ^ m) ps < key_in m (low + d * key_base ^ m) qs
+lower_digit m low c d ps qs a l =
+    let high = key_high m (low + c * key_base ^ m) ps a in
+    let from_here = key_low m (low + d * key_base ^ m) qs in
+    let more : suc c * key_base ^ m ≤ d * key_base ^ m = mul-le-mul_right (key_base ^ m) l in
+    let one : suc c * key_base ^ m ≡ c * key_base ^ m + key_base ^ m = suc-mul c (key_base ^ m) in
+    omega arith
+
+pub same_digit : (m low c d : ℕ) (ps qs : List Place) → AreDigits m ps → AreDigits m qs → key_in m (low + c * key_base ^ m) ps ≡ key_in m (low + d * key_base ^ m) qs → c ≡ d
+same_digit m low c d ps qs a b e = ⊎_elim
+    (λ less. let l = lower_digit m low c d ps qs a less in absurd (omega arith))
+    (λ ge. ⊎_elim (λ more. let l = lower_digit m low d c qs ps b more in absurd (omega arith)) (λ le. omega arith) (cases_lt d c))
+    (cases_lt c d)
+
+-- the key so far, and the places that are still to come
+pub record IsUnderWay (whole levels key : ℕ) (places : List Place) : Type 0 where
+  pub key_is : key_in levels key places ≡ whole
+  pub digits : AreDigits levels places
+  pub few : levels ≤ most_places
+  pub room : key + key_base ^ levels ≤ 3 * key_base ^ most_places
+
+-- what is known where a place is still to come
+pub record IsNextPlace (whole levels key : ℕ) (p : Place) (places : List Place) : Type 0 where
+  pub some : 1 ≤ levels
+  pub small : digit p < key_base
+  pub room : key + digit p * key_base ^ (levels - 1) + key_base ^ (levels - 1) ≤ 3 * key_base ^ most_places
+  pub next : IsUnderWay whole (levels - 1) (key + digit p * key_base ^ (levels - 1)) places
+
+next_place : (whole levels key : ℕ) (p : Place) (places : List Place) → IsUnderWay whole levels key (p ∷ places) → IsNextPlace whole levels key p places
+next_place whole zero key p places u = absurd u.digits
+next_place whole (suc m) key p places u =
+    let less : m ≡ suc m - 1 = omega arith in
+    let top = digit_below (digit p) (key_base ^ m) u.digits.0 in
+    let next = power_next m in
+    let room : key + digit p * key_base ^ m + key_base ^ m ≤ 3 * key_base ^ most_places = let r = u.room in omega arith in
+    let on : IsUnderWay whole m (key + digit p * key_base ^ m) places = record { key_is = u.key_is; digits = u.digits.1; few = (let f = u.few in omega arith); room = room } in
+    record {
+      some = omega arith;
+      small = u.digits.0;
+      room = subst (λ k. key + digit p * key_base ^ k + key_base ^ k ≤ 3 * key_base ^ most_places) less room;
+      next = subst (λ k. IsUnderWay whole k (key + digit p * key_base ^ k) places) less on;
+    }
+
+pub place_at : (whole levels key : ℕ) (d : Place) (places : List Place) (k : ℕ) → k < length places → IsUnderWay whole levels key (drop k places)
+    → IsNextPlace whole levels key (get_or places k d) (drop (k + 1) places)
+place_at whole levels key d places k l u =
+    next_place whole levels key (get_or places k d) (drop (k + 1) places) (subst (IsUnderWay whole levels key) (drop_more places k d l) u)
+
+-- at the code's numbers
+pub on_at : (whole levels key d step : ℕ) (p : Place) (places : List Place) → IsNextPlace whole levels key p places → d ≡ digit p → step ≡ key_base ^ (levels - 1)
+    → IsUnderWay whole (levels - 1) (key + d * step) places
+on_at whole levels key d step p places n e f =
+    subst (λ s. IsUnderWay whole (levels - 1) (key + d * s) places) (sym f) (subst (λ x. IsUnderWay whole (levels - 1) (key + x * key_base ^ (levels - 1)) places) (sym e) n.next)
+
+-- the same key comes from the same places
+pub same_places : (m low : ℕ) (ps qs : List Place) → AreDigits m ps → AreDigits m qs → key_in m low ps ≡ key_in m low qs → ps ≡ qs
+same_places m low [] [] a b e = refl
+same_places zero low [] (q ∷ qs) a b e = absurd b
+same_places zero low (p ∷ ps) qs a b e = absurd a
+same_places (suc m) low [] (q ∷ qs) a b e = absurd (beyond m low q qs e)
+same_places (suc m) low (p ∷ ps) [] a b e = absurd (beyond m low p ps (sym e))
+same_places (suc m) low (p ∷ ps) (q ∷ qs) a b e =
+    let digits : digit p ≡ digit q = same_digit m low (digit p) (digit q) ps qs a.1 b.1 e in
+    let first : p ≡ q = same_place p q digits in
+    let under : key_in m (low + digit p * key_base ^ m) ps ≡ key_in m (low + digit p * key_base ^ m) qs = e ∙ ap (λ d. key_in m (low + d * key_base ^ m) qs) (sym digits) in
+    let rest : ps ≡ qs = same_places m (low + digit p * key_base ^ m) ps qs a.1 b.1 under in
+    ap (λ (x : Place). x ∷ ps) first ∙ ap (λ (xs : List Place). q ∷ xs) rest

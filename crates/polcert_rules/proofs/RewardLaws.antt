@@ -1,0 +1,11 @@
+-- Rewards.
+pub mod RewardAlike
+pub mod RewardAt
+pub mod RewardCells
+pub mod RewardCommon
+pub mod RewardKeys
+pub mod RewardLists
+pub mod RewardPaid
+pub mod RewardRules
+pub mod RewardSound
+pub mod RewardValues

@@ -1,0 +1,168 @@
+-- Where an entry of R is about an action and a start state.
+use Rattle.std.proofs.Common.{◌≡◌, ◌∙◌, ℕ, zero, suc, ◌+◌, ◌-◌, ◌*◌, ◌^◌, ◌<◌, ◌≤◌, true, false, ◌&&◌, ⊎_elim, Some, None, List, [], ◌∷◌, length, take, Contains, refl, sym, ap, subst, arith, suc-mul, pos}
+use Rattle.std.specs.List.{slice_get}
+use Rattle.std.proofs.Math.Nat.{mul-le-mul_right}
+use Rattle.std.proofs.lemmas.Bool.{cases_lt}
+use Rattle.polcert_cells.specs.declared.entry.Table.{Table}
+use Rattle.polcert_cells.specs.declared.entry.Table.TheVariants.{Transition, Observation, Reward}
+use Rattle.polcert_cells.specs.declared.entry.Place.{Place}
+use Rattle.polcert_cells.specs.declared.entry.Place.TheVariants.{Every, Only}
+use Rattle.polcert_cells.specs.declared.entry.Entry.{Entry}
+use Rattle.polcert_cells.specs.Preamble.{Preamble}
+use Rattle.polcert_cells.specs.Cells.{fits_place, fit_places, is_table, covers, reward}
+use Rattle.polcert_rules.specs.Steps.Meeting.{fits_at, meets_row}
+use Rattle.polcert_rules.specs.declared.rule.Rule.{Rule}
+use Rattle.polcert_rules.specs.Keys.{key_base, digit, key_in, table_key, AreDigits, most_places}
+use Rattle.polcert_rules.specs.Steps.Rewards.{AreRewardsOf}
+use Rattle.polcert_rules.specs.RewardAt.{RewardRules}
+use Rattle.polcert_rules.specs.Steps.Newest.{IsLastNumber}
+use Rattle.polcert_rules.specs.Steps.RewardSearch.{Begins}
+use Rattle.polcert_cells.proofs.Basics.{true≢false}
+use Rattle.polcert_rules.proofs.Keyed.Fitting.{and_true, key_low, key_high, power_some, fit_digits}
+use Rattle.polcert_rules.proofs.Keyed.Covering.{keyed_at}
+use Rattle.polcert_rules.proofs.RewardLaws.RewardKeys.{key_room}
+use Rattle.polcert_rules.proofs.RewardLaws.RewardAlike.{NoneBegins, covering}
+use Rattle.polcert_rules.proofs.RewardLaws.RewardValues.{no_reward}
+
+-- ---- no entry is
+-- an entry that covers a cell has two places, or covers all cells of the action
+two_places : (x : Entry) (a s e z : ℕ) → x.table ≡ Reward → fit_places x.places (a ∷ s ∷ e ∷ z ∷ []) ≡ true → (covers Reward (a ∷ []) x ≡ true → ⊥) → 2 ≤ length x.places
+two_places x a s e z t fits not_all = at x.places fits (λ f. not_all (ap (λ u. is_table u Reward && fit_places x.places (a ∷ [])) t ∙ f))
+  where
+    at : (ps : List Place) → fit_places ps (a ∷ s ∷ e ∷ z ∷ []) ≡ true → (fit_places ps (a ∷ []) ≡ true → ⊥) → 2 ≤ length ps
+    at [] f none = absurd (none refl)
+    at (p ∷ []) f none = absurd (none f)
+    at (p ∷ q ∷ ps) f none = omega arith
+
+-- an entry that covers a cell begins with places that fit its action and start state
+covering_begins : (low a s e z key : ℕ) (ps : List Place) → 2 ≤ length ps → fit_places ps (a ∷ s ∷ e ∷ z ∷ []) ≡ true → AreDigits most_places ps → key ≡ key_in most_places low ps
+    → Begins most_places low (a ∷ s ∷ []) 0 key
+covering_begins low a s e z key [] two fits digits is = absurd (omega arith)
+covering_begins low a s e z key (p ∷ []) two fits digits is = absurd (omega arith)
+covering_begins low a s e z key (p ∷ q ∷ rest) two fits digits is =
+    let one = and_true (fits_place p a) _ fits in
+    let other = and_true (fits_place q s) _ one.1 in
+    let start = low + digit p * key_base ^ 3 + digit q * key_base ^ 2 in
+    let from_here = key_low 2 start rest in
+    let to_there = key_high 2 start rest digits.1.1 in
+    record {
+      places = p ∷ q ∷ [];
+      fits = ap (λ b. b && (fits_place q s && true)) one.0 ∙ ap (λ b. b && true) other.0;
+      all = refl;
+      from = omega arith;
+      to = omega arith;
+    }
+
+pub unpaid : (p : Preamble) (entries : List Entry) (rewards : RewardRules) (a s e z : ℕ) → AreRewardsOf p entries rewards → IsLastNumber entries Reward (a ∷ []) None → NoneBegins rewards (a ∷ s ∷ []) 0
+    → reward p entries (a ∷ s ∷ e ∷ z ∷ []) ≡ pos 0
+unpaid p entries rewards a s e z are nowhere none = sym (no_reward p entries (a ∷ s ∷ e ∷ z ∷ [])
+    (λ k x is c.
+    let d = covering p entries rewards (a ∷ s ∷ e ∷ z ∷ []) k x are is c in
+    none d.rule d.among (covering_begins (table_key Reward) a s e z d.rule.key x.places (two_places x a s e z d.table d.fits (nowhere k x is)) d.fits d.digits d.key)))
+
+-- ---- a rule that begins with places that fit
+digit_some : (p : Place) → 1 ≤ digit p
+digit_some Every = omega arith
+digit_some (Only n) = omega arith
+
+next_digit : (c d s : ℕ) → c < d → c * s + s ≤ d * s
+next_digit c d s l = let more : suc c * s ≤ d * s = mul-le-mul_right s l in let one : suc c * s ≡ c * s + s = suc-mul c s in omega arith
+
+same_place : (p q : Place) → digit p ≡ digit q → p ≡ q
+same_place Every Every e = refl
+same_place Every (Only n) e = absurd (omega arith)
+same_place (Only m) Every e = absurd (omega arith)
+same_place (Only m) (Only n) e = let f : m ≡ n = omega arith in ap Only f
+
+-- keys between one and where its places leave no more room come from places that begin with its own
+begins_with : (m low : ℕ) (ps qs : List Place) → AreDigits m ps → AreDigits m qs → key_in m low ps ≤ key_in m low qs → key_in m low qs < key_in m low ps + key_base ^ (m - length ps)
+    → take (length ps) qs ≡ ps
+begins_with m low [] qs a b from to = refl
+begins_with zero low (p ∷ ps) qs a b from to = absurd a
+begins_with (suc m) low (p ∷ ps) [] a b from to =
+    let some = digit_some p in
+    let above : 1 * key_base ^ m ≤ digit p * key_base ^ m = mul-le-mul_right (key_base ^ m) some in
+    let one = power_some m in
+    let high = key_low m (low + digit p * key_base ^ m) ps in
+    absurd (omega arith)
+begins_with (suc m) low (p ∷ ps) (q ∷ qs) a b from to = ⊎_elim
+    (λ less.
+    let e : suc m - suc (length ps) ≡ m - length ps = omega arith in
+    let f : key_base ^ (suc m - suc (length ps)) ≡ key_base ^ (m - length ps) = ap (λ k. key_base ^ k) e in
+    let room = key_room m (low + digit p * key_base ^ m) ps a.1 in
+    let high = key_low m (low + digit q * key_base ^ m) qs in
+    let more = next_digit (digit p) (digit q) (key_base ^ m) less in
+    absurd (omega arith))
+    (λ ge. ⊎_elim
+    (λ more.
+    let low_end = key_low m (low + digit p * key_base ^ m) ps in
+    let high = key_high m (low + digit q * key_base ^ m) qs b.1 in
+    let less = next_digit (digit q) (digit p) (key_base ^ m) more in
+    absurd (omega arith))
+    (λ le.
+    let same : digit q ≡ digit p = omega arith in
+    let first : q ≡ p = same_place q p same in
+    let e : suc m - suc (length ps) ≡ m - length ps = omega arith in
+    let rest = begins_with m (low + digit p * key_base ^ m) ps qs a.1 b.1
+    (subst (λ d. key_in m (low + digit p * key_base ^ m) ps ≤ key_in m (low + d * key_base ^ m) qs) same from)
+    (subst (λ k. key_in m (low + digit p * key_base ^ m) qs < key_in m (low + digit p * key_base ^ m) ps + key_base ^ k) e
+    (subst (λ d. key_in m (low + d * key_base ^ m) qs < key_in m (low + digit p * key_base ^ m) ps + key_base ^ (suc m - suc (length ps))) same to)) in
+    ap (λ (x : Place). x ∷ take (length ps) qs) first ∙ ap (λ (xs : List Place). p ∷ xs) rest)
+    (cases_lt (digit q) (digit p)))
+    (cases_lt (digit p) (digit q))
+
+-- ---- an entry is
+table_of : (t : Table) (ps : List Place) → AreDigits most_places ps → table_key Reward ≤ key_in most_places (table_key t) ps → t ≡ Reward
+table_of Transition ps a l = let high = key_high most_places (table_key Transition) ps a in absurd (omega arith)
+table_of Observation ps a l = let high = key_high most_places (table_key Observation) ps a in absurd (omega arith)
+table_of Reward ps a l = refl
+
+meets : (a s : ℕ) (ps qs : List Place) → length ps ≡ 2 → fit_places ps (a ∷ s ∷ []) ≡ true → take (length ps) qs ≡ ps → (fits_at qs 0 a ≡ true) × (fits_at qs 1 s ≡ true)
+meets a s [] qs two fits same = absurd (omega arith)
+meets a s (p ∷ []) qs two fits same = absurd (omega arith)
+meets a s (p ∷ q ∷ r ∷ ps) qs two fits same = absurd (omega arith)
+meets a s (p ∷ q ∷ []) [] two fits same = cc
+meets a s (p ∷ q ∷ []) (x ∷ []) two fits same = cc
+meets a s (p ∷ q ∷ []) (x ∷ y ∷ rest) two fits same =
+    let one = and_true (fits_place p a) _ fits in
+    let other = and_true (fits_place q s) true one.1 in
+    let first : x ≡ p = cc in
+    let second : y ≡ q = cc in
+    (ap (λ z. fits_place z a) first ∙ one.0, ap (λ z. fits_place z s) second ∙ other.0)
+
+-- an entry that covers all cells of the action
+meets_all : (a s : ℕ) (ps : List Place) → fit_places ps (a ∷ []) ≡ true → (fits_at ps 0 a ≡ true) × (fits_at ps 1 s ≡ true)
+meets_all a s [] f = (refl, refl)
+meets_all a s (p ∷ []) f = ((and_true (fits_place p a) true f).0, refl)
+meets_all a s (p ∷ q ∷ ps) f = absurd (true≢false (and_true (fits_place p a) false f).1 refl)
+
+-- such an entry
+abbrev pub IsPaidBy : List Entry → ℕ → ℕ → Type 0
+IsPaidBy entries a s = (n : ℕ) × (x : Entry) × (slice_get entries n ≡ Some x) × (meets_row Reward a s x ≡ true)
+
+pub paid_by_all : (entries : List Entry) (a s n : ℕ) → IsLastNumber entries Reward (a ∷ []) (Some n) → IsPaidBy entries a s
+paid_by_all entries a s n last =
+    let x = last.0.0 in
+    let both = and_true (is_table x.table Reward) (fit_places x.places (a ∷ [])) last.0.2 in
+    let m = meets_all a s x.places both.1 in
+    (n, x, last.0.1, ap (λ b. b && fits_at x.places 0 a && fits_at x.places 1 s) both.0 ∙ ap (λ b. b && fits_at x.places 1 s) m.0 ∙ m.1)
+
+pub paid : (p : Preamble) (entries : List Entry) (rewards : RewardRules) (a s : ℕ) (r : Rule) → AreRewardsOf p entries rewards → a + 2 < key_base → s + 2 < key_base
+    → Contains rewards.rules r → Begins most_places (table_key Reward) (a ∷ s ∷ []) 0 r.key → IsPaidBy entries a s
+paid p entries rewards a s r are small_a small_s among b =
+    let k = (are.rules r).0 among in
+    let e = are.index_is.sound r k.0 in
+    let x = e.0 in
+    let digits : AreDigits most_places x.places = keyed_at (λ (y : Entry). AreDigits most_places y.places) entries r.number x are.keyed e.1 in
+    let t = table_of x.table x.places digits (subst (λ key. table_key Reward ≤ key) (sym e.2) k.1) in
+    let key : key_in most_places (table_key Reward) x.places ≡ r.key = ap (λ u. key_in most_places (table_key u) x.places) (sym t) ∙ e.2 in
+    let from = b.from in
+    let to = subst (λ n. r.key < key_in most_places (table_key Reward) b.places + key_base ^ (most_places - n)) (sym b.all) b.to in
+    let with = begins_with most_places (table_key Reward) b.places x.places (fit_digits most_places b.places (a ∷ s ∷ []) (small_a, (small_s, tt)) b.fits) digits (omega arith)
+    (subst (λ n. n < key_in most_places (table_key Reward) b.places + key_base ^ (most_places - length b.places)) (sym key) to) in
+    let both = meets a s b.places x.places b.all b.fits with in (
+      r.number,
+      x,
+      e.1,
+      ap (λ u. is_table u Reward && fits_at x.places 0 a && fits_at x.places 1 s) t ∙ ap (λ v. true && v && fits_at x.places 1 s) both.0 ∙ both.1,
+    )

@@ -1,0 +1,35 @@
+-- The rewards of entries: from the rules of R and the bodies of their entries.
+use Rattle.std.proofs.Common.{◌≡◌, ℕ, ◌^◌, ◌<◌, Bool, List, length, All, Contains, sym, subst, ℤ}
+use Rattle.std.proofs.lemmas.Option.{slice_get_within}
+use Rattle.polcert_cells.specs.declared.entry.Table.TheVariants.{Reward}
+use Rattle.polcert_cells.specs.declared.entry.Entry.{Entry}
+use Rattle.polcert_cells.specs.Preamble.{Preamble}
+use Rattle.polcert_cells.specs.Steps.Sound.{IsSoundEntry}
+use Rattle.polcert_rules.specs.declared.rule.Rule.{Rule}
+use Rattle.polcert_rules.specs.declared.reward_parts.RewardShape.{RewardShape}
+use Rattle.polcert_rules.specs.declared.reward_parts.RewardBody.{RewardBody}
+use Rattle.polcert_rules.specs.Keys.{key_base, table_key, most_places}
+use Rattle.polcert_rules.specs.Steps.Newest.{AreKeyed, IsIndexOf}
+use Rattle.polcert_rules.specs.Steps.Rewards.{IsShapeOf, AreBodiesOf, AreRewardsOf, reward_rules}
+use Rattle.polcert_rules.proofs.Indexes.Newer.{IsSpan}
+
+-- ---- the rules of R
+pub number_within : (entries : List Entry) (index part : List Rule) (low size : ℕ) → IsIndexOf entries index → IsSpan index part low size
+    → (r : Rule) → Contains part r → r.number < length entries
+number_within entries index part low size is span r among =
+    let e = is.sound r ((span r).0 among).0 in
+    slice_get_within entries r.number e.0 e.1
+
+pub are_rewards : (p : Preamble) (entries : List Entry) (shape : RewardShape) (costs : Bool) (index rules : List Rule) (first : ℕ) (bodies : List RewardBody) (numbers : List ℤ)
+    → IsShapeOf p shape → p.costs ≡ costs → AreKeyed entries → All (IsSoundEntry p) entries → IsIndexOf entries index
+    → IsSpan index rules (table_key Reward) (key_base ^ most_places) → AreBodiesOf costs entries rules first numbers bodies
+    → AreRewardsOf p entries (reward_rules shape rules first bodies numbers)
+are_rewards p entries shape costs index rules first bodies numbers shape_is costs_are keyed sound is span each = record {
+  shape = shape_is;
+  sound = sound;
+  keyed = keyed;
+  index = index;
+  index_is = is;
+  rules = span;
+  bodies = subst (λ c. AreBodiesOf c entries rules first numbers bodies) (sym costs_are) each;
+}

@@ -1,0 +1,99 @@
+-- A row of the index: what covers the whole row, the zeros, and the other single cells.
+use Rattle.std.proofs.Common.{◌≡◌, ◌∙◌, ℕ, ◌+◌, ◌<◌, ◌⊎◌, inl, inr, ⊎_elim, true, Option, Some, None, List, [], ◌∷◌, All, Contains, refl, sym, subst, arith}
+use Rattle.std.specs.Prelude.{IfSome}
+use Rattle.polcert_cells.specs.declared.entry.Table.{Table}
+use Rattle.polcert_cells.specs.declared.entry.Entry.{Entry}
+use Rattle.polcert_rules.specs.declared.rule.Rule.{Rule}
+use Rattle.polcert_rules.specs.declared.split.SplitRules.{SplitRules}
+use Rattle.polcert_rules.specs.declared.zeros.RowZeros.{RowZeros}
+use Rattle.polcert_rules.specs.declared.row.Row.{Row}
+use Rattle.polcert_rules.specs.Keys.{key_base, table_key, AreDigits, Fits, most_places}
+use Rattle.polcert_rules.specs.Steps.Newest.{IsRising, IsNewest, IsIndexOf, AreKeyed, IsLastNumber}
+use Rattle.polcert_rules.specs.Matching.{later}
+use Rattle.polcert_rules.specs.Steps.Rows.{IsSingle, IsCell, HasNoSuchColumn, HaveColumns, at_column, no_column}
+use Rattle.polcert_rules.specs.Steps.Zeros.{IsSplit, others_in, AreOrdered, IsRowOf, is_zero, zero_of, number_under}
+use Rattle.polcert_rules.proofs.Keyed.Fitting.{fits_low, fits_high}
+use Rattle.polcert_rules.proofs.Keyed.Covering.{covered_fits, fits_covered, last_number, keyed_at}
+use Rattle.polcert_rules.proofs.RowLaws.RowNumbers.{fits_split, single_fits, covers_any}
+use Rattle.polcert_rules.proofs.RowLaws.SingleEntries.{single_entries}
+use Rattle.polcert_rules.proofs.Indexes.Greatest.{greatest_as, greatest_of, newest_of, greatest_of_two}
+
+later_none : (o : Option ℕ) → later o None ≡ o
+later_none None = refl
+later_none (Some n) = refl
+
+pub under_is : (whole : Option ℕ) (zeros : Option RowZeros) (c : ℕ) → number_under whole zeros c ≡ later whole (zero_of zeros c)
+under_is whole None c = sym (later_none whole)
+under_is whole (Some z) c = refl
+
+-- what covers the whole row fits each column
+module _ (entries : List Entry) (rules : List Rule) (table : Table) (a s : ℕ) (keyed : AreKeyed entries) (columns : HaveColumns entries) (index : IsIndexOf entries rules)
+    (la : a + 2 < key_base) (ls : s + 2 < key_base) where
+  pub widened : (c : ℕ) (r : Rule) → Contains rules r → Fits most_places (table_key table) (a ∷ s ∷ no_column ∷ []) r.key → Fits most_places (table_key table) (a ∷ s ∷ c ∷ []) r.key
+  widened c r among f =
+      let entry = index.sound r among in
+      let digits : AreDigits most_places entry.0.places = keyed_at (λ (e : Entry). AreDigits most_places e.places) entries r.number entry.0 keyed entry.1 in
+      let named : HasNoSuchColumn entry.0.places = keyed_at (λ (e : Entry). HasNoSuchColumn e.places) entries r.number entry.0 columns entry.1 in
+      let back = subst (Fits most_places (table_key table) (a ∷ s ∷ no_column ∷ [])) (sym entry.2) f in
+      let covered = fits_covered table (a ∷ s ∷ no_column ∷ []) entry.0 digits (omega arith, (omega arith, (omega arith, tt))) back in
+      subst (Fits most_places (table_key table) (a ∷ s ∷ c ∷ [])) entry.2 (covered_fits table (a ∷ s ∷ c ∷ []) entry.0 (covers_any table entry.0 a s c named covered))
+
+module _ (entries : List Entry) (rules : List Rule) (table : Table) (a s : ℕ) (split : SplitRules) (keyed : AreKeyed entries) (columns : HaveColumns entries) (index : IsIndexOf entries rules)
+    (parted : IsSplit entries table rules split) (la : a + 2 < key_base) (ls : s + 2 < key_base) where
+  -- the three kinds of rules that fit a cell
+  abbrev Three : ℕ → Rule → Type 0
+  Three c r =
+      ((Contains rules r × Fits most_places (table_key table) (a ∷ s ∷ no_column ∷ []) r.key) ⊎ (Contains split.zeros.items r × IsSingle (table_key table) a s c r.key))
+      ⊎ (Contains (others_in split.others) r × IsSingle (table_key table) a s c r.key)
+
+  three_fit : (c : ℕ) (r : Rule) → Three c r → Contains rules r × Fits most_places (table_key table) (a ∷ s ∷ c ∷ []) r.key
+  three_fit c r e = ⊎_elim
+      (λ two. ⊎_elim
+      (λ w. (w.0, widened entries rules table a s keyed columns index la ls c r w.0 w.1))
+      (λ z. (((parted.each r).0 (inl z.0)).0, single_fits (table_key table) a s c r.key z.1)) two)
+      (λ o. (((parted.each r).0 (inr o.0)).0, single_fits (table_key table) a s c r.key o.1)) e
+
+  fit_three : (c : ℕ) → c < no_column → (r : Rule) → Contains rules r × Fits most_places (table_key table) (a ∷ s ∷ c ∷ []) r.key → Three c r
+  fit_three c small r f = ⊎_elim
+      (λ w. inl (inl (f.0, w)))
+      (λ single. ⊎_elim (λ z. inl (inr (z, single))) (λ o. inr (o, single))
+      ((parted.each r).1 (
+        f.0,
+        fits_low most_places (table_key table) (a ∷ s ∷ c ∷ []) r.key f.1,
+        fits_high most_places (table_key table) (a ∷ s ∷ c ∷ []) r.key (omega arith, (omega arith, (omega arith, tt))) f.1,
+      )))
+      (fits_split (table_key table) a s c no_column r.key f.1)
+
+  row_number : (c : ℕ) (whole zero cell : Option ℕ) → c < no_column → IsNewest rules (Fits most_places (table_key table) (a ∷ s ∷ no_column ∷ [])) whole
+      → IsNewest split.zeros.items (IsSingle (table_key table) a s c) zero → IsNewest (others_in split.others) (IsSingle (table_key table) a s c) cell
+      → IsLastNumber entries table (a ∷ s ∷ c ∷ []) (later (later whole zero) cell)
+  row_number c whole zero cell small w z o =
+      let two = greatest_of_two (λ r. Contains rules r × Fits most_places (table_key table) (a ∷ s ∷ no_column ∷ []) r.key) (λ r. Contains split.zeros.items r × IsSingle (table_key table) a s c r.key)
+      whole zero (greatest_of rules _ whole w) (greatest_of split.zeros.items _ zero z) in
+      let three = greatest_of_two _ (λ r. Contains (others_in split.others) r × IsSingle (table_key table) a s c r.key) (later whole zero) cell two (greatest_of (others_in split.others) _ cell o) in
+      let all = newest_of rules (Fits most_places (table_key table) (a ∷ s ∷ c ∷ [])) _ (greatest_as (Three c) _ _ (three_fit c) (fit_three c small) three) in
+      last_number entries rules table (a ∷ s ∷ c ∷ []) _ keyed index (omega arith, (omega arith, (omega arith, tt))) all
+
+  of_index : (x : Rule) → IsCell (others_in split.others) (table_key table) a s x → IsCell rules (table_key table) a s x
+  of_index x c = record { rule = c.rule; among = ((parted.each c.rule).0 (inr c.among)).0; single = c.single; column = c.column; number_is = c.number_is }
+
+  zero_is : (c n : ℕ) (o : Option ℕ) → o ≡ Some n → IsNewest split.zeros.items (IsSingle (table_key table) a s c) o → is_zero entries n ≡ true
+  zero_is c n None e z = cc
+  zero_is c n (Some m) e z =
+      let same : m ≡ n = cc in
+      subst (λ k. is_zero entries k ≡ true) (z.0.is ∙ same) (parted.zero z.0.rule z.0.among)
+
+  pub row_is : (row : Row) → IsNewest rules (Fits most_places (table_key table) (a ∷ s ∷ no_column ∷ [])) row.whole → IsRising row.cells.items
+      → ((c : ℕ) → c + 2 < key_base → IsNewest (others_in split.others) (IsSingle (table_key table) a s c) (at_column row.cells.items c))
+      → All (IsCell (others_in split.others) (table_key table) a s) row.cells.items → IfSome row.zeros AreOrdered
+      → ((c : ℕ) → c + 2 < key_base → IsNewest split.zeros.items (IsSingle (table_key table) a s c) (zero_of row.zeros c)) → IsRowOf entries table a s row
+  row_is row w up newest each ordered zeros = record {
+    rising = up;
+    ordered = ordered;
+    single = single_entries entries rules table a s row.cells.items keyed index la ls (λ k d l. of_index _ (each k d l));
+    zeros = λ c n l e. zero_is c n (zero_of row.zeros c) e (zeros c (omega arith));
+    whole = last_number entries rules table (a ∷ s ∷ no_column ∷ []) row.whole keyed index (omega arith, (omega arith, (omega arith, tt))) w;
+    last = λ c l.
+        subst (λ u. IsLastNumber entries table (a ∷ s ∷ c ∷ []) (later u (at_column row.cells.items c))) (sym (under_is row.whole row.zeros c))
+        (row_number c row.whole (zero_of row.zeros c) (at_column row.cells.items c) l w (zeros c (omega arith)) (newest c (omega arith)));
+  }

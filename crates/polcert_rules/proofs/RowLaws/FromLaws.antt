@@ -1,0 +1,94 @@
+-- The cells of a row from a column on.
+use Rattle.std.proofs.Common.{◌≡◌, ◌∙◌, ℕ, zero, suc, ◌+◌, ◌<◌, ◌≤◌, ⊎_elim, Bool, true, false, cond, ltb, Some, None, List, [], ◌∷◌, length, get_or, drop, refl, sym, ap, subst, arith}
+use Rattle.std.specs.List.{slice_get}
+use Rattle.std.specs.List.Sorted.{IsPartitionedBy, IsNonDecreasingBy}
+use Rattle.std.proofs.lemmas.Bool.{cases_lt, lt-ltb, le-ltb}
+use Rattle.std.proofs.lemmas.Option.{slice_get_within, get_or_from_slice_get}
+use Rattle.std.proofs.lemmas.Bool.Decides.{nat_tests}
+use Rattle.std.proofs.lemmas.List.Sorted.{IsPartitionedBy-ltb}
+use Rattle.polcert_cells.specs.declared.cell.Cell.{Cell}
+use Rattle.polcert_cells.specs.Sparse.{weight_at, AreRising, IsSparse}
+use Rattle.polcert_rules.specs.Steps.Merging.{from}
+use Rattle.polcert_cells.proofs.SparseLaws.{Climbs, climbs_from, weight_head, weight_tail, weight_below}
+
+in_order : (xs : List Cell) → AreRising xs → IsNonDecreasingBy (λ x. x.column) xs
+in_order xs up i j d le l = ⊎_elim
+    (λ less. let here = up i j d less l in omega arith)
+    (λ ge. let same : j ≡ i = omega arith in subst (λ k. (get_or xs i d).column ≤ (get_or xs k d).column) (sym same) (omega arith))
+    (cases_lt i j)
+
+-- the test that the cells are found by
+pub parted : (xs : List Cell) (column : ℕ) → AreRising xs → IsPartitionedBy (λ x. ltb x.column column) xs
+parted xs column up = IsPartitionedBy-ltb (λ x. x.column) xs column (in_order xs up)
+
+pub drop_is_from : (xs : List Cell) (k column : ℕ) → ((i : ℕ) (d : Cell) → i < k → i < length xs → ltb (get_or xs i d).column column ≡ true)
+    → ((i : ℕ) (d : Cell) → k ≤ i → i < length xs → ltb (get_or xs i d).column column ≡ false) → drop k xs ≡ from column xs
+drop_is_from [] zero column low high = refl
+drop_is_from [] (suc k) column low high = refl
+drop_is_from (x ∷ xs) zero column low high =
+    let here : ltb x.column column ≡ false = high 0 x (omega arith) (omega arith) in
+    sym (ap (λ b. cond b (from column xs) (x ∷ xs)) here)
+drop_is_from (x ∷ xs) (suc k) column low high =
+    let here : ltb x.column column ≡ true = low 0 x (omega arith) (omega arith) in
+    drop_is_from xs k column (λ i d l m. low (suc i) d (omega arith) (omega arith)) (λ i d l m. high (suc i) d (omega arith) (omega arith))
+    ∙ sym (ap (λ b. cond b (from column xs) (x ∷ xs)) here)
+
+-- where no column below is missing, it is at its own number
+pub full_up_to : (xs : List Cell) (column : ℕ) (x : Cell) → AreRising xs → slice_get xs column ≡ Some x → x.column ≡ column → drop column xs ≡ from column xs
+full_up_to xs column x up is same =
+    let inside = slice_get_within xs column x is in
+    drop_is_from xs column column
+    (λ i d l m. let here = ap (λ (z : Cell). z.column) (get_or_from_slice_get xs column x d is) ∙ same in
+    let less = up i column d l inside in lt-ltb (get_or xs i d).column column (omega arith))
+    (λ i d l m. let here = ap (λ (z : Cell). z.column) (get_or_from_slice_get xs column x d is) ∙ same in
+    let no_less = in_order xs up column i d l m in le-ltb (get_or xs i d).column column (omega arith))
+
+from_climbs : (low n column : ℕ) (xs : List Cell) → Climbs low n xs → Climbs column n (from column xs)
+from_climbs low n column [] h = tt
+from_climbs low n column (x ∷ xs) h = at (ltb x.column column) refl (from_climbs (x.column + 1) n column xs h.3)
+  where
+    at : (b : Bool) → ltb x.column column ≡ b → Climbs column n (from column xs) → Climbs column n (cond b (from column xs) (x ∷ xs))
+    at true e rest = rest
+    at false e rest = (grind (arith, nat_tests), h.1, h.2, h.3)
+
+from_weight : (column c : ℕ) (xs : List Cell) → column ≤ c → weight_at (from column xs) c ≡ weight_at xs c
+from_weight column c [] l = refl
+from_weight column c (x ∷ xs) l = at (ltb x.column column) refl (from_weight column c xs l)
+  where
+    at : (b : Bool) → ltb x.column column ≡ b → weight_at (from column xs) c ≡ weight_at xs c → weight_at (cond b (from column xs) (x ∷ xs)) c ≡ weight_at (x ∷ xs) c
+    at true e rest = let less : x.column < column = grind (arith, nat_tests) in rest ∙ sym (weight_tail x xs c (λ f. omega arith))
+    at false e rest = refl
+
+module _ (n column : ℕ) (xs : List Cell) (sparse : IsSparse n xs) where
+  climbs : Climbs column n (from column xs)
+  climbs = from_climbs 0 n column xs (climbs_from n xs sparse)
+
+  pub at_here : (x : Cell) → slice_get (from column xs) 0 ≡ Some x → x.column ≡ column → x.weight ≡ weight_at xs column
+  at_here x e same = at (from column xs) refl e ∙ from_weight column column xs (omega arith)
+    where
+      at : (ys : List Cell) → from column xs ≡ ys → slice_get ys 0 ≡ Some x → x.weight ≡ weight_at (from column xs) column
+      at [] f g = cc
+      at (y ∷ ys) f g =
+          let head : y ≡ x = cc in
+          sym (ap (λ zs. weight_at zs column) f ∙ weight_head y ys column (ap (λ (z : Cell). z.column) head ∙ same) ∙ ap (λ (z : Cell). z.weight) head)
+
+  pub at_there : (x : Cell) → slice_get (from column xs) 0 ≡ Some x → (x.column ≡ column → ⊥) → 0 ≡ weight_at xs column
+  at_there x e other = at (from column xs) refl e climbs ∙ from_weight column column xs (omega arith)
+    where
+      at : (ys : List Cell) → from column xs ≡ ys → slice_get ys 0 ≡ Some x → Climbs column n ys → 0 ≡ weight_at (from column xs) column
+      at [] f g h = cc
+      at (y ∷ ys) f g h =
+          let head : y.column ≡ x.column = ap (λ (z : Cell). z.column) (let same : y ≡ x = cc in same) in
+          let low = h.0 in
+          let apart : y.column ≡ column → ⊥ = λ i. other (sym head ∙ i) in
+          sym (ap (λ zs. weight_at zs column) f ∙ weight_tail y ys column apart ∙ weight_below (y.column + 1) n column ys h.3 (omega arith))
+
+  none_from : slice_get (from column xs) 0 ≡ None → (c : ℕ) → column ≤ c → weight_at xs c ≡ 0
+  none_from e c l = sym (from_weight column c xs l) ∙ at (from column xs) e
+    where
+      at : (ys : List Cell) → slice_get ys 0 ≡ None → weight_at ys c ≡ 0
+      at [] g = refl
+      at (y ∷ ys) g = cc
+
+  pub at_none : slice_get (from column xs) 0 ≡ None → 0 ≡ weight_at xs column
+  at_none e = sym (none_from e column (omega arith))

@@ -1,0 +1,132 @@
+-- Newer cells over a row.
+use Rattle.std.proofs.Common.{◌≡◌, ◌∙◌, ℕ, ◌+◌, ◌<◌, ◌≤◌, Bool, true, false, cond, eqb, ltb, List, [], ◌∷◌, ◌++◌, refl, sym, ap, subst, arith}
+use Rattle.std.proofs.lemmas.Bool.Decides.{nat_tests}
+use Rattle.polcert_cells.specs.declared.cell.Cell.{Cell}
+use Rattle.polcert_cells.specs.Sparse.{weight_at, IsRow}
+use Rattle.polcert_rules.specs.Steps.Merging.{before, behind, with_cell, merged, weight_over, Rises}
+use Rattle.polcert_cells.proofs.SparseLaws.{Climbs, climbs_lower, climbs_from, sparse_from, weight_head, weight_tail, weight_below}
+
+-- ---- the cells before a column and behind it
+climbs_before : (low n k : ℕ) (base rest : List Cell) → Climbs low n base → low ≤ k → Climbs k n rest → Climbs low n (before k base ++ rest)
+climbs_before low n k [] rest h le g = climbs_lower low k n rest le g
+climbs_before low n k (x ∷ xs) rest h le g = at (ltb x.column k) refl (λ l. climbs_before (x.column + 1) n k xs rest h.3 l g)
+  where
+    at : (b : Bool) → ltb x.column k ≡ b → (x.column + 1 ≤ k → Climbs (x.column + 1) n (before k xs ++ rest)) → Climbs low n (cond b (x ∷ before k xs) [] ++ rest)
+    at true e ih = let l : x.column < k = grind (arith, nat_tests) in (h.0, h.1, h.2, ih (omega arith))
+    at false e ih = climbs_lower low k n rest le g
+
+climbs_behind : (low n k : ℕ) (base : List Cell) → Climbs low n base → Climbs (k + 1) n (behind k base)
+climbs_behind low n k [] h = tt
+climbs_behind low n k (x ∷ xs) h = at (ltb x.column k) refl (eqb x.column k) refl (climbs_behind (x.column + 1) n k xs h.3)
+  where
+    at : (b : Bool) → ltb x.column k ≡ b → (t : Bool) → eqb x.column k ≡ t → Climbs (k + 1) n (behind k xs) → Climbs (k + 1) n (cond b (behind k xs) (cond t xs (x ∷ xs)))
+    at true e t f ih = ih
+    at false e true f ih = let same : x.column ≡ k = grind (arith, nat_tests) in subst (λ i. Climbs (i + 1) n xs) same h.3
+    at false e false f ih = let more : k + 1 ≤ x.column = grind (arith, nat_tests) in (more, h.1, h.2, h.3)
+
+-- a column before the given one
+weight_before : (low n k c : ℕ) (base rest : List Cell) → Climbs low n base → c < k → weight_at rest c ≡ 0 → weight_at (before k base ++ rest) c ≡ weight_at base c
+weight_before low n k c [] rest h l z = z
+weight_before low n k c (x ∷ xs) rest h l z = at (ltb x.column k) refl (weight_before (x.column + 1) n k c xs rest h.3 l z)
+  where
+    at : (b : Bool) → ltb x.column k ≡ b → weight_at (before k xs ++ rest) c ≡ weight_at xs c → weight_at (cond b (x ∷ before k xs) [] ++ rest) c ≡ weight_at (x ∷ xs) c
+    at true e ih = ap (cond (eqb x.column c) x.weight) ih
+    at false e ih =
+        let more : k ≤ x.column = grind (arith, nat_tests) in
+        z ∙ sym (weight_below k n c (x ∷ xs) (more, h.1, h.2, h.3) l)
+
+-- a column from the given one on
+weight_after : (k c : ℕ) (base rest : List Cell) → k ≤ c → weight_at (before k base ++ rest) c ≡ weight_at rest c
+weight_after k c [] rest l = refl
+weight_after k c (x ∷ xs) rest l = at (ltb x.column k) refl (weight_after k c xs rest l)
+  where
+    at : (b : Bool) → ltb x.column k ≡ b → weight_at (before k xs ++ rest) c ≡ weight_at rest c → weight_at (cond b (x ∷ before k xs) [] ++ rest) c ≡ weight_at rest c
+    at true e ih = let less : x.column < k = grind (arith, nat_tests) in weight_tail x (before k xs ++ rest) c (λ f. omega arith) ∙ ih
+    at false e ih = refl
+
+weight_behind : (k c : ℕ) (base : List Cell) → k < c → weight_at (behind k base) c ≡ weight_at base c
+weight_behind k c [] l = refl
+weight_behind k c (x ∷ xs) l = at (ltb x.column k) refl (eqb x.column k) refl (weight_behind k c xs l)
+  where
+    at : (b : Bool) → ltb x.column k ≡ b → (t : Bool) → eqb x.column k ≡ t → weight_at (behind k xs) c ≡ weight_at xs c → weight_at (cond b (behind k xs) (cond t xs (x ∷ xs))) c ≡ weight_at (x ∷ xs) c
+    at true e t f ih = let less : x.column < k = grind (arith, nat_tests) in ih ∙ sym (weight_tail x xs c (λ g. omega arith))
+    at false e true f ih = let same : x.column ≡ k = grind (arith, nat_tests) in sym (weight_tail x xs c (λ g. omega arith))
+    at false e false f ih = refl
+
+-- ---- a cell in front
+climbs_with : (k n : ℕ) (x : Cell) (xs : List Cell) → x.column ≡ k → k < n → Climbs (k + 1) n xs → Climbs k n (with_cell x xs)
+climbs_with k n x xs e l h = at (ltb 0 x.weight) refl
+  where
+    at : (b : Bool) → ltb 0 x.weight ≡ b → Climbs k n (cond b (x ∷ xs) xs)
+    at true f = (omega arith, omega arith, grind (arith, nat_tests), subst (λ i. Climbs (i + 1) n xs) (sym e) h)
+    at false f = climbs_lower k (k + 1) n xs (omega arith) h
+
+weight_with_here : (k n : ℕ) (x : Cell) (xs : List Cell) → x.column ≡ k → Climbs (k + 1) n xs → weight_at (with_cell x xs) k ≡ x.weight
+weight_with_here k n x xs e h = at (ltb 0 x.weight) refl
+  where
+    at : (b : Bool) → ltb 0 x.weight ≡ b → weight_at (cond b (x ∷ xs) xs) k ≡ x.weight
+    at true f = weight_head x xs k e
+    at false f = let none : x.weight ≡ 0 = grind (arith, nat_tests) in weight_below (k + 1) n k xs h (omega arith) ∙ sym none
+
+weight_with_there : (c : ℕ) (x : Cell) (xs : List Cell) → (x.column ≡ c → ⊥) → weight_at (with_cell x xs) c ≡ weight_at xs c
+weight_with_there c x xs d = at (ltb 0 x.weight)
+  where
+    at : (b : Bool) → weight_at (cond b (x ∷ xs) xs) c ≡ weight_at xs c
+    at true = weight_tail x xs c d
+    at false = refl
+
+-- ---- the weights of newer cells over others
+over_low : (low n c : ℕ) (newer : List Cell) (f : ℕ → ℕ) → Rises low n newer → c < low → weight_over newer f c ≡ f c
+over_low low n c [] f h l = refl
+over_low low n c (x ∷ xs) f h l = let a = h.0 in at (eqb x.column c) refl (over_low (x.column + 1) n c xs f h.2 (omega arith))
+  where
+    at : (b : Bool) → eqb x.column c ≡ b → weight_over xs f c ≡ f c → cond b x.weight (weight_over xs f c) ≡ f c
+    at true e ih = let a = h.0 in absurd (grind (arith, nat_tests))
+    at false e ih = ih
+
+pub over_same : (newer : List Cell) (f g : ℕ → ℕ) (c : ℕ) → f c ≡ g c → weight_over newer f c ≡ weight_over newer g c
+over_same [] f g c e = e
+over_same (x ∷ xs) f g c e = ap (cond (eqb x.column c) x.weight) (over_same xs f g c e)
+
+pub merged_climbs : (low n : ℕ) (base newer : List Cell) → Climbs low n base → Rises low n newer → Climbs low n (merged base newer)
+merged_climbs low n base [] h r = h
+merged_climbs low n base (x ∷ xs) h r =
+    climbs_before low n x.column base (with_cell x (merged (behind x.column base) xs)) h r.0
+    (climbs_with x.column n x (merged (behind x.column base) xs) refl r.1 (merged_climbs (x.column + 1) n (behind x.column base) xs (climbs_behind low n x.column base h) r.2))
+
+pub merged_weights : (low n c : ℕ) (base newer : List Cell) → Climbs low n base → Rises low n newer → weight_at (merged base newer) c ≡ weight_over newer (weight_at base) c
+merged_weights low n c base [] h r = refl
+merged_weights low n c base (x ∷ xs) h r =
+    at (ltb c x.column) refl (eqb x.column c) refl (merged_weights (k + 1) n c (behind k base) xs (climbs_behind low n k base h) r.2)
+  where
+    k : ℕ
+    k = x.column
+
+    rest : List Cell
+    rest = merged (behind k base) xs
+
+    rest_climbs : Climbs (k + 1) n rest
+    rest_climbs = merged_climbs (k + 1) n (behind k base) xs (climbs_behind low n k base h) r.2
+
+    at : (b : Bool) → ltb c k ≡ b → (t : Bool) → eqb k c ≡ t → weight_at rest c ≡ weight_over xs (weight_at (behind k base)) c
+        → weight_at (before k base ++ with_cell x rest) c ≡ cond t x.weight (weight_over xs (weight_at base) c)
+    at true e true f ih = absurd (grind (arith, nat_tests))
+    at true e false f ih =
+        let less : c < k = grind (arith, nat_tests) in
+        weight_before low n k c base (with_cell x rest) h less (weight_below k n c (with_cell x rest) (climbs_with k n x rest refl r.1 rest_climbs) less)
+        ∙ sym (over_low (k + 1) n c xs (weight_at base) r.2 (omega arith))
+    at false e true f ih =
+        let same : k ≡ c = grind (arith, nat_tests) in
+        weight_after k c base (with_cell x rest) (omega arith) ∙ ap (weight_at (with_cell x rest)) (sym same) ∙ weight_with_here k n x rest refl rest_climbs
+    at false e false f ih =
+        let less : k < c = grind (arith, nat_tests) in
+        weight_after k c base (with_cell x rest) (omega arith) ∙ weight_with_there c x rest (λ g. omega arith) ∙ ih ∙ over_same xs (weight_at (behind k base)) (weight_at base) c (weight_behind k c base less)
+
+-- newer cells over a row are a row
+pub merged_row : (n : ℕ) (f : ℕ → ℕ) (base newer : List Cell) → IsRow n f base → Rises 0 n newer → IsRow n (weight_over newer f) (merged base newer)
+merged_row n f base newer row r =
+    let h = climbs_from n base row.sparse in
+    record {
+      sparse = sparse_from 0 n (merged base newer) (merged_climbs 0 n base newer h r);
+      each = λ c l. merged_weights 0 n c base newer h r ∙ over_same newer (weight_at base) f c (row.each c l);
+    }

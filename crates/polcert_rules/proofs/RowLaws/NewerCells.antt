@@ -1,0 +1,93 @@
+-- The single cells of a row that are newer than what is under them.
+use Rattle.std.proofs.Common.{◌≡◌, ◌∙◌, ℕ, suc, ◌+◌, ◌<◌, ◌≤◌, Bool, true, false, cond, eqb, leb, ltb, Option, Some, None, List, [], ◌∷◌, All, refl, sym, ap, arith}
+use Rattle.std.proofs.lemmas.Bool.Decides.{nat_tests}
+use Rattle.std.proofs.lemmas.List.Elements.{All-head, All-tail}
+use Rattle.polcert_cells.specs.declared.entry.Entry.{Entry}
+use Rattle.polcert_cells.specs.declared.cell.Cell.{Cell}
+use Rattle.polcert_rules.specs.declared.rule.Rule.{Rule}
+use Rattle.polcert_rules.specs.Steps.Newest.{IsRising}
+use Rattle.polcert_rules.specs.Matching.{later}
+use Rattle.polcert_rules.specs.Steps.Rows.{at_column, number_in}
+use Rattle.polcert_rules.specs.Steps.Merging.{given_at, is_newer, newer_cells, weight_over, Rises}
+
+-- rules by column, from this one on
+abbrev pub RulesRise : ℕ → List Rule → Type 0
+RulesRise low [] = Unit {0}
+RulesRise low (r ∷ rs) = (low ≤ r.key) × RulesRise (r.key + 1) rs
+
+pub rules_rise : (low : ℕ) (rs : List Rule) → IsRising rs → All (λ r. low ≤ r.key) rs → RulesRise low rs
+rules_rise low [] up above = tt
+rules_rise low (r ∷ rs) up above = (
+  All-head (λ (r : Rule). low ≤ r.key) r rs above,
+  rules_rise (r.key + 1) rs (λ i j d less l. up (suc i) (suc j) d (omega arith) (omega arith)) (λ k d l. let a = up 0 (suc k) d (omega arith) (omega arith) in omega arith),
+)
+
+none_below : (low c : ℕ) (rs : List Rule) → RulesRise low rs → c < low → at_column rs c ≡ None
+none_below low c [] h l = refl
+none_below low c (r ∷ rs) h l = at (eqb r.key c) refl (none_below (r.key + 1) c rs h.1 (let a = h.0 in omega arith))
+  where
+    at : (b : Bool) → eqb r.key c ≡ b → at_column rs c ≡ None → cond b (Some r.number) (at_column rs c) ≡ None
+    at true e ih = let a = h.0 in absurd (grind (arith, nat_tests))
+    at false e ih = ih
+
+module _ (columns : ℕ) (entries : List Entry) (s : ℕ) where
+  -- what a column has: that of its cell where it is newer than what is under it
+  abbrev pub picked : Option ℕ → Option ℕ → ℕ → ℕ
+  picked under None c = given_at columns entries under s c
+  picked under (Some n) c = cond (is_newer under n) (given_at columns entries (Some n) s c) (given_at columns entries under s c)
+
+  pub picked_number : (under : Option ℕ) (c : ℕ) (o : Option ℕ) → picked under o c ≡ given_at columns entries (later under o) s c
+  picked_number None c None = refl
+  picked_number (Some m) c None = refl
+  picked_number None c (Some n) = refl
+  picked_number (Some m) c (Some n) = two (ltb m n) refl (leb m n) refl
+    where
+      two : (b : Bool) → ltb m n ≡ b → (t : Bool) → leb m n ≡ t
+          → cond b (given_at columns entries (Some n) s c) (given_at columns entries (Some m) s c) ≡ given_at columns entries (cond t (Some n) (Some m)) s c
+      two true g true h = refl
+      two true g false h = absurd (grind (arith, nat_tests))
+      two false g true h = let same : m ≡ n = grind (arith, nat_tests) in ap (λ k. given_at columns entries (Some k) s c) same
+      two false g false h = refl
+
+  module _ (under : ℕ → Option ℕ) where
+    newer_picked : (low c : ℕ) (rs : List Rule) → RulesRise low rs → weight_over (newer_cells columns entries under s rs) (λ i. given_at columns entries (under i) s i) c ≡ picked (under c) (at_column rs c) c
+    newer_picked low c [] h = refl
+    newer_picked low c (r ∷ rs) h = at (is_newer (under r.key) r.number) refl (eqb r.key c) refl (newer_picked (r.key + 1) c rs h.1)
+      where
+        here : (b : Bool) → r.key ≡ c → is_newer (under r.key) r.number ≡ b
+            → picked (under c) (Some r.number) c ≡ cond b (given_at columns entries (Some r.number) s c) (given_at columns entries (under c) s c)
+        here b same e = ap (λ t. cond t (given_at columns entries (Some r.number) s c) (given_at columns entries (under c) s c)) (ap (λ i. is_newer (under i) r.number) (sym same) ∙ e)
+
+        at : (b : Bool) → is_newer (under r.key) r.number ≡ b → (t : Bool) → eqb r.key c ≡ t
+            → weight_over (newer_cells columns entries under s rs) (λ i. given_at columns entries (under i) s i) c ≡ picked (under c) (at_column rs c) c
+            → weight_over (cond b (record { column = r.key; weight = given_at columns entries (Some r.number) s r.key } ∷ newer_cells columns entries under s rs) (newer_cells columns entries under s rs)) (λ i. given_at columns entries (under i) s i) c
+            ≡ picked (under c) (cond t (Some r.number) (at_column rs c)) c
+        at true e true f ih =
+            let same : r.key ≡ c = grind (arith, nat_tests) in
+            ap (λ t. cond t (given_at columns entries (Some r.number) s r.key) (weight_over (newer_cells columns entries under s rs) (λ i. given_at columns entries (under i) s i) c)) f
+            ∙ ap (given_at columns entries (Some r.number) s) same ∙ sym (here true same e)
+        at true e false f ih =
+            ap (λ t. cond t (given_at columns entries (Some r.number) s r.key) (weight_over (newer_cells columns entries under s rs) (λ i. given_at columns entries (under i) s i) c)) f ∙ ih
+        at false e true f ih =
+            let same : r.key ≡ c = grind (arith, nat_tests) in
+            let none : at_column rs c ≡ None = none_below (r.key + 1) c rs h.1 (omega arith) in
+            ih ∙ ap (λ o. picked (under c) o c) none ∙ sym (here false same e)
+        at false e false f ih = ih
+
+    -- the cells over what is under them have what the number of each column gives
+    pub newer_over : (c : ℕ) (rs : List Rule) → IsRising rs
+        → weight_over (newer_cells columns entries under s rs) (λ i. given_at columns entries (under i) s i) c ≡ given_at columns entries (number_in (under c) rs c) s c
+    newer_over c rs up = newer_picked 0 c rs (rules_rise 0 rs up (λ k d l. omega arith)) ∙ picked_number (under c) c (at_column rs c)
+
+    pub newer_rise : (low n : ℕ) (rs : List Rule) → RulesRise low rs → All (λ r. r.key < n) rs → Rises low n (newer_cells columns entries under s rs)
+    newer_rise low n [] h within = tt
+    newer_rise low n (r ∷ rs) h within = at (is_newer (under r.key) r.number) (newer_rise (r.key + 1) n rs h.1 (All-tail (λ (r : Rule). r.key < n) r rs within))
+      where
+        at : (b : Bool) → Rises (r.key + 1) n (newer_cells columns entries under s rs)
+            → Rises low n (cond b (record { column = r.key; weight = given_at columns entries (Some r.number) s r.key } ∷ newer_cells columns entries under s rs) (newer_cells columns entries under s rs))
+        at true rest = (h.0, All-head (λ (r : Rule). r.key < n) r rs within, rest)
+        at false rest = let a = h.0 in rises_lower low (r.key + 1) n (newer_cells columns entries under s rs) (omega arith) rest
+          where
+            rises_lower : (k low n : ℕ) (xs : List Cell) → k ≤ low → Rises low n xs → Rises k n xs
+            rises_lower k low n [] le h = tt
+            rises_lower k low n (x ∷ xs) le h = let a = h.0 in (omega arith, h.1, h.2)

@@ -1,0 +1,66 @@
+-- The weights of a row, from the numbers of its entries.
+use Rattle.std.proofs.Common.{◌≡◌, ◌∙◌, ℕ, ◌*◌, ◌<◌, ◌≤◌, ◌==◌, true, Option, None, List, [], ◌∷◌, length, refl, sym, ap, subst, arith}
+use Rattle.std.proofs.lemmas.Bool.Decides.{nat_tests}
+use Rattle.polcert_cells.specs.declared.entry.Table.{Table}
+use Rattle.polcert_cells.specs.declared.entry.Entry.{Entry}
+use Rattle.polcert_cells.specs.Cells.{value_or}
+use Rattle.polcert_cells.specs.Numbers.{one}
+use Rattle.polcert_cells.specs.declared.cell.Cell.{Cell}
+use Rattle.polcert_cells.specs.Sparse.{weight_at, IsRow}
+use Rattle.polcert_cells.proofs.SparseLaws.{row_same}
+use Rattle.polcert_rules.specs.declared.zeros.RowZeros.{RowZeros}
+use Rattle.polcert_rules.specs.declared.row.Row.{Row}
+use Rattle.polcert_rules.specs.declared.shape.Shape.{Shape}
+use Rattle.polcert_rules.specs.declared.kept.Kept.{Kept}
+use Rattle.polcert_rules.specs.Steps.Given.{given}
+use Rattle.polcert_rules.specs.Steps.Merging.{given_at, weight_in, newer_cells, weight_over, merged, Rises}
+use Rattle.polcert_rules.specs.Steps.Zeros.{number_under, under, shown_under}
+use Rattle.polcert_rules.specs.Steps.Sources.{AreNumbersOf, IsKeptRow}
+use Rattle.polcert_rules.proofs.RowLaws.MergeLaws.{merged_row}
+use Rattle.polcert_rules.proofs.RowLaws.NewerCells.{newer_over, newer_rise, rules_rise}
+use Rattle.polcert_rules.proofs.RowLaws.HiddenCells.{under_row}
+
+no_cells : (xs : List Cell) → (length xs == 0) ≡ true → xs ≡ []
+no_cells [] e = refl
+no_cells (x ∷ xs) e = absurd (grind (arith, nat_tests))
+
+no_zeros : (whole : Option ℕ) (zeros : Option RowZeros) (c : ℕ) → zeros ≡ None → number_under whole zeros c ≡ whole
+no_zeros whole zeros c e = ap (λ z. number_under whole z c) e
+
+-- the newer cells of a row
+module _ (shape : Shape) (entries : List Entry) (table : Table) (a s : ℕ) (row : Row) (newer : List Cell) (h : AreNumbersOf shape entries table a s row)
+    (newer_are : newer ≡ newer_cells shape.columns entries (under row) s row.cells.items) where
+  newer_weights : (c : ℕ) → c < shape.columns → weight_over newer (λ i. given_at shape.columns entries (under row i) s i) c ≡ weight_in shape.columns entries table a s c
+  newer_weights c l =
+      ap (λ xs. weight_over xs (λ i. given_at shape.columns entries (under row i) s i) c) newer_are ∙ newer_over shape.columns entries s (under row) c row.cells.items h.rising
+      ∙ ap (value_or 0 (λ e. given shape.columns e s c)) (sym (h.last c l))
+
+  newer_rises : Rises 0 shape.columns newer
+  newer_rises =
+      subst (Rises 0 shape.columns) (sym newer_are)
+      (newer_rise shape.columns entries s (under row) 0 shape.columns row.cells.items (rules_rise 0 row.cells.items h.rising (λ k d l. omega arith)) (λ k d l. (h.cells k d l).0))
+
+  -- the finished cells are the row
+  pub finished : (base lent_base lent_newer cells : List Cell) → IsRow shape.columns (given_at shape.columns entries row.whole s) base → lent_base ≡ base → lent_newer ≡ newer
+      → cells ≡ merged (shown_under row.whole row.zeros lent_base) lent_newer → IsRow shape.columns (weight_in shape.columns entries table a s) cells
+  finished base lent_base lent_newer cells given_base same_base same_newer e =
+      let n = shape.columns in
+      let f = λ (i : ℕ). given_at shape.columns entries (under row i) s i in
+      let lower = under_row n entries row.whole row.zeros s base h.zeros given_base in
+      let over = merged_row n f (shown_under row.whole row.zeros base) newer lower newer_rises in
+      let is = e ∙ ap (λ (xs : List Cell). merged (shown_under row.whole row.zeros xs) lent_newer) same_base ∙ ap (merged (shown_under row.whole row.zeros base)) same_newer in
+      subst (λ (xs : List Cell). IsRow n (weight_in n entries table a s) xs) (sym is) (row_same n _ _ _ newer_weights over)
+
+  pub finished_small : (cells : List Cell) → IsRow shape.columns (weight_in shape.columns entries table a s) cells → (c : ℕ) → c < shape.columns → weight_at cells c ≤ one * shape.columns
+  finished_small cells r c l = subst (λ k. k ≤ one * shape.columns) (sym (r.each c l)) (h.small c l)
+
+  -- without newer cells and zeros it is what covers the whole row
+  pub shared_weights : (kept : List Kept) (n : ℕ) → row.zeros ≡ None → (length newer == 0) ≡ true → IsKeptRow shape.columns (given_at shape.columns entries row.whole s) kept n
+      → IsKeptRow shape.columns (weight_in shape.columns entries table a s) kept n
+  shared_weights kept n zeros none k = record {
+    row = k.row;
+    is = k.is;
+    each = λ c l.
+        k.each c l ∙ ap (λ o. given_at shape.columns entries o s c) (sym (no_zeros row.whole row.zeros c zeros))
+        ∙ sym (ap (λ xs. weight_over xs (λ i. given_at shape.columns entries (under row i) s i) c) (no_cells newer none)) ∙ newer_weights c l;
+  }

@@ -1,0 +1,187 @@
+-- Sound entries: their keys, and the numbers and weights of their rows.
+use Rattle.std.proofs.Common.{◌≡◌, ◌∙◌, ℕ, ◌*◌, ◌<◌, ◌≤◌, Option, Some, None, List, [], ◌∷◌, ◌++◌, length, All, refl, sym, ap, subst, arith}
+use Rattle.std.specs.List.{slice_get}
+use Rattle.polcert_cells.specs.declared.entry.Table.{Table}
+use Rattle.polcert_cells.specs.declared.entry.Table.TheVariants.{Transition, Observation, Reward}
+use Rattle.polcert_cells.specs.declared.entry.Place.{Place}
+use Rattle.polcert_cells.specs.declared.entry.Place.TheVariants.{Every, Only}
+use Rattle.polcert_cells.specs.declared.entry.Entry.{Entry}
+use Rattle.polcert_cells.specs.Elements.{count_of, most_states, most_actions, most_observations, most_elements}
+use Rattle.polcert_cells.specs.Cells.{is_table, fit_places, last_covering, IsLastCovering, last, weight, weight_of, value_or}
+use Rattle.polcert_cells.specs.Meaning.{IsCount}
+use Rattle.polcert_cells.specs.Numbers.{one}
+use Rattle.polcert_cells.specs.Preamble.{Preamble, dimensions, observed, rewarded}
+use Rattle.polcert_cells.specs.Rows.{IsWeighted}
+use Rattle.polcert_cells.specs.Steps.Sound.{IsPlaceIn, ArePlacesIn, IsSoundEntry}
+use Rattle.polcert_cells.proofs.CellLaws as cells
+use Rattle.polcert_cells.proofs.SoundLaws.{rewarded_few}
+use Rattle.polcert_rules.specs.declared.rule.Rule.{Rule}
+use Rattle.polcert_rules.specs.declared.shape.Shape.{Shape}
+use Rattle.polcert_rules.specs.declared.split.SplitRules.{SplitRules}
+use Rattle.polcert_rules.specs.declared.row.Row.{Row}
+use Rattle.polcert_rules.specs.Steps.Zeros.{IsSplit, IsRowOf, under}
+use Rattle.polcert_rules.specs.Steps.Repeats.{IsWholeNumber}
+use Rattle.polcert_rules.specs.Keys.{key_base, digit, AreDigits, most_places}
+use Rattle.polcert_rules.specs.Steps.Newest.{IsIndexOf, AreKeyed, IsLastNumber, entry_at}
+use Rattle.polcert_rules.specs.Steps.Rows.{HasNoSuchColumn, HaveColumns, IsSingleEntry, no_column, number_in}
+use Rattle.polcert_rules.specs.Steps.Given.{IsWithin, FitsShape, HasColumn, given}
+use Rattle.polcert_rules.specs.Steps.Shapes.{IsShapeOf, AreSound}
+use Rattle.polcert_rules.specs.Steps.Merging.{weight_in}
+use Rattle.polcert_rules.specs.Steps.Sources.{IsNumber, IsWhole, AreNumbersOf}
+use Rattle.polcert_rules.proofs.Keyed.Fitting.{and_true}
+use Rattle.polcert_rules.proofs.Keyed.KeyBase.{action_digit, element_digit, place_digit}
+use Rattle.polcert_rules.proofs.Keyed.Covering.{same_table, last_is}
+use Rattle.polcert_rules.proofs.Indexes.KeptLaws.{at_number, given_small}
+use Rattle.polcert_rules.proofs.RowLaws.FormLaws.{given_is, sound_fits, single_number}
+
+-- ---- places within their counts have keys, and no column is too large
+module _ (p : Preamble) (sound : (count_of p.states ≤ most_states) × (count_of p.actions ≤ most_actions) × (count_of (observed p) ≤ most_observations)) where
+  states_digit : (x : Place) → IsPlaceIn p.states x → digit x < key_base
+  states_digit x h = place_digit p.states x (element_digit _ sound.0) h
+
+  actions_digit : (x : Place) → IsPlaceIn p.actions x → digit x < key_base
+  actions_digit x h = place_digit p.actions x (action_digit _ sound.1) h
+
+  observed_digit : (x : Place) → IsPlaceIn (observed p) x → digit x < key_base
+  observed_digit x h = place_digit (observed p) x (element_digit _ sound.2) h
+
+  rewarded_digit : (x : Place) → IsPlaceIn (rewarded p) x → digit x < key_base
+  rewarded_digit x h = place_digit (rewarded p) x (element_digit _ (rewarded_few p sound.2)) h
+
+  keyed : (t : Table) (ps : List Place) → ArePlacesIn (dimensions p t) ps → AreDigits most_places ps
+  keyed t [] h = tt
+  keyed Transition (x ∷ []) h = (actions_digit x h.0, tt)
+  keyed Transition (x ∷ y ∷ []) h = (actions_digit x h.0, (states_digit y h.1.0, tt))
+  keyed Transition (x ∷ y ∷ z ∷ []) h = (actions_digit x h.0, (states_digit y h.1.0, (states_digit z h.1.1.0, tt)))
+  keyed Transition (x ∷ y ∷ z ∷ w ∷ ps) h = absurd h.1.1.1
+  keyed Observation (x ∷ []) h = (actions_digit x h.0, tt)
+  keyed Observation (x ∷ y ∷ []) h = (actions_digit x h.0, (states_digit y h.1.0, tt))
+  keyed Observation (x ∷ y ∷ z ∷ []) h = (actions_digit x h.0, (states_digit y h.1.0, (observed_digit z h.1.1.0, tt)))
+  keyed Observation (x ∷ y ∷ z ∷ w ∷ ps) h = absurd h.1.1.1
+  keyed Reward (x ∷ []) h = (actions_digit x h.0, tt)
+  keyed Reward (x ∷ y ∷ []) h = (actions_digit x h.0, (states_digit y h.1.0, tt))
+  keyed Reward (x ∷ y ∷ z ∷ []) h = (actions_digit x h.0, (states_digit y h.1.0, (states_digit z h.1.1.0, tt)))
+  keyed Reward (x ∷ y ∷ z ∷ w ∷ []) h = (actions_digit x h.0, (states_digit y h.1.0, (states_digit z h.1.1.0, (rewarded_digit w h.1.1.1.0, tt))))
+  keyed Reward (x ∷ y ∷ z ∷ w ∷ v ∷ ps) h = absurd h.1.1.1.1
+
+  no_such : (t : Table) (ps : List Place) → ArePlacesIn (dimensions p t) ps → HasNoSuchColumn ps
+  no_such t [] h = tt
+  no_such t (x ∷ []) h = tt
+  no_such t (x ∷ y ∷ []) h = tt
+  no_such t (x ∷ y ∷ Every ∷ ps) h = tt
+  no_such Transition (x ∷ y ∷ Only k ∷ ps) h = let l = h.1.1.0 in let m = sound.0 in λ e. omega arith
+  no_such Observation (x ∷ y ∷ Only k ∷ ps) h = let l = h.1.1.0 in let m = sound.2 in λ e. omega arith
+  no_such Reward (x ∷ y ∷ Only k ∷ ps) h = let l = h.1.1.0 in let m = sound.0 in λ e. omega arith
+
+-- sound entries have keys
+pub sound_keyed : (p : Preamble) (entries : List Entry) → AreSound p entries → AreKeyed entries
+sound_keyed p entries sound k d l =
+    let e = sound.each k d l in
+    keyed p (sound.states.1, sound.actions.1, sound.observations.1) _ _ e.places
+
+-- and no column too large
+pub sound_columns : (p : Preamble) (entries : List Entry) → AreSound p entries → HaveColumns entries
+sound_columns p entries sound k d l =
+    let e = sound.each k d l in
+    no_such p (sound.states.1, sound.actions.1, sound.observations.1) _ _ e.places
+
+-- ---- what covers a cell is an entry of the table
+get_here : (xs ys : List Entry) (e : Entry) → slice_get (xs ++ e ∷ ys) (length xs) ≡ Some e
+get_here [] ys e = refl
+get_here (x ∷ xs) ys e = get_here xs ys e
+
+record IsCovering (entries : List Entry) (table : Table) (e : Entry) : Type 0 where
+  number : ℕ
+  is : slice_get entries number ≡ Some e
+  of_table : e.table ≡ table
+
+covering : (entries : List Entry) (table : Table) (indices : List ℕ) (e : Entry) → last_covering entries table indices ≡ Some e → IsCovering entries table e
+covering entries table indices e f = at (Some e) refl (subst (IsLastCovering entries table indices) f (cells.last_is entries table indices))
+  where
+    at : (o : Option Entry) → o ≡ Some e → IsLastCovering entries table indices o → IsCovering entries table e
+    at None g h = cc
+    at (Some x) g (last front y behind whole here rest) =
+        let same : x ≡ e = cc in
+        let both = and_true (is_table x.table table) (fit_places x.places indices) here in
+        record {
+          number = length front;
+          is = ap (λ (xs : List Entry). slice_get xs (length front)) whole ∙ get_here front behind x ∙ ap Some same;
+          of_table = ap (λ (z : Entry). z.table) (sym same) ∙ same_table x.table table both.0;
+        }
+
+module _ (p : Preamble) (table : Table) (shape : Shape) (entries : List Entry) (w : IsWeighted table) (is : IsShapeOf p table shape) (each : All (IsSoundEntry p) entries) where
+  fits : (n : ℕ) (e : Entry) → slice_get entries n ≡ Some e → e.table ≡ table → FitsShape shape e
+  fits n e at t = sound_fits p table shape e w is t (at_number (IsSoundEntry p) entries n e each at)
+
+  -- the weight of a cell, under any preamble of the shape
+  pub weight_is : (q : Preamble) (a s c : ℕ) → IsShapeOf q table shape → weight_in shape.columns entries table a s c ≡ weight q entries table (a ∷ s ∷ c ∷ [])
+  weight_is q a s c like = at (last_covering entries table (a ∷ s ∷ c ∷ [])) refl
+    where
+      at : (o : Option Entry) → last_covering entries table (a ∷ s ∷ c ∷ []) ≡ o → value_or 0 (λ e. given shape.columns e s c) o ≡ value_or 0 (weight_of q (a ∷ s ∷ c ∷ [])) o
+      at None f = refl
+      at (Some e) f =
+          let i = covering entries table (a ∷ s ∷ c ∷ []) e f in
+          sym (given_is q table shape e a s c w like i.of_table (fits i.number e i.is i.of_table).form)
+
+  -- a single cell is a number, in a column
+  pub newer_is : (r : Rule) → IsSingleEntry entries table r → (r.key < shape.columns) × IsNumber entries r.number
+  newer_is r e =
+      let f = fits r.number e.entry e.is e.of_table in
+      let one_number = single_number shape table e.entry e.first e.second (Only r.key) w e.of_table e.places f in
+      let column : HasColumn shape.columns (e.first ∷ e.second ∷ Only r.key ∷ []) = subst (HasColumn shape.columns) e.places f.column in (
+        column,
+        record { entry = e.entry; is = e.is; written = one_number.written; body = one_number.is; small = one_number.small; places = ap length e.places },
+      )
+
+  module _ (within : IsWithin shape) (a s : ℕ) (row : Row) (h : IsRowOf entries table a s row) where
+    whole_is : (o : Option ℕ) → IsLastNumber entries table (a ∷ s ∷ no_column ∷ []) o → IsWhole shape entries o
+    whole_is None l = tt
+    whole_is (Some n) l =
+        let both = and_true (is_table l.0.0.table table) (fit_places l.0.0.places (a ∷ s ∷ no_column ∷ [])) l.0.2 in
+        (l.0.0, l.0.1, fits n l.0.0 l.0.1 (same_table l.0.0.table table both.0))
+
+    small_is : (c : ℕ) → weight_in shape.columns entries table a s c ≤ one * shape.columns
+    small_is c = at (last_covering entries table (a ∷ s ∷ c ∷ [])) refl
+      where
+        at : (o : Option Entry) → last_covering entries table (a ∷ s ∷ c ∷ []) ≡ o → value_or 0 (λ e. given shape.columns e s c) o ≤ one * shape.columns
+        at None f = omega arith
+        at (Some e) f =
+            let i = covering entries table (a ∷ s ∷ c ∷ []) e f in
+            given_small shape e s c within (fits i.number e i.is i.of_table)
+
+    pub numbers_are : AreNumbersOf shape entries table a s row
+    numbers_are =
+        let few = within.columns.1 in
+        record {
+          rising = h.rising;
+          ordered = h.ordered;
+          cells = λ k d l. newer_is _ (h.single k d l);
+          zeros = λ c n l e. h.zeros c n (omega arith) e;
+          covering = whole_is row.whole h.whole;
+          last = λ c l.
+              let number = number_in (under row c) row.cells.items c in
+              sym (cells.last_is_one entries table (a ∷ s ∷ c ∷ []) (entry_at entries number) (last_is entries table (a ∷ s ∷ c ∷ []) number (h.last c (omega arith))));
+          small = λ c l. small_is c;
+        }
+
+-- the counts of a shape are within their limits
+pub sound_within : (p : Preamble) (table : Table) (shape : Shape) (entries : List Entry) → IsWeighted table → IsShapeOf p table shape → AreSound p entries → IsWithin shape
+sound_within p Transition shape entries w is sound =
+    let a = sound.actions in
+    let s = sound.states in
+    record { actions = subst (IsCount most_actions) (sym is.actions) a; states = subst (IsCount most_states) (sym is.states) s; columns = subst (IsCount most_elements) (sym is.columns) s }
+sound_within p Observation shape entries w is sound =
+    let a = sound.actions in
+    let s = sound.states in
+    record { actions = subst (IsCount most_actions) (sym is.actions) a; states = subst (IsCount most_states) (sym is.states) s; columns = subst (IsCount most_elements) (sym is.columns) sound.observations }
+sound_within p Reward shape entries w is sound = absurd w
+
+-- the numbers of a row, by what the index says of it
+pub row_numbers : (p : Preamble) (table : Table) (shape : Shape) (entries : List Entry) (rules : List Rule) (split : SplitRules) (a s : ℕ) (whole : Option ℕ) (row : Row)
+    → IsWeighted table → IsShapeOf p table shape → AreSound p entries → IsIndexOf entries rules → IsSplit entries table rules split → IsWholeNumber rules table a s whole
+    → ((es : List Entry) (rs : List Rule) → AreKeyed es → HaveColumns es → IsIndexOf es rs → IsSplit es table rs split → IsWholeNumber rs table a s whole → IsRowOf es table a s row)
+    → AreNumbersOf shape entries table a s row
+row_numbers p table shape entries rules split a s whole row w is sound index parted covering of_row =
+    let keyed = sound_keyed p entries sound in
+    let columns = sound_columns p entries sound in
+    numbers_are p table shape entries w is sound.each (sound_within p table shape entries w is sound) a s row (of_row entries rules keyed columns index parted covering)

@@ -1,0 +1,114 @@
+-- The rules of a table in two lists.
+use Rattle.std.proofs.Common.{◌≡◌, ◌∙◌, ◌==◌, suc, ◌+◌, ◌^◌, ◌<◌, ◌≤◌, ◌↔◌, ◌⊎◌, inl, inr, ⊎_elim, Bool, true, false, cond, List, [], ◌∷◌, All, Contains, length, refl, sym, ap, subst, arith}
+use Rattle.std.proofs.lemmas.Bool.Decides.{nat_tests}
+use Rattle.std.proofs.lemmas.List.Kept.{AllPairs-cons}
+use Rattle.std.proofs.lemmas.Option.{slice_get_within}
+use Rattle.polcert_cells.specs.declared.entry.Table.{Table}
+use Rattle.polcert_cells.specs.declared.entry.Entry.{Entry}
+use Rattle.polcert_rules.specs.declared.rule.Rule.{Rule}
+use Rattle.polcert_rules.specs.declared.split.SplitRules.{SplitRules}
+use Rattle.polcert_rules.specs.Keys.{key_base, most_places, table_key}
+use Rattle.polcert_rules.specs.Steps.Newest.{IsRising, IsIndexOf}
+use Rattle.polcert_rules.specs.Steps.Zeros.{IsSplit, others_in, is_zero, zeros_of, others_of}
+use Rattle.polcert_rules.proofs.Indexes.Building.{Among, among_from, contains_from}
+use Rattle.polcert_rules.proofs.RowLaws.Cells.{all_of}
+
+module _ (entries : List Entry) where
+  zeros_old : (rs : List Rule) (q : Rule) → Among q (zeros_of entries rs) → Among q rs × (is_zero entries q.number ≡ true)
+  zeros_old [] q a = absurd a
+  zeros_old (r ∷ rs) q a = at (is_zero entries r.number) refl (zeros_old rs q) a
+    where
+      at : (b : Bool) → is_zero entries r.number ≡ b → (Among q (zeros_of entries rs) → Among q rs × (is_zero entries q.number ≡ true))
+          → Among q (cond b (r ∷ zeros_of entries rs) (zeros_of entries rs)) → ((r ≡ q) ⊎ Among q rs) × (is_zero entries q.number ≡ true)
+      at true e ih m = ⊎_elim (λ same. (inl same, subst (λ (x : Rule). is_zero entries x.number ≡ true) same e)) (λ n. let i = ih n in (inr i.0, i.1)) m
+      at false e ih m = let i = ih m in (inr i.0, i.1)
+
+  others_old : (rs : List Rule) (q : Rule) → Among q (others_of entries rs) → Among q rs
+  others_old [] q a = absurd a
+  others_old (r ∷ rs) q a = at (is_zero entries r.number) (others_old rs q) a
+    where
+      at : (b : Bool) → (Among q (others_of entries rs) → Among q rs) → Among q (cond b (others_of entries rs) (r ∷ others_of entries rs)) → (r ≡ q) ⊎ Among q rs
+      at true ih m = inr (ih m)
+      at false ih m = ⊎_elim inl (λ n. inr (ih n)) m
+
+  none_lost : (rs : List Rule) (q : Rule) → Among q rs → Among q (zeros_of entries rs) ⊎ Among q (others_of entries rs)
+  none_lost [] q a = absurd a
+  none_lost (r ∷ rs) q a = at (is_zero entries r.number) (none_lost rs q)
+    where
+      at : (b : Bool) → (Among q rs → Among q (zeros_of entries rs) ⊎ Among q (others_of entries rs))
+          → Among q (cond b (r ∷ zeros_of entries rs) (zeros_of entries rs)) ⊎ Among q (cond b (others_of entries rs) (r ∷ others_of entries rs))
+      at true ih = ⊎_elim (λ same. inl (inl same)) (λ n. ⊎_elim (λ z. inl (inr z)) inr (ih n)) a
+      at false ih = ⊎_elim (λ same. inr (inl same)) (λ n. ⊎_elim inl (λ o. inr (inr o)) (ih n)) a
+
+  -- ---- both rise
+  rest_rises : (r : Rule) (rs : List Rule) → IsRising (r ∷ rs) → IsRising rs
+  rest_rises r rs up i j d less l = up (suc i) (suc j) d (omega arith) (omega arith)
+
+  below_rest : (r : Rule) (rs : List Rule) (q : Rule) → IsRising (r ∷ rs) → Among q rs → r.key < q.key
+  below_rest r rs q up a =
+      let c = contains_from rs q a in
+      let less = up 0 (suc c.0) q (omega arith) (let l = c.1 in omega arith) in
+      subst (λ (x : Rule). r.key < x.key) c.2 less
+
+  pub zeros_rise : (rs : List Rule) → IsRising rs → IsRising (zeros_of entries rs)
+  zeros_rise [] up = up
+  zeros_rise (r ∷ rs) up = at (is_zero entries r.number) (zeros_rise rs (rest_rises r rs up))
+    where
+      at : (b : Bool) → IsRising (zeros_of entries rs) → IsRising (cond b (r ∷ zeros_of entries rs) (zeros_of entries rs))
+      at true ih = AllPairs-cons (λ x y. x.key < y.key) r (zeros_of entries rs)
+          (all_of (λ q. r.key < q.key) (zeros_of entries rs) (λ q c. below_rest r rs q up (zeros_old rs q (among_from (zeros_of entries rs) q c)).0)) ih
+      at false ih = ih
+
+  pub others_rise : (rs : List Rule) → IsRising rs → IsRising (others_of entries rs)
+  others_rise [] up = up
+  others_rise (r ∷ rs) up = at (is_zero entries r.number) (others_rise rs (rest_rises r rs up))
+    where
+      at : (b : Bool) → IsRising (others_of entries rs) → IsRising (cond b (others_of entries rs) (r ∷ others_of entries rs))
+      at true ih = ih
+      at false ih = AllPairs-cons (λ x y. x.key < y.key) r (others_of entries rs)
+          (all_of (λ q. r.key < q.key) (others_of entries rs) (λ q c. below_rest r rs q up (others_old rs q (among_from (others_of entries rs) q c)))) ih
+
+  pub split_is : (table : Table) (rules part : List Rule) (split : SplitRules) → IsRising part
+      → ((r : Rule) → Contains part r ↔ (Contains rules r × (table_key table ≤ r.key) × (r.key < table_key table + key_base ^ most_places)))
+      → split.zeros.items ≡ zeros_of entries part → others_in split.others ≡ others_of entries part → IsSplit entries table rules split
+  split_is table rules part split up kept z o = record {
+    zeros_rise = subst IsRising (sym z) (zeros_rise part up);
+    others_rise = subst IsRising (sym o) (others_rise part up);
+    each = λ r. ((λ e. (kept r).0 (⊎_elim (λ c. contains_from part r (old_zero r c).0) (λ c. contains_from part r (old_other r c)) e)), (λ b. new r ((kept r).1 b)));
+    zero = λ r c. (old_zero r c).1;
+  }
+    where
+      old_zero : (r : Rule) → Contains split.zeros.items r → Among r part × (is_zero entries r.number ≡ true)
+      old_zero r c = zeros_old part r (among_from (zeros_of entries part) r (subst (λ (xs : List Rule). Contains xs r) z c))
+
+      old_other : (r : Rule) → Contains (others_in split.others) r → Among r part
+      old_other r c = others_old part r (among_from (others_of entries part) r (subst (λ (xs : List Rule). Contains xs r) o c))
+
+      new : (r : Rule) → Contains part r → Contains split.zeros.items r ⊎ Contains (others_in split.others) r
+      new r c = ⊎_elim
+          (λ a. inl (subst (λ (xs : List Rule). Contains xs r) (sym z) (contains_from (zeros_of entries part) r a)))
+          (λ a. inr (subst (λ (xs : List Rule). Contains xs r) (sym o) (contains_from (others_of entries part) r a)))
+          (none_lost part r (among_from part r c))
+
+  -- each number is that of an entry
+  pub numbers_within : (table : Table) (rules part : List Rule) → IsIndexOf entries rules
+      → ((r : Rule) → Contains part r ↔ (Contains rules r × (table_key table ≤ r.key) × (r.key < table_key table + key_base ^ most_places))) → All (λ (r : Rule). r.number < length entries) part
+  numbers_within table rules part index kept = all_of (λ (r : Rule). r.number < length entries) part
+      (λ r c. let i = index.sound r ((kept r).0 c).0 in slice_get_within entries r.number i.0 i.1)
+
+  -- without zeros the others are all rules
+  all_others : (rs : List Rule) → zeros_of entries rs ≡ [] → others_of entries rs ≡ rs
+  all_others [] e = refl
+  all_others (r ∷ rs) e = at (is_zero entries r.number) (all_others rs) e
+    where
+      at : (b : Bool) → (zeros_of entries rs ≡ [] → others_of entries rs ≡ rs) → cond b (r ∷ zeros_of entries rs) (zeros_of entries rs) ≡ []
+          → cond b (others_of entries rs) (r ∷ others_of entries rs) ≡ r ∷ rs
+      at true ih f = cc
+      at false ih f = ap (λ (xs : List Rule). r ∷ xs) (ih f)
+
+  pub no_zeros : (rs zeros : List Rule) → (length zeros == 0) ≡ true → zeros ≡ zeros_of entries rs → rs ≡ others_of entries rs
+  no_zeros rs zeros none is = sym (all_others rs (sym is ∙ empty zeros none))
+    where
+      empty : (xs : List Rule) → (length xs == 0) ≡ true → xs ≡ []
+      empty [] e = refl
+      empty (x ∷ xs) e = absurd (grind (arith, nat_tests))

@@ -1,0 +1,50 @@
+-- The sum of a sparse row.
+use Rattle.std.proofs.Common.{◌≡◌, ◌∙◌, ℕ, zero, suc, ◌+◌, ◌*◌, ◌<◌, ◌≤◌, ⊎_elim, List, [], ◌∷◌, mul-suc, refl, sym, ap, arith}
+use Rattle.std.proofs.lemmas.Bool.{cases_lt}
+use Rattle.polcert_cells.specs.Meaning.{sum_below}
+use Rattle.polcert_cells.specs.declared.cell.Cell.{Cell}
+use Rattle.polcert_cells.specs.Sparse.{weight_at, IsSparse}
+use Rattle.polcert_rules.specs.Steps.Sources.{total}
+use Rattle.polcert_cells.proofs.SparseLaws.{Climbs, climbs_from, weight_head, weight_tail, weight_below}
+
+sum_without : (x : Cell) (xs : List Cell) (n : ℕ) → n ≤ x.column → sum_below (weight_at (x ∷ xs)) n ≡ sum_below (weight_at xs) n
+sum_without x xs zero l = refl
+sum_without x xs (suc n) l =
+    let before : sum_below (weight_at (x ∷ xs)) n ≡ sum_below (weight_at xs) n = sum_without x xs n (omega arith) in
+    let here : weight_at (x ∷ xs) n ≡ weight_at xs n = weight_tail x xs n (λ e. omega arith) in
+    omega (arith, before, here)
+
+sum_with : (x : Cell) (xs : List Cell) (n : ℕ) → x.column < n → weight_at xs x.column ≡ 0 → sum_below (weight_at (x ∷ xs)) n ≡ x.weight + sum_below (weight_at xs) n
+sum_with x xs zero l z = absurd (omega arith)
+sum_with x xs (suc n) l z = ⊎_elim
+    (λ less.
+    let before : sum_below (weight_at (x ∷ xs)) n ≡ x.weight + sum_below (weight_at xs) n = sum_with x xs n less z in
+    let here : weight_at (x ∷ xs) n ≡ weight_at xs n = weight_tail x xs n (λ e. omega arith) in
+    omega (arith, before, here))
+    (λ ge.
+    let same : x.column ≡ n = omega arith in
+    let before : sum_below (weight_at (x ∷ xs)) n ≡ sum_below (weight_at xs) n = sum_without x xs n ge in
+    let here : weight_at (x ∷ xs) n ≡ x.weight = weight_head x xs n same in
+    let none : weight_at xs n ≡ 0 = ap (weight_at xs) (sym same) ∙ z in
+    omega (arith, before, here, none))
+    (cases_lt x.column n)
+
+sum_none : (n : ℕ) → sum_below (weight_at []) n ≡ 0
+sum_none zero = refl
+sum_none (suc n) = let before = sum_none n in omega (arith, before)
+
+sum_climbs : (low n : ℕ) (xs : List Cell) → Climbs low n xs → sum_below (weight_at xs) n ≡ total xs
+sum_climbs low n [] h = sum_none n
+sum_climbs low n (x ∷ xs) h =
+    sum_with x xs n h.1 (weight_below (x.column + 1) n x.column xs h.3 (omega arith)) ∙ ap (λ k. x.weight + k) (sum_climbs (x.column + 1) n xs h.3)
+
+pub sum_is : (n : ℕ) (xs : List Cell) → IsSparse n xs → total xs ≡ sum_below (weight_at xs) n
+sum_is n xs s = sym (sum_climbs 0 n xs (climbs_from n xs s))
+
+pub sum_small : (f : ℕ → ℕ) (b n : ℕ) → ((c : ℕ) → c < n → f c ≤ b) → sum_below f n ≤ b * n
+sum_small f b zero h = omega arith
+sum_small f b (suc n) h =
+    let before : sum_below f n ≤ b * n = sum_small f b n (λ c l. h c (omega arith)) in
+    let here : f n ≤ b = h n (omega arith) in
+    let product : b * suc n ≡ b * n + b = mul-suc b n in
+    omega (arith, before, here, product)

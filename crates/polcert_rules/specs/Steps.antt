@@ -1,0 +1,13 @@
+-- What nobody has to believe: only contracts of private functions, and of layers below the crates that callers use, cite these.
+pub mod Given
+pub mod Meeting
+pub mod Merging
+pub mod Newest
+pub mod Noting
+pub mod Repeats
+pub mod RewardSearch
+pub mod Rewards
+pub mod Rows
+pub mod Shapes
+pub mod Sources
+pub mod Zeros

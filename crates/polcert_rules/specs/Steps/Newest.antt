@@ -1,0 +1,68 @@
+-- The index of a list of entries, and what it finds.
+use Rattle.std.specs.Prelude.{◌≡◌, ℕ, ◌+◌, ◌<◌, ◌≤◌, ◌==◌, List, [], ◌∷◌, length, take, drop, max, Option, Some, None, All, AllPairs, Contains, slice_get, true, if◌then◌else◌}
+use Rattle.polcert_cells.specs.declared.entry.Table.{Table}
+use Rattle.polcert_cells.specs.declared.entry.Entry.{Entry}
+use Rattle.polcert_cells.specs.Cells.{covers}
+use Rattle.polcert_rules.specs.declared.rule.Rule.{Rule}
+use Rattle.polcert_rules.specs.Keys.{key_of, AreDigits, most_places}
+
+-- each key once, and the keys rise
+abbrev pub IsRising : List Rule → Type 0
+IsRising rules = AllPairs (λ x y. x.key < y.key) rules
+
+-- so many rules in front have keys below this one, and the others have not
+pub record IsCut (rules : List Rule) (key place : ℕ) : Type 0 where
+  pub within : place ≤ length rules
+  pub front : (r : Rule) → Contains (take place rules) r → r.key < key
+  pub rest : (r : Rule) → Contains (drop place rules) r → key ≤ r.key
+
+-- a rule is an entry, by its number and its key
+abbrev pub IsEntry : List Entry → Rule → Type 0
+IsEntry entries r = (e : Entry) × (slice_get entries r.number ≡ Some e) × (key_of e ≡ r.key)
+
+-- Each rule is an entry; and each entry has a rule with its key, and a number as great.
+pub record IsIndexOf (entries : List Entry) (rules : List Rule) : Type 0 where
+  pub sound : (r : Rule) → Contains rules r → IsEntry entries r
+  pub complete : (n : ℕ) (e : Entry) → slice_get entries n ≡ Some e → (r : Rule) × Contains rules r × (r.key ≡ key_of e) × (n ≤ r.number)
+
+-- places that have a key
+abbrev pub AreKeyed : List Entry → Type 0
+AreKeyed entries = All (λ (e : Entry). AreDigits most_places e.places) entries
+
+-- a rule for each entry, numbered from here on
+abbrev pub rules_from : ℕ → List Entry → List Rule
+rules_from number [] = []
+rules_from number (e ∷ es) = record { key = key_of e; number = number } ∷ rules_from (number + 1) es
+
+-- of neighbours with the same key the greatest number, where this rule stands in front
+abbrev pub newest_from : Rule → List Rule → List Rule
+newest_from last [] = last ∷ []
+newest_from last (r ∷ rs) = if r.key == last.key then newest_from (record { key = last.key; number = max last.number r.number }) rs else (last ∷ newest_from r rs)
+
+abbrev pub newest_of_each : List Rule → List Rule
+newest_of_each [] = []
+newest_of_each (r ∷ rs) = newest_from r rs
+
+-- a rule whose key passes
+pub record IsOneOf (rules : List Rule) (P : ℕ → Type 0) (number : ℕ) : Type 0 where
+  pub rule : Rule
+  pub among : Contains rules rule
+  pub passes : P rule.key
+  pub is : rule.number ≡ number
+
+-- the greatest number of the rules whose keys pass
+abbrev pub IsNewest : List Rule → (ℕ → Type 0) → Option ℕ → Type 0
+IsNewest rules P None = (r : Rule) → Contains rules r → P r.key → ⊥
+IsNewest rules P (Some n) = IsOneOf rules P n × ((r : Rule) → Contains rules r → P r.key → r.number ≤ n)
+
+-- the entry of this number
+abbrev pub entry_at : List Entry → Option ℕ → Option Entry
+entry_at entries None = None
+entry_at entries (Some n) = slice_get entries n
+
+-- the number of the last entry that covers the cell
+abbrev pub IsLastNumber : List Entry → Table → List ℕ → Option ℕ → Type 0
+IsLastNumber entries table indices None = (k : ℕ) (x : Entry) → slice_get entries k ≡ Some x → covers table indices x ≡ true → ⊥
+IsLastNumber entries table indices (Some n) =
+    ((e : Entry) × (slice_get entries n ≡ Some e) × (covers table indices e ≡ true))
+    × ((k : ℕ) (x : Entry) → slice_get entries k ≡ Some x → covers table indices x ≡ true → k ≤ n)

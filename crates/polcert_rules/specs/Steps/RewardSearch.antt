@@ -1,0 +1,53 @@
+-- Rules that begin with places that fit, and what the newest rule of R gives.
+-- Nobody has to believe this file: only private functions cite it.
+use Rattle.std.specs.Prelude.{◌≡◌, ℕ, ◌+◌, ◌-◌, ◌^◌, ◌<◌, ◌≤◌, Bool, true, false, ◌⊎◌, List, [], ◌∷◌, length, Option, Some, None, Contains, slice_get, slice_index_or, ℤ, pos}
+use Rattle.polcert_cells.specs.declared.entry.Table.TheVariants.{Reward}
+use Rattle.polcert_cells.specs.declared.entry.Place.{Place}
+use Rattle.polcert_cells.specs.declared.entry.Entry.{Entry}
+use Rattle.polcert_cells.specs.Cells.{fit_places, reward}
+use Rattle.polcert_cells.specs.Preamble.{Preamble}
+use Rattle.polcert_rules.specs.declared.rule.Rule.{Rule}
+use Rattle.polcert_rules.specs.declared.reward_parts.Outcome.{Outcome}
+use Rattle.polcert_rules.specs.declared.reward_parts.RewardBody.{RewardBody}
+use Rattle.polcert_rules.specs.Keys.{key_base, key_in}
+use Rattle.polcert_rules.specs.Steps.Newest.{IsLastNumber}
+use Rattle.polcert_rules.specs.Steps.Rewards.{AreRewardsOf, IsBodyOf}
+use Rattle.polcert_rules.specs.RewardAt.{RewardRules}
+
+-- The key begins with places, one for each of these indices, that fit them, and goes on with at least so much.
+pub record Begins (levels low : ℕ) (indices : List ℕ) (least key : ℕ) : Type 0 where
+  pub places : List Place
+  pub fits : fit_places places indices ≡ true
+  pub all : length places ≡ length indices
+  pub from : key_in levels low places + least ≤ key
+  pub to : key < key_in levels low places + key_base ^ (levels - length indices)
+
+-- whether a rule's key passes
+abbrev pub IsAnswer : List Rule → (ℕ → Type 0) → Bool → Type 0
+IsAnswer rules P true = (r : Rule) × Contains rules r × P r.key
+IsAnswer rules P false = (r : Rule) → Contains rules r → P r.key → ⊥
+
+-- the rewards of so many observations from this one on are filled in
+abbrev pub AreFilled : RewardRules → Outcome → ℕ → ℕ → List ℤ → Type 0
+AreFilled rewards at first count filled = (p : Preamble) (entries : List Entry) → AreRewardsOf p entries rewards
+    → (i : ℕ) → i < count → slice_index_or filled i (pos 0) ≡ reward p entries (at.action ∷ at.start ∷ at.end ∷ (first + i) ∷ [])
+
+-- as many indices as counts, each below its count
+abbrev pub AreWithin : List ℕ → List ℕ → Type 0
+AreWithin [] [] = Unit {0}
+AreWithin (count ∷ counts) (i ∷ indices) = (i < count) × AreWithin counts indices
+AreWithin _ _ = ⊥
+
+-- a body of so many places has one number behind an action and a start state: all places, or all but that of the only observation
+abbrev pub IsSingle : ℕ → ℕ → Type 0
+IsSingle observations places = (4 ≤ places) ⊎ ((places ≡ 3) × (observations ≡ 1))
+
+-- the body is that of the last entry of R that covers the cell
+pub record IsBodyOfLast (costs : Bool) (entries : List Entry) (numbers : List ℤ) (indices : List ℕ) (b : RewardBody) : Type 0 where
+  pub number : ℕ
+  pub last : IsLastNumber entries Reward indices (Some number)
+  pub body : (e : Entry) → slice_get entries number ≡ Some e → IsBodyOf costs e numbers b
+
+abbrev pub IsLastBody : Bool → List Entry → List ℤ → List ℕ → Option RewardBody → Type 0
+IsLastBody costs entries numbers indices None = IsLastNumber entries Reward indices None
+IsLastBody costs entries numbers indices (Some b) = IsBodyOfLast costs entries numbers indices b

@@ -1,0 +1,128 @@
+-- Single cells of weight 0. Nobody has to believe this file: only private functions cite it.
+use Rattle.std.specs.Prelude.{◌≡◌, ℕ, ◌+◌, ◌-◌, ◌*◌, ◌^◌, ◌<◌, ◌≤◌, ◌==◌, ◌&&◌, ◌↔◌, ◌⊎◌, Bool, true, false, List, [], ◌∷◌, Option, Some, None, IfSome, All, Contains, length, slice_get, slice_index, if◌then◌else◌}
+use Rattle.polcert_cells.specs.declared.entry.Table.{Table}
+use Rattle.polcert_cells.specs.declared.entry.Body.{Body}
+use Rattle.polcert_cells.specs.declared.entry.Body.TheVariants.{Probabilities, Rewards, Uniform, Identity}
+use Rattle.polcert_cells.specs.declared.entry.Entry.{Entry}
+use Rattle.polcert_cells.specs.Cells.{value_or}
+use Rattle.polcert_cells.specs.declared.cell.Cell.{Cell}
+use Rattle.polcert_rules.specs.declared.rule.Rule.{Rule}
+use Rattle.polcert_rules.specs.declared.split.SplitRules.{SplitRules}
+use Rattle.polcert_rules.specs.declared.split.Others.{Others}
+use Rattle.polcert_rules.specs.declared.split.Others.TheVariants.{Lent, Listed}
+use Rattle.polcert_rules.specs.declared.zeros.ZeroColumns.{ZeroColumns}
+use Rattle.polcert_rules.specs.declared.zeros.RowZeros.{RowZeros}
+use Rattle.polcert_rules.specs.declared.row.Row.{Row}
+use Rattle.polcert_rules.specs.Keys.{key_base, most_places, table_key}
+use Rattle.polcert_rules.specs.Steps.Newest.{IsRising, IsLastNumber}
+use Rattle.polcert_rules.specs.Matching.{later, newest_by}
+use Rattle.polcert_rules.specs.Steps.Merging.{is_newer}
+use Rattle.polcert_rules.specs.Steps.Rows.{IsSingleEntry, no_column, number_in}
+
+-- ---- which rules are zeros
+-- the body of an entry of so many places gives single cells the weight 0
+abbrev pub gives_zero_in : ℕ → Body → Bool
+gives_zero_in places (Probabilities ps) = places == 3 && slice_index ps 0 == 0
+gives_zero_in places Uniform = false
+gives_zero_in places Identity = false
+gives_zero_in places (Rewards hs) = false
+
+abbrev pub gives_zero : Entry → Bool
+gives_zero entry = gives_zero_in (length entry.places) entry.body
+
+-- the entry of this number gives single cells the weight 0
+abbrev pub is_zero : List Entry → ℕ → Bool
+is_zero entries number = value_or false gives_zero (slice_get entries number)
+
+-- the zeros among these rules, and the others
+abbrev pub zeros_of : List Entry → List Rule → List Rule
+zeros_of entries [] = []
+zeros_of entries (r ∷ rs) =
+    if is_zero entries r.number then (r ∷ zeros_of entries rs) else zeros_of entries rs
+
+abbrev pub others_of : List Entry → List Rule → List Rule
+others_of entries [] = []
+others_of entries (r ∷ rs) =
+    if is_zero entries r.number then others_of entries rs else (r ∷ others_of entries rs)
+
+-- the rules that are no zeros, lent or listed
+abbrev pub others_in : Others → List Rule
+others_in (Lent rules) = rules.now
+others_in (Listed rules) = rules.items
+
+-- each rule of the table is in one of the two lists, and those of the first are zeros
+pub record IsSplit (entries : List Entry) (table : Table) (rules : List Rule) (split : SplitRules) : Type 0 where
+  pub zeros_rise : IsRising split.zeros.items
+  pub others_rise : IsRising (others_in split.others)
+  pub each : (r : Rule) → (Contains split.zeros.items r ⊎ Contains (others_in split.others) r)
+      ↔ (Contains rules r × (table_key table ≤ r.key) × (r.key < table_key table + key_base ^ most_places))
+  pub zero : (r : Rule) → Contains split.zeros.items r → is_zero entries r.number ≡ true
+
+-- ---- the zeros of a row
+-- the number of the rule with this key
+abbrev pub at_key : List Rule → ℕ → Option ℕ
+at_key rules key = newest_by (λ k. k == key) rules
+
+abbrev pub zero_in : ZeroColumns → ℕ → Option ℕ
+zero_in z column = at_key z.rules.now (z.start + column * key_base)
+
+-- the number of the newest zero of a column
+abbrev pub newest_zero : RowZeros → ℕ → Option ℕ
+newest_zero z c =
+    later (later (zero_in z.of_all c) (zero_in z.of_state c)) (later (zero_in z.of_action c) (zero_in z.of_row c))
+
+abbrev pub zero_of : Option RowZeros → ℕ → Option ℕ
+zero_of None c = None
+zero_of (Some z) c = newest_zero z c
+
+-- their keys rise, and have room
+pub record IsOrdered (z : ZeroColumns) : Type 0 where
+  pub rising : IsRising z.rules.now
+  pub room : z.start + (key_base - 2) * key_base < 2 ^ 64
+
+pub record AreOrdered (z : RowZeros) : Type 0 where
+  pub of_all : IsOrdered z.of_all
+  pub of_state : IsOrdered z.of_state
+  pub of_action : IsOrdered z.of_action
+  pub of_row : IsOrdered z.of_row
+
+-- the rules from the key `start` on, as far as keys of columns go
+pub record AreColumnsFrom (rules : List Rule) (start : ℕ) (z : ZeroColumns) : Type 0 where
+  pub is : z.start ≡ start
+  pub rising : IsRising z.rules.now
+  pub kept : (r : Rule) → Contains z.rules.now r ↔ (Contains rules r × (start ≤ r.key) × (r.key < start + (key_base - 2) * key_base))
+
+-- ---- what lies under the cells above 0
+-- what covers the whole row, or a zero that is newer
+abbrev pub number_under : Option ℕ → Option RowZeros → ℕ → Option ℕ
+number_under whole None c = whole
+number_under whole (Some z) c = later whole (newest_zero z c)
+
+abbrev pub under : Row → ℕ → Option ℕ
+under row c = number_under row.whole row.zeros c
+
+-- a zero of this number hides what covers the whole row
+abbrev pub hides : Option ℕ → Option ℕ → Bool
+hides whole None = false
+hides whole (Some number) = is_newer whole number
+
+-- the cells in columns that are not hidden
+abbrev pub shown : (ℕ → Bool) → List Cell → List Cell
+shown hidden [] = []
+shown hidden (x ∷ xs) = if hidden x.column then shown hidden xs else (x ∷ shown hidden xs)
+
+-- the cells of what covers the whole row that no newer zero hides
+abbrev pub shown_under : Option ℕ → Option RowZeros → List Cell → List Cell
+shown_under whole None base = base
+shown_under whole (Some z) base = shown (λ c. hides whole (newest_zero z c)) base
+
+-- ---- a row, by the numbers of its entries
+-- The cells are single cells of the table; and in each column the last entry that covers the cell is that of the greatest number
+-- among what covers the whole row, the newest zero, and the cell.
+pub record IsRowOf (entries : List Entry) (table : Table) (a s : ℕ) (row : Row) : Type 0 where
+  pub rising : IsRising row.cells.items
+  pub ordered : IfSome row.zeros AreOrdered
+  pub single : All (IsSingleEntry entries table) row.cells.items
+  pub zeros : (c n : ℕ) → c < no_column → zero_of row.zeros c ≡ Some n → is_zero entries n ≡ true
+  pub whole : IsLastNumber entries table (a ∷ s ∷ no_column ∷ []) row.whole
+  pub last : (c : ℕ) → c < no_column → IsLastNumber entries table (a ∷ s ∷ c ∷ []) (number_in (under row c) row.cells.items c)

@@ -1,0 +1,9 @@
+-- Numerals and their values.
+pub mod DecimalLaws
+pub mod FrontNumbers
+pub mod MeasureLaws
+pub mod NumberLaws
+pub mod Plain
+pub mod PlainWhole
+pub mod SignedLaws
+pub mod SizeLaws

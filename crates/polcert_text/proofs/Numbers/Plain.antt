@@ -1,0 +1,156 @@
+-- A numeral of digits, a point and digits, read without its exponent.
+use Rattle.std.proofs.Common.{◌≡◌, ◌∙◌, ◌⊎◌, ⊎_elim, ℕ, zero, suc, ◌+◌, ◌-◌, ◌*◌, ◌^◌, ◌<◌, ◌≤◌, min, Bool, true, false, List, [], ◌∷◌, ◌++◌, length, take, drop, take_all, get_or, refl, sym, ap, length-append, arith}
+use Rattle.std.proofs.Math.Seq.{take-append-add, drop-append-add}
+use Rattle.std.proofs.lemmas.List.{drop_all, length-take-le, length-drop, take_more, append_assoc, get_or-drop, drop-drop}
+use Rattle.std.proofs.lemmas.List.Folds.{list_all_at}
+use Rattle.std.proofs.lemmas.Int.Digits.{digits_value_push}
+use Rattle.std.specs.List.{list_all, list_any}
+use Rattle.std.specs.Str.Parse.{digits_value}
+use Rattle.polcert_text.specs.Bytes.{class_of, digit_class, is_digit, mark_class, point_class, is_exponent_mark, is_point}
+use Rattle.polcert_text.specs.Lexemes.{before, after, is_numeral}
+use Rattle.polcert_text.specs.Numbers.{whole_of, fraction_of, exponent_of, is_lowering, without_sign, exponent_size, largest, IsReadable}
+use Rattle.polcert_text.specs.Steps.Scaling.{cap, is_nonzero, ceiling, Measures}
+use Rattle.polcert_text.proofs.Scanning.Classes.{is_digit_class}
+use Rattle.polcert_text.specs.Steps.Scan.{state_after, state_through}
+use Rattle.polcert_text.specs.declared.bytes.ByteClass.TheVariants.{Digit, Point}
+use Rattle.polcert_text.specs.declared.lexeme.State.{State}
+use Rattle.polcert_text.specs.declared.lexeme.State.TheVariants as states
+use Rattle.polcert_text.proofs.Scanning.LexemeLaws.{state_step}
+use Rattle.polcert_text.proofs.Numbers.NumberLaws.{before_at, after_at, before_all, after_all, numeral_at_state, digit_is}
+use Rattle.polcert_text.proofs.Numbers.SizeLaws.{parts_measure, exact_floor, within}
+
+-- one more digit of a piece that begins at `from`
+pub behind_more : (front bs : List ℕ) (from at read : ℕ) → from ≤ at → at < length bs → class_of (get_or bs at 0) ≡ Digit → read ≡ digits_value 10 (front ++ take (at - from) (drop from bs)) → read * 10 + (get_or bs at 0 - 48) ≡ digits_value 10 (front ++ take (at + 1 - from) (drop from bs))
+behind_more front bs from at read low high digit was =
+    let n : ℕ = at - from in
+    let d : ℕ = get_or bs at 0 in
+    let long = length-drop from bs in
+    let place : from + n ≡ at = omega arith in
+    let byte : get_or (drop from bs) n 0 ≡ d = get_or-drop from bs n 0 ∙ ap (λ k. get_or bs k 0) place in
+    let more : take (n + 1) (drop from bs) ≡ take n (drop from bs) ++ get_or (drop from bs) n 0 ∷ [] = take_more (drop from bs) n 0 (omega (arith, long)) in
+    let next : at + 1 - from ≡ n + 1 = omega arith in
+    let list : front ++ take (at + 1 - from) (drop from bs) ≡ (front ++ take n (drop from bs)) ++ d ∷ [] =
+    ap (λ k. front ++ take k (drop from bs)) next
+    ∙ ap (λ xs. front ++ xs) (more ∙ ap (λ b. take n (drop from bs) ++ b ∷ []) byte)
+    ∙ sym (append_assoc front (take n (drop from bs)) (d ∷ [])) in
+    (λ i. was i * 10 + sym (digit_is d (ap digit_class digit)) i)
+    ∙ sym (digits_value_push 10 (front ++ take n (drop from bs)) d)
+    ∙ ap (digits_value 10) (sym list)
+
+-- the bytes are digits, a point at p, and digits
+pub record IsPlain (bs : List ℕ) (p : ℕ) : Type 0 where
+  pub inside : p < length bs
+  pub some : 0 < p
+  pub first : (k : ℕ) → 0 ≤ k → k < p → class_of (get_or bs k 0) ≡ Digit
+  pub point : class_of (get_or bs p 0) ≡ Point
+  pub second : (k : ℕ) → p + 1 ≤ k → k < length bs → class_of (get_or bs k 0) ≡ Digit
+
+side : (k p : ℕ) → (k < p) ⊎ ((k ≡ p) ⊎ (p + 1 ≤ k))
+side k p = grind arith
+
+pub run : (bs : List ℕ) (from n : ℕ) (state : State) → from + n ≤ length bs → state_after state Digit ≡ state → state_through states.Start (take from bs) ≡ state → ((k : ℕ) → k < n → class_of (get_or bs (from + k) 0) ≡ Digit) → state_through states.Start (take (from + n) bs) ≡ state
+run bs from zero state h on was digits =
+    let same : from + 0 ≡ from = omega arith in
+    ap (λ k. state_through states.Start (take k bs)) same ∙ was
+run bs from (suc n) state h on was digits =
+    let before = run bs from n state (omega arith) on was (λ k l. digits k (omega arith)) in
+    let next : from + suc n ≡ from + n + 1 = omega arith in
+    ap (λ k. state_through states.Start (take k bs)) next
+    ∙ state_step bs (from + n) state Digit state (omega arith) before (sym (digits n (omega arith))) (sym on)
+
+not_false : (b : Bool) → (b ≡ false → ⊥) → b ≡ true
+not_false true h = refl
+not_false false h = absurd (h refl)
+
+digit_of_all : (xs : List ℕ) (n : ℕ) → n < length xs → list_all is_digit xs ≡ true → is_digit (get_or xs n 0) ≡ true
+digit_of_all xs n h all = not_false (is_digit (get_or xs n 0)) (λ none. let none_all = list_all_at is_digit xs n 0 h none in cc)
+
+pub at_or_behind : (k n : ℕ) → (k < n) ⊎ (n ≤ k)
+at_or_behind k n = grind arith
+
+-- as many as there are, or the first n
+take_fewer : (xs : List ℕ) (n k : ℕ) → k ≡ min (length xs) n → take n xs ≡ take k xs
+take_fewer xs n k e = ⊎_elim
+    (λ few. take_all n xs (omega arith) ∙ sym (take_all k xs (omega arith)))
+    (λ many. let same : n ≡ k = omega arith in ap (λ m. take m xs) same) (at_or_behind (length xs) n)
+
+drop_fewer : (xs : List ℕ) (n k : ℕ) → k ≡ min (length xs) n → drop n xs ≡ drop k xs
+drop_fewer xs n k e = ⊎_elim
+    (λ few. drop_all n xs (omega arith) ∙ sym (drop_all k xs (omega arith)))
+    (λ many. let same : n ≡ k = omega arith in ap (λ m. drop m xs) same) (at_or_behind (length xs) n)
+
+below_ceiling : (floor : ℕ) (is_inexact : Bool) → floor < largest → ceiling floor is_inexact ≤ largest
+below_ceiling floor true small = omega arith
+below_ceiling floor false small = omega arith
+
+-- behind `from` all are digits
+pub digits_at : (bs : List ℕ) (from k : ℕ) → list_all is_digit (drop from bs) ≡ true → from ≤ k → k < length bs → class_of (get_or bs k 0) ≡ Digit
+digits_at bs from k all low high =
+    let n : ℕ = k - from in
+    let place : from + n ≡ k = omega arith in
+    let here : is_digit (get_or (drop from bs) n 0) ≡ true = digit_of_all (drop from bs) n (omega (arith, length-drop from bs)) all in
+    is_digit_class (class_of (get_or bs k 0)) (ap is_digit (sym (get_or-drop from bs n 0 ∙ ap (λ i. get_or bs i 0) place)) ∙ here)
+
+module _ (bs : List ℕ) (p : ℕ) (plain : IsPlain bs p) where
+  no_mark : (k : ℕ) → k < length bs → is_exponent_mark (get_or bs k 0) ≡ false
+  no_mark k l =
+      ⊎_elim (λ below. ap mark_class (plain.first k (omega arith) below))
+      (⊎_elim (λ at. ap (λ i. mark_class (class_of (get_or bs i 0))) at ∙ ap mark_class plain.point) (λ above. ap mark_class (plain.second k above l))) (side k p)
+
+  mantissa : before is_exponent_mark bs ≡ bs
+  mantissa = before_all is_exponent_mark bs no_mark
+
+  exponent : exponent_of bs ≡ []
+  exponent = after_all is_exponent_mark bs no_mark
+
+  whole : whole_of bs ≡ take p bs
+  whole = ap (before is_point) mantissa ∙ before_at is_point bs p plain.inside (λ k l. ap point_class (plain.first k (omega arith) l)) (ap point_class plain.point)
+
+  fraction : fraction_of bs ≡ drop (p + 1) bs
+  fraction = ap (after is_point) mantissa ∙ after_at is_point bs p plain.inside (λ k l. ap point_class (plain.first k (omega arith) l)) (ap point_class plain.point)
+
+  numeral : is_numeral bs ≡ true
+  numeral =
+      let begun : state_through states.Start (take (0 + 1) bs) ≡ states.Whole = state_step bs 0 states.Start Digit states.Whole (omega (arith, plain.inside)) refl (sym (plain.first 0 (omega arith) plain.some)) refl in
+      let to_point = run bs 1 (p - 1) states.Whole (omega (arith, plain.inside, plain.some)) refl begun (λ k l. plain.first (1 + k) (omega arith) (omega arith)) in
+      let at : 1 + (p - 1) ≡ p = omega (arith, plain.some) in
+      let there : state_through states.Start (take p bs) ≡ states.Whole = ap (λ k. state_through states.Start (take k bs)) (sym at) ∙ to_point in
+      let behind = state_step bs p states.Whole Point states.Fraction plain.inside there (sym plain.point) refl in
+      let n : ℕ = length bs - (p + 1) in
+      let full : p + 1 + n ≡ length bs = omega (arith, plain.inside) in
+      let done = run bs (p + 1) n states.Fraction (omega arith) refl behind (λ k l. plain.second (p + 1 + k) (omega arith) (omega arith)) in
+      let all : take (p + 1 + n) bs ≡ bs = take_all (p + 1 + n) bs (omega arith) in
+      sym (numeral_at_state bs states.Fraction (ap (state_through states.Start) (sym all) ∙ done))
+
+  no_exponent : exponent_size bs ≡ 0
+  unfolding exponent_size
+  no_exponent = ap (λ xs. digits_value 10 (without_sign xs)) exponent
+
+  -- what is kept: the digits before the point, and six behind it, or all
+  pub plain_measures : (number floor kept : ℕ) (is_inexact : Bool) → length bs ≤ 400 → kept ≡ min (length bs) (p + 7)
+      → number ≡ digits_value 10 (take p bs ++ take (kept - (p + 1)) (drop (p + 1) bs)) → number ≤ largest
+      → ((n : ℕ) → number ≡ min cap n → floor ≡ min cap (n * 10 ^ (p + 7 - kept))) → floor < largest
+      → is_inexact ≡ list_any is_nonzero (drop kept bs) → IsReadable bs × Measures bs floor is_inexact × (ceiling floor is_inexact ≤ largest)
+  plain_measures number floor kept is_inexact short kept_is value below zeros small inexact =
+      let w : List ℕ = take p bs in
+      let f : List ℕ = drop (p + 1) bs in
+      let long_w : length w ≡ p = length-take-le p bs (omega (arith, plain.inside)) in
+      let long_f : length f ≡ length bs - (p + 1) = length-drop (p + 1) bs in
+      let long : length (w ++ f) ≡ p + (length bs - (p + 1)) = length-append w f ∙ (λ i. long_w i + long_f i) in
+      let behind : p + 6 ≡ length w + 6 = omega (arith, long_w) in
+      let front : take (p + 6) (w ++ f) ≡ w ++ take (kept - (p + 1)) f =
+      ap (λ n. take n (w ++ f)) behind ∙ take-append-add w f 6 ∙ ap (λ xs. w ++ xs) (take_fewer f 6 (kept - (p + 1)) (omega (arith, long_f, kept_is, plain.inside))) in
+      let seventh : p + 1 + 6 ≡ p + 7 = omega arith in
+      let rest : drop (p + 6) (w ++ f) ≡ drop kept bs =
+      ap (λ n. drop n (w ++ f)) behind ∙ drop-append-add w f 6 ∙ drop-drop 6 (p + 1) bs ∙ ap (λ n. drop n bs) seventh ∙ drop_fewer bs (p + 7) kept kept_is in
+      let left : p + 6 - length (w ++ f) ≡ p + 7 - kept = omega (arith, long, kept_is, plain.inside) in
+      let size : ℕ = digits_value 10 (take (p + 6) (w ++ f)) * 10 ^ (p + 6 - length (w ++ f)) in
+      let measures : Measures bs size is_inexact = parts_measure bs w f false 0 (p + 6) is_inexact numeral short (sym whole) (sym fraction) (sym (ap is_lowering exponent)) (sym no_exponent) (omega arith) (omega (arith, long_w)) (inexact ∙ ap (list_any is_nonzero) (sym rest)) in
+      let size_is : size ≡ number * 10 ^ (p + 7 - kept) = (λ i. digits_value 10 (front i) * 10 ^ left i) ∙ ap (λ n. n * 10 ^ (p + 7 - kept)) (sym value) in
+      let floor_is : floor ≡ min cap size = zeros number (omega arith) ∙ ap (min cap) (sym size_is) in
+      let top = below_ceiling floor is_inexact small in
+      let exact = exact_floor bs size floor is_inexact measures floor_is top in
+      (record { numeral = numeral; short = short; exponent = omega (arith, no_exponent); size = within bs floor is_inexact exact top }, exact, top)
+
+pub below_or_at : (k n : ℕ) → k < n + 1 → (k < n) ⊎ (k ≡ n)
+below_or_at k n h = grind arith

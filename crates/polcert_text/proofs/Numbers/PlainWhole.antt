@@ -1,0 +1,68 @@
+-- A numeral of digits alone, read without a point and an exponent.
+use Rattle.std.proofs.Common.{◌≡◌, ◌∙◌, ℕ, ◌+◌, ◌-◌, ◌*◌, ◌^◌, ◌<◌, ◌≤◌, true, false, List, [], ◌++◌, length, take, drop, take_all, append-nil, get_or, refl, sym, ap, subst, arith}
+use Rattle.std.proofs.lemmas.List.{drop_all}
+use Rattle.std.specs.Prelude.{Option, Some, None, IfSome}
+use Rattle.std.specs.List.{list_any}
+use Rattle.std.specs.Str.Parse.{digits_value}
+use Rattle.polcert_text.specs.Bytes.{class_of, mark_class, point_class, is_exponent_mark, is_point}
+use Rattle.polcert_text.specs.Lexemes.{before, after, is_numeral}
+use Rattle.polcert_text.specs.Numbers.{whole_of, fraction_of, exponent_of, is_lowering, without_sign, exponent_size, largest, IsReadable}
+use Rattle.polcert_text.specs.Steps.Scaling.{is_nonzero, ceiling, Measures}
+use Rattle.polcert_text.specs.declared.number.Size.{Size}
+use Rattle.polcert_text.specs.Steps.Scan.{state_through}
+use Rattle.polcert_text.specs.declared.bytes.ByteClass.TheVariants.{Digit}
+use Rattle.polcert_text.specs.declared.lexeme.State.TheVariants as states
+use Rattle.polcert_text.proofs.Scanning.LexemeLaws.{state_step}
+use Rattle.polcert_text.proofs.Numbers.NumberLaws.{before_all, after_all, numeral_at_state}
+use Rattle.polcert_text.proofs.Numbers.Plain.{run}
+use Rattle.polcert_text.proofs.Numbers.SizeLaws.{parts_measure, within}
+
+module _ (bs : List ℕ) (some : 0 < length bs) (digits : (k : ℕ) → 0 ≤ k → k < length bs → class_of (get_or bs k 0) ≡ Digit) where
+  mantissa : before is_exponent_mark bs ≡ bs
+  mantissa = before_all is_exponent_mark bs (λ k l. ap mark_class (digits k (omega arith) l))
+
+  exponent : exponent_of bs ≡ []
+  exponent = after_all is_exponent_mark bs (λ k l. ap mark_class (digits k (omega arith) l))
+
+  whole : whole_of bs ≡ bs
+  whole = ap (before is_point) mantissa ∙ before_all is_point bs (λ k l. ap point_class (digits k (omega arith) l))
+
+  fraction : fraction_of bs ≡ []
+  fraction = ap (after is_point) mantissa ∙ after_all is_point bs (λ k l. ap point_class (digits k (omega arith) l))
+
+  numeral : is_numeral bs ≡ true
+  numeral =
+      let begun : state_through states.Start (take (0 + 1) bs) ≡ states.Whole = state_step bs 0 states.Start Digit states.Whole some refl (sym (digits 0 (omega arith) some)) refl in
+      let done = run bs 1 (length bs - 1) states.Whole (omega (arith, some)) refl begun (λ k l. digits (1 + k) (omega arith) (omega (arith, some))) in
+      let all : take (1 + (length bs - 1)) bs ≡ bs = take_all (1 + (length bs - 1)) bs (omega (arith, some)) in
+      sym (numeral_at_state bs states.Whole (ap (state_through states.Start) (sym all) ∙ done))
+
+  no_exponent : exponent_size bs ≡ 0
+  unfolding exponent_size
+  no_exponent = ap (λ xs. digits_value 10 (without_sign xs)) exponent
+
+  pub whole_measures : (number : ℕ) → length bs ≤ 400 → number ≡ digits_value 10 bs → number * 1000000 < largest
+      → IsReadable bs × Measures bs (number * 1000000) false × (ceiling (number * 1000000) false ≤ largest)
+  whole_measures number short value small =
+      let kept : ℕ = length bs + 6 in
+      let all : bs ++ [] ≡ bs = append-nil bs in
+      let none : drop kept (bs ++ []) ≡ [] = ap (drop kept) all ∙ drop_all kept bs (omega arith) in
+      let measures : Measures bs (digits_value 10 (take kept (bs ++ [])) * 10 ^ (kept - length (bs ++ []))) false =
+      parts_measure bs bs [] false 0 kept false numeral short (sym whole) (sym fraction) (sym (ap is_lowering exponent)) (sym no_exponent) (omega arith) (omega arith) (sym (ap (list_any is_nonzero) none)) in
+      let front : take kept (bs ++ []) ≡ bs = ap (take kept) all ∙ take_all kept bs (omega arith) in
+      let six : length bs + 6 - length bs ≡ 6 = omega arith in
+      let left : kept - length (bs ++ []) ≡ 6 = ap (λ xs. kept - length xs) all ∙ six in
+      let size : digits_value 10 (take kept (bs ++ [])) * 10 ^ (kept - length (bs ++ [])) ≡ number * 1000000 = (λ i. digits_value 10 (front i) * 10 ^ left i) ∙ ap (λ n. n * 1000000) (sym value) in
+      let exact : Measures bs (number * 1000000) false = subst (λ n. Measures bs n false) size measures in
+      let top : ceiling (number * 1000000) false ≤ largest = omega (arith, small) in
+      (record { numeral = numeral; short = short; exponent = omega (arith, no_exponent); size = within bs (number * 1000000) false exact top }, exact, top)
+
+  abbrev IsSizeOf : Size → Type 0
+  IsSizeOf size = IsReadable bs × Measures bs size.floor size.is_inexact × (ceiling size.floor size.is_inexact ≤ largest)
+
+  pub whole_is_plain : (number : ℕ) → length bs ≤ 400 → number ≡ digits_value 10 bs → (size : Option Size)
+      → IfSome size (λ s. s.floor ≡ number * 1000000) → IfSome size (λ s. s.is_inexact ≡ false) → IfSome size (λ s. number * 1000000 < largest) → IfSome size IsSizeOf
+  whole_is_plain number short value None floor inexact small = tt
+  whole_is_plain number short value (Some s) floor inexact small =
+      subst (λ n. IsReadable bs × Measures bs n s.is_inexact × (ceiling n s.is_inexact ≤ largest)) (sym floor)
+      (subst (λ b. IsReadable bs × Measures bs (number * 1000000) b × (ceiling (number * 1000000) b ≤ largest)) (sym inexact) (whole_measures number short value small))

@@ -1,0 +1,167 @@
+-- The size of a numeral, from its digits.
+use Rattle.std.proofs.Common.{◌≡◌, ◌∙◌, ℕ, suc, ◌+◌, ◌-◌, ◌*◌, ◌^◌, ◌<◌, ◌≤◌, min, Bool, true, false, not, cond, ◌&&◌, ◌||◌, ◌⊎◌, inl, inr, ⊎_elim, List, [], ◌∷◌, ◌++◌, length, take, drop, refl, sym, ap, subst, arith, length-append}
+use Rattle.std.specs.Prelude.{if◌then◌else◌}
+use Rattle.std.specs.List.{list_all, list_any}
+use Rattle.std.specs.Str.Parse.{digits_value}
+use Rattle.std.proofs.lemmas.List.{take_all, drop_all}
+use Rattle.std.proofs.Math.Nat.{mul-le-mul_right, one-le-pow}
+use Rattle.std.proofs.lemmas.List.Folds.{list_all-append}
+use Rattle.polcert_text.specs.Bytes.{is_digit, is_exponent_mark, is_point, is_sign}
+use Rattle.polcert_text.specs.Lexemes.{before, after, is_mantissa, is_exponent, are_digits, is_empty, is_numeral}
+use Rattle.polcert_text.specs.Numbers.{whole_of, fraction_of, exponent_of, without_sign, is_lowering, number_of, exponent_size, power_of, size_of, millionth, largest}
+use Rattle.polcert_text.specs.Steps.Scaling.{cap, is_nonzero, IsScaled, ceiling, Measures}
+use Rattle.polcert_text.proofs.Numbers.MeasureLaws.{and-true_left, and-true_right, Fits, measure}
+
+length-before : (p : ℕ → Bool) (bs : List ℕ) → length (before p bs) ≤ length bs
+length-before p [] = omega arith
+length-before p (b ∷ bs) = at (p b) refl (length-before p bs)
+  where
+    at : (t : Bool) → p b ≡ t → length (before p bs) ≤ length bs → length (cond (p b) [] (b ∷ before p bs)) ≤ suc (length bs)
+    at true e h = simp e (omega arith)
+    at false e h = simp e (omega arith)
+
+length-after : (p : ℕ → Bool) (bs : List ℕ) → length (after p bs) ≤ length bs
+length-after p [] = omega arith
+length-after p (b ∷ bs) = at (p b) refl (length-after p bs)
+  where
+    at : (t : Bool) → p b ≡ t → length (after p bs) ≤ length bs → length (cond (p b) bs (after p bs)) ≤ suc (length bs)
+    at true e h = simp e (omega arith)
+    at false e h = simp e (omega arith)
+
+pub length-whole : (bs : List ℕ) → length (whole_of bs) ≤ length bs
+length-whole bs = let inner = length-before is_point (before is_exponent_mark bs) in let outer = length-before is_exponent_mark bs in omega arith
+
+pub length-fraction : (bs : List ℕ) → length (fraction_of bs) ≤ length bs
+length-fraction bs = let inner = length-after is_point (before is_exponent_mark bs) in let outer = length-before is_exponent_mark bs in omega arith
+
+mantissa_of_numeral : (bs : List ℕ) → is_numeral bs ≡ true → is_mantissa (before is_exponent_mark bs) ≡ true
+mantissa_of_numeral bs h = and-true_left (is_mantissa (before is_exponent_mark bs)) (not (list_any is_exponent_mark bs) || is_exponent (after is_exponent_mark bs)) h
+
+pub whole_digits : (bs : List ℕ) → is_numeral bs ≡ true → list_all is_digit (whole_of bs) ≡ true
+whole_digits bs h =
+    let m = before is_exponent_mark bs in
+    let sides = and-true_left (list_all is_digit (before is_point m) && list_all is_digit (after is_point m)) (list_any is_digit m) (mantissa_of_numeral bs h) in
+    and-true_left (list_all is_digit (before is_point m)) (list_all is_digit (after is_point m)) sides
+
+pub fraction_digits : (bs : List ℕ) → is_numeral bs ≡ true → list_all is_digit (fraction_of bs) ≡ true
+fraction_digits bs h =
+    let m = before is_exponent_mark bs in
+    let sides = and-true_left (list_all is_digit (before is_point m) && list_all is_digit (after is_point m)) (list_any is_digit m) (mantissa_of_numeral bs h) in
+    and-true_right (list_all is_digit (before is_point m)) (list_all is_digit (after is_point m)) sides
+
+pub after-none : (p : ℕ → Bool) (bs : List ℕ) → list_any p bs ≡ false → after p bs ≡ []
+after-none p [] h = refl
+after-none p (b ∷ bs) h = at (p b) refl (after-none p bs)
+  where
+    at : (t : Bool) → p b ≡ t → (list_any p bs ≡ false → after p bs ≡ []) → cond (p b) bs (after p bs) ≡ []
+    at true e more = let g : (p b || list_any p bs) ≡ false = h in let g2 = rw e at g in cc
+    at false e more = let g : (p b || list_any p bs) ≡ false = h in simp e (more (rw e at g))
+
+exponent_fits_digits : (bs : List ℕ) → is_exponent bs ≡ true → list_all is_digit (without_sign bs) ≡ true
+exponent_fits_digits [] h = refl
+exponent_fits_digits (b ∷ bs) h = at (is_sign b) refl
+  where
+    at : (t : Bool) → is_sign b ≡ t → list_all is_digit (cond (is_sign b) bs (b ∷ bs)) ≡ true
+    at true e = let g : cond (is_sign b) (are_digits bs) (are_digits (b ∷ bs)) ≡ true = h in simp e (and-true_left (list_all is_digit bs) (not (is_empty bs)) (rw e at g))
+    at false e = let g : cond (is_sign b) (are_digits bs) (are_digits (b ∷ bs)) ≡ true = h in simp e (and-true_left (list_all is_digit (b ∷ bs)) true (rw e at g))
+
+pub exponent_digits : (bs : List ℕ) → is_numeral bs ≡ true → list_all is_digit (without_sign (exponent_of bs)) ≡ true
+exponent_digits bs h = at (list_any is_exponent_mark bs) refl
+  where
+    at : (t : Bool) → list_any is_exponent_mark bs ≡ t → list_all is_digit (without_sign (exponent_of bs)) ≡ true
+    at true e =
+        let g : (not (list_any is_exponent_mark bs) || is_exponent (after is_exponent_mark bs)) ≡ true = and-true_right (is_mantissa (before is_exponent_mark bs)) (not (list_any is_exponent_mark bs) || is_exponent (after is_exponent_mark bs)) h in
+        exponent_fits_digits (exponent_of bs) (rw e at g)
+    at false e = ap (λ xs. list_all is_digit (without_sign xs)) (after-none is_exponent_mark bs e)
+
+-- how many digits are kept
+abbrev pub kept_of : List ℕ → ℕ
+kept_of bs = if is_lowering (exponent_of bs) then length (whole_of bs) + 6 - exponent_size bs else length (whole_of bs) + 6 + exponent_size bs
+
+abbrev pub digits_of : List ℕ → List ℕ
+digits_of bs = whole_of bs ++ fraction_of bs
+
+order : (m n : ℕ) → (m ≤ n) ⊎ (n < m)
+order m n = grind arith
+
+lowering_fits : (w f x len : ℕ) → len ≡ w + f → f ≤ 400 → x ≤ 400 → Fits 994 (w + 6 - x) len (1000 - x - f)
+lowering_fits w f x len is a b =
+    ⊎_elim (λ some. inl (omega arith)) (λ none. inr (omega arith, omega arith)) (order x (w + 6))
+
+raising_fits : (w f x len : ℕ) → len ≡ w + f → f ≤ 400 → x ≤ 400 → Fits 994 (w + 6 + x) len (1000 + x - f)
+raising_fits w f x len is a b = inl (omega arith)
+
+power_fits : (bs : List ℕ) → length bs ≤ 400 → exponent_size bs ≤ 400 → Fits 994 (kept_of bs) (length (digits_of bs)) (power_of bs)
+unfolding power_of
+power_fits bs short small = at (is_lowering (exponent_of bs)) refl
+  where
+    at : (t : Bool) → is_lowering (exponent_of bs) ≡ t → Fits 994 (kept_of bs) (length (digits_of bs)) (cond (is_lowering (exponent_of bs)) (1000 - exponent_size bs - length (fraction_of bs)) (1000 + exponent_size bs - length (fraction_of bs)))
+    at true e =
+        let f_short = length-fraction bs in
+        simp e (lowering_fits (length (whole_of bs)) (length (fraction_of bs)) (exponent_size bs) (length (digits_of bs)) (length-append (whole_of bs) (fraction_of bs)) (omega arith) small)
+    at false e =
+        let f_short = length-fraction bs in
+        simp e (raising_fits (length (whole_of bs)) (length (fraction_of bs)) (exponent_size bs) (length (digits_of bs)) (length-append (whole_of bs) (fraction_of bs)) (omega arith) small)
+
+pub numeral_measure : (bs : List ℕ) → is_numeral bs ≡ true → length bs ≤ 400 → exponent_size bs ≤ 400 → Measures bs (digits_value 10 (take (kept_of bs) (digits_of bs)) * 10 ^ (kept_of bs - length (digits_of bs))) (list_any is_nonzero (drop (kept_of bs) (digits_of bs)))
+unfolding size_of number_of millionth
+numeral_measure bs numeral short small =
+    let digits : list_all is_digit (digits_of bs) ≡ true = list_all-append is_digit (whole_of bs) (fraction_of bs) ∙ (λ i. whole_digits bs numeral i && fraction_digits bs numeral i) in
+    let part = measure (digits_of bs) digits 994 (power_of bs) (kept_of bs) (power_fits bs short small) in
+    record { part = part.part; size = part.size_is; below = part.below; exact = part.exact; inexact = part.inexact }
+
+-- reading no digit yet
+pub scaled_none : (kept : ℕ) → IsScaled kept [] (record { floor = 0; left = kept; is_inexact = false })
+scaled_none kept =
+    let left : kept ≡ kept - 0 = omega arith in
+    let front : take kept [] ≡ [] = take_all kept [] (omega arith) in
+    let back : drop kept [] ≡ [] = drop_all kept [] (omega arith) in
+    record {
+      floor = ap (λ ds. min cap (digits_value 10 ds)) (sym front);
+      left = left;
+      is_inexact = ap (list_any is_nonzero) (sym back);
+    }
+
+pub millionth_pos : 0 < millionth
+unfolding millionth
+millionth_pos = one-le-pow 994 10 (omega arith)
+
+module _ (bs : List ℕ) where
+  pub beyond : (size floor : ℕ) (is_inexact : Bool) → Measures bs size is_inexact → floor ≡ min cap size → largest < ceiling floor is_inexact → largest * millionth < size_of bs
+  beyond size floor true m is more =
+      let at : largest ≤ size = omega arith in
+      let product : largest * millionth ≤ size * millionth = mul-le-mul_right millionth at in
+      omega (arith, product, m.size, m.inexact refl)
+  beyond size floor false m is more =
+      let at : largest + 1 ≤ size = omega arith in
+      let product : (largest + 1) * millionth ≤ size * millionth = mul-le-mul_right millionth at in
+      omega (arith, product, m.size, millionth_pos)
+
+  pub within : (floor : ℕ) (is_inexact : Bool) → Measures bs floor is_inexact → ceiling floor is_inexact ≤ largest → size_of bs ≤ largest * millionth
+  within floor true m small =
+      let product : (floor + 1) * millionth ≤ largest * millionth = mul-le-mul_right millionth small in
+      omega (arith, product, m.size, m.below)
+  within floor false m small =
+      let product : floor * millionth ≤ largest * millionth = mul-le-mul_right millionth small in
+      omega (arith, product, m.size, m.exact refl)
+
+  -- a size below the bound isn't cut off
+  below_cap : (size floor : ℕ) (is_inexact : Bool) → floor ≡ min cap size → ceiling floor is_inexact ≤ largest → size ≡ floor
+  below_cap size floor true is small = omega arith
+  below_cap size floor false is small = omega arith
+
+  pub exact_floor : (size floor : ℕ) (is_inexact : Bool) → Measures bs size is_inexact → floor ≡ min cap size → ceiling floor is_inexact ≤ largest → Measures bs floor is_inexact
+  exact_floor size floor is_inexact m is small = subst (λ n. Measures bs n is_inexact) (below_cap size floor is_inexact is small) m
+
+  -- the same of the parts that the code has
+  pub parts_measure : (whole fraction : List ℕ) (lowers : Bool) (exponent kept : ℕ) (is_inexact : Bool) → is_numeral bs ≡ true → length bs ≤ 400 → whole ≡ whole_of bs → fraction ≡ fraction_of bs → lowers ≡ is_lowering (exponent_of bs) → exponent ≡ exponent_size bs → exponent ≤ 400 → kept ≡ (if lowers then length whole + 6 - exponent else length whole + 6 + exponent) → is_inexact ≡ list_any is_nonzero (drop kept (whole ++ fraction)) → Measures bs (digits_value 10 (take kept (whole ++ fraction)) * 10 ^ (kept - length (whole ++ fraction))) is_inexact
+  parts_measure whole fraction lowers exponent kept is_inexact numeral short whole_is fraction_is lowers_is exponent_is small kept_is inexact_is =
+      let kept_same : kept ≡ kept_of bs = kept_is ∙ (λ i. cond (lowers_is i) (length (whole_is i) + 6 - exponent_is i) (length (whole_is i) + 6 + exponent_is i)) in
+      let M : List ℕ → List ℕ → ℕ → Type 0 = λ w f k. Measures bs (digits_value 10 (take k (w ++ f)) * 10 ^ (k - length (w ++ f))) (list_any is_nonzero (drop k (w ++ f))) in
+      let base : M (whole_of bs) (fraction_of bs) (kept_of bs) = numeral_measure bs numeral short (omega arith) in
+      subst (Measures bs (digits_value 10 (take kept (whole ++ fraction)) * 10 ^ (kept - length (whole ++ fraction)))) (sym inexact_is)
+      (subst (λ w. M w fraction kept) (sym whole_is) (subst (λ f. M (whole_of bs) f kept) (sym fraction_is) (subst (M (whole_of bs) (fraction_of bs)) (sym kept_same) base)))
+
+pub capped_exponent : (bs digits : List ℕ) (e : ℕ) → digits ≡ without_sign (exponent_of bs) → e ≡ min 401 (digits_value 10 digits) → e ≡ min 401 (exponent_size bs)
+unfolding exponent_size
+capped_exponent bs digits e is at = at ∙ ap (λ ds. min 401 (digits_value 10 ds)) is

@@ -1,0 +1,164 @@
+-- What is written of a number is a numeral that a blank or a line end stops.
+use Rattle.std.proofs.Common.{◌≡◌, ◌∙◌, ℕ, suc, zero, ◌+◌, ◌/◌, ◌%◌, ◌^◌, ◌<◌, ◌≤◌, Bool, true, false, cond, ◌&&◌, ◌||◌, Some, List, [], ◌∷◌, ◌++◌, length, refl, sym, ap, subst, arith, decimal, append-nil, length-append}
+use Rattle.std.specs.Prelude.{◌==◌}
+use Rattle.std.specs.Char.{is_ascii_digit, is_ascii_alphabetic}
+use Rattle.std.specs.List.{list_all, list_any}
+use Rattle.std.proofs.lemmas.Bool.Decides.{nat_tests}
+use Rattle.std.proofs.lemmas.List.Folds.{list_any-append}
+use Rattle.std.proofs.lemmas.Fmt.{decimal_nonempty, length-decimal-le}
+use Rattle.std.proofs.Math.Nat.{mod-lt}
+use Rattle.polcert_text.specs.Bytes.{class_of, is_digit, is_exponent_mark, digit_class, mark_class}
+use Rattle.polcert_text.specs.Lexemes.{kind_of}
+use Rattle.polcert_text.specs.Millionths.{decimals, fraction_text, unsigned_text}
+use Rattle.polcert_text.specs.Steps.Scan.{state_after, state_through, kind_at}
+use Rattle.polcert_text.specs.declared.bytes.ByteClass.{ByteClass}
+use Rattle.polcert_text.specs.declared.bytes.ByteClass.TheVariants as classes
+use Rattle.polcert_text.specs.declared.lexeme.State.TheVariants.{Start, Whole, Fraction}
+use Rattle.polcert_text.specs.declared.lexeme.TokenKind.TheVariants.{Numeral}
+use Rattle.polcert_text.proofs.Numbers.DecimalLaws.{digit_below_suc}
+use Rattle.polcert_text.proofs.Scanning.LexemeLaws.{kind_of-through, state_through-append}
+use Rattle.polcert_text.proofs.Numbers.MeasureLaws.{and-true_left, and-true_right, ten_pos}
+use Rattle.polcert_text.proofs.Printing.PrintLaws.{decimal_digits}
+
+chain_yes : (blank line hash mark letter digit : Bool) (rest : ByteClass) → blank ≡ false → line ≡ false → hash ≡ false → mark ≡ false → letter ≡ false → digit ≡ true → digit_class (cond blank classes.Blank (cond line classes.LineEnd (cond hash classes.Hash (cond mark classes.ExponentMark (cond letter classes.Letter (cond digit classes.Digit rest)))))) ≡ true
+chain_yes blank line hash mark letter digit rest a b c d e f = simp (a, b, c, d, e, f)
+
+module _ (b : ℕ) (low : 48 ≤ b) (high : b ≤ 57) where
+  not_blank : (b == 9 || b == 13 || b == 32) ≡ false
+  not_blank = grind (arith, nat_tests)
+
+  not_line : (b == 10) ≡ false
+  not_line = grind (arith, nat_tests)
+
+  not_hash : (b == 35) ≡ false
+  not_hash = grind (arith, nat_tests)
+
+  not_mark : (b == 101 || b == 69) ≡ false
+  not_mark = grind (arith, nat_tests)
+
+  not_letter : is_ascii_alphabetic b ≡ false
+  not_letter = grind (arith, nat_tests)
+
+  ascii_digit : is_ascii_digit b ≡ true
+  ascii_digit = grind (arith, nat_tests)
+
+  is_digit-yes : is_digit b ≡ true
+  unfolding class_of
+  is_digit-yes = chain_yes _ _ _ _ _ _ _ not_blank not_line not_hash not_mark not_letter ascii_digit
+
+decimals_digits : (k r : ℕ) → r < 10 ^ k → list_all is_digit (decimals k r) ≡ true
+unfolding decimals
+decimals_digits zero r h = refl
+decimals_digits (suc k) r h = at (r == 0) refl (decimals_digits k (r % 10 ^ k) (mod-lt r (ten_pos k)))
+  where
+    at : (z : Bool) → (r == 0) ≡ z → list_all is_digit (decimals k (r % 10 ^ k)) ≡ true → list_all is_digit (cond (r == 0) [] ((48 + r / 10 ^ k) ∷ decimals k (r % 10 ^ k))) ≡ true
+    at true e more = simp e
+    at false e more =
+        let small = digit_below_suc k r h in
+        simp e (λ i. is_digit-yes (48 + r / 10 ^ k) (omega arith) (omega arith) i && more i)
+
+decimals_short : (k r : ℕ) → length (decimals k r) ≤ k
+unfolding decimals
+decimals_short zero r = omega arith
+decimals_short (suc k) r = at (r == 0) (decimals_short k (r % 10 ^ k))
+  where
+    at : (z : Bool) → length (decimals k (r % 10 ^ k)) ≤ k → length (cond z [] ((48 + r / 10 ^ k) ∷ decimals k (r % 10 ^ k))) ≤ suc k
+    at true h = omega arith
+    at false h = omega (arith, h)
+
+digit_is : (c : ByteClass) → digit_class c ≡ true → c ≡ classes.Digit
+digit_is classes.Digit h = refl
+digit_is _ h = cc
+
+digits_whole : (ds : List ℕ) → list_all is_digit ds ≡ true → state_through Whole ds ≡ Whole
+digits_whole [] h = refl
+digits_whole (d ∷ ds) h =
+    ap (λ c. state_through (state_after Whole c) ds) (digit_is (class_of d) (and-true_left (is_digit d) (list_all is_digit ds) h))
+    ∙ digits_whole ds (and-true_right (is_digit d) (list_all is_digit ds) h)
+
+digits_fraction : (ds : List ℕ) → list_all is_digit ds ≡ true → state_through Fraction ds ≡ Fraction
+digits_fraction [] h = refl
+digits_fraction (d ∷ ds) h =
+    ap (λ c. state_through (state_after Fraction c) ds) (digit_is (class_of d) (and-true_left (is_digit d) (list_all is_digit ds) h))
+    ∙ digits_fraction ds (and-true_right (is_digit d) (list_all is_digit ds) h)
+
+digits_unmarked : (ds : List ℕ) → list_all is_digit ds ≡ true → list_any is_exponent_mark ds ≡ false
+digits_unmarked [] h = refl
+digits_unmarked (d ∷ ds) h =
+    let e = digit_is (class_of d) (and-true_left (is_digit d) (list_all is_digit ds) h) in
+    simp e (digits_unmarked ds (and-true_right (is_digit d) (list_all is_digit ds) h))
+
+-- digits, and perhaps a point and digits
+pub record IsPlain (text : List ℕ) : Type 0 where
+  pub digit : ℕ
+  pub rest : List ℕ
+  pub begins : text ≡ digit ∷ rest
+  pub is_digit : digit_class (class_of digit) ≡ true
+  pub kind : kind_of text ≡ Some Numeral
+  pub unmarked : list_any is_exponent_mark text ≡ false
+  pub short : length text ≤ 30
+
+whole_state : (d : ℕ) (ds : List ℕ) → list_all is_digit (d ∷ ds) ≡ true → state_through Start (d ∷ ds) ≡ Whole
+whole_state d ds h =
+    ap (λ c. state_through (state_after Start c) ds) (digit_is (class_of d) (and-true_left (is_digit d) (list_all is_digit ds) h))
+    ∙ digits_whole ds (and-true_right (is_digit d) (list_all is_digit ds) h)
+
+pub plain_whole : (ds : List ℕ) → list_all is_digit ds ≡ true → 0 < length ds → length ds ≤ 20 → IsPlain ds
+plain_whole [] h some few = absurd (omega (arith, some))
+plain_whole (d ∷ ds) h some few = record {
+  digit = d;
+  rest = ds;
+  begins = refl;
+  is_digit = and-true_left (is_digit d) (list_all is_digit ds) h;
+  kind = kind_of-through (d ∷ ds) ∙ ap kind_at (whole_state d ds h);
+  unmarked = digits_unmarked (d ∷ ds) h;
+  short = omega (arith, few);
+}
+
+point_class_is : class_of 46 ≡ classes.Point
+unfolding class_of
+point_class_is = refl
+
+plain_point : (ds fs : List ℕ) → list_all is_digit ds ≡ true → 0 < length ds → length ds ≤ 20 → list_all is_digit fs ≡ true → length fs ≤ 6 → IsPlain (ds ++ 46 ∷ fs)
+plain_point [] fs h some few f small = absurd (omega (arith, some))
+plain_point (d ∷ ds) fs h some few f small =
+    let state : state_through Start ((d ∷ ds) ++ 46 ∷ fs) ≡ Fraction = state_through-append Start (d ∷ ds) (46 ∷ fs) ∙ ap (λ s. state_through s (46 ∷ fs)) (whole_state d ds h)
+    ∙ ap (λ c. state_through (state_after Whole c) fs) point_class_is ∙ digits_fraction fs f in
+    record {
+      digit = d;
+      rest = ds ++ 46 ∷ fs;
+      begins = refl;
+      is_digit = and-true_left (is_digit d) (list_all is_digit ds) h;
+      kind = kind_of-through ((d ∷ ds) ++ 46 ∷ fs) ∙ ap kind_at state;
+      unmarked = list_any-append is_exponent_mark (d ∷ ds) (46 ∷ fs) ∙ (λ i. digits_unmarked (d ∷ ds) h i || (mark_class (point_class_is i) || digits_unmarked fs f i));
+      short = omega (arith, length-append (d ∷ ds) (46 ∷ fs), few, small);
+    }
+
+pub plain_unsigned : (n : ℕ) → n < 10 ^ 19 → IsPlain (unsigned_text n)
+plain_unsigned n h = at (n % 1_000_000 == 0) refl
+  where
+    small : n / 1_000_000 < 2 ^ 64
+    small = omega (arith, h)
+
+    digits : list_all is_digit (decimal (n / 1_000_000)) ≡ true
+    digits = decimal_digits (n / 1_000_000) small
+
+    some : 0 < length (decimal (n / 1_000_000))
+    some = decimal_nonempty (n / 1_000_000) small
+
+    few : length (decimal (n / 1_000_000)) ≤ 20
+    few = let l : length (decimal (n / 1_000_000)) ≤ 19 = length-decimal-le 19 (n / 1_000_000) (omega arith) (omega (arith, h)) small in omega (arith, l)
+
+    at : (z : Bool) → (n % 1_000_000 == 0) ≡ z → IsPlain (decimal (n / 1_000_000) ++ fraction_text (n % 1_000_000))
+    at true e =
+        let text : decimal (n / 1_000_000) ≡ decimal (n / 1_000_000) ++ fraction_text (n % 1_000_000) = sym (simp e (append-nil (decimal (n / 1_000_000)))) in
+        subst IsPlain text (plain_whole (decimal (n / 1_000_000)) digits some few)
+    at false e =
+        let text : decimal (n / 1_000_000) ++ 46 ∷ decimals 6 (n % 1_000_000) ≡ decimal (n / 1_000_000) ++ fraction_text (n % 1_000_000) = sym (simp e) in
+        subst IsPlain text (plain_point (decimal (n / 1_000_000)) (decimals 6 (n % 1_000_000)) digits some few (decimals_digits 6 (n % 1_000_000) (omega arith)) (decimals_short 6 (n % 1_000_000)))
+
+pub plain_decimal : (a : ℕ) → a < 10 ^ 19 → IsPlain (decimal a)
+plain_decimal a h =
+    let small : a < 2 ^ 64 = omega (arith, h) in
+    let few : length (decimal a) ≤ 19 = length-decimal-le 19 a (omega arith) h small in
+    plain_whole (decimal a) (decimal_digits a small) (decimal_nonempty a small) (omega (arith, few))

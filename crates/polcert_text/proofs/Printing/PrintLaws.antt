@@ -1,0 +1,245 @@
+-- The text of a number of millionths is a numeral of just that value.
+use Rattle.std.proofs.Common.{◌≡◌, ◌∙◌, ℕ, suc, zero, ◌+◌, ◌-◌, ◌*◌, ◌/◌, ◌%◌, ◌^◌, ◌<◌, ◌≤◌, Bool, true, false, not, cond, ◌&&◌, ◌||◌, List, [], ◌∷◌, ◌++◌, length, refl, sym, ap, subst, arith, decimal, append-nil, ℤ, pos, negsuc}
+use Rattle.std.proofs.lemmas.Int.{ints}
+use mir.Val.{SFits}
+use mir.Syntax.{w64}
+use Rattle.std.specs.Prelude.{◌==◌}
+use Rattle.std.specs.Char.{digit_value, is_ascii_digit, is_ascii_alphabetic}
+use Rattle.std.specs.List.{list_all, list_any}
+use Rattle.std.specs.Str.Parse.{digits_value, digits_value_after}
+use Rattle.std.proofs.lemmas.Bool.Decides.{nat_tests}
+use Rattle.std.proofs.lemmas.List.Folds.{list_all-append, list_any-append}
+use Rattle.std.proofs.lemmas.Fmt.{decimal_by_steps, decimal_is_IsNumeral, decimal_nonempty}
+use Rattle.std.proofs.lemmas.Nat.{pow-add, div-add-mod'}
+use Rattle.std.proofs.Math.Nat.{mod-lt, mul_assoc}
+use Rattle.polcert_text.specs.Bytes.{class_of, is_digit, is_point, is_exponent_mark, digit_class, mark_class, point_class}
+use Rattle.polcert_text.specs.Lexemes.{before, after, is_mantissa, is_exponent, is_numeral}
+use Rattle.polcert_text.specs.Numbers.{whole_of, fraction_of, exponent_of, is_lowering, without_sign, number_of, exponent_size, power_of, size_of, millionth, signed, IsExact, Denotes}
+use Rattle.polcert_text.specs.Millionths.{decimals, fraction_text, unsigned_text, scaled_text}
+use Rattle.polcert_text.specs.declared.bytes.ByteClass.{ByteClass}
+use Rattle.polcert_text.specs.declared.bytes.ByteClass.TheVariants as classes
+use Rattle.polcert_text.proofs.Numbers.MeasureLaws.{and-true_left, and-true_right, value_after, value-append, ten_pos}
+use Rattle.polcert_text.proofs.Numbers.SizeLaws.{after-none}
+use Rattle.polcert_text.proofs.Numbers.SignedLaws.{signed-mul}
+use Rattle.polcert_text.proofs.Numbers.DecimalLaws.{decimals-zero, digit_below_suc}
+
+chain_yes : (blank line hash mark letter digit : Bool) (rest : ByteClass) → blank ≡ false → line ≡ false → hash ≡ false → mark ≡ false → letter ≡ false → digit ≡ true → digit_class (cond blank classes.Blank (cond line classes.LineEnd (cond hash classes.Hash (cond mark classes.ExponentMark (cond letter classes.Letter (cond digit classes.Digit rest)))))) ≡ true
+chain_yes blank line hash mark letter digit rest a b c d e f = simp (a, b, c, d, e, f)
+
+module _ (b : ℕ) (low : 48 ≤ b) (high : b ≤ 57) where
+  no_blank : (b == 9 || b == 13 || b == 32) ≡ false
+  no_blank = grind (arith, nat_tests)
+
+  no_line : (b == 10) ≡ false
+  no_line = grind (arith, nat_tests)
+
+  no_hash : (b == 35) ≡ false
+  no_hash = grind (arith, nat_tests)
+
+  no_mark : (b == 101 || b == 69) ≡ false
+  no_mark = grind (arith, nat_tests)
+
+  no_letter : is_ascii_alphabetic b ≡ false
+  no_letter = grind (arith, nat_tests)
+
+  yes_digit : is_ascii_digit b ≡ true
+  yes_digit = grind (arith, nat_tests)
+
+  is_digit-yes : is_digit b ≡ true
+  unfolding class_of
+  is_digit-yes = chain_yes _ _ _ _ _ _ _ no_blank no_line no_hash no_mark no_letter yes_digit
+
+pub decimal_digits : (n : ℕ) → n < 2 ^ 64 → list_all is_digit (decimal n) ≡ true
+decimal_digits n h =
+    decimal_by_steps (λ _ ds. list_all is_digit ds ≡ true) (λ n l. λ i. is_digit-yes (48 + n) (omega arith) (omega arith) i && true)
+    (λ n ds l before. list_all-append is_digit ds ((48 + n % 10) ∷ []) ∙ (λ i. before i && (is_digit-yes (48 + n % 10) (omega arith) (omega arith) i && true))) n h
+
+decimals_digits : (k r : ℕ) → r < 10 ^ k → list_all is_digit (decimals k r) ≡ true
+unfolding decimals
+decimals_digits zero r h = refl
+decimals_digits (suc k) r h = at (r == 0) refl (decimals_digits k (r % 10 ^ k) (mod-lt r (ten_pos k)))
+  where
+    at : (z : Bool) → (r == 0) ≡ z → list_all is_digit (decimals k (r % 10 ^ k)) ≡ true → list_all is_digit (cond (r == 0) [] ((48 + r / 10 ^ k) ∷ decimals k (r % 10 ^ k))) ≡ true
+    at true e more = simp e
+    at false e more =
+        let small = digit_below_suc k r h in
+        simp e (λ i. is_digit-yes (48 + r / 10 ^ k) (omega arith) (omega arith) i && more i)
+
+-- the value of the decimals, with zeros up to k places
+record Decimals (k r : ℕ) (ds : List ℕ) : Type 0 where
+  few : length ds ≤ k
+  value : digits_value 10 ds * 10 ^ (k - length ds) ≡ r
+
+digit_is_value : (q : ℕ) → q < 10 → digit_value (48 + q) ≡ q
+digit_is_value q h = grind (arith, nat_tests)
+
+cons_value : (k q rest : ℕ) (ds : List ℕ) → q < 10 → Decimals k rest ds → Decimals (suc k) (q * 10 ^ k + rest) ((48 + q) ∷ ds)
+cons_value k q rest ds h was =
+    let left = k - length ds in
+    let fewer : suc k - length ((48 + q) ∷ ds) ≡ left = omega arith in
+    let digit : 0 * 10 + digit_value (48 + q) ≡ q = omega (arith, digit_is_value q h) in
+    let value : digits_value 10 ((48 + q) ∷ ds) ≡ q * 10 ^ length ds + digits_value 10 ds = ap (λ n. digits_value_after 10 n ds) digit ∙ value_after q ds in
+    let places : length ds + left ≡ k = omega (arith, was.few) in
+    let power : q * 10 ^ length ds * 10 ^ left ≡ q * 10 ^ k = mul_assoc q (10 ^ length ds) (10 ^ left) ∙ ap (λ n. q * n) (sym (pow-add 10 (length ds) left)) ∙ ap (λ n. q * 10 ^ n) places in
+    let scaled : digits_value 10 ((48 + q) ∷ ds) * 10 ^ left ≡ (q * 10 ^ length ds + digits_value 10 ds) * 10 ^ left = ap (λ v. v * 10 ^ left) value in
+    record {
+      few = omega (arith, was.few);
+      value = ap (λ n. digits_value 10 ((48 + q) ∷ ds) * 10 ^ n) fewer ∙ omega (arith, scaled, power, was.value);
+    }
+
+is_zero : (r : ℕ) → (r == 0) ≡ true → r ≡ 0
+is_zero r h = grind (arith, nat_tests)
+
+decimals_value : (k r : ℕ) → r < 10 ^ k → Decimals k r (decimals k r)
+unfolding decimals
+decimals_value zero r h = record { few = omega arith; value = omega arith }
+decimals_value (suc k) r h = at (r == 0) refl (decimals_value k (r % 10 ^ k) (mod-lt r (ten_pos k)))
+  where
+    at : (z : Bool) → (r == 0) ≡ z → Decimals k (r % 10 ^ k) (decimals k (r % 10 ^ k)) → Decimals (suc k) r (cond (r == 0) [] ((48 + r / 10 ^ k) ∷ decimals k (r % 10 ^ k)))
+    at true e more = let none : r ≡ 0 = is_zero r e in simp e (record { few = omega arith; value = omega arith })
+    at false e more =
+        let whole : r / 10 ^ k * 10 ^ k + r % 10 ^ k ≡ r = div-add-mod' r (10 ^ k) in
+        simp e (subst (λ n. Decimals (suc k) n ((48 + r / 10 ^ k) ∷ decimals k (r % 10 ^ k))) whole (cons_value k (r / 10 ^ k) (r % 10 ^ k) (decimals k (r % 10 ^ k)) (digit_below_suc k r h) more))
+
+-- digits are no other bytes
+digit_no_other : (c : ByteClass) → digit_class c ≡ true → (mark_class c ≡ false) × (point_class c ≡ false)
+digit_no_other classes.Digit h = (refl, refl)
+digit_no_other _ h = cc
+
+none_among : (p : ℕ → Bool) → ((b : ℕ) → is_digit b ≡ true → p b ≡ false) → (ds : List ℕ) → list_all is_digit ds ≡ true → list_any p ds ≡ false
+none_among p other [] h = refl
+none_among p other (d ∷ ds) h =
+    let first = other d (and-true_left (is_digit d) (list_all is_digit ds) h) in
+    simp first (none_among p other ds (and-true_right (is_digit d) (list_all is_digit ds) h))
+
+before-none : (p : ℕ → Bool) (bs : List ℕ) → list_any p bs ≡ false → before p bs ≡ bs
+before-none p [] h = refl
+before-none p (b ∷ bs) h = at (p b) refl (before-none p bs)
+  where
+    at : (t : Bool) → p b ≡ t → (list_any p bs ≡ false → before p bs ≡ bs) → cond (p b) [] (b ∷ before p bs) ≡ b ∷ bs
+    at true e more = let g : (p b || list_any p bs) ≡ false = h in let g2 = rw e at g in cc
+    at false e more = let g : (p b || list_any p bs) ≡ false = h in simp e (ap (λ xs. b ∷ xs) (more (rw e at g)))
+
+before-at : (p : ℕ → Bool) (xs ys : List ℕ) (y : ℕ) → list_any p xs ≡ false → p y ≡ true → before p (xs ++ y ∷ ys) ≡ xs
+before-at p [] ys y h e = simp e
+before-at p (x ∷ xs) ys y h e = at (p x) refl (λ g. before-at p xs ys y g e)
+  where
+    at : (t : Bool) → p x ≡ t → (list_any p xs ≡ false → before p (xs ++ y ∷ ys) ≡ xs) → cond (p x) [] (x ∷ before p (xs ++ y ∷ ys)) ≡ x ∷ xs
+    at true f more = let g : (p x || list_any p xs) ≡ false = h in let g2 = rw f at g in cc
+    at false f more = let g : (p x || list_any p xs) ≡ false = h in simp f (ap (λ xs. x ∷ xs) (more (rw f at g)))
+
+after-at : (p : ℕ → Bool) (xs ys : List ℕ) (y : ℕ) → list_any p xs ≡ false → p y ≡ true → after p (xs ++ y ∷ ys) ≡ ys
+after-at p [] ys y h e = simp e
+after-at p (x ∷ xs) ys y h e = at (p x) refl (λ g. after-at p xs ys y g e)
+  where
+    at : (t : Bool) → p x ≡ t → (list_any p xs ≡ false → after p (xs ++ y ∷ ys) ≡ ys) → cond (p x) (xs ++ y ∷ ys) (after p (xs ++ y ∷ ys)) ≡ ys
+    at true f more = let g : (p x || list_any p xs) ≡ false = h in let g2 = rw f at g in cc
+    at false f more = let g : (p x || list_any p xs) ≡ false = h in simp f (more (rw f at g))
+
+-- how a text falls into parts
+record FallsInto (text whole fraction : List ℕ) : Type 0 where
+  no_exponent : list_any is_exponent_mark text ≡ false
+  whole_is : before is_point text ≡ whole
+  fraction_is : after is_point text ≡ fraction
+
+mark_no_digit : (b : ℕ) → is_digit b ≡ true → is_exponent_mark b ≡ false
+mark_no_digit b h = (digit_no_other (class_of b) h).0
+
+point_no_digit : (b : ℕ) → is_digit b ≡ true → is_point b ≡ false
+point_no_digit b h = (digit_no_other (class_of b) h).1
+
+point_is : is_point 46 ≡ true
+unfolding class_of
+point_is = refl
+
+point_no_mark : is_exponent_mark 46 ≡ false
+unfolding class_of
+point_no_mark = refl
+
+falls_with_point : (whole fraction : List ℕ) → list_all is_digit whole ≡ true → list_all is_digit fraction ≡ true → FallsInto (whole ++ 46 ∷ fraction) whole fraction
+falls_with_point whole fraction w f =
+    let no_point = none_among is_point point_no_digit whole w in
+    record {
+      no_exponent = list_any-append is_exponent_mark whole (46 ∷ fraction) ∙ (λ i. none_among is_exponent_mark mark_no_digit whole w i || (point_no_mark i || none_among is_exponent_mark mark_no_digit fraction f i));
+      whole_is = before-at is_point whole fraction 46 no_point point_is;
+      fraction_is = after-at is_point whole fraction 46 no_point point_is;
+    }
+
+falls_alone : (whole : List ℕ) → list_all is_digit whole ≡ true → FallsInto whole whole []
+falls_alone whole w =
+    let no_point = none_among is_point point_no_digit whole w in
+    record {
+      no_exponent = none_among is_exponent_mark mark_no_digit whole w;
+      whole_is = before-none is_point whole no_point;
+      fraction_is = after-none is_point whole no_point;
+    }
+
+text_falls : (w : List ℕ) (r : ℕ) → list_all is_digit w ≡ true → r < 1_000_000 → FallsInto (w ++ fraction_text r) w (decimals 6 r)
+text_falls w r digits h = at (r == 0) refl
+  where
+    at : (z : Bool) → (r == 0) ≡ z → FallsInto (w ++ fraction_text r) w (decimals 6 r)
+    at true e =
+        let none : decimals 6 r ≡ [] = ap (decimals 6) (is_zero r e) ∙ decimals-zero 6 in
+        let text : w ++ fraction_text r ≡ w = simp e (append-nil w) in
+        subst (λ t. FallsInto t w (decimals 6 r)) (sym text) (subst (FallsInto w w) (sym none) (falls_alone w digits))
+    at false e =
+        let text : w ++ fraction_text r ≡ w ++ 46 ∷ decimals 6 r = simp e in
+        subst (λ t. FallsInto t w (decimals 6 r)) (sym text) (falls_with_point w (decimals 6 r) digits (decimals_digits 6 r h))
+
+some_digit : (ds more : List ℕ) → 0 < length ds → list_all is_digit ds ≡ true → list_any is_digit (ds ++ more) ≡ true
+some_digit [] more h a = absurd (omega arith)
+some_digit (d ∷ ds) more h a = simp (and-true_left (is_digit d) (list_all is_digit ds) a)
+
+numeral_from_parts : (text whole fraction : List ℕ) → FallsInto text whole fraction → list_all is_digit whole ≡ true → list_all is_digit fraction ≡ true → list_any is_digit text ≡ true → is_numeral text ≡ true
+numeral_from_parts text whole fraction falls w f some =
+    let all : before is_exponent_mark text ≡ text = before-none is_exponent_mark text falls.no_exponent in
+    let mantissa : is_mantissa text ≡ true = λ i. (subst (λ xs. list_all is_digit xs ≡ true) (sym falls.whole_is) w i) && (subst (λ xs. list_all is_digit xs ≡ true) (sym falls.fraction_is) f i) && some i in
+    λ i. (ap is_mantissa all ∙ mantissa) i && (not (falls.no_exponent i) || is_exponent (after is_exponent_mark text))
+
+scaled_up : (q v len r n e : ℕ) → len ≤ 6 → v * 10 ^ (6 - len) ≡ r → q * 1_000_000 + r ≡ n → (q * 10 ^ len + v) * 10 ^ (6 + e - len) ≡ n * 10 ^ e
+scaled_up q v len r n e few value whole =
+    let k = 6 - len in
+    let split : 6 + e - len ≡ k + e = omega arith in
+    let all : len + k ≡ 6 = omega arith in
+    let s = q * 10 ^ len + v in
+    let power : s * 10 ^ (6 + e - len) ≡ s * 10 ^ k * 10 ^ e = ap (λ p. s * 10 ^ p) split ∙ ap (λ p. s * p) (pow-add 10 k e) ∙ sym (mul_assoc s (10 ^ k) (10 ^ e)) in
+    let million : q * 10 ^ len * 10 ^ k ≡ q * 1_000_000 = mul_assoc q (10 ^ len) (10 ^ k) ∙ ap (λ p. q * p) (sym (pow-add 10 len k)) ∙ ap (λ p. q * 10 ^ p) all in
+    let inner : s * 10 ^ k ≡ n = omega (arith, million, value, whole) in
+    power ∙ ap (λ p. p * 10 ^ e) inner
+
+size_from_parts : (text whole fraction : List ℕ) (q r n : ℕ) → FallsInto text whole fraction → digits_value 10 whole ≡ q → Decimals 6 r fraction → q * 1_000_000 + r ≡ n → size_of text ≡ n * millionth
+unfolding size_of number_of power_of exponent_size millionth
+size_from_parts text whole fraction q r n falls value was all =
+    let text_is : before is_exponent_mark text ≡ text = before-none is_exponent_mark text falls.no_exponent in
+    let w : whole_of text ≡ whole = ap (before is_point) text_is ∙ falls.whole_is in
+    let f : fraction_of text ≡ fraction = ap (after is_point) text_is ∙ falls.fraction_is in
+    let none : exponent_of text ≡ [] = after-none is_exponent_mark text falls.no_exponent in
+    let number : digits_value 10 (whole_of text ++ fraction_of text) ≡ q * 10 ^ length fraction + digits_value 10 fraction = (λ i. digits_value 10 (w i ++ f i)) ∙ value-append whole fraction ∙ ap (λ v. v * 10 ^ length fraction + digits_value 10 fraction) value in
+    let power : cond (is_lowering (exponent_of text)) (1000 - digits_value 10 (without_sign (exponent_of text)) - length (fraction_of text)) (1000 + digits_value 10 (without_sign (exponent_of text)) - length (fraction_of text)) ≡ 1000 - length fraction = (λ i. cond (is_lowering (none i)) (1000 - digits_value 10 (without_sign (none i)) - length (f i)) (1000 + digits_value 10 (without_sign (none i)) - length (f i))) in
+    (λ i. number i * 10 ^ power i) ∙ scaled_up q (digits_value 10 fraction) (length fraction) r n 994 was.few was.value all
+
+-- what is written of a size is a numeral of just that value
+pub written_exact : (n : ℕ) → n < 2 ^ 64 → (negative : Bool) → (is_numeral (unsigned_text n) ≡ true) × IsExact negative (unsigned_text n) (signed negative n)
+written_exact n h negative =
+    let q = n / 1_000_000 in
+    let r = n % 1_000_000 in
+    let q_small : q < 2 ^ 64 = omega arith in
+    let r_small : r < 1_000_000 = omega arith in
+    let split : q * 1_000_000 + r ≡ n = omega arith in
+    let digits = decimal_digits q q_small in
+    let falls = text_falls (decimal q) r digits r_small in
+    let size = size_from_parts (unsigned_text n) (decimal q) (decimals 6 r) q r n falls (decimal_is_IsNumeral q q_small).1 (decimals_value 6 r r_small) split in (
+      numeral_from_parts (unsigned_text n) (decimal q) (decimals 6 r) falls digits (decimals_digits 6 r r_small) (some_digit (decimal q) (fraction_text r) (decimal_nonempty q q_small) digits),
+      signed-mul negative n millionth ∙ ap (signed negative) (sym size),
+    )
+
+-- what is written of a number of millionths denotes it
+pub scaled_denotes : (h : ℤ) → SFits w64 h → Denotes (scaled_text h) h
+scaled_denotes (pos n) fits =
+    let small : n < 2 ^ 64 = omega (arith, ints, fits.sfits) in
+    let written = written_exact n small false in
+    (false, (unsigned_text n, refl, written.0, written.1))
+scaled_denotes (negsuc n) fits =
+    let small : suc n < 2 ^ 64 = omega (arith, ints, fits.sfits) in
+    let written = written_exact (suc n) small true in
+    (true, (unsigned_text (suc n), refl, written.0, written.1))

@@ -1,0 +1,237 @@
+-- The lexemes of a text that is written lexeme by lexeme, each with blanks, line ends or nothing behind it.
+use Rattle.std.proofs.Common.{◌≡◌, ◌∙◌, ℕ, ◌+◌, ◌<◌, ◌≤◌, true, false, Some, None, List, [], ◌∷◌, ◌++◌, length, take, drop, refl, sym, ap, subst, arith, append_assoc, append-nil, length-append, take_all}
+use Rattle.std.specs.List.{list_all}
+use Rattle.std.proofs.Math.Seq.{drop-append_seam, get_or-append_seam}
+use Rattle.std.proofs.lemmas.List.{take_at, drop_all}
+use Rattle.polcert_text.specs.Bytes.{class_of, is_blank, blank_class, digit_class, glue_class}
+use Rattle.polcert_text.specs.Gaps.{is_gap}
+use Rattle.polcert_text.specs.Lexemes.{kind_of}
+use Rattle.polcert_text.specs.Fronts.{IsLongestGap, IsLongestLexeme}
+use Rattle.polcert_text.specs.Cut.{Lexeme, Rest, is_glued, IsTokenAt, TakesToken, EndsAt, Ends, IsCut}
+use Rattle.polcert_text.specs.Steps.Scan.{gap_after, gap_through, state_after, state_through, kind_at}
+use Rattle.polcert_text.specs.Steps.ScanOf.{IsFrontOf}
+use Rattle.polcert_text.specs.declared.bytes.ByteClass.{ByteClass}
+use Rattle.polcert_text.specs.declared.bytes.ByteClass.TheVariants as classes
+use Rattle.polcert_text.specs.declared.lexeme.Front.{Front}
+use Rattle.polcert_text.specs.declared.lexeme.Gap.{Gap}
+use Rattle.polcert_text.specs.declared.lexeme.Gap.TheVariants.{Between, Ended}
+use Rattle.polcert_text.specs.declared.lexeme.State.{State}
+use Rattle.polcert_text.specs.declared.lexeme.State.TheVariants as states
+use Rattle.polcert_text.specs.declared.lexeme.TokenKind.{TokenKind}
+use Rattle.polcert_text.specs.declared.lexeme.TokenKind.TheVariants.{Numeral}
+use Rattle.polcert_text.proofs.Scanning.GapLaws.{gap_until_open, gap_through_more, longest_gap_at}
+use Rattle.polcert_text.proofs.Scanning.LexemeLaws.{kind_of-through, state_through-append, front_keeps, front_whatever_follows}
+use Rattle.polcert_text.proofs.Numbers.MeasureLaws.{and-true_left, and-true_right}
+
+abbrev pub rest_at : ℕ → List ℕ → Rest
+rest_at place bs = record { place = place; bytes = bs; ending = None }
+
+blank_between : (c : ByteClass) → blank_class c ≡ true → gap_after Between c ≡ Between
+blank_between classes.Blank h = refl
+blank_between classes.LineEnd h = refl
+blank_between _ h = cc
+
+blanks_between : (gap : List ℕ) → list_all is_blank gap ≡ true → gap_through Between gap ≡ Between
+blanks_between [] h = refl
+blanks_between (b ∷ bs) h =
+    ap (λ g. gap_through g bs) (blank_between (class_of b) (and-true_left (is_blank b) (list_all is_blank bs) h))
+    ∙ blanks_between bs (and-true_right (is_blank b) (list_all is_blank bs) h)
+
+between_not_ended : (g : Gap) → g ≡ Between → g ≡ Ended → ⊥
+between_not_ended g e f = cc
+
+blanks_gap : (gap : List ℕ) → list_all is_blank gap ≡ true → is_gap gap ≡ true
+blanks_gap gap h = gap_until_open gap (between_not_ended _ (blanks_between gap h))
+
+-- blanks, and then a byte that ends them
+longest_blanks : (gap : List ℕ) (b : ℕ) (more : List ℕ) → list_all is_blank gap ≡ true → gap_after Between (class_of b) ≡ Ended → IsLongestGap (gap ++ b ∷ more) (length gap)
+longest_blanks gap b more h stop =
+    let inside : length gap < length (gap ++ b ∷ more) = omega (arith, length-append gap (b ∷ more)) in
+    let front : take (length gap) (gap ++ b ∷ more) ≡ gap = take_at gap (b ∷ more) (length gap) refl in
+    longest_gap_at (gap ++ b ∷ more) (length gap) inside (ap is_gap front ∙ blanks_gap gap h)
+    (gap_through_more (gap ++ b ∷ more) (length gap) inside ∙ (λ i. gap_after ((ap (gap_through Between) front ∙ blanks_between gap h) i) (class_of (get_or-append_seam gap b more 0 i))) ∙ stop)
+
+ends_blank : (place : ℕ) (gap : List ℕ) → list_all is_blank gap ≡ true → Ends (rest_at place gap) None
+ends_blank place gap h = record {
+  gap = length gap;
+  longest = record {
+    within = omega arith;
+    gap = ap is_gap (take_all (length gap) gap (omega arith)) ∙ blanks_gap gap h;
+    longest = λ k l m. absurd (omega (arith, l, m));
+  };
+  ends_at = subst (λ bs. EndsAt (place + length gap) bs None None) (sym (drop_all (length gap) gap (omega arith))) refl;
+}
+
+-- a lexeme with which no longer one goes on
+longest_before : (w : List ℕ) (kind : TokenKind) (b : ℕ) (more : List ℕ) → kind_of w ≡ Some kind → state_after (state_through states.Start w) (class_of b) ≡ states.Stuck → IsLongestLexeme (w ++ b ∷ more) kind (length w)
+longest_before w kind b more is stuck =
+    let state : state_through states.Start (w ++ b ∷ []) ≡ states.Stuck = state_through-append states.Start w (b ∷ []) ∙ stuck in
+    let front : Front = record { kind = kind; len = length w } in
+    let alone : IsFrontOf w (Some front) = record {
+      within = omega arith;
+      lexeme = ap kind_of (take_all (length w) w (omega arith)) ∙ is;
+      longest = λ k l m. absurd (omega (arith, l, m));
+    } in
+    let more_read : IsFrontOf (w ++ b ∷ []) (Some front) = front_keeps w b (Some front) alone (kind_of-through (w ++ b ∷ []) ∙ ap kind_at state) in
+    let whole : IsFrontOf ((w ++ b ∷ []) ++ more) (Some front) = front_whatever_follows (w ++ b ∷ []) more (Some front) more_read state in
+    subst (λ bs. IsLongestLexeme bs kind (length w)) (append_assoc w (b ∷ []) more) whole
+
+pub blank_stops : (state : State) (c : ByteClass) → blank_class c ≡ true → state_after state c ≡ states.Stuck
+blank_stops states.Start classes.Blank h = refl
+blank_stops states.Start classes.LineEnd h = refl
+blank_stops states.Name classes.Blank h = refl
+blank_stops states.Name classes.LineEnd h = refl
+blank_stops states.Whole classes.Blank h = refl
+blank_stops states.Whole classes.LineEnd h = refl
+blank_stops states.Point classes.Blank h = refl
+blank_stops states.Point classes.LineEnd h = refl
+blank_stops states.Fraction classes.Blank h = refl
+blank_stops states.Fraction classes.LineEnd h = refl
+blank_stops states.Mark classes.Blank h = refl
+blank_stops states.Mark classes.LineEnd h = refl
+blank_stops states.Sign classes.Blank h = refl
+blank_stops states.Sign classes.LineEnd h = refl
+blank_stops states.Exponent classes.Blank h = refl
+blank_stops states.Exponent classes.LineEnd h = refl
+blank_stops (states.Single kind) c h = refl
+blank_stops states.Stuck c h = refl
+blank_stops _ _ h = cc
+
+pub blank_no_glue : (c : ByteClass) → blank_class c ≡ true → glue_class c ≡ false
+blank_no_glue classes.Blank h = refl
+blank_no_glue classes.LineEnd h = refl
+blank_no_glue _ h = cc
+
+pub digit_ends : (c : ByteClass) → digit_class c ≡ true → gap_after Between c ≡ Ended
+digit_ends classes.Digit h = refl
+digit_ends _ h = cc
+
+-- the next token behind blanks
+takes_next : (place : ℕ) (gap w : List ℕ) (kind : TokenKind) (x : ℕ) (xs : List ℕ) (b : ℕ) (more after : List ℕ) → list_all is_blank gap ≡ true → w ≡ x ∷ xs → gap_after Between (class_of x) ≡ Ended
+    → after ≡ b ∷ more → kind_of w ≡ Some kind → state_after (state_through states.Start w) (class_of b) ≡ states.Stuck → is_glued kind (b ∷ more) ≡ false → length w ≤ 400
+    → TakesToken (rest_at place (gap ++ (w ++ after))) (record { kind = kind; place = place + length gap; bytes = w }) (rest_at (place + length gap + length w) after)
+takes_next place gap w kind x xs b more after h begins stop after_is is stuck apart short =
+    let token : Lexeme = record { kind = kind; place = place + length gap; bytes = w } in
+    let behind_gap : drop (length gap) (gap ++ (w ++ after)) ≡ w ++ after = drop-append_seam gap (w ++ after) in
+    let behind : drop (length w) (w ++ after) ≡ after = drop-append_seam w after in
+    let text : gap ++ x ∷ (xs ++ after) ≡ gap ++ (w ++ after) = ap (λ v. gap ++ (v ++ after)) (sym begins) in
+    let at : IsTokenAt (place + length gap) (w ++ after) token = record {
+      lexeme = subst (λ ys. IsLongestLexeme (w ++ ys) kind (length w)) (sym after_is) (longest_before w kind b more is stuck);
+      place_is = refl;
+      bytes_are = sym (take_at w after (length w) refl);
+      short = short;
+      apart = ap (is_glued kind) (behind ∙ after_is) ∙ apart;
+    } in
+    record {
+      gap = length gap;
+      longest = subst (λ bs. IsLongestGap bs (length gap)) text (longest_blanks gap x (xs ++ after) h stop);
+      token_at = subst (λ bs. IsTokenAt (place + length gap) bs token) (sym behind_gap) at;
+      rest = λ i. record { place = place + length gap + length w; bytes = (sym behind ∙ ap (drop (length w)) (sym behind_gap)) i; ending = None };
+    }
+
+-- ---- lexeme by lexeme
+-- a lexeme's kind and bytes, and what stands behind it
+pub record Printed : Type 0 where
+  pub kind : TokenKind
+  pub bytes : List ℕ
+  pub behind : List ℕ
+
+abbrev pub text_of : List Printed → List ℕ
+text_of [] = []
+text_of (u ∷ us) = u.bytes ++ u.behind ++ text_of us
+
+-- the lexemes, the first of them at this place
+abbrev pub lexemes_at : ℕ → List Printed → List Lexeme
+lexemes_at place [] = []
+lexemes_at place (u ∷ us) = record { kind = u.kind; place = place; bytes = u.bytes } ∷ lexemes_at (place + length u.bytes + length u.behind) us
+
+-- the lexeme doesn't go on with what follows
+pub record Stops (kind : TokenKind) (bytes after : List ℕ) : Type 0 where
+  pub first : ℕ
+  pub more : List ℕ
+  pub is : after ≡ first ∷ more
+  pub stuck : state_after (state_through states.Start bytes) (class_of first) ≡ states.Stuck
+  pub apart : is_glued kind (first ∷ more) ≡ false
+
+pub record IsPrinted (u : Printed) (more : List ℕ) : Type 0 where
+  pub kind : kind_of u.bytes ≡ Some u.kind
+  pub short : length u.bytes ≤ 400
+  pub blank : list_all is_blank u.behind ≡ true
+  pub stops : Stops u.kind u.bytes (u.behind ++ more)
+
+abbrev pub ArePrinted : List Printed → Type 0
+ArePrinted [] = Unit {0}
+ArePrinted (u ∷ us) = IsPrinted u (text_of us) × ArePrinted us
+
+-- what begins a lexeme ends a gap
+stays_stuck : (bs : List ℕ) → state_through states.Stuck bs ≡ states.Stuck
+stays_stuck [] = refl
+stays_stuck (b ∷ bs) = stays_stuck bs
+
+none_some : {k : TokenKind} → None ≡ Some k → ⊥
+none_some e = cc
+
+class_begins : (c : ByteClass) (bs : List ℕ) (kind : TokenKind) → kind_at (state_through (state_after states.Start c) bs) ≡ Some kind → gap_after Between c ≡ Ended
+class_begins classes.Blank bs kind e = absurd (none_some (sym (ap kind_at (stays_stuck bs)) ∙ e))
+class_begins classes.LineEnd bs kind e = absurd (none_some (sym (ap kind_at (stays_stuck bs)) ∙ e))
+class_begins classes.Hash bs kind e = absurd (none_some (sym (ap kind_at (stays_stuck bs)) ∙ e))
+class_begins _ bs kind e = refl
+
+record Begins (w : List ℕ) : Type 0 where
+  first : ℕ
+  more : List ℕ
+  is : w ≡ first ∷ more
+  ends : gap_after Between (class_of first) ≡ Ended
+
+begins : (w : List ℕ) (kind : TokenKind) → kind_of w ≡ Some kind → Begins w
+begins [] kind e = absurd (none_some e)
+begins (b ∷ bs) kind e = record { first = b; more = bs; is = refl; ends = class_begins (class_of b) bs kind (sym (kind_of-through (b ∷ bs)) ∙ e) }
+
+-- the text of lexemes is cut into just these
+pub cut_printed : (us : List Printed) (place : ℕ) (gap : List ℕ) → ArePrinted us → list_all is_blank gap ≡ true → IsCut (rest_at place (gap ++ text_of us)) (lexemes_at (place + length gap) us) None
+cut_printed [] place gap all h = subst (λ bs. Ends (rest_at place bs) None) (sym (append-nil gap)) (ends_blank place gap h)
+cut_printed (u ∷ us) place gap all h =
+    let p = all.0 in
+    let b = begins u.bytes u.kind p.kind in
+    let next = takes_next place gap u.bytes u.kind b.first b.more p.stops.first p.stops.more (u.behind ++ text_of us) h b.is b.ends p.stops.is p.kind p.stops.stuck p.stops.apart p.short in
+    let go = cut_printed us (place + length gap + length u.bytes) u.behind all.1 p.blank in
+    let whole : IsCut (rest_at place (gap ++ (u.bytes ++ (u.behind ++ text_of us)))) (lexemes_at (place + length gap) (u ∷ us)) None = (_, next, go) in
+    subst (λ bs. IsCut (rest_at place (gap ++ bs)) (lexemes_at (place + length gap) (u ∷ us)) None) (sym (append_assoc u.bytes u.behind (text_of us))) whole
+
+-- ---- one list behind another
+pub text-append : (us vs : List Printed) → text_of (us ++ vs) ≡ text_of us ++ text_of vs
+text-append [] vs = refl
+text-append (u ∷ us) vs = ap (λ bs. u.bytes ++ u.behind ++ bs) (text-append us vs) ∙ sym (append_assoc (u.bytes ++ u.behind) (text_of us) (text_of vs))
+
+pub lexemes-append : (place : ℕ) (us vs : List Printed) → lexemes_at place (us ++ vs) ≡ lexemes_at place us ++ lexemes_at (place + length (text_of us)) vs
+lexemes-append place [] vs = ap (λ p. lexemes_at p vs) (omega arith)
+lexemes-append place (u ∷ us) vs =
+    let l : Lexeme = record { kind = u.kind; place = place; bytes = u.bytes } in
+    let next = place + length u.bytes + length u.behind in
+    let same : next + length (text_of us) ≡ place + length (text_of (u ∷ us)) = omega (arith, length-append (u.bytes ++ u.behind) (text_of us), length-append u.bytes u.behind) in
+    ap (λ ls. l ∷ ls) (lexemes-append next us vs ∙ ap (λ p. lexemes_at next us ++ lexemes_at p vs) same)
+
+stops_further : (kind : TokenKind) (bytes after more : List ℕ) → Stops kind bytes after → Stops kind bytes (after ++ more)
+stops_further kind bytes after more s = record {
+  first = s.first;
+  more = s.more ++ more;
+  is = ap (λ bs. bs ++ more) s.is;
+  stuck = s.stuck;
+  apart = glued_first kind s.first s.more (s.more ++ more) s.apart;
+}
+  where
+    glued_first : (kind : TokenKind) (b : ℕ) (bs cs : List ℕ) → is_glued kind (b ∷ bs) ≡ false → is_glued kind (b ∷ cs) ≡ false
+    glued_first Numeral b bs cs e = e
+    glued_first _ b bs cs e = refl
+
+pub printed-append : (us vs : List Printed) → ArePrinted us → ArePrinted vs → ArePrinted (us ++ vs)
+printed-append [] vs a b = b
+printed-append (u ∷ us) vs a b =
+    let p = a.0 in
+    let here : IsPrinted u (text_of us ++ text_of vs) = record {
+      kind = p.kind;
+      short = p.short;
+      blank = p.blank;
+      stops = subst (Stops u.kind u.bytes) (append_assoc u.behind (text_of us) (text_of vs)) (stops_further u.kind u.bytes (u.behind ++ text_of us) (text_of vs) p.stops);
+    } in
+    (subst (IsPrinted u) (sym (text-append us vs)) here, printed-append us vs a.1 b)

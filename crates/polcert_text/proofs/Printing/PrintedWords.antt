@@ -1,0 +1,165 @@
+-- The lexemes of lines of words.
+use Rattle.std.proofs.Common.{◌≡◌, ◌∙◌, ℕ, ◌≤◌, true, false, Some, List, [], ◌∷◌, ◌++◌, length, map, codes, refl, sym, ap, subst, arith, append_assoc, append-nil}
+use Rattle.std.specs.List.{list_all}
+use Rattle.polcert_text.specs.Bytes.{class_of, is_blank, blank_class}
+use Rattle.polcert_text.specs.Lexemes.{kind_of}
+use Rattle.polcert_text.specs.Lines.{line}
+use Rattle.polcert_text.specs.Cut.{is_glued}
+use Rattle.polcert_text.specs.Steps.Scan.{state_after, state_through, kind_at}
+use Rattle.polcert_text.specs.declared.bytes.ByteClass.TheVariants as classes
+use Rattle.polcert_text.specs.declared.lexeme.State.{State}
+use Rattle.polcert_text.specs.declared.lexeme.State.TheVariants as states
+use Rattle.polcert_text.specs.declared.lexeme.TokenKind.{TokenKind}
+use Rattle.polcert_text.specs.declared.lexeme.TokenKind.TheVariants.{Name, Numeral, Colon, Minus}
+use Rattle.polcert_text.proofs.Scanning.LexemeLaws.{kind_of-through}
+use Rattle.polcert_text.proofs.Numbers.MeasureLaws.{and-true_left}
+use Rattle.polcert_text.proofs.Printing.Numerals.{IsPlain}
+use Rattle.polcert_text.proofs.Printing.PrintedCut.{Printed, text_of, Stops, IsPrinted, ArePrinted, blank_stops, blank_no_glue, text-append, printed-append}
+
+-- What stands between blanks: one lexeme, a name and a colon, or a minus and a numeral.
+pub data Word : Type 0 where
+  plain : TokenKind → List ℕ → Word
+  key : List ℕ → Word
+  minus : List ℕ → Word
+
+abbrev pub word_text : Word → List ℕ
+word_text (plain kind bytes) = bytes
+word_text (key name) = name ++ codes ":"
+word_text (minus numeral) = 45 ∷ numeral
+
+abbrev pub spelled : Word → List ℕ → List Printed
+spelled (plain kind bytes) behind = record { kind = kind; bytes = bytes; behind = behind } ∷ []
+spelled (key name) behind = record { kind = Name; bytes = name; behind = [] } ∷ record { kind = Colon; bytes = codes ":"; behind = behind } ∷ []
+spelled (minus numeral) behind = record { kind = Minus; bytes = 45 ∷ []; behind = [] } ∷ record { kind = Numeral; bytes = numeral; behind = behind } ∷ []
+
+pub record IsPiece (kind : TokenKind) (bytes : List ℕ) : Type 0 where
+  pub kind_is : kind_of bytes ≡ Some kind
+  pub short : length bytes ≤ 400
+
+abbrev pub IsSpelling : Word → Type 0
+IsSpelling (plain kind bytes) = IsPiece kind bytes
+IsSpelling (key name) = IsPiece Name name
+IsSpelling (minus numeral) = IsPlain numeral
+
+abbrev pub AreSpellings : List Word → Type 0
+AreSpellings [] = Unit {0}
+AreSpellings (w ∷ ws) = IsSpelling w × AreSpellings ws
+
+abbrev pub spelled_line : Word → List Word → List Printed
+spelled_line w [] = spelled w (codes "\n")
+spelled_line w (v ∷ ws) = spelled w (codes " ") ++ spelled_line v ws
+
+-- ---- texts
+pub text_word : (w : Word) (behind : List ℕ) → text_of (spelled w behind) ≡ word_text w ++ behind
+text_word (plain kind bytes) behind = append-nil (bytes ++ behind)
+text_word (key name) behind =
+    (λ i. append-nil name i ++ append-nil (codes ":" ++ behind) i) ∙ sym (append_assoc name (codes ":") behind)
+text_word (minus numeral) behind = ap (λ bs. 45 ∷ bs) (append-nil (numeral ++ behind))
+
+pub text_line : (w : Word) (ws : List Word) → text_of (spelled_line w ws) ≡ line (word_text w ∷ map word_text ws)
+text_line w [] = text_word w (codes "\n")
+text_line w (v ∷ ws) = text-append (spelled w (codes " ")) (spelled_line v ws) ∙ (λ i. text_word w (codes " ") i ++ text_line v ws i)
+
+-- ---- each lexeme stops
+pub record Blank (behind : List ℕ) : Type 0 where
+  pub all : list_all is_blank behind ≡ true
+  pub first : ℕ
+  pub more : List ℕ
+  pub is : behind ≡ first ∷ more
+
+space : Blank (codes " ")
+unfolding class_of
+space = record { all = refl; first = 32; more = []; is = refl }
+
+line_end : Blank (codes "\n")
+unfolding class_of
+line_end = record { all = refl; first = 10; more = []; is = refl }
+
+first_blank : (behind : List ℕ) (b : Blank behind) → blank_class (class_of b.first) ≡ true
+first_blank behind b = and-true_left (is_blank b.first) (list_all is_blank b.more) (ap (list_all is_blank) (sym b.is) ∙ b.all)
+
+not_glued : (kind : TokenKind) (b : ℕ) (more : List ℕ) → blank_class (class_of b) ≡ true → is_glued kind (b ∷ more) ≡ false
+not_glued Numeral b more h = blank_no_glue (class_of b) h
+not_glued _ b more h = refl
+
+piece_printed : (kind : TokenKind) (bytes behind : List ℕ) → IsPiece kind bytes → Blank behind → IsPrinted (record { kind = kind; bytes = bytes; behind = behind }) []
+piece_printed kind bytes behind p b = record {
+  kind = p.kind_is;
+  short = p.short;
+  blank = b.all;
+  stops = record {
+    first = b.first;
+    more = b.more;
+    is = append-nil behind ∙ b.is;
+    stuck = blank_stops (state_through states.Start bytes) (class_of b.first) (first_blank behind b);
+    apart = not_glued kind b.first b.more (first_blank behind b);
+  };
+}
+
+colon_piece : IsPiece Colon (codes ":")
+unfolding class_of
+colon_piece = record { kind_is = refl; short = omega arith }
+
+minus_piece : IsPiece Minus (45 ∷ [])
+unfolding class_of
+minus_piece = record { kind_is = refl; short = omega arith }
+
+colon_class : class_of 58 ≡ classes.Colon
+unfolding class_of
+colon_class = refl
+
+-- no name goes on with a colon
+name_state : (s : State) → kind_at s ≡ Some Name → state_after s classes.Colon ≡ states.Stuck
+name_state states.Name e = refl
+name_state (states.Single kind) e = refl
+name_state _ e = cc
+
+name_stops : (name more : List ℕ) → IsPiece Name name → Stops Name name (codes ":" ++ more)
+name_stops name more p = record {
+  first = 58;
+  more = more;
+  is = refl;
+  stuck = ap (state_after (state_through states.Start name)) colon_class ∙ name_state (state_through states.Start name) (sym (kind_of-through name) ∙ p.kind_is);
+  apart = refl;
+}
+
+minus_state : state_through states.Start (45 ∷ []) ≡ states.Single Minus
+unfolding class_of
+minus_state = refl
+
+minus_stops : (numeral more : List ℕ) → IsPlain numeral → Stops Minus (45 ∷ []) (numeral ++ more)
+minus_stops numeral more p = record {
+  first = p.digit;
+  more = p.rest ++ more;
+  is = ap (λ bs. bs ++ more) p.begins;
+  stuck = ap (λ s. state_after s (class_of p.digit)) minus_state;
+  apart = refl;
+}
+
+pub numeral_piece : (numeral : List ℕ) → IsPlain numeral → IsPiece Numeral numeral
+numeral_piece numeral p = record { kind_is = p.kind; short = omega (arith, p.short) }
+
+pub word_printed : (w : Word) (behind : List ℕ) → IsSpelling w → Blank behind → ArePrinted (spelled w behind)
+word_printed (plain kind bytes) behind s b = (piece_printed kind bytes behind s b, tt)
+word_printed (key name) behind s b = (
+  record {
+    kind = s.kind_is;
+    short = s.short;
+    blank = refl;
+    stops = name_stops name (behind ++ []) s;
+  },
+  (piece_printed Colon (codes ":") behind colon_piece b, tt),
+)
+word_printed (minus numeral) behind s b = (
+  record {
+    kind = minus_piece.kind_is;
+    short = minus_piece.short;
+    blank = refl;
+    stops = subst (Stops Minus (45 ∷ [])) (sym (append-nil (numeral ++ behind))) (minus_stops numeral behind s);
+  },
+  (piece_printed Numeral numeral behind (numeral_piece numeral s) b, tt),
+)
+
+pub line_printed : (w : Word) (ws : List Word) → IsSpelling w → AreSpellings ws → ArePrinted (spelled_line w ws)
+line_printed w [] a b = word_printed w (codes "\n") a line_end
+line_printed w (v ∷ ws) a b = printed-append (spelled w (codes " ")) (spelled_line v ws) (word_printed w (codes " ") a space) (line_printed v ws b.0 b.1)

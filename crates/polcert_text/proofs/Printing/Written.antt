@@ -1,0 +1,65 @@
+-- A text that is written part by part.
+use Rattle.std.proofs.Common.{◌≡◌, ◌∙◌, ◌<◌, ◌⊎◌, ⊎_elim, ◌++◌, ℕ, zero, suc, List, [], Option, Result, Ok, Err, IsErr, sym, ap, subst, arith, append_assoc, append-nil}
+use Rattle.polcert_text.specs.Device.{HasFailed}
+use Rattle.polcert_text.specs.Sink.{Takes, TakesFront, WritesText}
+use Rattle.polcert_text.proofs.Printing.Taking.{took_then, front_then, front_after, wrote_front, wrote_next}
+
+-- the sink took the text so far, and no write failed
+pub record HasWritten {S : Type 0} (writes : S → Option (List ℕ) → S → Type 0) (failures : S → ℕ) (from : S) (text : List ℕ) (s : S) : Type 0 where
+  pub took : Takes writes from text s
+  pub same : failures s ≡ failures from
+
+-- what a call that went well tells of it
+pub wrote : {S : Type 0} {writes : S → Option (List ℕ) → S → Type 0} {failures : S → ℕ} {from t : S} {text : List ℕ} → Takes writes from text t
+    → failures t ≡ failures from → HasWritten writes failures from text t
+wrote took same = record { took = took; same = same }
+
+module _ {S : Type 0} {writes : S → Option (List ℕ) → S → Type 0} {failures : S → ℕ} {from : S} where
+  pub one_more : {s t : S} (first second : List ℕ) → HasWritten writes failures from first s → HasWritten writes failures s second t
+      → HasWritten writes failures from (first ++ second) t
+  one_more first second h k = record { took = took_then h.took k.took; same = k.same ∙ h.same }
+
+  -- the next part fails
+  pub fails_at : {T E : Type 0} {s t : S} (first second : List ℕ) (r : Result T E) → IsErr r → HasWritten writes failures from first s
+      → TakesFront writes s second t → HasFailed (failures s) (failures t) → WritesText writes failures from (first ++ second) r t
+  fails_at {t = t} first second r is_err h took count =
+      wrote_front (first ++ second) r is_err (front_after first h.took took) (subst (λ n. HasFailed n (failures t)) h.same count)
+
+  -- and what would come behind it isn't written
+  pub fails_before : {T E : Type 0} {t : S} (first second : List ℕ) (r : Result T E) → IsErr r → WritesText writes failures from first r t
+      → WritesText writes failures from (first ++ second) r t
+  fails_before first second (Ok v) is_err w = cc
+  fails_before first second (Err e) is_err w = record { ok = tt; same_count = tt; err = front_then second w.err; count = w.count }
+
+  -- the last part
+  pub ends_with : {T E : Type 0} {s t : S} (first second : List ℕ) (r : Result T E) → HasWritten writes failures from first s
+      → WritesText writes failures s second r t → WritesText writes failures from (first ++ second) r t
+  ends_with first second r h w = wrote_next first second r h.took h.same w
+
+-- the same text, however its parts are put together
+pub as_text : {S T E : Type 0} {writes : S → Option (List ℕ) → S → Type 0} {failures : S → ℕ} {from to : S} {first second : List ℕ} {r : Result T E} → first ≡ second
+    → WritesText writes failures from first r to → WritesText writes failures from second r to
+as_text {writes = writes} {failures = failures} {from = from} {to = to} {r = r} e w = subst (λ text. WritesText writes failures from text r to) e w
+
+-- ---- a text of many parts
+below_or_at : (k m : ℕ) → k < suc m → (k < m) ⊎ (k ≡ m)
+below_or_at k m h = grind arith
+
+-- the whole is what stands before a part, the part, and the rest
+pub parts_at : (whole part : ℕ → List ℕ) → ((n : ℕ) → whole (suc n) ≡ whole n ++ part n) → (k m : ℕ) → k < m → (rest : List ℕ) × (whole m ≡ whole k ++ (part k ++ rest))
+parts_at whole part step k zero h = absurd (omega arith)
+parts_at whole part step k (suc m) h =
+    ⊎_elim (λ l. let was = parts_at whole part step k m l in
+    (was.0 ++ part m, step m ∙ ap (λ xs. xs ++ part m) was.1 ∙ append_assoc (whole k) (part k ++ was.0) (part m) ∙ ap (λ xs. whole k ++ xs) (append_assoc (part k) was.0 (part m))))
+    (λ e. ([], step m ∙ ap (λ n. whole n ++ part n) (sym e) ∙ ap (λ xs. whole k ++ xs) (sym (append-nil (part k)))))
+    (below_or_at k m h)
+
+module _ {S : Type 0} {writes : S → Option (List ℕ) → S → Type 0} {failures : S → ℕ} {from s t : S} where
+  -- the writing of a part failed
+  pub wrote_part : {T E : Type 0} (whole part : ℕ → List ℕ) → ((n : ℕ) → whole (suc n) ≡ whole n ++ part n) → (k m : ℕ) → k < m → (r : Result T E) → IsErr r
+      → Takes writes from (whole k) s → failures s ≡ failures from → TakesFront writes s (part k) t → HasFailed (failures s) (failures t)
+      → WritesText writes failures from (whole m) r t
+  wrote_part whole part step k m l r is_err took same front count =
+      let split = parts_at whole part step k m l in
+      subst (λ text. WritesText writes failures from text r t) (sym split.1)
+      (wrote_front (whole k ++ (part k ++ split.0)) r is_err (front_after (whole k) took (front_then split.0 front)) (subst (λ n. HasFailed n (failures t)) same count))

@@ -1,0 +1,98 @@
+-- Reading a gap byte by byte finds its longest front.
+use Rattle.std.proofs.Common.{◌≡◌, ◌∙◌, ℕ, ◌+◌, Bool, true, false, List, [], ◌∷◌, ◌++◌, take, drop, refl, ap, arith}
+use Rattle.std.proofs.Common.{◌<◌, ◌≤◌, length, get_or, sym, append-nil}
+use Rattle.std.proofs.lemmas.List.{take_more, take-take, take-append-drop}
+use Rattle.polcert_text.specs.Fronts.{IsLongestGap}
+use Rattle.std.specs.List.{list_all, slice_split, onto_first}
+use Rattle.polcert_text.proofs.Scanning.BeforeFirst.{before_first-stop, before_first-pass}
+use Rattle.polcert_text.specs.Bytes.{class_of, is_blank, is_hash, is_line_end, hash_class, blank_class}
+use Rattle.polcert_text.specs.Gaps.{is_gap_line, is_gap}
+use Rattle.polcert_text.specs.Steps.Scan.{gap_after, gap_through}
+use Rattle.polcert_text.specs.declared.bytes.ByteClass.{ByteClass}
+use Rattle.polcert_text.specs.declared.bytes.ByteClass.TheVariants.{Blank, LineEnd, Hash}
+use Rattle.polcert_text.specs.declared.lexeme.Gap.{Gap}
+use Rattle.polcert_text.specs.declared.lexeme.Gap.TheVariants.{Between, Comment, Ended}
+
+-- all lines but the first are right
+abbrev others_right : List (List ℕ) → Bool
+others_right [] = true
+others_right (line ∷ lines) = list_all is_gap_line lines
+
+-- the bytes go on what has been read so far as a gap
+abbrev pub goes_on : Gap → List ℕ → Bool
+goes_on Between bs = is_gap bs
+goes_on Comment bs = others_right (slice_split is_line_end bs)
+goes_on Ended bs = false
+
+others-onto_first : (b : ℕ) (lines : List (List ℕ)) → others_right (onto_first b lines) ≡ others_right lines
+others-onto_first b [] = refl
+others-onto_first b (line ∷ lines) = refl
+
+is_gap_line-blank : (b : ℕ) (line : List ℕ) → is_hash b ≡ false → is_blank b ≡ true → is_gap_line (b ∷ line) ≡ is_gap_line line
+is_gap_line-blank b line e f = simp (before_first-pass is_hash b line e, f)
+
+all-onto_blank : (b : ℕ) (lines : List (List ℕ)) → is_hash b ≡ false → is_blank b ≡ true → list_all is_gap_line (onto_first b lines) ≡ list_all is_gap_line lines
+all-onto_blank b [] e f = simp (is_gap_line-blank b [] e f)
+all-onto_blank b (line ∷ lines) e f = simp (is_gap_line-blank b line e f)
+
+all-onto_hash : (b : ℕ) (lines : List (List ℕ)) → is_hash b ≡ true → list_all is_gap_line (onto_first b lines) ≡ others_right lines
+all-onto_hash b [] e = simp (before_first-stop is_hash b [] e)
+all-onto_hash b (line ∷ lines) e = simp (before_first-stop is_hash b line e)
+
+all-onto_other : (b : ℕ) (lines : List (List ℕ)) → is_hash b ≡ false → is_blank b ≡ false → list_all is_gap_line (onto_first b lines) ≡ false
+all-onto_other b [] e f = simp (before_first-pass is_hash b [] e, f)
+all-onto_other b (line ∷ lines) e f = simp (before_first-pass is_hash b line e, f)
+
+-- one more byte: what goes on from before it is what goes on from behind it
+goes_on_at : (gap : Gap) (b : ℕ) (bs : List ℕ) (c : ByteClass) → class_of b ≡ c → goes_on gap (b ∷ bs) ≡ goes_on (gap_after gap c) bs
+goes_on_at Between b bs Blank e = simp e (all-onto_blank b (slice_split is_line_end bs) (ap hash_class e) (ap blank_class e))
+goes_on_at Between b bs LineEnd e = simp e
+goes_on_at Between b bs Hash e = simp e (all-onto_hash b (slice_split is_line_end bs) (ap hash_class e))
+goes_on_at Between b bs _ e = simp e (all-onto_other b (slice_split is_line_end bs) (ap hash_class e) (ap blank_class e))
+goes_on_at Comment b bs LineEnd e = simp e
+goes_on_at Comment b bs _ e = simp e (others-onto_first b (slice_split is_line_end bs))
+goes_on_at Ended b bs c e = refl
+
+-- the same for several bytes
+pub goes_on_through : (gap : Gap) (front rest : List ℕ) → goes_on gap (front ++ rest) ≡ goes_on (gap_through gap front) rest
+goes_on_through gap [] rest = refl
+goes_on_through gap (b ∷ bs) rest = goes_on_at gap b (bs ++ rest) (class_of b) refl ∙ goes_on_through (gap_after gap (class_of b)) bs rest
+
+pub gap_through-append : (gap : Gap) (front rest : List ℕ) → gap_through gap (front ++ rest) ≡ gap_through (gap_through gap front) rest
+gap_through-append gap [] rest = refl
+gap_through-append gap (b ∷ bs) rest = gap_through-append (gap_after gap (class_of b)) bs rest
+
+-- whether bytes are a gap can be read off what they leave
+is_gap-through : (bs : List ℕ) → is_gap bs ≡ goes_on (gap_through Between bs) []
+is_gap-through bs = ap is_gap (sym (append-nil bs)) ∙ goes_on_through Between bs []
+
+open_goes_on : (gap : Gap) → (gap ≡ Ended → ⊥) → goes_on gap [] ≡ true
+open_goes_on Between h = refl
+open_goes_on Comment h = refl
+open_goes_on Ended h = absurd (h refl)
+
+pub gap_until_open : (bs : List ℕ) → (gap_through Between bs ≡ Ended → ⊥) → is_gap bs ≡ true
+gap_until_open bs h = is_gap-through bs ∙ open_goes_on (gap_through Between bs) h
+
+pub gap_through_more : (bs : List ℕ) (i : ℕ) → i < length bs → gap_through Between (take (i + 1) bs) ≡ gap_after (gap_through Between (take i bs)) (class_of (get_or bs i 0))
+gap_through_more bs i h = ap (gap_through Between) (take_more bs i 0 h) ∙ gap_through-append Between (take i bs) (get_or bs i 0 ∷ [])
+
+-- behind the end of a gap nothing is one
+no_gap_past : (bs : List ℕ) (n k : ℕ) → n ≤ k → gap_through Between (take n bs) ≡ Ended → is_gap (take k bs) ≡ false
+no_gap_past bs n k h ended =
+    let front : take n (take k bs) ≡ take n bs = take-take n k bs h in
+    let joined : take n bs ++ drop n (take k bs) ≡ take k bs = ap (λ xs. xs ++ drop n (take k bs)) (sym front) ∙ take-append-drop n (take k bs) in
+    let rest = drop n (take k bs) in
+    ap is_gap (sym joined) ∙ goes_on_through Between (take n bs) rest ∙ ap (λ gap. goes_on gap rest) ended
+
+pub longest_gap_at : (bs : List ℕ) (i : ℕ) → i < length bs → is_gap (take i bs) ≡ true → gap_through Between (take (i + 1) bs) ≡ Ended → IsLongestGap bs i
+longest_gap_at bs i h gap ended = record {
+  within = omega arith;
+  gap = gap;
+  longest = λ k more _. no_gap_past bs (i + 1) k (omega arith) ended;
+}
+
+-- a step of the loop
+pub gap_step : (bs : List ℕ) (i : ℕ) (gap : Gap) (c : ByteClass) (next : Gap) → i < length bs → gap_through Between (take i bs) ≡ gap → c ≡ class_of (get_or bs i 0) → next ≡ gap_after gap c → gap_through Between (take (i + 1) bs) ≡ next
+gap_step bs i gap c next h read class_is next_is =
+    gap_through_more bs i h ∙ (λ j. gap_after (read j) (sym class_is j)) ∙ sym next_is

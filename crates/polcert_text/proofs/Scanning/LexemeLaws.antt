@@ -1,0 +1,241 @@
+-- Reading a lexeme byte by byte tells what kind of lexeme each front is.
+use Rattle.std.proofs.Common.{◌≡◌, ◌∙◌, ℕ, ◌+◌, Bool, true, false, not, ◌&&◌, ◌||◌, cond, Option, Some, None, List, [], ◌∷◌, ◌++◌, take, drop, refl, sym, ap, append-nil, arith}
+use Rattle.std.proofs.Common.{◌<◌, ◌≤◌, length, get_or, ◌⊎◌, ⊎_elim, take_all}
+use Rattle.std.proofs.lemmas.List.{take_more, take-take, take-append-drop, take-append-le, take_at, length-append}
+use Rattle.polcert_text.specs.Steps.ScanOf.{is_stuck, IsFrontOf}
+use Rattle.std.specs.List.{list_all, list_any}
+use Rattle.polcert_text.specs.declared.lexeme.Front.{Front}
+use Rattle.polcert_text.specs.Bytes.{class_of, is_digit, is_exponent_mark, is_point, is_name_byte, point_class, digit_class, letter_class}
+use Rattle.polcert_text.specs.Lexemes.{before, after, is_empty, are_digits, is_exponent, is_numeral, mark_kind, kind_of}
+use Rattle.polcert_text.specs.Steps.Scan.{state_after, state_through, kind_at}
+use Rattle.polcert_text.specs.declared.bytes.ByteClass.{ByteClass}
+use Rattle.polcert_text.specs.declared.bytes.ByteClass.TheVariants as classes
+use Rattle.polcert_text.specs.declared.lexeme.TokenKind.{TokenKind}
+use Rattle.polcert_text.specs.declared.lexeme.TokenKind.TheVariants as kinds
+use Rattle.polcert_text.specs.declared.lexeme.State.{State}
+use Rattle.polcert_text.specs.declared.lexeme.State.TheVariants.{Start, Name, Whole, Point, Fraction, Mark, Sign, Exponent, Single, Stuck}
+
+-- the bytes behind the mantissa are an exponent or nothing
+abbrev exponent_fits : List ℕ → Bool
+exponent_fits bs = not (list_any is_exponent_mark bs) || is_exponent (after is_exponent_mark bs)
+
+abbrev kind_if : Bool → TokenKind → Option TokenKind
+kind_if b kind = cond b (Some kind) None
+
+-- the kind of lexeme that the bytes complete
+abbrev pub completed : State → List ℕ → Option TokenKind
+completed Start bs = kind_of bs
+completed Name bs = kind_if (list_all is_name_byte bs) kinds.Name
+completed Whole bs =
+    let m = before is_exponent_mark bs in
+    kind_if (list_all is_digit (before is_point m) && list_all is_digit (after is_point m) && exponent_fits bs) kinds.Numeral
+completed Point bs = kind_if (are_digits (before is_exponent_mark bs) && exponent_fits bs) kinds.Numeral
+completed Fraction bs = kind_if (list_all is_digit (before is_exponent_mark bs) && exponent_fits bs) kinds.Numeral
+completed Mark bs = kind_if (is_exponent bs) kinds.Numeral
+completed Sign bs = kind_if (are_digits bs) kinds.Numeral
+completed Exponent bs = kind_if (list_all is_digit bs) kinds.Numeral
+completed (Single kind) bs = kind_if (is_empty bs) kind
+completed Stuck bs = None
+
+and-true : (b : Bool) → (b && true) ≡ b
+and-true true = refl
+and-true false = refl
+
+cond-same : {A : Type 0} (b : Bool) (x : A) → cond b x x ≡ x
+cond-same true x = refl
+cond-same false x = refl
+
+some_digits : (bs : List ℕ) → (list_all is_digit bs && list_any is_digit bs) ≡ are_digits bs
+some_digits [] = refl
+some_digits (b ∷ bs) = at_digit (is_digit b) refl
+  where
+    at_digit : (d : Bool) → is_digit b ≡ d → ((is_digit b && list_all is_digit bs) && (is_digit b || list_any is_digit bs)) ≡ ((is_digit b && list_all is_digit bs) && true)
+    at_digit true e = simp e
+    at_digit false e = simp e
+
+-- a byte that no numeral begins with
+pub no_numeral : (b : ℕ) (bs : List ℕ) → is_digit b ≡ false → is_point b ≡ false → is_numeral (b ∷ bs) ≡ false
+no_numeral b bs d p = at_mark (is_exponent_mark b) refl
+  where
+    at_mark : (m : Bool) → is_exponent_mark b ≡ m → is_numeral (b ∷ bs) ≡ false
+    at_mark true e = simp e
+    at_mark false e = simp (e, p, d)
+
+module _ (b : ℕ) (bs : List ℕ) where
+  abbrev m : List ℕ
+  m = before is_exponent_mark bs
+
+  -- the kind of a list that begins with b, by its tests
+  kind_by : (c : ByteClass) (numeral : Bool) → class_of b ≡ c → is_numeral (b ∷ bs) ≡ numeral → kind_of (b ∷ bs) ≡ cond (letter_class c && list_all is_name_byte bs) (Some kinds.Name) (cond numeral (Some kinds.Numeral) (cond (is_empty bs) (mark_kind c) None))
+  kind_by c numeral e is =
+      λ i. cond (letter_class (e i) && list_all is_name_byte bs) (Some kinds.Name) (cond (is i) (Some kinds.Numeral) (cond (is_empty bs) (mark_kind (e i)) None))
+
+  -- a byte that begins no numeral
+  no_numeral_at : (c : ByteClass) → class_of b ≡ c → digit_class c ≡ false → point_class c ≡ false → kind_of (b ∷ bs) ≡ cond (letter_class c && list_all is_name_byte bs) (Some kinds.Name) (cond (is_empty bs) (mark_kind c) None)
+  no_numeral_at c e d p = kind_by c false e (no_numeral b bs (ap digit_class e ∙ d) (ap point_class e ∙ p))
+
+  numeral_at_digit : class_of b ≡ classes.Digit → is_numeral (b ∷ bs) ≡ (list_all is_digit (before is_point m) && list_all is_digit (after is_point m) && exponent_fits bs)
+  numeral_at_digit e = simp (e, and-true)
+
+  numeral_at_point : class_of b ≡ classes.Point → is_numeral (b ∷ bs) ≡ (are_digits m && exponent_fits bs)
+  numeral_at_point e = simp e (ap (λ d. d && exponent_fits bs) (some_digits m))
+
+  start_at : (c : ByteClass) → class_of b ≡ c → completed Start (b ∷ bs) ≡ completed (state_after Start c) bs
+  start_at classes.Letter e = no_numeral_at classes.Letter e refl refl ∙ simp cond-same
+  start_at classes.ExponentMark e = no_numeral_at classes.ExponentMark e refl refl ∙ simp cond-same
+  start_at classes.Digit e = kind_by classes.Digit _ e (numeral_at_digit e) ∙ simp cond-same
+  start_at classes.Point e = kind_by classes.Point _ e (numeral_at_point e) ∙ simp cond-same
+  start_at classes.Colon e = no_numeral_at classes.Colon e refl refl
+  start_at classes.Star e = no_numeral_at classes.Star e refl refl
+  start_at classes.Plus e = no_numeral_at classes.Plus e refl refl
+  start_at classes.Minus e = no_numeral_at classes.Minus e refl refl
+  start_at c e = no_numeral_at c e refl refl ∙ cond-same (is_empty bs) None
+
+  name_at : (c : ByteClass) → class_of b ≡ c → completed Name (b ∷ bs) ≡ completed (state_after Name c) bs
+  name_at classes.Letter e = simp e
+  name_at _ e = simp e
+
+  whole_at : (c : ByteClass) → class_of b ≡ c → completed Whole (b ∷ bs) ≡ completed (state_after Whole c) bs
+  whole_at classes.Digit e = simp e
+  whole_at _ e = simp e
+
+  point_at : (c : ByteClass) → class_of b ≡ c → completed Point (b ∷ bs) ≡ completed (state_after Point c) bs
+  point_at classes.Digit e = simp (e, and-true)
+  point_at _ e = simp e
+
+  fraction_at : (c : ByteClass) → class_of b ≡ c → completed Fraction (b ∷ bs) ≡ completed (state_after Fraction c) bs
+  fraction_at classes.Digit e = simp e
+  fraction_at _ e = simp e
+
+  mark_at : (c : ByteClass) → class_of b ≡ c → completed Mark (b ∷ bs) ≡ completed (state_after Mark c) bs
+  mark_at classes.Digit e = simp (e, and-true)
+  mark_at _ e = simp e
+
+  sign_at : (c : ByteClass) → class_of b ≡ c → completed Sign (b ∷ bs) ≡ completed (state_after Sign c) bs
+  sign_at classes.Digit e = simp (e, and-true)
+  sign_at _ e = simp e
+
+  exponent_at : (c : ByteClass) → class_of b ≡ c → completed Exponent (b ∷ bs) ≡ completed (state_after Exponent c) bs
+  exponent_at classes.Digit e = simp e
+  exponent_at _ e = simp e
+
+  -- one more byte: what the bytes complete from before it, they complete from behind it
+  completed_at : (state : State) (c : ByteClass) → class_of b ≡ c → completed state (b ∷ bs) ≡ completed (state_after state c) bs
+  completed_at Start c e = start_at c e
+  completed_at Name c e = name_at c e
+  completed_at Whole c e = whole_at c e
+  completed_at Point c e = point_at c e
+  completed_at Fraction c e = fraction_at c e
+  completed_at Mark c e = mark_at c e
+  completed_at Sign c e = sign_at c e
+  completed_at Exponent c e = exponent_at c e
+  completed_at (Single kind) c e = refl
+  completed_at Stuck c e = refl
+
+-- the same for several bytes
+pub completed_through : (state : State) (front rest : List ℕ) → completed state (front ++ rest) ≡ completed (state_through state front) rest
+completed_through state [] rest = refl
+completed_through state (b ∷ bs) rest = completed_at b (bs ++ rest) state (class_of b) refl ∙ completed_through (state_after state (class_of b)) bs rest
+
+pub state_through-append : (state : State) (front rest : List ℕ) → state_through state (front ++ rest) ≡ state_through (state_through state front) rest
+state_through-append state [] rest = refl
+state_through-append state (b ∷ bs) rest = state_through-append (state_after state (class_of b)) bs rest
+
+-- what a state has read is what nothing more completes
+completed-none : (state : State) → completed state [] ≡ kind_at state
+completed-none Start = refl
+completed-none Name = refl
+completed-none Whole = refl
+completed-none Point = refl
+completed-none Fraction = refl
+completed-none Mark = refl
+completed-none Sign = refl
+completed-none Exponent = refl
+completed-none (Single kind) = refl
+completed-none Stuck = refl
+
+-- the kind of a list is the kind of the state behind it
+pub kind_of-through : (bs : List ℕ) → kind_of bs ≡ kind_at (state_through Start bs)
+kind_of-through bs = ap kind_of (sym (append-nil bs)) ∙ completed_through Start bs [] ∙ completed-none (state_through Start bs)
+
+state_through_more : (bs : List ℕ) (i : ℕ) → i < length bs → state_through Start (take (i + 1) bs) ≡ state_after (state_through Start (take i bs)) (class_of (get_or bs i 0))
+state_through_more bs i h = ap (state_through Start) (take_more bs i 0 h) ∙ state_through-append Start (take i bs) (get_or bs i 0 ∷ [])
+
+-- a step of the loop
+pub state_step : (bs : List ℕ) (i : ℕ) (state : State) (c : ByteClass) (next : State) → i < length bs → state_through Start (take i bs) ≡ state → c ≡ class_of (get_or bs i 0) → next ≡ state_after state c → state_through Start (take (i + 1) bs) ≡ next
+state_step bs i state c next h read class_is next_is =
+    state_through_more bs i h ∙ (λ j. state_after (read j) (sym class_is j)) ∙ sym next_is
+
+le_or_ge : (k n : ℕ) → (k ≤ n) ⊎ (n ≤ k)
+le_or_ge k n = grind arith
+
+-- behind a byte that no lexeme goes on with nothing is one
+none_past : (bs : List ℕ) (n k : ℕ) → n ≤ k → state_through Start (take n bs) ≡ Stuck → kind_of (take k bs) ≡ None
+none_past bs n k h stuck =
+    let front : take n (take k bs) ≡ take n bs = take-take n k bs h in
+    let joined : take n bs ++ drop n (take k bs) ≡ take k bs = ap (λ xs. xs ++ drop n (take k bs)) (sym front) ∙ take-append-drop n (take k bs) in
+    let rest = drop n (take k bs) in
+    ap kind_of (sym joined) ∙ completed_through Start (take n bs) rest ∙ ap (λ state. completed state rest) stuck
+
+at_or_below : (k i : ℕ) → k ≤ i + 1 → (k ≤ i) ⊎ (k ≡ i + 1)
+at_or_below k i h = grind arith
+
+module _ (read : List ℕ) (b : ℕ) where
+  one_more : length (read ++ b ∷ []) ≡ length read + 1
+  one_more = length-append read (b ∷ [])
+
+  front_same : (k : ℕ) → k ≤ length read → take k (read ++ b ∷ []) ≡ take k read
+  front_same k h = take-append-le k read (b ∷ []) h
+
+  all_same : (k : ℕ) → k ≡ length read + 1 → take k (read ++ b ∷ []) ≡ read ++ b ∷ []
+  all_same k h = take_all k (read ++ b ∷ []) (omega (arith, one_more))
+
+  -- no lexeme of at least `low` bytes, where there was none and the whole isn't one
+  none_more : (low : ℕ) → ((k : ℕ) → low ≤ k → k ≤ length read → kind_of (take k read) ≡ None) → kind_of (read ++ b ∷ []) ≡ None → (k : ℕ) → low ≤ k → k ≤ length (read ++ b ∷ []) → kind_of (take k (read ++ b ∷ [])) ≡ None
+  none_more low none whole k from h =
+      ⊎_elim (λ below. ap kind_of (front_same k below) ∙ none k from below) (λ at. ap kind_of (all_same k at) ∙ whole) (at_or_below k (length read) (omega (arith, one_more)))
+
+  -- the front of one byte more
+  pub front_keeps : (front : Option Front) → IsFrontOf read front → kind_of (read ++ b ∷ []) ≡ None → IsFrontOf (read ++ b ∷ []) front
+  front_keeps None none whole = λ k h. none_more 0 (λ k _ h. none k h) whole k (omega arith) h
+  front_keeps (Some front) was whole = record {
+    within = omega (arith, was.within, one_more);
+    lexeme = ap kind_of (front_same front.len was.within) ∙ was.lexeme;
+    longest = λ k more h. none_more (front.len + 1) (λ k from h. was.longest k (omega arith) h) whole k (omega arith) h;
+  }
+
+  pub front_takes : (front : Front) → front.len ≡ length read + 1 → kind_of (read ++ b ∷ []) ≡ Some front.kind → IsFrontOf (read ++ b ∷ []) (Some front)
+  front_takes front len whole = record {
+    within = omega (arith, one_more);
+    lexeme = ap kind_of (all_same front.len len) ∙ whole;
+    longest = λ k more h. absurd (omega (arith, one_more));
+  }
+
+  pub state_fed : (state next : State) (c : ByteClass) → state_through Start read ≡ state → c ≡ class_of b → next ≡ state_after state c → state_through Start (read ++ b ∷ []) ≡ next
+  state_fed state next c was class_is next_is = state_through-append Start read (b ∷ []) ∙ (λ j. state_after (was j) (sym class_is j)) ∙ sym next_is
+
+-- where no lexeme goes on, bytes that follow change nothing
+pub front_whatever_follows : (read tail : List ℕ) (front : Option Front) → IsFrontOf read front → state_through Start read ≡ Stuck → IsFrontOf (read ++ tail) front
+front_whatever_follows read tail front was stuck = go front was
+  where
+    whole : take (length read) (read ++ tail) ≡ read
+    whole = take_at read tail (length read) refl
+
+    stuck_at : state_through Start (take (length read) (read ++ tail)) ≡ Stuck
+    stuck_at = ap (state_through Start) whole ∙ stuck
+
+    none : (low k : ℕ) → ((k : ℕ) → low ≤ k → k ≤ length read → kind_of (take k read) ≡ None) → low ≤ k → kind_of (take k (read ++ tail)) ≡ None
+    none low k before from =
+        ⊎_elim (λ below. ap kind_of (take-append-le k read tail below) ∙ before k from below) (λ above. none_past (read ++ tail) (length read) k above stuck_at) (le_or_ge k (length read))
+
+    go : (front : Option Front) → IsFrontOf read front → IsFrontOf (read ++ tail) front
+    go None was = λ k _. none 0 k (λ k _ h. was k h) (omega arith)
+    go (Some front) was = record {
+      within = omega (arith, was.within, length-append read tail);
+      lexeme = ap kind_of (take-append-le front.len read tail was.within) ∙ was.lexeme;
+      longest = λ k more _. none (front.len + 1) k (λ k from h. was.longest k (omega arith) h) (omega arith);
+    }
+
+pub stuck_state : (state : State) → is_stuck state ≡ true → state ≡ Stuck
+stuck_state Stuck h = refl
+stuck_state _ h = cc

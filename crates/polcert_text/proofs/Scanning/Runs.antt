@@ -1,0 +1,163 @@
+-- Runs of bytes that leave a state as it is: digits, the rest of a name, a comment; and the lexemes that end behind one.
+use Rattle.std.proofs.Common.{◌≡◌, ◌∙◌, ◌⊎◌, ⊎_elim, ◌++◌, ℕ, zero, suc, ◌+◌, ◌<◌, ◌≤◌, ◌==◌, ◌||◌, Bool, true, false, cond, Some, List, [], ◌∷◌, length, take, drop, take_all, append-nil, append_assoc, get_or, refl, sym, ap, subst, arith}
+use Rattle.std.proofs.Math.Seq.{take-add}
+use Rattle.std.proofs.lemmas.Bool.{eqb-true}
+use Rattle.std.proofs.lemmas.List.{length-take-le, take_more, take-append-drop}
+use Rattle.std.specs.Char.{is_ascii_digit, is_ascii_alphabetic}
+use Rattle.polcert_text.specs.Bytes.{class_of, blank_class, hash_class}
+use Rattle.polcert_text.specs.Fronts.{IsLongestGap, IsLongestLexeme}
+use Rattle.polcert_text.specs.Gaps.{is_gap}
+use Rattle.polcert_text.specs.Lexemes.{kind_of}
+use Rattle.polcert_text.specs.Steps.Scan.{gap_after, gap_through, state_after, state_through, kind_at}
+use Rattle.polcert_text.specs.Steps.ScanOf.{pending, IsFrontOf, IsScanOf, scan_at, EndsWithin}
+use Rattle.polcert_text.specs.declared.bytes.ByteClass.{ByteClass}
+use Rattle.polcert_text.specs.declared.bytes.ByteClass.TheVariants as classes
+use Rattle.polcert_text.specs.declared.lexeme.TokenKind.{TokenKind}
+use Rattle.polcert_text.specs.declared.lexeme.TokenKind.TheVariants.{Colon}
+use Rattle.polcert_text.specs.declared.lexeme.Front.{Front}
+use Rattle.polcert_text.specs.declared.lexeme.Gap.{Gap}
+use Rattle.polcert_text.specs.declared.lexeme.Gap.TheVariants.{Between, Comment, Ended}
+use Rattle.polcert_text.specs.declared.lexeme.State.{State}
+use Rattle.polcert_text.specs.declared.lexeme.State.TheVariants.{Start, Name, Whole, Fraction, Single, Stuck}
+use Rattle.polcert_text.proofs.Scanning.GapLaws.{longest_gap_at, gap_until_open, gap_through-append}
+use Rattle.polcert_text.proofs.Scanning.LexemeLaws.{kind_of-through, front_keeps, front_whatever_follows, state_step}
+use Rattle.polcert_text.proofs.Streams.StreamLaws.{skipped_step}
+
+comment_stays : (c : ByteClass) → (c ≡ classes.LineEnd → ⊥) → gap_after Comment c ≡ Comment
+comment_stays classes.LineEnd h = absurd (h refl)
+comment_stays _ h = refl
+
+-- among the tests of `class_of`, in their order, the one for a line end passed
+line_chain : (blank line hash mark letter digit low point colon star plus minus : Bool) → cond blank classes.Blank (cond line classes.LineEnd (cond hash classes.Hash (cond mark classes.ExponentMark (cond letter classes.Letter (cond digit classes.Digit (cond low classes.Underscore (cond point classes.Point (cond colon classes.Colon (cond star classes.Star (cond plus classes.Plus (cond minus classes.Minus classes.Other))))))))))) ≡ classes.LineEnd → line ≡ true
+line_chain true _ _ _ _ _ _ _ _ _ _ _ h = cc
+line_chain false true _ _ _ _ _ _ _ _ _ _ h = refl
+line_chain false false true _ _ _ _ _ _ _ _ _ h = cc
+line_chain false false false true _ _ _ _ _ _ _ _ h = cc
+line_chain false false false false true _ _ _ _ _ _ _ h = cc
+line_chain false false false false false true _ _ _ _ _ _ h = cc
+line_chain false false false false false false true _ _ _ _ _ h = cc
+line_chain false false false false false false false true _ _ _ _ h = cc
+line_chain false false false false false false false false true _ _ _ h = cc
+line_chain false false false false false false false false false true _ _ h = cc
+line_chain false false false false false false false false false false true _ h = cc
+line_chain false false false false false false false false false false false true h = cc
+line_chain false false false false false false false false false false false false h = cc
+
+pub line_end_is : (b : ℕ) → class_of b ≡ classes.LineEnd → (b == 10) ≡ true
+unfolding class_of
+line_end_is b h =
+    line_chain (b == 9 || b == 13 || b == 32) (b == 10) (b == 35) (b == 101 || b == 69) (is_ascii_alphabetic b) (is_ascii_digit b) (b == 95) (b == 46) (b == 58) (b == 42) (b == 43) (b == 45) h
+
+line_end_at_10 : class_of 10 ≡ classes.LineEnd
+unfolding class_of
+line_end_at_10 = refl
+
+-- a comment goes on over bytes that are no line end
+comment_through : (bs : List ℕ) (n : ℕ) → n ≤ length bs → ((k : ℕ) → k < n → (get_or bs k 0 == 10) ≡ true → ⊥) → gap_through Comment (take n bs) ≡ Comment
+comment_through bs zero h none = refl
+comment_through bs (suc n) h none =
+    let before = comment_through bs n (omega arith) (λ k l. none k (omega arith)) in
+    let stays = comment_stays (class_of (get_or bs n 0)) (λ is. none n (omega arith) (line_end_is (get_or bs n 0) is)) in
+    let next : suc n ≡ n + 1 = omega arith in
+    ap (λ k. gap_through Comment (take k bs)) next ∙ skipped_step Comment bs n Comment Comment (omega arith) before (sym stays)
+
+pub comment_goes_on : (bs : List ℕ) → ((k : ℕ) → k < length bs → (get_or bs k 0 == 10) ≡ true → ⊥) → gap_through Comment (take (length bs) bs) ≡ Comment
+comment_goes_on bs none = comment_through bs (length bs) (omega arith) none
+
+pub comment_ends : (bs : List ℕ) (n : ℕ) → n < length bs → ((k : ℕ) → k < n → (get_or bs k 0 == 10) ≡ true → ⊥) → (get_or bs n 0 == 10) ≡ true → gap_through Comment (take (n + 1) bs) ≡ Between
+comment_ends bs n h none line =
+    let is : class_of (get_or bs n 0) ≡ classes.LineEnd = ap class_of (eqb-true (get_or bs n 0) 10 line) ∙ line_end_at_10 in
+    skipped_step Comment bs n Comment Between h (comment_through bs n (omega arith) none) (sym (ap (gap_after Comment) is))
+
+-- a gap that goes on in the bytes behind a front
+pub gap_joined : (start : Gap) (bs : List ℕ) (at count : ℕ) (gap next : Gap) → gap_through start (take at bs) ≡ gap → gap_through gap (take count (drop at bs)) ≡ next → gap_through start (take (at + count) bs) ≡ next
+gap_joined start bs at count gap next was on =
+    ap (gap_through start) (take-add at count bs)
+    ∙ gap_through-append start (take at bs) (take count (drop at bs))
+    ∙ ap (λ g. gap_through g (take count (drop at bs))) was
+    ∙ on
+
+-- a gap that is neither in a comment nor ended
+pub in_between : (gap : Gap) → (gap ≡ Comment → ⊥) → (gap ≡ Ended → ⊥) → gap ≡ Between
+in_between Between c e = refl
+in_between Comment c e = absurd (c refl)
+in_between Ended c e = absurd (e refl)
+
+-- such a gap ends at a byte that is neither blank nor a `#`
+pub ends_between : (c : ByteClass) → blank_class c ≡ false → hash_class c ≡ false → gap_after Between c ≡ Ended
+ends_between classes.Blank b h = cc
+ends_between classes.LineEnd b h = cc
+ends_between classes.Hash b h = cc
+ends_between _ b h = refl
+
+below_or_all : (n m : ℕ) → n ≤ m → (n < m) ⊎ (n ≡ m)
+below_or_all n m h = grind arith
+
+-- where the gap from the start of the bytes stops is the longest
+pub longest_seen : (bs : List ℕ) (n : ℕ) (gap : Gap) → n ≤ length bs → gap_through Between (take n bs) ≡ gap → (gap ≡ Ended → ⊥) → (n < length bs → gap_after gap (class_of (get_or bs n 0)) ≡ Ended) → IsLongestGap bs n
+longest_seen bs n gap within read goes_on stops =
+    ⊎_elim (λ below. longest_gap_at bs n below is_front (skipped_step Between bs n gap Ended below read (sym (stops below))))
+    (λ all. record { within = within; gap = is_front; longest = λ k more h. absurd (omega arith) }) (below_or_all n (length bs) within)
+  where
+    is_front : is_gap (take n bs) ≡ true
+    is_front = gap_until_open (take n bs) (λ ended. goes_on (sym read ∙ ended))
+
+-- all that was read is a lexeme
+pub scan_whole : (bs : List ℕ) (n : ℕ) (state : State) (kind : TokenKind) → n ≤ length bs → state_through Start (take n bs) ≡ state → kind_at state ≡ Some kind → pending state ≡ 0 → IsScanOf (take n bs) (scan_at state kind n)
+scan_whole bs n state kind h read is none =
+    let len : length (take n bs) ≡ n = length-take-le n bs h in
+    record {
+      len = sym len;
+      state = read;
+      longest = record {
+        within = omega (arith, len);
+        lexeme = ap kind_of (take_all n (take n bs) (omega (arith, len))) ∙ kind_of-through (take n bs) ∙ ap kind_at read ∙ is;
+        longest = λ k more h. absurd (omega (arith, len));
+      };
+      behind = λ _. omega (arith, none);
+    }
+
+-- a lexeme that the next byte ends
+pub ends_within : (bs : List ℕ) (n : ℕ) (state : State) (kind : TokenKind) → n < length bs → state_through Start (take n bs) ≡ state → kind_at state ≡ Some kind → pending state ≡ 0 → state_after state (class_of (get_or bs n 0)) ≡ Stuck → EndsWithin bs (record { kind = kind; len = n })
+ends_within bs n state kind h read is none ends =
+    let b : ℕ = get_or bs n 0 in
+    let front : Front = record { kind = kind; len = n } in
+    let whole = scan_whole bs n state kind (omega arith) read is none in
+    let stuck : state_through Start (take (n + 1) bs) ≡ Stuck = state_step bs n state (class_of b) Stuck h read refl (sym ends) in
+    let more : take (n + 1) bs ≡ take n bs ++ b ∷ [] = take_more bs n 0 h in
+    let dead : state_through Start (take n bs ++ b ∷ []) ≡ Stuck = ap (state_through Start) (sym more) ∙ stuck in
+    let keeps : IsFrontOf (take n bs ++ b ∷ []) (Some front) = front_keeps (take n bs) b (Some front) whole.longest (kind_of-through (take n bs ++ b ∷ []) ∙ ap kind_at dead) in
+    let joined : (take n bs ++ b ∷ []) ++ drop (n + 1) bs ≡ bs = ap (λ xs. xs ++ drop (n + 1) bs) (sym more) ∙ take-append-drop (n + 1) bs in
+    record {
+      within = h;
+      longest = λ tail.
+          let on : IsFrontOf ((take n bs ++ b ∷ []) ++ (drop (n + 1) bs ++ tail)) (Some front) = front_whatever_follows (take n bs ++ b ∷ []) (drop (n + 1) bs ++ tail) (Some front) keeps dead in
+          let all : (take n bs ++ b ∷ []) ++ (drop (n + 1) bs ++ tail) ≡ bs ++ tail = sym (append_assoc (take n bs ++ b ∷ []) (drop (n + 1) bs) tail) ∙ ap (λ xs. xs ++ tail) joined in
+          subst (λ xs. IsLongestLexeme xs kind n) all on;
+    }
+
+-- with nothing behind the bytes
+pub ended_front : (bs : List ℕ) (front : Front) → EndsWithin bs front → IsFrontOf bs (Some front)
+ended_front bs front ends = subst (λ xs. IsLongestLexeme xs front.kind front.len) (append-nil bs) (ends.longest [])
+
+-- a colon that a byte follows
+pub ended_colon : (bs : List ℕ) → 1 < length bs → class_of (get_or bs 0 0) ≡ classes.Colon → EndsWithin bs (record { kind = Colon; len = 1 })
+ended_colon bs more colon =
+    ends_within bs 1 (Single Colon) Colon more (state_step bs 0 Start classes.Colon (Single Colon) (omega arith) refl (sym colon) refl) refl refl refl
+
+-- the first byte of a name
+pub begins_name : (bs : List ℕ) (c : ByteClass) → 0 < length bs → c ≡ class_of (get_or bs 0 0) → ((c ≡ classes.Letter) ⊎ (c ≡ classes.ExponentMark)) → state_through Start (take 1 bs) ≡ Name
+begins_name bs c some is letter = state_step bs 0 Start c Name some refl is (sym (⊎_elim (ap (state_after Start)) (ap (state_after Start)) letter))
+
+pub ends_whole : (c : ByteClass) → ((c ≡ classes.Blank) ⊎ (c ≡ classes.LineEnd)) → state_after Whole c ≡ Stuck
+ends_whole c h = ⊎_elim (ap (state_after Whole)) (ap (state_after Whole)) h
+
+pub ends_fraction : (c : ByteClass) → ((c ≡ classes.Blank) ⊎ (c ≡ classes.LineEnd)) → state_after Fraction c ≡ Stuck
+ends_fraction c h = ⊎_elim (ap (state_after Fraction)) (ap (state_after Fraction)) h
+
+-- the first byte of a numeral
+pub begins_whole : (bs : List ℕ) → 0 < length bs → class_of (get_or bs 0 0) ≡ classes.Digit → state_through Start (take 1 bs) ≡ Whole
+begins_whole bs some digit = state_step bs 0 Start classes.Digit Whole some refl (sym digit) refl
+
+pub at_point : (bs : List ℕ) (p : ℕ) → p < length bs → state_through Start (take p bs) ≡ Whole → class_of (get_or bs p 0) ≡ classes.Point → state_through Start (take (p + 1) bs) ≡ Fraction
+at_point bs p h read point = state_step bs p Whole classes.Point Fraction h read (sym point) refl

@@ -1,0 +1,82 @@
+-- The lexeme that a stream scans, in pieces.
+use Rattle.std.proofs.Common.{◌≡◌, ◌∙◌, ◌-◌, ◌<◌, ◌≤◌, ◌⊎◌, inl, inr, ℕ, true, false, Option, Some, List, [], ◌++◌, length, take, refl, sym, ap, subst, append-nil, Bool, arith}
+use Rattle.std.proofs.lemmas.List.{take-append-le, take-take, length-take}
+use Rattle.polcert_text.specs.Steps.ScanOf.{IsScanOf, is_stuck, front_len, EndsWithin}
+use Rattle.polcert_text.specs.Stream.{Ahead, visible}
+use Rattle.polcert_text.specs.Steps.Streaming.{with_read, IsComplete, IsSeen, Fills, ReadsOn, ScansLexeme}
+use Rattle.polcert_text.specs.Lexemes.{is_empty}
+use Rattle.polcert_text.specs.declared.lexeme.Front.{Front}
+use Rattle.polcert_text.specs.declared.lexeme.LexemeScan.{LexemeScan}
+use Rattle.polcert_text.proofs.Scanning.SeenLaws.{seen_stuck, seen_long, seen_all, seen_within}
+use Rattle.polcert_text.proofs.Streams.StreamLaws.{visible_len, reads_nothing, reads_fill}
+
+-- a front of the bytes below the limit stays so
+front_stays : (a : Ahead) (given : List ℕ) (n : ℕ) → n ≤ length (visible a) → take n (visible (with_read a given)) ≡ take n (visible a)
+front_stays a given n few =
+    let room = a.limit - a.place in
+    take-take n room (a.kept ++ given) (omega (arith, visible_len a)) ∙ take-append-le n a.kept given (omega (arith, visible_len a)) ∙ sym (take-take n room a.kept (omega (arith, visible_len a)))
+
+scanned_few : (bs : List ℕ) (scan : LexemeScan) → IsScanOf (take scan.len bs) scan → scan.len ≤ length bs
+scanned_few bs scan was = omega (arith, was.len, length-take scan.len bs)
+
+-- a scan of a front goes on over more bytes
+pub scan_stays : (now new : Ahead) (given : List ℕ) (scan : LexemeScan) → new ≡ with_read now given → IsScanOf (take scan.len (visible now)) scan → IsScanOf (take scan.len (visible new)) scan
+scan_stays now new given scan is was =
+    let same : take scan.len (visible new) ≡ take scan.len (visible now) = ap (λ a. take scan.len (visible a)) is ∙ front_stays now given scan.len (scanned_few (visible now) scan was) in
+    subst (λ xs. IsScanOf xs scan) (sym same) was
+
+module _ {S : Type 0} (reads : S → ℕ → Option (List ℕ) → S → Type 0) (failures : S → ℕ) where
+  -- a lexeme that ends within the bytes below the limit
+  pub lexeme_ended : (old : Ahead) (s : S) (front : Front) → old.place ≤ old.limit → EndsWithin (visible old) front → ScansLexeme reads failures old s (Some front) old s
+  lexeme_ended old s front below ends = record {
+    given = [];
+    reads_on = reads_nothing reads failures old s below;
+    within = omega (arith, ends.within);
+    seen = λ tail none. record { front_is = inl (ends.longest tail); apart = λ _. inr ends.within };
+  }
+
+  -- within a lexeme
+  pub record InLexeme (old : Ahead) (s : S) (scan : LexemeScan) (now : Ahead) (t : S) : Type 0 where
+    pub given : List ℕ
+    pub on : ReadsOn reads failures old s [] given now t
+    pub scan_is : IsScanOf (take scan.len (visible now)) scan
+    pub all : is_stuck scan.state ≡ false → scan.len ≡ length (visible now)
+
+  pub lexeme_begins : (old : Ahead) (s : S) (scan : LexemeScan) → old.place ≤ old.limit → IsScanOf (take scan.len (visible old)) scan
+      → (is_stuck scan.state ≡ false → scan.len ≡ length (visible old)) → InLexeme old s scan old s
+  lexeme_begins old s scan below scan_is all = record { given = []; on = reads_nothing reads failures old s below; scan_is = scan_is; all = all }
+
+  pub lexeme_goes_on : (old : Ahead) (s : S) (scan : LexemeScan) (now : Ahead) (t : S) (is_more : Bool) (new : Ahead) (u : S) (next : LexemeScan)
+      → InLexeme old s scan now t → now.is_whole ≡ false → Fills reads failures now t is_more new u
+      → IsScanOf (take next.len (visible new)) next → (is_stuck next.state ≡ false → next.len ≡ length (visible new)) → InLexeme old s next new u
+  lexeme_goes_on old s scan now t is_more new u next was unended f scan_is all = record {
+    given = was.given ++ f.given;
+    on = reads_fill reads failures old s [] was.given now t is_more new u was.on unended f;
+    scan_is = scan_is;
+    all = all;
+  }
+
+  -- the lexeme is known
+  pub lexeme_ends : (old : Ahead) (s : S) (scan : LexemeScan) (now : Ahead) (t : S) → InLexeme old s scan now t
+      → IsComplete now ⊎ ((is_stuck scan.state ≡ true) ⊎ (400 < front_len scan.longest)) → ScansLexeme reads failures old s scan.longest now t
+  lexeme_ends old s scan now t was known = record {
+    given = was.given;
+    reads_on = was.on;
+    within = seen_within (visible now) scan was.scan_is;
+    seen = λ tail none. at known tail none;
+  }
+    where
+      at : IsComplete now ⊎ ((is_stuck scan.state ≡ true) ⊎ (400 < front_len scan.longest)) → (tail : List ℕ) → (IsComplete now → tail ≡ []) → IsSeen (visible now) tail scan.longest
+      at (inl complete) tail none = seen_all (visible now) tail scan was.scan_is was.all (none complete)
+      at (inr (inl stuck)) tail none = seen_stuck (visible now) tail scan was.scan_is stuck
+      at (inr (inr long)) tail none = seen_long (visible now) tail scan.longest scan.len was.scan_is.longest long
+
+  -- the true end comes next
+  pub lexeme_at_end : (old : Ahead) (s : S) (scan : LexemeScan) (now : Ahead) (t : S) (new : Ahead) (u : S) → InLexeme old s scan now t
+      → now.is_whole ≡ false → Fills reads failures now t false new u → ScansLexeme reads failures old s scan.longest new u
+  lexeme_at_end old s scan now t new u was unended f =
+      let none = f.is_end refl in
+      let same : visible new ≡ visible now = ap visible f.new_is ∙ ap (λ xs. take (now.limit - now.place) (now.kept ++ xs)) none ∙ ap (take (now.limit - now.place)) (append-nil now.kept) in
+      let whole : new.is_whole ≡ true = ap (λ a. a.is_whole) f.new_is ∙ ap is_empty none in
+      let there = lexeme_goes_on old s scan now t false new u scan was unended f (scan_stays now new f.given scan f.new_is was.scan_is) (λ e. was.all e ∙ ap length (sym same)) in
+      lexeme_ends old s scan new u there (inl (inl whole))

@@ -1,0 +1,150 @@
+-- The tokens that were taken from a source, and the cut of each text that fits.
+use Rattle.std.proofs.Common.{◌≡◌, ◌∙◌, ◌++◌, ◌∷◌, ℕ, Bool, true, false, List, [], Option, Some, None, length, refl, sym, ap, subst, append-nil, append_assoc, length-append, take, drop, nat_lt, ◌<◌, ◌≤◌, arith}
+use Rattle.std.proofs.lemmas.List.{length-drop, length-take}
+use Rattle.std.proofs.lemmas.Bool.Decides.{nat_tests}
+use Rattle.polcert_text.specs.Fronts.{IsLongestLexeme}
+use Rattle.polcert_text.specs.Lexemes.{kind_of}
+use Rattle.polcert_text.specs.declared.lexeme.TokenKind.{TokenKind}
+use Rattle.polcert_text.specs.Cut.{Lexeme, Rest, IsCut, TakesToken, text_rest, end_place}
+use Rattle.polcert_text.specs.Device.{HasFailed}
+use Rattle.polcert_text.specs.Source.{IsText, Fits, EachTextThatFits, nothing}
+use Rattle.polcert_text.specs.Stream.{Ahead, Stream, fresh, rest_with, CanFollow, Fails, GivesToken, GivesEnd}
+use Rattle.polcert_text.specs.Steps.StreamTaken.{TakenFrom}
+use Rattle.polcert_text.specs.TakenTokens.{Taken, nothing as none, token as one_more}
+use Rattle.polcert_text.specs.declared.tokens.TokenFault.{TokenFault}
+use Rattle.polcert_text.proofs.Streams.StreamTakes.{from_both, could_follow}
+use Rattle.polcert_text.proofs.Taken.TakenTokens.{all_taken}
+
+module _ {S : Type 0} (reads : S → ℕ → Option (List ℕ) → S → Type 0) (failures : S → ℕ) (limit : ℕ) (first : S) where
+  -- no token yet
+  pub none_taken : (stream : Stream) → stream ≡ fresh limit → ((text : List ℕ) → rest_with stream.ahead text ≡ text_rest text limit)
+      → TakenFrom reads failures limit first [] stream first
+  none_taken stream is text = subst (λ s. TakenFrom reads failures limit first [] s first) (sym is) (record {
+    given = [];
+    was_read = nothing;
+    same_count = refl;
+    size = refl;
+    goes_on = refl;
+    taken = λ more can. subst (λ r. Taken (text_rest more limit) [] r) (sym (ap (λ s. rest_with s.ahead more) (sym is) ∙ text more)) (none (text_rest more limit));
+  })
+
+  -- one token more
+  pub token_taken : (tokens : List Lexeme) (old : Stream) (s : S) (t : Lexeme) (new : Stream) (u : S) → TakenFrom reads failures limit first tokens old s
+      → GivesToken reads failures old.ahead s t new.ahead u → new.stop ≡ None → TakenFrom reads failures limit first (tokens ++ t ∷ []) new u
+  token_taken tokens old s t new u was g goes_on = record {
+    given = was.given ++ g.given;
+    was_read = from_both reads failures false old.ahead.is_whole new.ahead.is_whole first s u was.given g.given was.was_read g.was_read;
+    same_count = g.same_count ∙ was.same_count;
+    size = omega (arith, g.size, was.size, length-append was.given g.given);
+    goes_on = goes_on;
+    taken = λ more can.
+        let before = was.taken (g.given ++ more) (could_follow reads failures old.ahead s g.given more new.ahead u g.was_read can) in
+        subst (λ text. Taken (text_rest text limit) (tokens ++ t ∷ []) (rest_with new.ahead more)) (sym (append_assoc was.given g.given more))
+        (one_more _ _ _ tokens t before (g.next more can));
+  }
+
+  fits_of : (is_whole : Bool) (ahead : Ahead) → ahead.is_whole ≡ is_whole → (given text : List ℕ) → Fits given is_whole text
+      → (more : List ℕ) × (text ≡ given ++ more) × CanFollow ahead more
+  fits_of true ahead e given text fits = ([], fits ∙ sym (append-nil given), λ _. refl)
+  fits_of false ahead e given text fits = (fits.0, fits.1, λ whole. absurd (both whole e))
+    where
+      both : {b : Bool} → b ≡ true → b ≡ false → ⊥
+      both a b = cc
+
+  -- each text that fits begins with the tokens taken
+  pub each_taken : (tokens : List Lexeme) (stream : Stream) (s : S) (P : List ℕ → Type 0) → TakenFrom reads failures limit first tokens stream s
+      → ((text : List ℕ) (rest : Rest) → Taken (text_rest text limit) tokens rest → P text) → EachTextThatFits reads first s P
+  each_taken tokens stream s P was holds = record {
+    bytes = was.given;
+    is_whole = stream.ahead.is_whole;
+    was_read = was.was_read;
+    each = λ text fits.
+        let f = fits_of stream.ahead.is_whole stream.ahead refl was.given text fits in
+        holds text (rest_with stream.ahead f.0) (subst (λ x. Taken (text_rest x limit) tokens (rest_with stream.ahead f.0)) (sym f.1) (was.taken f.0 f.2));
+  }
+
+  ended_cut : (tokens : List Lexeme) (old : Stream) (s : S) (answer : Option TokenFault) (new : Ahead) (u : S) → (was : TakenFrom reads failures limit first tokens old s)
+      → (g : GivesEnd reads failures old.ahead s answer new u) → (more : List ℕ) → CanFollow new more → IsCut (text_rest ((was.given ++ g.given) ++ more) limit) tokens answer
+  ended_cut tokens old s answer new u was g more can =
+      let before = was.taken (g.given ++ more) (could_follow reads failures old.ahead s g.given more new u g.was_read can) in
+      subst (λ text. IsCut (text_rest text limit) tokens answer) (sym (append_assoc was.given g.given more))
+      (all_taken _ _ tokens answer before (g.ends more can))
+
+  -- each text that fits has these tokens, and ends so
+  pub each_cut : (tokens : List Lexeme) (old : Stream) (s : S) (answer : Option TokenFault) (new : Ahead) (u : S) (P : List ℕ → Type 0) → TakenFrom reads failures limit first tokens old s
+      → GivesEnd reads failures old.ahead s answer new u → ((text : List ℕ) → IsCut (text_rest text limit) tokens answer → P text) → EachTextThatFits reads first u P
+  each_cut tokens old s answer new u P was g holds = record {
+    bytes = was.given ++ g.given;
+    is_whole = new.is_whole;
+    was_read = from_both reads failures false old.ahead.is_whole new.is_whole first s u was.given g.given was.was_read g.was_read;
+    each = λ text fits.
+        let f = fits_of new.is_whole new refl (was.given ++ g.given) text fits in
+        holds text (subst (λ x. IsCut (text_rest x limit) tokens answer) (sym f.1) (ended_cut tokens old s answer new u was g f.0 f.2));
+  }
+
+  -- the text of the source, where it ended cleanly
+  pub text_taken : (tokens : List Lexeme) (old : Stream) (s : S) (new : Ahead) (u : S) → TakenFrom reads failures limit first tokens old s
+      → GivesEnd reads failures old.ahead s None new u
+      → (text : List ℕ) × (IsText reads first text u) × (IsCut (text_rest text limit) tokens None) × (new.place ≡ length text)
+  text_taken tokens old s new u was g =
+      let at = g.at_end.whole refl in
+      let text = was.given ++ g.given in
+      let read = from_both reads failures false old.ahead.is_whole new.is_whole first s u was.given g.given was.was_read g.was_read in (
+        text,
+        rw at.0 at read,
+        subst (λ x. IsCut (text_rest x limit) tokens None) (append-nil text) (ended_cut tokens old s None new u was g [] (λ _. refl)),
+        omega (arith, g.size, was.size, length-append was.given g.given, ap length at.1),
+      )
+
+  -- the failure of a read is one since the first state
+  pub failed_since : (tokens : List Lexeme) (old : Stream) (s u : S) → TakenFrom reads failures limit first tokens old s → Fails reads failures s u → HasFailed (failures first) (failures u)
+  failed_since tokens old s u was f = subst (λ n. HasFailed n (failures u)) was.same_count f.count
+
+-- what holds of the text of a source holds of each text that fits
+pub each_whole : {S : Type 0} (reads : S → ℕ → Option (List ℕ) → S → Type 0) (first : S) (text : List ℕ) (u : S) (P : List ℕ → Type 0) → IsText reads first text u → P text → EachTextThatFits reads first u P
+each_whole reads first text u P is_text holds = record {
+  bytes = text;
+  is_whole = true;
+  was_read = is_text;
+  each = λ other fits. subst P (sym fits) holds;
+}
+
+-- a token takes at least one byte
+pub place_grows : (old new : Ahead) (given : List ℕ) (t : Lexeme) → ((more : List ℕ) → CanFollow new more → TakesToken (rest_with old (given ++ more)) t (rest_with new more)) → old.place < new.place
+place_grows old new given t next =
+    let takes = next [] (λ _. refl) in
+    let place = ap (λ r. r.place) takes.rest in
+    let some = some_byte t.bytes (drop takes.gap (rest_with old (given ++ [])).bytes) t.kind takes.token_at.lexeme in
+    omega arith
+  where
+    some_byte : (bs all : List ℕ) (kind : TokenKind) → IsLongestLexeme all kind (length bs) → 0 < length bs
+    some_byte [] all kind l = absurd (both (l.lexeme))
+      where
+        both : kind_of (take 0 all) ≡ Some kind → ⊥
+        both e = cc
+    some_byte (b ∷ bs) all kind l = omega arith
+
+-- the tokens taken, and what is ahead, end where the text does
+taken_end : (old new : Rest) (ts : List Lexeme) → Taken old ts new → end_place new ≡ end_place old
+taken_end old new ts (none _) = refl
+taken_end old new ts (one_more _ between _ us t before takes) =
+    let was = taken_end old between us before in
+    let place = ap (λ r. r.place) takes.rest in
+    let bytes = ap (λ r. length r.bytes) takes.rest in
+    let gap = takes.longest.within in
+    let token = takes.token_at.lexeme.within in
+    omega (arith, length-drop takes.gap between.bytes, length-drop (length t.bytes) (drop takes.gap between.bytes))
+
+text_end : (text : List ℕ) (limit : ℕ) → end_place (text_rest text limit) ≤ limit
+text_end text limit = at (nat_lt limit (length text)) refl
+  where
+    at : (b : Bool) → nat_lt limit (length text) ≡ b → end_place (text_rest text limit) ≤ limit
+    at true e = rw e (omega (arith, length-take limit text))
+    at false e = rw e (let few : length text ≤ limit = grind (arith, nat_tests) in omega arith)
+
+-- what is ahead stands below the limit
+pub place_within : {S : Type 0} (reads : S → ℕ → Option (List ℕ) → S → Type 0) (failures : S → ℕ) (limit : ℕ) (first : S) (ts : List Lexeme) (stream : Stream) (s : S)
+    → TakenFrom reads failures limit first ts stream s → stream.ahead.place ≤ limit
+place_within reads failures limit first ts stream s was =
+    let taken = was.taken [] (λ _. refl) in
+    omega (arith, taken_end _ _ ts taken, text_end (was.given ++ []) limit)

@@ -1,0 +1,282 @@
+-- What a stream answers, whatever follows what it has read.
+use Rattle.std.proofs.Common.{◌≡◌, ◌∙◌, ◌+◌, ◌-◌, ◌<◌, ◌≤◌, ◌⊎◌, inl, inr, ℕ, Bool, true, false, Option, Some, None, List, [], ◌∷◌, ◌++◌, length, take, drop, refl, sym, ap, subst, append-nil, append_assoc, length-append, nat_lt, cond, ⊎_elim, arith}
+use Rattle.std.proofs.lemmas.List.{drop-take, drop-append-le, length-drop, length-take, take-append-le, take-take}
+use Rattle.std.proofs.lemmas.Bool.Decides.{nat_tests}
+use Rattle.std.proofs.Math.Seq.{take-append-add, drop-append_seam}
+use Rattle.polcert_text.specs.Cut.{Lexeme, Rest, IsTokenAt, IsFaultAt, TakesToken, EndsAt, Ends}
+use Rattle.polcert_text.specs.Device.{HasFailed}
+use Rattle.polcert_text.specs.Fronts.{IsLongestGap}
+use Rattle.polcert_text.specs.Source.{Gives, IsText}
+use Rattle.polcert_text.specs.Stream.{Ahead, end_of_kept, rest_with, CanFollow, ReadsFrom, Fails, GivesToken, GivesEnd, visible, skip}
+use Rattle.polcert_text.specs.Steps.Streaming.{end_of, IsComplete, IsSeen, ReadsOn, SkipsGap, ScansLexeme}
+use Rattle.polcert_text.specs.Lexemes.{is_empty}
+use Rattle.polcert_text.specs.declared.lexeme.Front.{Front}
+use Rattle.polcert_text.specs.declared.tokens.TokenFault.{TokenFault}
+use Rattle.polcert_text.specs.declared.tokens.TokenFault.TheVariants.{TextTooLong}
+use Rattle.polcert_text.proofs.Streams.Giving.{gave_then}
+use Rattle.polcert_text.proofs.Streams.StreamLaws.{rest_bytes, tail_of, visible_len, no_tail, take_nil}
+
+false≢true : {A : Type 0} → false ≡ true → A
+false≢true e = cc
+
+no_bytes : (bs : List ℕ) → length bs ≡ 0 → bs ≡ []
+no_bytes [] e = refl
+no_bytes (b ∷ bs) e = absurd (omega arith)
+
+-- behind a gap comes what the rest behind it begins with
+record Behind (rest : Rest) (skipped : List ℕ) (behind : Rest) : Type 0 where
+  bytes : rest.bytes ≡ skipped ++ behind.bytes
+  place : behind.place ≡ rest.place + length skipped
+  ending : rest.ending ≡ behind.ending
+  longest : IsLongestGap (skipped ++ behind.bytes) (length skipped)
+
+dropped : (rest : Rest) (skipped : List ℕ) (behind : Rest) → Behind rest skipped behind → drop (length skipped) rest.bytes ≡ behind.bytes
+dropped rest skipped behind b = ap (drop (length skipped)) b.bytes ∙ drop-append_seam skipped behind.bytes
+
+ends_behind : (rest : Rest) (skipped : List ℕ) (behind : Rest) (answer : Option TokenFault) → Behind rest skipped behind
+    → EndsAt behind.place behind.bytes behind.ending answer → Ends rest answer
+ends_behind rest skipped behind answer b at =
+    let placed = subst (λ p. EndsAt p behind.bytes behind.ending answer) b.place at in
+    let cut = subst (λ bs. EndsAt (rest.place + length skipped) bs behind.ending answer) (sym (dropped rest skipped behind b)) placed in
+    record {
+      gap = length skipped;
+      longest = subst (λ xs. IsLongestGap xs (length skipped)) (sym b.bytes) b.longest;
+      ends_at = subst (λ e. EndsAt (rest.place + length skipped) (drop (length skipped) rest.bytes) e answer) (sym b.ending) cut;
+    }
+
+takes_behind : (rest : Rest) (skipped : List ℕ) (behind : Rest) (token : Lexeme) (new : Rest) → Behind rest skipped behind
+    → IsTokenAt behind.place behind.bytes token
+    → new ≡ (let r : Rest = record { place = behind.place + length token.bytes; bytes = drop (length token.bytes) behind.bytes; ending = behind.ending } in r)
+    → TakesToken rest token new
+takes_behind rest skipped behind token new b at is =
+    let placed = subst (λ p. IsTokenAt p behind.bytes token) b.place at in
+    let cut = sym (dropped rest skipped behind b) in
+    record {
+      gap = length skipped;
+      longest = subst (λ xs. IsLongestGap xs (length skipped)) (sym b.bytes) b.longest;
+      token_at = subst (λ bs. IsTokenAt (rest.place + length skipped) bs token) cut placed;
+      rest = is ∙ (λ i. record { place = b.place i + length token.bytes; bytes = drop (length token.bytes) (cut i); ending = sym b.ending i });
+    }
+
+-- what is cut at the front, with no gap
+at_front : (rest : Rest) → IsLongestGap rest.bytes 0 → Behind rest [] rest
+at_front rest none = record { bytes = refl; place = omega arith; ending = refl; longest = none }
+
+fault_at : (place : ℕ) (bs : List ℕ) (ending : Option TokenFault) (fault : TokenFault) → 0 < length bs → IsFaultAt place bs fault → EndsAt place bs ending (Some fault)
+fault_at place [] ending fault some is = absurd (omega arith)
+fault_at place (b ∷ bs) ending fault some is = is
+
+-- what is ahead where the first bytes were given
+pub rest_skipped : (a : Ahead) (n : ℕ) (more : List ℕ) → n ≤ length (visible a)
+    → rest_with (skip n a) more ≡ (let r : Rest = record { place = a.place + n; bytes = drop n (rest_with a more).bytes; ending = (rest_with a more).ending } in r)
+rest_skipped a n more few =
+    let room : a.limit - a.place ≡ n + (a.limit - (a.place + n)) = omega (arith, visible_len a) in
+    let joined : drop n a.kept ++ more ≡ drop n (a.kept ++ more) = sym (drop-append-le n a.kept more (omega (arith, visible_len a))) in
+    let bytes : take (a.limit - (a.place + n)) (drop n a.kept ++ more) ≡ drop n (take (a.limit - a.place) (a.kept ++ more))
+    = ap (take (a.limit - (a.place + n))) joined ∙ sym (drop-take n (a.limit - (a.place + n)) (a.kept ++ more)) ∙ ap (λ m. drop n (take m (a.kept ++ more))) (sym room) in
+    let end : a.place + n + length (drop n a.kept ++ more) ≡ a.place + length (a.kept ++ more) = omega (arith, visible_len a, length-drop n a.kept, length-append (drop n a.kept) more, length-append a.kept more) in
+    λ i. record { place = a.place + n; bytes = bytes i; ending = cond (nat_lt a.limit (end i)) (Some (TextTooLong a.limit)) None }
+
+ending_of : (place limit : ℕ) (kept more : List ℕ) → place ≤ limit → length (take (limit - place) kept) ≡ 0 → (length kept ≡ 0 → more ≡ [])
+    → cond (is_empty kept) None (Some (TextTooLong limit)) ≡ cond (nat_lt limit (place + length (kept ++ more))) (Some (TextTooLong limit)) None
+ending_of place limit [] more below none can =
+    let len : length more ≡ 0 = ap length (can refl) in
+    let past : nat_lt limit (place + length more) ≡ false = grind (arith, nat_tests) in
+    rw past refl
+ending_of place limit (b ∷ bs) more below none can =
+    let room : limit - place ≡ 0 = omega (arith, length-take (limit - place) (b ∷ bs)) in
+    let past : nat_lt limit (place + length (b ∷ (bs ++ more))) ≡ true = grind (arith, nat_tests) in
+    rw past refl
+
+-- the end, where no byte below the limit is left
+end_is : (a : Ahead) (more : List ℕ) → CanFollow a more → a.place ≤ a.limit → length (visible a) ≡ 0 → (a.is_whole ≡ true) ⊎ (0 < length a.kept)
+    → EndsAt (rest_with a more).place (rest_with a more).bytes (rest_with a more).ending (end_of a)
+end_is a more can below none has =
+    let complete : IsComplete a = ⊎_elim (λ whole. inl whole) (λ some. inr (omega (arith, visible_len a))) has in
+    let empty : (rest_with a more).bytes ≡ [] = rest_bytes a more ∙ ap (λ xs. xs ++ tail_of a more) (no_bytes (visible a) none) ∙ no_tail a more can complete in
+    let is : end_of a ≡ (rest_with a more).ending = ending_of a.place a.limit a.kept more below none (λ e. ⊎_elim can (λ some. absurd (omega arith)) has) in
+    subst (λ bs. EndsAt (rest_with a more).place bs (rest_with a more).ending (end_of a)) (sym empty) is
+
+clean_end : (a : Ahead) → (a.is_whole ≡ true) ⊎ (0 < length a.kept) → end_of a ≡ None → (a.is_whole ≡ true) × (a.kept ≡ [])
+clean_end a has none = at a.kept refl
+  where
+    at : (kept : List ℕ) → a.kept ≡ kept → (a.is_whole ≡ true) × (a.kept ≡ [])
+    at [] e = (⊎_elim (λ whole. whole) (λ some. absurd (omega (arith, ap length e))) has, e)
+    at (b ∷ bs) e = absurd (some_end (end_of a) (ap (λ k. cond (is_empty k) None (Some (TextTooLong a.limit))) e) none)
+      where
+        some_end : (x : Option TokenFault) → x ≡ Some (TextTooLong a.limit) → x ≡ None → ⊥
+        some_end x e f = cc
+
+module _ {S : Type 0} (reads : S → ℕ → Option (List ℕ) → S → Type 0) (failures : S → ℕ) where
+  pub from_both : (first second third : Bool) (s t u : S) (given more : List ℕ) → ReadsFrom reads first s given second t → ReadsFrom reads second t more third u
+      → ReadsFrom reads first s (given ++ more) third u
+  from_both true true third s t u given more a b = (ap (λ xs. xs ++ more) a.0 ∙ b.0, b.1, b.2 ∙ a.2)
+  from_both true false third s t u given more a b = false≢true a.1
+  from_both false true third s t u given more a b =
+      let all : given ++ more ≡ given = ap (λ xs. given ++ xs) b.0 ∙ append-nil given in
+      subst (λ w. ReadsFrom reads false s (given ++ more) w u) (sym b.1) (subst (λ v. IsText reads s (given ++ more) v) (sym b.2) (subst (λ xs. IsText reads s xs t) (sym all) a))
+  from_both false false true s t u given more a b = record {
+    before = b.before;
+    room = b.room;
+    has_room = b.has_room;
+    gave = gave_then a b.gave;
+    ended = b.ended;
+  }
+  from_both false false false s t u given more a b = gave_then a b
+
+  -- first some bytes are skipped, and then others read
+  reads_both : (old : Ahead) (s : S) (skipped given : List ℕ) (mid : Ahead) (t : S) (more : List ℕ) (new : Ahead) (u : S)
+      → ReadsOn reads failures old s skipped given mid t → ReadsOn reads failures mid t [] more new u → ReadsOn reads failures old s skipped (given ++ more) new u
+  reads_both old s skipped given mid t more new u a b = record {
+    was_read = from_both old.is_whole mid.is_whole new.is_whole s t u given more a.was_read b.was_read;
+    same_count = b.same_count ∙ a.same_count;
+    bytes = sym (append_assoc old.kept given more) ∙ ap (λ xs. xs ++ more) a.bytes ∙ append_assoc skipped mid.kept more ∙ ap (λ xs. skipped ++ xs) b.bytes;
+    place = omega (arith, a.place, b.place);
+    limit = b.limit ∙ a.limit;
+    below = b.below;
+  }
+
+  -- the rest of the text behind what was skipped is what is ahead then
+  rest_on : (old : Ahead) (s : S) (skipped given : List ℕ) (new : Ahead) (t : S) (more : List ℕ) → ReadsOn reads failures old s skipped given new t
+      → IsLongestGap (skipped ++ (rest_with new more).bytes) (length skipped) → Behind (rest_with old (given ++ more)) skipped (rest_with new more)
+  rest_on old s skipped given new t more on longest =
+      let room : old.limit - old.place ≡ length skipped + (new.limit - new.place) = omega (arith, on.place, on.limit, on.below) in
+      let text : old.kept ++ (given ++ more) ≡ skipped ++ (new.kept ++ more) = sym (append_assoc old.kept given more) ∙ ap (λ xs. xs ++ more) on.bytes ∙ append_assoc skipped new.kept more in
+      let end : old.place + length (old.kept ++ (given ++ more)) ≡ new.place + length (new.kept ++ more) = omega (arith, ap length text, length-append skipped (new.kept ++ more), on.place) in
+      record {
+        bytes = ap (take (old.limit - old.place)) text ∙ ap (λ n. take n (skipped ++ (new.kept ++ more))) room ∙ take-append-add skipped (new.kept ++ more) (new.limit - new.place);
+        place = on.place;
+        ending = λ i. cond (nat_lt (sym on.limit i) (end i)) (Some (TextTooLong (sym on.limit i))) None;
+        longest = longest;
+      }
+
+  -- a read fails behind those of the gap
+  pub fails_behind : (old : Ahead) (s : S) (mid : Ahead) (t u : S) (is_found : Bool) → SkipsGap reads failures old s is_found mid t → mid.is_whole ≡ false
+      → Fails reads failures t u → Fails reads failures s u
+  fails_behind old s mid t u is_found g not_whole f = record {
+    given = g.given ++ f.given;
+    failed = record { before = f.failed.before; room = f.failed.room; gave = gave_then (gives_from old.is_whole mid.is_whole g.reads_on.was_read not_whole) f.failed.gave; failed = f.failed.failed };
+    count = subst (λ n. HasFailed n (failures u)) g.reads_on.same_count f.count;
+  }
+    where
+      gives_from : (first second : Bool) → ReadsFrom reads first s g.given second t → second ≡ false → Gives reads s g.given t
+      gives_from true second from e = false≢true (sym e ∙ from.1)
+      gives_from false true from e = false≢true (sym e)
+      gives_from false false from e = from
+
+  -- what can follow in the end could follow before
+  pub could_follow : (mid : Ahead) (t : S) (given more : List ℕ) (new : Ahead) (u : S) → ReadsFrom reads mid.is_whole t given new.is_whole u → CanFollow new more → CanFollow mid (given ++ more)
+  could_follow mid t given more new u from can whole =
+      let was : ReadsFrom reads true t given new.is_whole u = rw whole at from in
+      ap (λ xs. xs ++ more) was.0 ∙ can was.1
+
+  size_on : {old new : Ahead} {s t : S} (skipped given : List ℕ) → ReadsOn reads failures old s skipped given new t → end_of_kept new ≡ end_of_kept old + length given
+  size_on {old} {new} skipped given on = omega (arith, on.place, ap length on.bytes, length-append old.kept given, length-append skipped new.kept)
+
+  -- the end comes behind the gap
+  pub gives_end : (old : Ahead) (s : S) (new : Ahead) (t : S) → SkipsGap reads failures old s false new t → GivesEnd reads failures old s (end_of new) new t
+  gives_end old s new t g =
+      let at = g.end refl in
+      record {
+        given = g.given;
+        was_read = g.reads_on.was_read;
+        same_count = g.reads_on.same_count;
+        size = size_on g.skipped g.given g.reads_on;
+        ends = λ more can. ends_behind (rest_with old (g.given ++ more)) g.skipped (rest_with new more) (end_of new)
+            (rest_on old s g.skipped g.given new t more g.reads_on (g.longest more can)) (end_is new more can g.reads_on.below at.0 at.1);
+        at_end = record {
+          ends = λ more can. ends_behind (rest_with new more) [] (rest_with new more) (end_of new) (at_front (rest_with new more) (g.again more can)) (end_is new more can g.reads_on.below at.0 at.1);
+          whole = clean_end new at.1;
+        };
+      }
+
+  -- a lexeme at the front, behind the gap
+  module _ (old : Ahead) (s : S) (mid : Ahead) (t : S) (front : Option Front) (new : Ahead) (u : S) (g : SkipsGap reads failures old s true mid t) (l : ScansLexeme reads failures mid t front new u) where
+    on : ReadsOn reads failures old s g.skipped (g.given ++ l.given) new u
+    on = reads_both old s g.skipped g.given mid t l.given new u g.reads_on l.reads_on
+
+    -- what is ahead of the lexeme is what is ahead behind the gap
+    same_rest : (more : List ℕ) → (rest_with mid (l.given ++ more)).bytes ≡ (rest_with new more).bytes
+    same_rest more =
+        let room : mid.limit - mid.place ≡ new.limit - new.place = omega (arith, l.reads_on.place, l.reads_on.limit) in
+        let text : mid.kept ++ (l.given ++ more) ≡ new.kept ++ more = sym (append_assoc mid.kept l.given more) ∙ ap (λ xs. xs ++ more) l.reads_on.bytes in
+        ap (λ n. take n (mid.kept ++ (l.given ++ more))) room ∙ ap (take (new.limit - new.place)) text
+
+    behind : (more : List ℕ) → CanFollow new more → Behind (rest_with old ((g.given ++ l.given) ++ more)) g.skipped (rest_with new more)
+    behind more can = rest_on old s g.skipped (g.given ++ l.given) new u more on
+        (subst (λ xs. IsLongestGap (g.skipped ++ xs) (length g.skipped)) (same_rest more) (g.longest (l.given ++ more) (could_follow mid t l.given more new u l.reads_on.was_read can)))
+
+    front_again : (more : List ℕ) → CanFollow new more → Behind (rest_with new more) [] (rest_with new more)
+    front_again more can = at_front (rest_with new more)
+        (subst (λ xs. IsLongestGap xs 0) (same_rest more) (g.again (l.given ++ more) (could_follow mid t l.given more new u l.reads_on.was_read can)))
+
+    some_bytes : (more : List ℕ) → 0 < length (rest_with new more).bytes
+    some_bytes more =
+        let found = g.found refl in
+        let kept = ap length l.reads_on.bytes in
+        omega (arith, ap length (rest_bytes new more), length-append (visible new) (tail_of new more), visible_len new, visible_len mid, length-append mid.kept l.given, l.reads_on.place, l.reads_on.limit)
+
+    -- it is refused
+    pub gives_fault : (fault : TokenFault) → ((more : List ℕ) → CanFollow new more → IsFaultAt new.place (rest_with new more).bytes fault) → GivesEnd reads failures old s (Some fault) new u
+    gives_fault fault is = record {
+      given = g.given ++ l.given;
+      was_read = on.was_read;
+      same_count = on.same_count;
+      size = size_on g.skipped (g.given ++ l.given) on;
+      ends = λ more can. ends_behind (rest_with old ((g.given ++ l.given) ++ more)) g.skipped (rest_with new more) (Some fault) (behind more can)
+          (fault_at new.place (rest_with new more).bytes (rest_with new more).ending fault (some_bytes more) (is more can));
+      at_end = record {
+        ends = λ more can. ends_behind (rest_with new more) [] (rest_with new more) (Some fault) (front_again more can)
+            (fault_at new.place (rest_with new more).bytes (rest_with new more).ending fault (some_bytes more) (is more can));
+        whole = λ e. absurd (cc);
+      };
+    }
+
+    -- it is a token
+    pub gives_token : (token : Lexeme) (n : ℕ) → length token.bytes ≡ n → n ≤ length (visible new)
+        → ((more : List ℕ) → CanFollow new more → IsTokenAt new.place (rest_with new more).bytes token) → GivesToken reads failures old s token (skip n new) u
+    gives_token token n len few is = record {
+      given = g.given ++ l.given;
+      was_read = on.was_read;
+      same_count = on.same_count;
+      size = omega (arith, size_on g.skipped (g.given ++ l.given) on, length-drop n new.kept, visible_len new);
+      next = λ more can. takes_behind (rest_with old ((g.given ++ l.given) ++ more)) g.skipped (rest_with new more) token (rest_with (skip n new) more) (behind more can) (is more can)
+          (rest_skipped new n more few ∙ (λ i. record { place = new.place + sym len i; bytes = drop (sym len i) (rest_with new more).bytes; ending = (rest_with new more).ending }));
+    }
+
+    pub seen_more : (more : List ℕ) → CanFollow new more → IsSeen (visible new) (tail_of new more) front
+    seen_more more can = l.seen (tail_of new more) (no_tail new more can)
+
+    -- the bytes of a token are some of those below the limit
+    pub few_bytes : (token : Lexeme) → ((more : List ℕ) → CanFollow new more → IsTokenAt new.place (visible new ++ tail_of new more) token) → length token.bytes ≤ length (visible new)
+    few_bytes token is =
+        let none : tail_of new [] ≡ [] = take_nil (new.limit - new.place - length new.kept) [] refl in
+        let within = (is [] (λ _. refl)).lexeme.within in
+        omega (arith, length-append (visible new) (tail_of new []), ap length none)
+
+    pub token_given : (token : Lexeme) → ((more : List ℕ) → CanFollow new more → IsTokenAt new.place (visible new ++ tail_of new more) token)
+        → GivesToken reads failures old s (let lent : Lexeme = record { kind = token.kind; place = new.place + length token.bytes - length (take (length token.bytes) new.kept); bytes = take (length token.bytes) new.kept } in lent) (skip (length token.bytes) new) u
+    token_given token is =
+        let n = length token.bytes in
+        let few = few_bytes token is in
+        let first = is [] (λ _. refl) in
+        let room = new.limit - new.place in
+        let bytes : token.bytes ≡ take n new.kept = first.bytes_are ∙ take-append-le n (visible new) (tail_of new []) few ∙ take-take n room new.kept (omega (arith, visible_len new)) in
+        let place : token.place ≡ new.place + n - length (take n new.kept) = omega (arith, first.place_is, ap length bytes) in
+        let same : token ≡ (let lent : Lexeme = record { kind = token.kind; place = new.place + n - length (take n new.kept); bytes = take n new.kept } in lent) = λ i. record { kind = token.kind; place = place i; bytes = bytes i } in
+        subst (λ t. GivesToken reads failures old s t (skip n new) u) same
+        (gives_token token n refl few (λ more can. subst (λ bs. IsTokenAt new.place bs token) (sym (rest_bytes new more)) (is more can)))
+
+    pub fault_given : (fault : TokenFault) → ((more : List ℕ) → CanFollow new more → IsFaultAt new.place (visible new ++ tail_of new more) fault) → GivesEnd reads failures old s (Some fault) new u
+    fault_given fault is = gives_fault fault (λ more can. subst (λ bs. IsFaultAt new.place bs fault) (sym (rest_bytes new more)) (is more can))
+
+  -- the same, with nothing skipped behind it
+  pub ended_as : (old ahead : Ahead) (s : S) (answer other : Option TokenFault) (new : Ahead) (u : S) → old ≡ ahead → answer ≡ other → GivesEnd reads failures old s answer new u
+      → GivesEnd reads failures ahead s other (skip 0 new) u
+  ended_as old ahead s answer other new u is same e =
+      let none : new.place ≡ new.place + 0 = omega arith in
+      let here : new ≡ skip 0 new = λ i. record { place = none i; kept = new.kept; limit = new.limit; is_whole = new.is_whole } in
+      subst (λ a. GivesEnd reads failures a s other (skip 0 new) u) is (subst (λ x. GivesEnd reads failures old s x (skip 0 new) u) same (subst (λ a. GivesEnd reads failures old s answer a u) here e))
+
+  pub given_as : (old ahead : Ahead) (s : S) (token : Lexeme) (new : Ahead) (u : S) → old ≡ ahead → GivesToken reads failures old s token new u → GivesToken reads failures ahead s token new u
+  given_as old ahead s token new u is e = subst (λ a. GivesToken reads failures a s token new u) is e

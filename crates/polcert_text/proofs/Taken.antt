@@ -1,0 +1,4 @@
+-- Tokens that were taken.
+pub mod BeginLaws
+pub mod PassedTokens
+pub mod TakenTokens

@@ -1,0 +1,134 @@
+-- Tokens at the front of some bytes: one, and several, one after another.
+use Rattle.std.proofs.Common.{◌≡◌, ◌∙◌, ℕ, ◌+◌, ◌<◌, ◌≤◌, false, Option, List, [], ◌∷◌, ◌++◌, length, take, drop, get_or, refl, sym, ap, subst, append_assoc, append-nil, length-append, arith}
+use Rattle.std.proofs.Math.ListN.{get_or-append}
+use Rattle.std.proofs.lemmas.List.{take-append-le, drop-append-le, length-take-le, length-drop, get_or-drop, drop-drop}
+use Rattle.polcert_text.specs.Beginning.{rest_at, BeginWith, BeginWithOne, BeginWithNumber, BeginWithDigits}
+use Rattle.polcert_text.specs.Steps.ScanOf.{EndsAsNumber, EndsAsDigits, EndsWithin}
+use Rattle.polcert_text.specs.Bytes.{class_of}
+use Rattle.polcert_text.specs.Cut.{Lexeme, Rest, TakesToken, is_glued}
+use Rattle.polcert_text.specs.Fronts.{IsLongestLexeme}
+use Rattle.polcert_text.specs.Steps.Scan.{gap_after, gap_through}
+use Rattle.polcert_text.specs.TakenTokens.{Taken, nothing, token}
+use Rattle.polcert_text.specs.declared.beginning.FrontNumber.{FrontNumber}
+use Rattle.polcert_text.specs.declared.bytes.ByteClass.TheVariants as classes
+use Rattle.polcert_text.specs.declared.lexeme.Gap.TheVariants.{Between, Ended}
+use Rattle.polcert_text.specs.declared.lexeme.TokenKind.{TokenKind}
+use Rattle.polcert_text.specs.declared.lexeme.TokenKind.TheVariants.{Name, Numeral, Colon, Star, Plus, Minus}
+use Rattle.polcert_text.specs.declared.tokens.TokenFault.{TokenFault}
+use Rattle.polcert_text.proofs.Scanning.Runs.{longest_seen, ended_colon}
+
+-- ---- several
+
+pub taken_both : (a b c : Rest) (us vs : List Lexeme) → Taken a us b → Taken b vs c → Taken a (us ++ vs) c
+taken_both a b c us vs first (nothing _) = subst (λ xs. Taken a xs b) (sym (append-nil us)) first
+taken_both a b c us vs first (token _ between _ ws t before takes) =
+    subst (λ xs. Taken a xs c) (append_assoc us ws (t ∷ [])) (token a between c (us ++ ws) t (taken_both a b between us ws first before) takes)
+
+-- none
+pub begin_none : (place : ℕ) (bytes : List ℕ) → BeginWith place bytes 0 []
+begin_none place bytes = record {
+  within = omega arith;
+  taken = λ tail ending.
+      let same : place ≡ place + 0 = omega arith in
+      subst (λ p. Taken (rest_at place (bytes ++ tail) ending) [] (rest_at p (bytes ++ tail) ending)) same (nothing (rest_at place (bytes ++ tail) ending));
+}
+
+-- some, and others behind them
+pub begin_then : (place : ℕ) (bytes : List ℕ) (m n : ℕ) (us vs : List Lexeme) → BeginWith place bytes m us → BeginWith (place + m) (drop m bytes) n vs → BeginWith place bytes (m + n) (us ++ vs)
+begin_then place bytes m n us vs first second = record {
+  within = omega (arith, first.within, second.within, length-drop m bytes);
+  taken = λ tail ending.
+      let all : place + m + n ≡ place + (m + n) = omega arith in
+      let bytes_are : drop n (drop m bytes) ++ tail ≡ drop (m + n) bytes ++ tail = ap (λ xs. xs ++ tail) (drop-drop n m bytes) in
+      let end : rest_at (place + m + n) (drop n (drop m bytes) ++ tail) ending ≡ rest_at (place + (m + n)) (drop (m + n) bytes ++ tail) ending = λ i. rest_at (all i) (bytes_are i) ending in
+      subst (Taken (rest_at place (bytes ++ tail) ending) (us ++ vs)) end
+      (taken_both _ _ _ us vs (first.taken tail ending) (second.taken tail ending));
+}
+
+-- ---- one
+
+glue_stays : (kind : TokenKind) (bs tail : List ℕ) → 0 < length bs → is_glued kind (bs ++ tail) ≡ is_glued kind bs
+glue_stays kind [] tail some = absurd (omega arith)
+glue_stays Name (b ∷ bs) tail some = refl
+glue_stays Numeral (b ∷ bs) tail some = refl
+glue_stays Colon (b ∷ bs) tail some = refl
+glue_stays Star (b ∷ bs) tail some = refl
+glue_stays Plus (b ∷ bs) tail some = refl
+glue_stays Minus (b ∷ bs) tail some = refl
+
+-- the lexeme at the front of the bytes behind a gap
+abbrev pub front_lexeme : ℕ → List ℕ → ℕ → TokenKind → ℕ → Lexeme
+front_lexeme place bytes gap kind n = record { kind = kind; place = place + gap; bytes = take n (drop gap bytes) }
+
+module _ (place : ℕ) (bytes : List ℕ) (gap n : ℕ) (kind : TokenKind) (open_gap : gap_through Between (take gap bytes) ≡ Between)
+    (stops : gap_after Between (class_of (get_or (drop gap bytes) 0 0)) ≡ Ended) (ends : EndsWithin (drop gap bytes) (record { kind = kind; len = n }))
+    (short : n ≤ 400) (apart : is_glued kind (drop n (drop gap bytes)) ≡ false) where
+  inside : gap < length bytes
+  inside = omega (arith, ends.within, length-drop gap bytes)
+
+  len : length (take n (drop gap bytes)) ≡ n
+  len = length-take-le n (drop gap bytes) (omega (arith, ends.within))
+
+  takes : (tail : List ℕ) (ending : Option TokenFault)
+      → TakesToken (rest_at place (bytes ++ tail) ending) (front_lexeme place bytes gap kind n) (rest_at (place + (gap + n)) (drop (gap + n) bytes ++ tail) ending)
+  takes tail ending =
+      let low : gap ≤ length bytes = omega (arith, inside) in
+      let few : n ≤ length (drop gap bytes) = omega (arith, ends.within) in
+      let all : drop gap (bytes ++ tail) ≡ drop gap bytes ++ tail = drop-append-le gap bytes tail low in
+      let here : gap + 0 ≡ gap = omega arith in
+      let byte : get_or (bytes ++ tail) gap 0 ≡ get_or (drop gap bytes) 0 0 = get_or-append bytes tail 0 gap inside ∙ ap (λ k. get_or bytes k 0) (sym here) ∙ sym (get_or-drop gap bytes 0 0) in
+      let behind : drop (length (take n (drop gap bytes))) (drop gap (bytes ++ tail)) ≡ drop n (drop gap bytes) ++ tail = ap (λ m. drop m (drop gap (bytes ++ tail))) len ∙ ap (drop n) all ∙ drop-append-le n (drop gap bytes) tail few in
+      let end : place + (gap + n) ≡ place + gap + length (take n (drop gap bytes)) = omega (arith, len) in
+      record {
+        gap = gap;
+        longest = longest_seen (bytes ++ tail) gap Between (omega (arith, inside, length-append bytes tail)) (ap (gap_through Between) (take-append-le gap bytes tail low) ∙ open_gap) (λ e. absurd (cc)) (λ below. ap (λ b. gap_after Between (class_of b)) byte ∙ stops);
+        token_at = record {
+          lexeme = subst (λ xs. IsLongestLexeme xs kind (length (take n (drop gap bytes)))) (sym all) (subst (IsLongestLexeme (drop gap bytes ++ tail) kind) (sym len) (ends.longest tail));
+          place_is = refl;
+          bytes_are = sym (ap (λ m. take m (drop gap (bytes ++ tail))) len ∙ ap (take n) all ∙ take-append-le n (drop gap bytes) tail few);
+          short = omega (arith, len, short);
+          apart = ap (is_glued kind) behind ∙ glue_stays kind (drop n (drop gap bytes)) tail (omega (arith, ends.within, length-drop n (drop gap bytes))) ∙ apart;
+        };
+        rest = λ i. record { place = end i; bytes = (ap (λ xs. xs ++ tail) (sym (drop-drop n gap bytes)) ∙ sym behind) i; ending = ending };
+      }
+
+  pub begin_one : BeginWith place bytes (gap + n) (front_lexeme place bytes gap kind n ∷ [])
+  begin_one = record {
+    within = omega (arith, inside, ends.within, length-drop gap bytes);
+    taken = λ tail ending. token _ _ _ [] (front_lexeme place bytes gap kind n) (nothing _) (takes tail ending);
+  }
+
+-- ---- numbers
+
+module _ (place : ℕ) (bytes : List ℕ) (gap : ℕ) (number : FrontNumber) (open_gap : gap_through Between (take gap bytes) ≡ Between) where
+  pub number_begins : EndsAsNumber (drop gap bytes) number → BeginWithNumber place bytes (record { len = gap + number.len; value = number.value })
+  number_begins e = record {
+    token = front_lexeme place bytes gap Numeral number.len;
+    kind_is = refl;
+    front = begin_one place bytes gap number.len Numeral open_gap (ap (gap_after Between) e.digit) e.ends e.short e.apart;
+    readable = e.readable;
+    exact = e.exact;
+  }
+
+  pub digits_begin : EndsAsDigits (drop gap bytes) number → BeginWithDigits place bytes (record { len = gap + number.len; value = number.value })
+  digits_begin e = record {
+    token = front_lexeme place bytes gap Numeral number.len;
+    kind_is = refl;
+    front = begin_one place bytes gap number.len Numeral open_gap (ap (gap_after Between) e.digit) e.ends e.short e.apart;
+    digits = e.digits;
+    value = e.value;
+  }
+
+-- ---- a colon
+
+pub colon_begins : (place : ℕ) (bytes : List ℕ) (gap : ℕ) → gap_through Between (take gap bytes) ≡ Between → gap + 1 < length bytes → class_of (get_or bytes gap 0) ≡ classes.Colon
+    → BeginWithOne place bytes (gap + 1) Colon
+colon_begins place bytes gap open_gap inside colon =
+    let here : gap + 0 ≡ gap = omega arith in
+    let first : class_of (get_or (drop gap bytes) 0 0) ≡ classes.Colon = ap class_of (get_or-drop gap bytes 0 0 ∙ ap (λ k. get_or bytes k 0) here) ∙ colon in
+    let ends = ended_colon (drop gap bytes) (omega (arith, inside, length-drop gap bytes)) first in
+    record {
+      token = front_lexeme place bytes gap Colon 1;
+      kind_is = refl;
+      front = begin_one place bytes gap 1 Colon open_gap (ap (gap_after Between) first) ends (omega arith) refl;
+    }

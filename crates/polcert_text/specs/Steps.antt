@@ -1,0 +1,7 @@
+-- What nobody has to believe: only contracts of private functions, and of layers below the crates that callers use, cite these.
+pub mod Buffer
+pub mod Scaling
+pub mod Scan
+pub mod ScanOf
+pub mod StreamTaken
+pub mod Streaming
