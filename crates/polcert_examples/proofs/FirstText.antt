@@ -1,16 +1,14 @@
 -- The small text by numbers is taken by the narrow stage, and denotes its model.
-use Rattle.std.proofs.Common.{◌≡◌, ℕ, zero, suc, ◌<◌, ◌≤◌, Bool, true, false, None, List, [], ◌∷◌, take, ℤ, pos, codes, refl, arith, lit≤, lit<}
+use Rattle.std.proofs.Common.{◌≡◌, ℕ, zero, suc, ◌<◌, ◌≤◌, Bool, true, false, List, [], ◌∷◌, take, ℤ, pos, codes, refl, arith, lit≤, lit<}
 use Rattle.std.proofs.lemmas.List.Elements.{All-from_recursion}
-use Rattle.std.specs.List.{list_any}
 use Rattle.polcert_text.specs.Bytes.{class_of}
 use Rattle.polcert_text.specs.Numbers.{IsExact, number_of, exponent_size, power_of, size_of, millionth}
-use Rattle.polcert_text.specs.Cut.{Lexeme}
 use Rattle.polcert_cells.specs.declared.entry.Table.TheVariants.{Transition, Observation, Reward}
 use Rattle.polcert_cells.specs.declared.entry.Place.TheVariants.{Only}
 use Rattle.polcert_cells.specs.declared.entry.Body.TheVariants.{Probabilities}
 use Rattle.polcert_cells.specs.declared.entry.Entry.{Entry}
 use Rattle.polcert_cells.specs.declared.words.Topic.TheVariants.{Discount, Values, States, Actions, Observations, Cells}
-use Rattle.polcert_cells.specs.Words.{topic_of, begins_item, IsWord}
+use Rattle.polcert_cells.specs.Words.{topic_of}
 use Rattle.polcert_cells.specs.Numbers.{IsWhole, IsMillionths, AreNumbers}
 use Rattle.polcert_cells.specs.Numbers as numbers
 use Rattle.polcert_cells.specs.declared.elements.Elements.{Elements}
@@ -28,9 +26,7 @@ use Rattle.polcert_format.specs.Text.{Known, nothing_known, IsInPreamble, IsComp
 use Rattle.polcert_examples.specs.Worked.Examples.{name, numeral, colon, transition, observation, rewards}
 use Rattle.polcert_examples.specs.Worked.Tiger.{minus, minus_whole}
 use Rattle.polcert_examples.specs.Worked.FirstText.{first, first_preamble, first_entries, first_known, first_model}
-
-abbrev an_item : List ℕ → List Lexeme → Item
-an_item word body = record { word = name word; body = body }
+use Rattle.polcert_examples.proofs.WorkedTexts.{an_item, plain_item, a_word, n_0_95, n_0_85, n_0_15, n_1, e_95, e_85, e_15, e_minus_1, fresh, below_two}
 
 abbrev first_items : List Item
 first_items =
@@ -43,9 +39,6 @@ first_items =
     ∷ an_item (codes "O") (colon ∷ numeral (codes "0") ∷ numeral (codes "0.85") ∷ numeral (codes "0.15") ∷ numeral (codes "0.15") ∷ numeral (codes "0.85") ∷ [])
     ∷ an_item (codes "R") (colon ∷ numeral (codes "0") ∷ colon ∷ numeral (codes "0") ∷ colon ∷ numeral (codes "0") ∷ colon ∷ numeral (codes "0") ∷ minus ∷ numeral (codes "1") ∷ []) ∷ []
 
-plain_item : (x : Item) → begins_item x.word ≡ true → list_any begins_item x.body ≡ false → IsItem x
-plain_item x w b = record { word = w; body = b }
-
 divided : IsDivided first [] first_items
 unfolding topic_of
 divided = record {
@@ -54,9 +47,6 @@ divided = record {
   each = All-from_recursion IsItem first_items
       (plain_item _ refl refl, (plain_item _ refl refl, (plain_item _ refl refl, (plain_item _ refl refl, (plain_item _ refl refl, (plain_item _ refl refl, (plain_item _ refl refl, ((plain_item _ refl refl, tt)))))))));
 }
-
-a_word : (w : List ℕ) → IsWord w (name w)
-a_word w = record { kind = refl; bytes = refl }
 
 whole_0 : IsWhole (numeral (codes "0")) 0
 unfolding class_of
@@ -70,37 +60,9 @@ whole_2 : IsWhole (numeral (codes "2")) 2
 unfolding class_of
 whole_2 = record { kind = refl; digits = refl; value = refl }
 
-n_0_95 : (negative : Bool) (h : ℤ) → IsExact negative (codes "0.95") h → IsMillionths negative (numeral (codes "0.95")) h
-unfolding class_of number_of exponent_size power_of size_of millionth
-n_0_95 negative h e = record { kind = refl; readable = record { numeral = refl; short = lit≤ tt; exponent = lit≤ tt; size = lit≤ tt }; exact = e }
-
-n_0_85 : (negative : Bool) (h : ℤ) → IsExact negative (codes "0.85") h → IsMillionths negative (numeral (codes "0.85")) h
-unfolding class_of number_of exponent_size power_of size_of millionth
-n_0_85 negative h e = record { kind = refl; readable = record { numeral = refl; short = lit≤ tt; exponent = lit≤ tt; size = lit≤ tt }; exact = e }
-
-n_0_15 : (negative : Bool) (h : ℤ) → IsExact negative (codes "0.15") h → IsMillionths negative (numeral (codes "0.15")) h
-unfolding class_of number_of exponent_size power_of size_of millionth
-n_0_15 negative h e = record { kind = refl; readable = record { numeral = refl; short = lit≤ tt; exponent = lit≤ tt; size = lit≤ tt }; exact = e }
-
 n_0 : (negative : Bool) (h : ℤ) → IsExact negative (codes "0") h → IsMillionths negative (numeral (codes "0")) h
 unfolding class_of number_of exponent_size power_of size_of millionth
 n_0 negative h e = record { kind = refl; readable = record { numeral = refl; short = lit≤ tt; exponent = lit≤ tt; size = lit≤ tt }; exact = e }
-
-n_1 : (negative : Bool) (h : ℤ) → IsExact negative (codes "1") h → IsMillionths negative (numeral (codes "1")) h
-unfolding class_of number_of exponent_size power_of size_of millionth
-n_1 negative h e = record { kind = refl; readable = record { numeral = refl; short = lit≤ tt; exponent = lit≤ tt; size = lit≤ tt }; exact = e }
-
-e_95 : IsExact false (codes "0.95") (pos 950_000)
-unfolding number_of exponent_size power_of size_of millionth class_of
-e_95 = refl
-
-e_85 : IsExact false (codes "0.85") (pos 850_000)
-unfolding number_of exponent_size power_of size_of millionth class_of
-e_85 = refl
-
-e_15 : IsExact false (codes "0.15") (pos 150_000)
-unfolding number_of exponent_size power_of size_of millionth class_of
-e_15 = refl
 
 e_0 : IsExact false (codes "0") (pos 0)
 unfolding number_of exponent_size power_of size_of millionth class_of
@@ -109,10 +71,6 @@ e_0 = refl
 e_1 : IsExact false (codes "1") (pos 1_000_000)
 unfolding number_of exponent_size power_of size_of millionth class_of
 e_1 = refl
-
-e_minus_1 : IsExact true (codes "1") (minus_whole 1)
-unfolding number_of exponent_size power_of size_of millionth class_of
-e_minus_1 = refl
 
 stands_0 : (elements : Elements) → 0 < count_of elements → StandsFor elements (numeral (codes "0")) 0
 stands_0 elements l = by_number whole_0 l
@@ -175,9 +133,6 @@ few es = few_cells first_preamble es small
     small Observation l = not_large _ (lit≤ tt) l
     small Reward l = not_large _ (lit≤ tt) l
 
-fresh : (k : Known) → k.start ≡ None → k.entries ≡ [] → IsInPreamble k
-fresh k s e = record { no_start = s; no_entry = e }
-
 right : AreRight nothing_known first_items (first_known first_entries)
 unfolding topic_of
 right =
@@ -197,11 +152,6 @@ first_taken = record { items = first_items; divided = divided; right = right; co
 below_one : (P : ℕ → Type 0) → P 0 → (n : ℕ) → n < 1 → P n
 below_one P p zero l = p
 below_one P p (suc n) l = absurd (omega (arith, l))
-
-below_two : (P : ℕ → Type 0) → P 0 → P 1 → (n : ℕ) → n < 2 → P n
-below_two P p q zero l = p
-below_two P p q (suc zero) l = q
-below_two P p q (suc (suc n)) l = absurd (omega (arith, l))
 
 abbrev t_row : ℕ → ℕ → Type 0
 t_row a s = sum_below (first_model.t a s) 2 ≡ 2_000_000

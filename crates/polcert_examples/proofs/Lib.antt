@@ -3,3 +3,4 @@ pub mod FormExamples
 pub mod RefusedExamples
 pub mod StartExamples
 pub mod Tiger
+pub mod WorkedTexts

@@ -1,5 +1,5 @@
 -- The lexemes of the tiger problem are right, and denote its model.
-use Rattle.std.proofs.Common.{◌≡◌, ◌∙◌, ◌≢◌, ◌==◌, ℕ, length, take, drop, bytes_eq, ap, zero, suc, ◌<◌, ◌≤◌, Bool, true, false, Some, None, List, [], ◌∷◌, ◌++◌, AllPairs, ℤ, pos, codes, refl, arith, lit≤}
+use Rattle.std.proofs.Common.{◌≡◌, ◌∙◌, ◌≢◌, ◌==◌, ℕ, length, take, drop, bytes_eq, ap, zero, suc, ◌<◌, ◌≤◌, Bool, true, false, Some, List, [], ◌∷◌, ◌++◌, AllPairs, ℤ, pos, codes, refl, arith, lit≤}
 use Rattle.std.proofs.lemmas.List.Elements.{All-from_recursion, All-nil}
 use Rattle.std.proofs.lemmas.List.Kept.{AllPairs-cons}
 use Rattle.std.specs.List.{list_any}
@@ -14,7 +14,7 @@ use Rattle.polcert_cells.specs.declared.entry.Body.{Body}
 use Rattle.polcert_cells.specs.declared.entry.Body.TheVariants.{Probabilities, Uniform, Identity}
 use Rattle.polcert_cells.specs.declared.entry.Entry.{Entry}
 use Rattle.polcert_cells.specs.declared.words.Topic.TheVariants.{Discount, Values, States, Actions, Observations, Cells}
-use Rattle.polcert_cells.specs.Words.{topic, topic_of, is_reserved, begins_item, IsWord, IsName}
+use Rattle.polcert_cells.specs.Words.{topic, topic_of, is_reserved, IsName}
 use Rattle.polcert_cells.specs.Numbers.{IsMillionths, AreNumbers}
 use Rattle.polcert_cells.specs.Numbers as numbers
 use Rattle.polcert_cells.specs.declared.elements.Elements.TheVariants.{Names}
@@ -32,11 +32,9 @@ use Rattle.polcert_format.proofs.CellLimits.{few_cells, not_large}
 use Rattle.polcert_format.specs.Text.{Known, nothing_known, IsInPreamble, IsComplete, IsRight, AreRight, Denotes}
 use Rattle.polcert_examples.specs.Worked.Examples.{name, numeral, colon, observation, rewards, whole}
 use Rattle.polcert_examples.specs.Worked.Tiger.{star, minus, tiger, tiger_states, tiger_actions, tiger_preamble, tiger_entries, tiger_known, tiger_model, minus_whole}
+use Rattle.polcert_examples.proofs.WorkedTexts.{an_item, plain_item, a_word, n_0_95, n_0_85, n_0_15, n_1, e_95, e_85, e_15, e_minus_1, fresh, below_two}
 
 -- ---- items
-
-abbrev an_item : List ℕ → List Lexeme → Item
-an_item word body = record { word = name word; body = body }
 
 abbrev tiger_items : List Item
 tiger_items =
@@ -57,9 +55,6 @@ tiger_items =
     ∷ an_item (codes "R") (colon ∷ name (codes "open-right") ∷ colon ∷ name (codes "tiger-left") ∷ colon ∷ star ∷ colon ∷ star ∷ numeral (codes "10") ∷ [])
     ∷ an_item (codes "R") (colon ∷ name (codes "open-right") ∷ colon ∷ name (codes "tiger-right") ∷ colon ∷ star ∷ colon ∷ star ∷ minus ∷ numeral (codes "100") ∷ []) ∷ []
 
-plain_item : (x : Item) → begins_item x.word ≡ true → list_any begins_item x.body ≡ false → IsItem x
-plain_item x w b = record { word = w; body = b }
-
 divided : IsDivided tiger [] tiger_items
 unfolding topic_of
 divided = record {
@@ -70,9 +65,6 @@ divided = record {
 }
 
 -- ---- names and numbers
-
-a_word : (w : List ℕ) → IsWord w (name w)
-a_word w = record { kind = refl; bytes = refl }
 
 tiger_left_name : IsName (name (codes "tiger-left"))
 unfolding is_reserved topic_of
@@ -109,22 +101,6 @@ stands_open_left = by_name open_left_name refl
 stands_open_right : StandsFor (Names tiger_actions) (name (codes "open-right")) 2
 stands_open_right = by_name open_right_name refl
 
-n_0_95 : (negative : Bool) (h : ℤ) → IsExact negative (codes "0.95") h → IsMillionths negative (numeral (codes "0.95")) h
-unfolding class_of number_of exponent_size power_of size_of millionth
-n_0_95 negative h e = record { kind = refl; readable = record { numeral = refl; short = lit≤ tt; exponent = lit≤ tt; size = lit≤ tt }; exact = e }
-
-n_0_85 : (negative : Bool) (h : ℤ) → IsExact negative (codes "0.85") h → IsMillionths negative (numeral (codes "0.85")) h
-unfolding class_of number_of exponent_size power_of size_of millionth
-n_0_85 negative h e = record { kind = refl; readable = record { numeral = refl; short = lit≤ tt; exponent = lit≤ tt; size = lit≤ tt }; exact = e }
-
-n_0_15 : (negative : Bool) (h : ℤ) → IsExact negative (codes "0.15") h → IsMillionths negative (numeral (codes "0.15")) h
-unfolding class_of number_of exponent_size power_of size_of millionth
-n_0_15 negative h e = record { kind = refl; readable = record { numeral = refl; short = lit≤ tt; exponent = lit≤ tt; size = lit≤ tt }; exact = e }
-
-n_1 : (negative : Bool) (h : ℤ) → IsExact negative (codes "1") h → IsMillionths negative (numeral (codes "1")) h
-unfolding class_of number_of exponent_size power_of size_of millionth
-n_1 negative h e = record { kind = refl; readable = record { numeral = refl; short = lit≤ tt; exponent = lit≤ tt; size = lit≤ tt }; exact = e }
-
 n_10 : (negative : Bool) (h : ℤ) → IsExact negative (codes "10") h → IsMillionths negative (numeral (codes "10")) h
 unfolding class_of number_of exponent_size power_of size_of millionth
 n_10 negative h e = record { kind = refl; readable = record { numeral = refl; short = lit≤ tt; exponent = lit≤ tt; size = lit≤ tt }; exact = e }
@@ -133,25 +109,9 @@ n_100 : (negative : Bool) (h : ℤ) → IsExact negative (codes "100") h → IsM
 unfolding class_of number_of exponent_size power_of size_of millionth
 n_100 negative h e = record { kind = refl; readable = record { numeral = refl; short = lit≤ tt; exponent = lit≤ tt; size = lit≤ tt }; exact = e }
 
-e_95 : IsExact false (codes "0.95") (pos 950_000)
-unfolding number_of exponent_size power_of size_of millionth class_of
-e_95 = refl
-
-e_85 : IsExact false (codes "0.85") (pos 850_000)
-unfolding number_of exponent_size power_of size_of millionth class_of
-e_85 = refl
-
-e_15 : IsExact false (codes "0.15") (pos 150_000)
-unfolding number_of exponent_size power_of size_of millionth class_of
-e_15 = refl
-
 e_10 : IsExact false (codes "10") (whole 10)
 unfolding number_of exponent_size power_of size_of millionth class_of
 e_10 = refl
-
-e_minus_1 : IsExact true (codes "1") (minus_whole 1)
-unfolding number_of exponent_size power_of size_of millionth class_of
-e_minus_1 = refl
 
 e_minus_100 : IsExact true (codes "100") (minus_whole 100)
 unfolding number_of exponent_size power_of size_of millionth class_of
@@ -250,9 +210,6 @@ few es = few_cells tiger_preamble es small
     small Observation l = not_large _ (lit≤ tt) l
     small Reward l = not_large _ (lit≤ tt) l
 
-fresh : (k : Known) → k.start ≡ None → k.entries ≡ [] → IsInPreamble k
-fresh k s e = record { no_start = s; no_entry = e }
-
 one_entry : (es : List Entry) (items : List Item) (table : Table) (body : List Lexeme) (word : List ℕ) (e : Entry) (last : Known) → topic (name word) ≡ Some (Cells table)
     → IsEntry tiger_preamble table body e → AreRight (tiger_known (es ++ e ∷ [])) items last → AreRight (tiger_known es) (an_item word body ∷ items) last
 one_entry es items table body word e last t a rest = texts.more (Cells table) t (texts.entry (complete es) (given table) a (few (es ++ e ∷ []))) rest
@@ -296,11 +253,6 @@ right_preamble =
 right : AreRight nothing_known tiger_items (tiger_known tiger_entries)
 right = append_right nothing_known (tiger_known []) (tiger_known tiger_entries) (take 5 tiger_items) (drop 5 tiger_items) right_preamble
     (append_right (tiger_known []) (tiger_known (take 6 tiger_entries)) (tiger_known tiger_entries) (take 6 (drop 5 tiger_items)) (drop 11 tiger_items) right_weights right_rewards)
-
-below_two : (P : ℕ → Type 0) → P 0 → P 1 → (n : ℕ) → n < 2 → P n
-below_two P p q zero l = p
-below_two P p q (suc zero) l = q
-below_two P p q (suc (suc n)) l = absurd (omega (arith, l))
 
 below_three : (P : ℕ → Type 0) → P 0 → P 1 → P 2 → (n : ℕ) → n < 3 → P n
 below_three P p q r zero l = p

@@ -65,38 +65,34 @@ fn write_rewards_from<W: Sink>(
     if !model.draft().is_paid(action, start) {
         return Ok(());
     }
+    let whole = RewardRow {
+        model,
+        action,
+        start,
+        end: None,
+    };
     if model.is_mdp() {
-        let row = RewardRow {
-            model,
-            action,
-            start,
-            end: None,
-        };
-        write_reward_row(&row, block, out)
+        write_reward_row(&whole, block, out)
     } else {
-        write_reward_rows(model, action, start, block, out)
+        write_reward_rows(&whole, block, out)
     }
 }
 
-/// Writes the rows of rewards of an action in a state, by end state.
+/// Writes the rows of rewards of the same action in the same state, by end state.
 fn write_reward_rows<W: Sink>(
-    model: &Model,
-    action: usize,
-    start: usize,
+    whole: &RewardRow<'_>,
     block: &mut [i64],
     out: &mut W,
 ) -> Result<(), SinkFailed>
-    requires action { action < actions_of (meaning model.now) }
-    requires start { start < states_of (meaning model.now) }
-    requires room { 0 < length block.old }
+    requires { 0 < length block.old }
     ensures { WritesText W.writes W.failures out.old
-        (reward_rows (meaning model.now) action start) result out.new }
+        (reward_rows (meaning whole.now.model.now) whole.now.action whole.now.start) result out.new }
 {
-    for end in 0..model.states() {
+    for end in 0..whole.model.states() {
         let row = RewardRow {
-            model,
-            action,
-            start,
+            model: whole.model,
+            action: whole.action,
+            start: whole.start,
             end: Some(end),
         };
         write_reward_row(&row, block, out)?;

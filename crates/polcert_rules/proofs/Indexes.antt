@@ -5,4 +5,5 @@ pub mod Greatest
 pub mod KeptLaws
 pub mod Matching
 pub mod Newer
+pub mod NextPlaces
 pub mod NotedLaws

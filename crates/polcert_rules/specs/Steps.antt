@@ -3,6 +3,7 @@ pub mod Given
 pub mod Meeting
 pub mod Merging
 pub mod Newest
+pub mod NextPlaces
 pub mod Noting
 pub mod Repeats
 pub mod RewardSearch

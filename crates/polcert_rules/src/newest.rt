@@ -1,7 +1,8 @@
 //! The newest rule that fits the indices of a cell.
-ghost use Rattle.std.specs.Prelude.{◌≡◌, ◌+◌, ◌<◌, ◌≤◌, ◌^◌, ℕ, Contains};
+ghost use Rattle.std.specs.Prelude.{◌≡◌, ◌+◌, ◌<◌, ◌≤◌, ◌^◌, ◌∷◌, [], ℕ, Contains};
 ghost use Rattle.polcert_rules.specs.declared.rule.Rule.{Rule as R};
 ghost use Rattle.polcert_rules.specs.Steps.Newest.{IsRising, IsNewest};
+ghost use Rattle.polcert_rules.specs.Steps.NextPlaces.{IsNextPlace};
 ghost use Rattle.polcert_rules.specs.Matching.{later};
 ghost use Rattle.polcert_rules.specs.Keys.{key_base, AreIndices, Fits, most_places};
 
@@ -26,14 +27,43 @@ pub(crate) fn newest(rules: &[Rule], low: u64, levels: usize, indices: &[usize])
     match indices.split_first() {
         None => here,
         Some((index, rest)) => {
-            let below = levels - 1;
-            let step = span(below);
-            let every = low + step;
-            let only = low + (*index as u64 + 2) * step;
-            let of_every = newest(between(rules, every, every + step), every, below, rest);
-            let of_only = newest(between(rules, only, only + step), only, below, rest);
+            let next = next_place(rules, low, levels, *index);
+            let of_every = newest(next.of_every, next.every, next.levels, rest);
+            let of_only = newest(next.of_only, next.only, next.levels, rest);
             later(here, later(of_every, of_only))
         }
+    }
+}
+
+/// The rules that go on with a place for an index: with `*`, or with the index itself; what their keys follow, and how many places
+/// may come behind.
+#[derive(Clone, Copy)]
+pub(crate) struct NextPlace<'a> {
+    pub levels: usize,
+    pub every: u64,
+    pub of_every: &'a [Rule],
+    pub only: u64,
+    pub of_only: &'a [Rule],
+}
+
+/// Of the rules whose places follow those of the key `low`, at most so many, those that go on with a place for an index.
+pub(crate) fn next_place(rules: &[Rule], low: u64, levels: usize, index: usize) -> NextPlace<'_>
+    requires rising { IsRising rules.now }
+    requires few { levels ≤ most_places }
+    requires room { low + key_base ^ levels < 2 ^ 64 }
+    requires index { AreIndices levels (index ∷ []) }
+    ensures { IsNextPlace rules.now low levels index result }
+{
+    let below = levels - 1;
+    let step = span(below);
+    let every = low + step;
+    let only = low + (index as u64 + 2) * step;
+    NextPlace {
+        levels: below,
+        every,
+        of_every: between(rules, every, every + step),
+        only,
+        of_only: between(rules, only, only + step),
     }
 }
 

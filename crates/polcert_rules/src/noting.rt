@@ -7,7 +7,7 @@ ghost use Rattle.polcert_rules.specs.Keys.{key_base, AreIndices, most_places};
 ghost use Rattle.polcert_rules.specs.Steps.Noting.{IsNoted, AreNoted, IsLastPlace};
 
 use crate::Rule;
-use crate::newest::{first_at, later, span};
+use crate::newest::{first_at, later, next_place};
 use crate::part::{between, from};
 
 /// Notes, for each of so many numbers from `first` on as the last index behind these, the newest rule that fits, where it is later
@@ -40,14 +40,25 @@ pub(crate) fn note(
     match indices.split_first() {
         None => note_last(rules, low, first, count, noted),
         Some((index, rest)) => {
-            let below = levels - 1;
-            let step = span(below);
-            let every = low + step;
-            let only = low + (*index as u64 + 2) * step;
-            let of_every = between(rules, every, every + step);
-            note(of_every, every, below, rest, first, count, noted);
-            let of_only = between(rules, only, only + step);
-            note(of_only, only, below, rest, first, count, noted);
+            let next = next_place(rules, low, levels, *index);
+            note(
+                next.of_every,
+                next.every,
+                next.levels,
+                rest,
+                first,
+                count,
+                noted,
+            );
+            note(
+                next.of_only,
+                next.only,
+                next.levels,
+                rest,
+                first,
+                count,
+                noted,
+            );
         }
     }
 }

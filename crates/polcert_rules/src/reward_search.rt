@@ -6,7 +6,7 @@ ghost use Rattle.polcert_rules.specs.Keys.{key_base, AreIndices, most_places};
 ghost use Rattle.polcert_rules.specs.Steps.RewardSearch.{Begins, IsAnswer};
 
 use crate::Rule;
-use crate::newest::span;
+use crate::newest::{next_place, span};
 use crate::part::between;
 
 /// Whether one of the rules, whose places follow those of the key `low`, begins with a place for each of these indices
@@ -30,14 +30,9 @@ pub(crate) fn some_begins(
     match indices.split_first() {
         None => !between(rules, low + least, low + span(levels)).is_empty(),
         Some((index, rest)) => {
-            let below = levels - 1;
-            let step = span(below);
-            let every = low + step;
-            let only = low + (*index as u64 + 2) * step;
-            let of_every = between(rules, every, every + step);
-            let of_only = between(rules, only, only + step);
-            some_begins(of_every, every, below, rest, least)
-                || some_begins(of_only, only, below, rest, least)
+            let next = next_place(rules, low, levels, *index);
+            some_begins(next.of_every, next.every, next.levels, rest, least)
+                || some_begins(next.of_only, next.only, next.levels, rest, least)
         }
     }
 }

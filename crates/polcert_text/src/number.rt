@@ -9,7 +9,7 @@ ghost use Rattle.polcert_text.specs.Steps.Scaling.{separates, cap, is_nonzero, I
 
 use crate::bytes::{ByteClass, class_of, is_surely_digit, is_surely_point};
 use crate::lexeme::State;
-use crate::whole::all_digits;
+use crate::whole::{all_digits, number_up_to};
 use thiserror::Error;
 
 /// Why a numeral has no value here: the first of these that holds.
@@ -57,6 +57,9 @@ const LONGEST: usize = 400;
 const LONGEST_PLAIN: usize = 64;
 
 const LARGEST_EXPONENT: usize = 400;
+
+/// What stands for every exponent that is larger.
+const BEYOND_EXPONENTS: usize = LARGEST_EXPONENT + 1;
 
 pub(crate) const LARGEST: u64 = 10_000_000_000_000;
 
@@ -199,18 +202,6 @@ fn split_at_first(bytes: &[u8], separator: Separator) -> (&[u8], &[u8])
         }
     }
     (bytes, &[])
-}
-
-/// The number that the digits spell, or 401 where it is greater.
-fn capped_number(digits: &[u8]) -> usize
-    requires { list_all is_digit digits.now ≡ true }
-    ensures { result ≡ min 401 (digits_value 10 digits.now) }
-{
-    let mut number: usize = 0;
-    for digit in digits {
-        number = (number * 10 + (*digit - b'0') as usize).min(401);
-    }
-    number
 }
 
 /// A number that is cut off behind so many digits, read digit by digit.
@@ -444,7 +435,7 @@ fn general_size(numeral: &[u8]) -> Result<Size, NumberFault>
         return Err(NumberFault::TooLong);
     }
     let parts = parts_of(numeral);
-    let exponent = capped_number(parts.exponent);
+    let exponent = number_up_to(BEYOND_EXPONENTS, parts.exponent);
     if exponent > LARGEST_EXPONENT {
         return Err(NumberFault::TooLong);
     }

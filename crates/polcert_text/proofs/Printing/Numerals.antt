@@ -1,61 +1,21 @@
 -- What is written of a number is a numeral that a blank or a line end stops.
-use Rattle.std.proofs.Common.{◌≡◌, ◌∙◌, ℕ, suc, zero, ◌+◌, ◌/◌, ◌%◌, ◌^◌, ◌<◌, ◌≤◌, Bool, true, false, cond, ◌&&◌, ◌||◌, Some, List, [], ◌∷◌, ◌++◌, length, refl, sym, ap, subst, arith, decimal, append-nil, length-append}
+use Rattle.std.proofs.Common.{◌≡◌, ◌∙◌, ℕ, suc, zero, ◌+◌, ◌/◌, ◌%◌, ◌^◌, ◌<◌, ◌≤◌, Bool, true, false, cond, ◌||◌, Some, List, [], ◌∷◌, ◌++◌, length, refl, sym, ap, subst, arith, decimal, append-nil, length-append}
 use Rattle.std.specs.Prelude.{◌==◌}
-use Rattle.std.specs.Char.{is_ascii_digit, is_ascii_alphabetic}
 use Rattle.std.specs.List.{list_all, list_any}
-use Rattle.std.proofs.lemmas.Bool.Decides.{nat_tests}
 use Rattle.std.proofs.lemmas.List.Folds.{list_any-append}
 use Rattle.std.proofs.lemmas.Fmt.{decimal_nonempty, length-decimal-le}
-use Rattle.std.proofs.Math.Nat.{mod-lt}
 use Rattle.polcert_text.specs.Bytes.{class_of, is_digit, is_exponent_mark, digit_class, mark_class}
 use Rattle.polcert_text.specs.Lexemes.{kind_of}
 use Rattle.polcert_text.specs.Millionths.{decimals, fraction_text, unsigned_text}
 use Rattle.polcert_text.specs.Steps.Scan.{state_after, state_through, kind_at}
 use Rattle.polcert_text.specs.declared.bytes.ByteClass.{ByteClass}
 use Rattle.polcert_text.specs.declared.bytes.ByteClass.TheVariants as classes
+use Rattle.polcert_text.specs.declared.lexeme.State.{State}
 use Rattle.polcert_text.specs.declared.lexeme.State.TheVariants.{Start, Whole, Fraction}
 use Rattle.polcert_text.specs.declared.lexeme.TokenKind.TheVariants.{Numeral}
-use Rattle.polcert_text.proofs.Numbers.DecimalLaws.{digit_below_suc}
 use Rattle.polcert_text.proofs.Scanning.LexemeLaws.{kind_of-through, state_through-append}
-use Rattle.polcert_text.proofs.Numbers.MeasureLaws.{and-true_left, and-true_right, ten_pos}
-use Rattle.polcert_text.proofs.Printing.PrintLaws.{decimal_digits}
-
-chain_yes : (blank line hash mark letter digit : Bool) (rest : ByteClass) → blank ≡ false → line ≡ false → hash ≡ false → mark ≡ false → letter ≡ false → digit ≡ true → digit_class (cond blank classes.Blank (cond line classes.LineEnd (cond hash classes.Hash (cond mark classes.ExponentMark (cond letter classes.Letter (cond digit classes.Digit rest)))))) ≡ true
-chain_yes blank line hash mark letter digit rest a b c d e f = simp (a, b, c, d, e, f)
-
-module _ (b : ℕ) (low : 48 ≤ b) (high : b ≤ 57) where
-  not_blank : (b == 9 || b == 13 || b == 32) ≡ false
-  not_blank = grind (arith, nat_tests)
-
-  not_line : (b == 10) ≡ false
-  not_line = grind (arith, nat_tests)
-
-  not_hash : (b == 35) ≡ false
-  not_hash = grind (arith, nat_tests)
-
-  not_mark : (b == 101 || b == 69) ≡ false
-  not_mark = grind (arith, nat_tests)
-
-  not_letter : is_ascii_alphabetic b ≡ false
-  not_letter = grind (arith, nat_tests)
-
-  ascii_digit : is_ascii_digit b ≡ true
-  ascii_digit = grind (arith, nat_tests)
-
-  is_digit-yes : is_digit b ≡ true
-  unfolding class_of
-  is_digit-yes = chain_yes _ _ _ _ _ _ _ not_blank not_line not_hash not_mark not_letter ascii_digit
-
-decimals_digits : (k r : ℕ) → r < 10 ^ k → list_all is_digit (decimals k r) ≡ true
-unfolding decimals
-decimals_digits zero r h = refl
-decimals_digits (suc k) r h = at (r == 0) refl (decimals_digits k (r % 10 ^ k) (mod-lt r (ten_pos k)))
-  where
-    at : (z : Bool) → (r == 0) ≡ z → list_all is_digit (decimals k (r % 10 ^ k)) ≡ true → list_all is_digit (cond (r == 0) [] ((48 + r / 10 ^ k) ∷ decimals k (r % 10 ^ k))) ≡ true
-    at true e more = simp e
-    at false e more =
-        let small = digit_below_suc k r h in
-        simp e (λ i. is_digit-yes (48 + r / 10 ^ k) (omega arith) (omega arith) i && more i)
+use Rattle.polcert_text.proofs.Numbers.MeasureLaws.{and-true_left, and-true_right}
+use Rattle.polcert_text.proofs.Printing.PrintLaws.{decimal_digits, decimals_digits}
 
 decimals_short : (k r : ℕ) → length (decimals k r) ≤ k
 unfolding decimals
@@ -70,17 +30,11 @@ digit_is : (c : ByteClass) → digit_class c ≡ true → c ≡ classes.Digit
 digit_is classes.Digit h = refl
 digit_is _ h = cc
 
-digits_whole : (ds : List ℕ) → list_all is_digit ds ≡ true → state_through Whole ds ≡ Whole
-digits_whole [] h = refl
-digits_whole (d ∷ ds) h =
-    ap (λ c. state_through (state_after Whole c) ds) (digit_is (class_of d) (and-true_left (is_digit d) (list_all is_digit ds) h))
-    ∙ digits_whole ds (and-true_right (is_digit d) (list_all is_digit ds) h)
-
-digits_fraction : (ds : List ℕ) → list_all is_digit ds ≡ true → state_through Fraction ds ≡ Fraction
-digits_fraction [] h = refl
-digits_fraction (d ∷ ds) h =
-    ap (λ c. state_through (state_after Fraction c) ds) (digit_is (class_of d) (and-true_left (is_digit d) (list_all is_digit ds) h))
-    ∙ digits_fraction ds (and-true_right (is_digit d) (list_all is_digit ds) h)
+digits_stay : (state : State) → state_after state classes.Digit ≡ state → (ds : List ℕ) → list_all is_digit ds ≡ true → state_through state ds ≡ state
+digits_stay state stays [] h = refl
+digits_stay state stays (d ∷ ds) h =
+    ap (λ c. state_through (state_after state c) ds) (digit_is (class_of d) (and-true_left (is_digit d) (list_all is_digit ds) h))
+    ∙ ap (λ t. state_through t ds) stays ∙ digits_stay state stays ds (and-true_right (is_digit d) (list_all is_digit ds) h)
 
 digits_unmarked : (ds : List ℕ) → list_all is_digit ds ≡ true → list_any is_exponent_mark ds ≡ false
 digits_unmarked [] h = refl
@@ -101,7 +55,7 @@ pub record IsPlain (text : List ℕ) : Type 0 where
 whole_state : (d : ℕ) (ds : List ℕ) → list_all is_digit (d ∷ ds) ≡ true → state_through Start (d ∷ ds) ≡ Whole
 whole_state d ds h =
     ap (λ c. state_through (state_after Start c) ds) (digit_is (class_of d) (and-true_left (is_digit d) (list_all is_digit ds) h))
-    ∙ digits_whole ds (and-true_right (is_digit d) (list_all is_digit ds) h)
+    ∙ digits_stay Whole refl ds (and-true_right (is_digit d) (list_all is_digit ds) h)
 
 pub plain_whole : (ds : List ℕ) → list_all is_digit ds ≡ true → 0 < length ds → length ds ≤ 20 → IsPlain ds
 plain_whole [] h some few = absurd (omega (arith, some))
@@ -123,7 +77,7 @@ plain_point : (ds fs : List ℕ) → list_all is_digit ds ≡ true → 0 < lengt
 plain_point [] fs h some few f small = absurd (omega (arith, some))
 plain_point (d ∷ ds) fs h some few f small =
     let state : state_through Start ((d ∷ ds) ++ 46 ∷ fs) ≡ Fraction = state_through-append Start (d ∷ ds) (46 ∷ fs) ∙ ap (λ s. state_through s (46 ∷ fs)) (whole_state d ds h)
-    ∙ ap (λ c. state_through (state_after Whole c) fs) point_class_is ∙ digits_fraction fs f in
+    ∙ ap (λ c. state_through (state_after Whole c) fs) point_class_is ∙ digits_stay Fraction refl fs f in
     record {
       digit = d;
       rest = ds ++ 46 ∷ fs;

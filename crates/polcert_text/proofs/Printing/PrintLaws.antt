@@ -54,7 +54,7 @@ decimal_digits n h =
     decimal_by_steps (λ _ ds. list_all is_digit ds ≡ true) (λ n l. λ i. is_digit-yes (48 + n) (omega arith) (omega arith) i && true)
     (λ n ds l before. list_all-append is_digit ds ((48 + n % 10) ∷ []) ∙ (λ i. before i && (is_digit-yes (48 + n % 10) (omega arith) (omega arith) i && true))) n h
 
-decimals_digits : (k r : ℕ) → r < 10 ^ k → list_all is_digit (decimals k r) ≡ true
+pub decimals_digits : (k r : ℕ) → r < 10 ^ k → list_all is_digit (decimals k r) ≡ true
 unfolding decimals
 decimals_digits zero r h = refl
 decimals_digits (suc k) r h = at (r == 0) refl (decimals_digits k (r % 10 ^ k) (mod-lt r (ten_pos k)))

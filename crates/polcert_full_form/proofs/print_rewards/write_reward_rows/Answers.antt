@@ -11,13 +11,13 @@ loop-end-init g c = record { took = nothing; same_count = refl }
 
 pub returns-in_err-write_reward_row : goal.returns-in_err-write_reward_row
 returns-in_err-write_reward_row g c =
-    let part : ℕ → List ℕ = λ e. reward_row_text (meaning c.args.model.now) c.args.action c.args.start (Some e) in
+    let part : ℕ → List ℕ = λ e. reward_row_text (meaning c.args.whole.now.model.now) c.args.whole.now.action c.args.whole.now.start (Some e) in
     let now = c.in_err-write_reward_row.ensures in
-    parts_fail part c.loop-end.end (states_of (meaning c.args.model.now)) (search rules) _ (search rules) c.loop-end.invariant.took c.loop-end.invariant.same_count now.err now.count
+    parts_fail part c.loop-end.end (states_of (meaning c.args.whole.now.model.now)) (search rules) _ (search rules) c.loop-end.invariant.took c.loop-end.invariant.same_count now.err now.count
 
 pub loop-end-preserved : goal.loop-end-preserved
 loop-end-preserved g c =
-    let part : ℕ → List ℕ = λ e. reward_row_text (meaning c.args.model.now) c.args.action c.args.start (Some e) in
+    let part : ℕ → List ℕ = λ e. reward_row_text (meaning c.args.whole.now.model.now) c.args.whole.now.action c.args.whole.now.start (Some e) in
     let now = c.in_ok-write_reward_row.ensures in
     record {
       took = one_more_part part c.loop-end.end c.loop-end.invariant.took now.ok;

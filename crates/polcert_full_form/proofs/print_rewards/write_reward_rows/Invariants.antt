@@ -7,6 +7,6 @@ use Rattle.polcert_full_form.proofs.print_rewards.write_reward_rows.Given as goa
 
 abbrev pub invariant-loop-end : goal.invariant-loop-end
 invariant-loop-end g l = record {
-  took : Takes g.W.Sink.writes l.fn.out (for_each l.end (λ e. reward_row_text (meaning l.model) l.action l.start (Some e))) l.out;
+  took : Takes g.W.Sink.writes l.fn.out (for_each l.end (λ e. reward_row_text (meaning l.whole.model.now) l.whole.action l.whole.start (Some e))) l.out;
   same_count : g.W.Sink.failures l.out ≡ g.W.Sink.failures l.fn.out;
 }

@@ -1,36 +1,26 @@
-use Rattle.std.proofs.Common.{◌≡◌, ◌+◌, ◌<◌, ◌^◌, ℕ, List, [], ◌∷◌, ◌++◌, None, length, get_or, sym, ap, subst, arith, rules}
+use Rattle.std.proofs.Common.{◌≡◌, ◌+◌, ◌<◌, ◌^◌, ℕ, List, [], ◌∷◌, ◌++◌, None, length, get_or, refl, sym, ap, subst, arith, rules}
 use Rattle.polcert_rules.specs.Keys.{key_base, AreIndices, Fits}
 use Rattle.polcert_rules.specs.Steps.Noting.{IsNoted}
-use Rattle.polcert_rules.proofs.Indexes.Newer.{is_deeper, no_more}
+use Rattle.polcert_rules.proofs.Indexes.Newer.{no_more}
+use Rattle.polcert_rules.proofs.Indexes.NextPlaces.{first_index, goes_deeper, at_every, at_only}
 use Rattle.polcert_rules.proofs.Indexes.NotedLaws.{noted_end, noted_deeper}
 use Rattle.polcert_rules.proofs.noting.+note.Goals as goal
 
-pub overflow_mul-only : goal.overflow_mul-only
-overflow_mul-only t c =
-    let d = is_deeper _ c.args.low _ _ _ (subst (AreIndices c.args.levels) c.in-Some.ensures.cases.0 c.requires.indices) c.span-step.ensures in
-    omega (arith, d.only, c.requires.room)
-
-pub overflow_add-only-in-Some : goal.overflow_add-only-in-Some
-overflow_add-only-in-Some t c =
-    let d = is_deeper _ c.args.low _ _ _ (subst (AreIndices c.args.levels) c.in-Some.ensures.cases.0 c.requires.indices) c.span-step.ensures in
-    omega (arith, d.only, c.requires.room)
-
-pub overflow_add-only-in-Some-2 : goal.overflow_add-only-in-Some-2
-overflow_add-only-in-Some-2 t c =
-    let d = is_deeper _ c.args.low _ _ _ (subst (AreIndices c.args.levels) c.in-Some.ensures.cases.0 c.requires.indices) c.span-step.ensures in
-    omega (arith, d.only, c.requires.room)
+pub next_place-next-requires : goal.next_place-next-requires
+next_place-next-requires t c =
+    record { rising = c.requires.rising; few = c.requires.few; room = c.requires.room; index = first_index _ _ _ (subst (AreIndices c.args.levels) c.in-Some.ensures.cases.0 c.requires.indices) }
 
 pub note-requires : goal.note-requires
 note-requires t c =
-    let d = is_deeper _ c.args.low _ _ _ (subst (AreIndices c.args.levels) c.in-Some.ensures.cases.0 c.requires.indices) c.span-step.ensures in
+    let d = goes_deeper c.args.rules.now c.args.levels c.args.low c.in-Some.index.now c.in-Some.rest.now c.next_place-next.result c.requires.few (subst (AreIndices c.args.levels) c.in-Some.ensures.cases.0 c.requires.indices) c.next_place-next.ensures in
     let size : length c.args.indices.now ≡ length (c.in-Some.index.now ∷ c.in-Some.rest.now) = ap length c.in-Some.ensures.cases.0 in
-    (search rules, (c.between-of_every.ensures.rising, ((λ r among. ((c.between-of_every.ensures.kept r).0 among).1), (omega (arith, c.requires.few), (omega (arith, size, c.requires.last), (omega (arith, d.every, d.step_is, c.requires.room), (d.indices_are, (omega (arith, c.requires.within, c.note_all.auto.noted), c.requires.small))))))))
+    (search rules, (c.next_place-next.ensures.every_rises, (d.from_every, (d.few, (omega (arith, size, c.requires.last, c.next_place-next.ensures.levels_are), (omega (arith, d.room_every, c.requires.room), (d.indices_are, (omega (arith, c.requires.within, c.note_all.auto.noted), c.requires.small))))))))
 
 pub note-requires-in-Some : goal.note-requires-in-Some
 note-requires-in-Some t c =
-    let d = is_deeper _ c.args.low _ _ _ (subst (AreIndices c.args.levels) c.in-Some.ensures.cases.0 c.requires.indices) c.span-step.ensures in
+    let d = goes_deeper c.args.rules.now c.args.levels c.args.low c.in-Some.index.now c.in-Some.rest.now c.next_place-next.result c.requires.few (subst (AreIndices c.args.levels) c.in-Some.ensures.cases.0 c.requires.indices) c.next_place-next.ensures in
     let size : length c.args.indices.now ≡ length (c.in-Some.index.now ∷ c.in-Some.rest.now) = ap length c.in-Some.ensures.cases.0 in
-    (search rules, (c.between-of_only.ensures.rising, ((λ r among. ((c.between-of_only.ensures.kept r).0 among).1), (omega (arith, c.requires.few), (omega (arith, size, c.requires.last), (omega (arith, d.only, d.step_is, c.requires.room), (d.indices_are, (omega (arith, c.requires.within, c.note_all.auto.noted, c.note.auto.noted), c.requires.small))))))))
+    (search rules, (c.next_place-next.ensures.only_rises, (d.from_only, (d.few, (omega (arith, size, c.requires.last, c.next_place-next.ensures.levels_are), (omega (arith, d.room_only, c.requires.room), (d.indices_are, (omega (arith, c.requires.within, c.note_all.auto.noted, c.note.auto.noted), c.requires.small))))))))
 
 pub note_last-requires-clause-room : goal.note_last-requires-clause-room
 note_last-requires-clause-room t c =
@@ -52,8 +42,13 @@ returns-in-None t c = λ i l.
 pub returns-in-Some : goal.returns-in-Some
 returns-in-Some t c = λ i l.
     let z = c.args.first + i in
-    let size : length c.args.indices.now ≡ length (c.in-Some.index.now ∷ c.in-Some.rest.now) = ap length c.in-Some.ensures.cases.0 in
+    let next = c.next_place-next.result in
+    let rest = c.in-Some.rest.now in
+    let d = goes_deeper c.args.rules.now c.args.levels c.args.low c.in-Some.index.now c.in-Some.rest.now c.next_place-next.result c.requires.few (subst (AreIndices c.args.levels) c.in-Some.ensures.cases.0 c.requires.indices) c.next_place-next.ensures in
+    let size : length c.args.indices.now ≡ length (c.in-Some.index.now ∷ rest) = ap length c.in-Some.ensures.cases.0 in
     subst (λ (is : List ℕ). IsNoted c.args.rules.now (Fits c.args.levels c.args.low (is ++ z ∷ [])) (get_or c.args.noted.now i None) (get_or c.note-in-Some.new.noted i None)) (sym c.in-Some.ensures.cases.0)
-    (noted_deeper c.args.rules.now c.between-of_every.result.now c.between-of_only.result.now c.args.levels c.args.low c.in-Some.index.now c.in-Some.rest.now z c.span-step.result c.first_at.result _ _ _ _
-    (subst (AreIndices c.args.levels) c.in-Some.ensures.cases.0 c.requires.indices) (omega (arith, size, c.requires.last)) (omega (arith, l, c.requires.small)) c.span-step.ensures
-    c.first_at.ensures (c.note_all.ensures i l) c.between-of_every.ensures.kept (c.note.ensures i l) c.between-of_only.ensures.kept (c.note-in-Some.ensures i l))
+    (noted_deeper c.args.rules.now next.of_every.now next.of_only.now c.args.levels c.args.low c.in-Some.index.now rest z _ c.first_at.result _ _ _ _
+    (subst (AreIndices c.args.levels) c.in-Some.ensures.cases.0 c.requires.indices) (omega (arith, size, c.requires.last)) (omega (arith, l, c.requires.small)) refl
+    c.first_at.ensures (c.note_all.ensures i l)
+    d.span_every (at_every (λ k low. IsNoted next.of_every.now (Fits k low (rest ++ z ∷ [])) (get_or c.note_all.new.noted i None) (get_or c.note.new.noted i None)) _ _ _ _ next c.next_place-next.ensures (c.note.ensures i l))
+    d.span_only (at_only (λ k low. IsNoted next.of_only.now (Fits k low (rest ++ z ∷ [])) (get_or c.note.new.noted i None) (get_or c.note-in-Some.new.noted i None)) _ _ _ _ next c.next_place-next.ensures (c.note-in-Some.ensures i l)))

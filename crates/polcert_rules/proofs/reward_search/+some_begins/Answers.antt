@@ -1,29 +1,24 @@
 use Rattle.std.proofs.Common.{sym, subst, arith, rules, not}
 use Rattle.polcert_rules.specs.Keys.{AreIndices}
 use Rattle.polcert_rules.specs.Steps.RewardSearch.{Begins, IsAnswer}
-use Rattle.polcert_rules.proofs.Indexes.Newer.{is_deeper, no_more}
+use Rattle.polcert_rules.proofs.Indexes.Newer.{no_more}
+use Rattle.polcert_rules.proofs.Indexes.NextPlaces.{first_index, goes_deeper, at_every, at_only}
 use Rattle.polcert_rules.proofs.RewardLaws.RewardKeys.{begins_first, begins_second, begins_none}
 use Rattle.polcert_rules.proofs.reward_search.+some_begins.Goals as goal
 
-pub overflow_mul-only : goal.overflow_mul-only
-overflow_mul-only t c =
-    let d = is_deeper _ c.args.low _ _ _ (subst (AreIndices c.args.levels) c.in-Some.ensures.cases.0 c.requires.indices) c.span-step.ensures in
-    omega (arith, d.only, c.requires.room)
+pub next_place-next-requires : goal.next_place-next-requires
+next_place-next-requires t c =
+    record { rising = c.requires.rising; few = c.requires.few; room = omega (arith, c.requires.room); index = first_index _ _ _ (subst (AreIndices c.args.levels) c.in-Some.ensures.cases.0 c.requires.indices) }
 
-pub overflow_add-only-in-Some : goal.overflow_add-only-in-Some
-overflow_add-only-in-Some t c =
-    let d = is_deeper _ c.args.low _ _ _ (subst (AreIndices c.args.levels) c.in-Some.ensures.cases.0 c.requires.indices) c.span-step.ensures in
-    omega (arith, d.only, c.requires.room)
-
-pub overflow_add-only-in-Some-2 : goal.overflow_add-only-in-Some-2
-overflow_add-only-in-Some-2 t c =
-    let d = is_deeper _ c.args.low _ _ _ (subst (AreIndices c.args.levels) c.in-Some.ensures.cases.0 c.requires.indices) c.span-step.ensures in
-    omega (arith, d.only, c.requires.room)
+pub some_begins-requires : goal.some_begins-requires
+some_begins-requires t c =
+    let d = goes_deeper c.args.rules.now c.args.levels c.args.low c.in-Some.index.now c.in-Some.rest.now c.next_place-next.result c.requires.few (subst (AreIndices c.args.levels) c.in-Some.ensures.cases.0 c.requires.indices) c.next_place-next.ensures in
+    (search rules, (c.next_place-next.ensures.every_rises, (d.few, (omega (arith, d.room_every, c.requires.room), d.indices_are))))
 
 pub some_begins-requires-else-some_begins : goal.some_begins-requires-else-some_begins
 some_begins-requires-else-some_begins t c =
-    let d = is_deeper _ c.args.low _ _ _ (subst (AreIndices c.args.levels) c.in-Some.ensures.cases.0 c.requires.indices) c.span-step.ensures in
-    (search rules, (c.between-of_only.ensures.rising, (omega (arith, c.requires.few), (omega (arith, d.only, d.step_is, c.requires.room), d.indices_are))))
+    let d = goes_deeper c.args.rules.now c.args.levels c.args.low c.in-Some.index.now c.in-Some.rest.now c.next_place-next.result c.requires.few (subst (AreIndices c.args.levels) c.in-Some.ensures.cases.0 c.requires.indices) c.next_place-next.ensures in
+    (search rules, (c.next_place-next.ensures.only_rises, (d.few, (omega (arith, d.room_only, c.requires.room), d.indices_are))))
 
 pub returns-in-None : goal.returns-in-None
 returns-in-None t c =
@@ -32,15 +27,20 @@ returns-in-None t c =
 
 pub returns-then-some_begins : goal.returns-then-some_begins
 returns-then-some_begins t c =
-    let d = is_deeper _ c.args.low _ _ _ (subst (AreIndices c.args.levels) c.in-Some.ensures.cases.0 c.requires.indices) c.span-step.ensures in
+    let next = c.next_place-next.result in
+    let rest = c.in-Some.rest.now in
+    let d = goes_deeper c.args.rules.now c.args.levels c.args.low c.in-Some.index.now c.in-Some.rest.now c.next_place-next.result c.requires.few (subst (AreIndices c.args.levels) c.in-Some.ensures.cases.0 c.requires.indices) c.next_place-next.ensures in
     subst (λ is. IsAnswer c.args.rules.now (Begins c.args.levels c.args.low is c.args.least) c.some_begins.result) (sym c.in-Some.ensures.cases.0)
-    (begins_first c.args.rules.now c.between-of_every.result.now c.args.levels c.args.low c.in-Some.index.now c.in-Some.rest.now c.args.least c.span-step.result c.some_begins.result d c.if-some_begins.true
-    c.between-of_every.ensures.kept c.some_begins.ensures)
+    (begins_first c.args.rules.now next.of_every.now c.args.levels c.args.low c.in-Some.index.now rest c.args.least _ c.some_begins.result d.deeper c.if-some_begins.true
+    d.span_every (at_every (λ k low. IsAnswer next.of_every.now (Begins k low rest c.args.least) c.some_begins.result) _ _ _ _ next c.next_place-next.ensures c.some_begins.ensures))
 
 pub returns-else-some_begins : goal.returns-else-some_begins
 returns-else-some_begins t c =
-    let d = is_deeper _ c.args.low _ _ _ (subst (AreIndices c.args.levels) c.in-Some.ensures.cases.0 c.requires.indices) c.span-step.ensures in
+    let next = c.next_place-next.result in
+    let rest = c.in-Some.rest.now in
+    let d = goes_deeper c.args.rules.now c.args.levels c.args.low c.in-Some.index.now c.in-Some.rest.now c.next_place-next.result c.requires.few (subst (AreIndices c.args.levels) c.in-Some.ensures.cases.0 c.requires.indices) c.next_place-next.ensures in
     subst (λ is. IsAnswer c.args.rules.now (Begins c.args.levels c.args.low is c.args.least) c.some_begins-else-some_begins.result) (sym c.in-Some.ensures.cases.0)
-    (begins_second c.args.rules.now c.between-of_every.result.now c.between-of_only.result.now c.args.levels c.args.low c.in-Some.index.now c.in-Some.rest.now c.args.least c.span-step.result
-    c.some_begins.result c.some_begins-else-some_begins.result d c.if-some_begins.false
-    c.between-of_every.ensures.kept c.some_begins.ensures c.between-of_only.ensures.kept c.some_begins-else-some_begins.ensures)
+    (begins_second c.args.rules.now next.of_every.now next.of_only.now c.args.levels c.args.low c.in-Some.index.now rest c.args.least _
+    c.some_begins.result c.some_begins-else-some_begins.result d.deeper c.if-some_begins.false
+    d.span_every (at_every (λ k low. IsAnswer next.of_every.now (Begins k low rest c.args.least) c.some_begins.result) _ _ _ _ next c.next_place-next.ensures c.some_begins.ensures)
+    d.span_only (at_only (λ k low. IsAnswer next.of_only.now (Begins k low rest c.args.least) c.some_begins-else-some_begins.result) _ _ _ _ next c.next_place-next.ensures c.some_begins-else-some_begins.ensures))
