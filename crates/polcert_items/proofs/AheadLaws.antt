@@ -14,12 +14,12 @@ use Rattle.polcert_format.specs.KnownPreamble.{preamble_in}
 use Rattle.polcert_format.specs.Reasons.{is_sign}
 use Rattle.polcert_format.specs.Text.{Known}
 use Rattle.polcert_items.specs.Steps.Ahead.{IsFed, AreFed, none, more, FedAhead, with_probabilities}
-use Rattle.polcert_items.specs.Steps.Numbers.{is_negative}
+use Rattle.polcert_items.specs.Steps.Numbers.{of_probabilities, is_negative}
 use Rattle.polcert_items.specs.declared.entry_reader.EntryReader.{EntryReader}
 use Rattle.polcert_items.specs.declared.entry_reader.EntryState.TheVariants as states
 use Rattle.polcert_items.specs.declared.entry_reader.Numbers.{Numbers}
-use Rattle.polcert_items.proofs.ListLaws.{probabilities_take_value}
-use Rattle.polcert_items.proofs.PatternLaws.{probabilities_in}
+use Rattle.polcert_items.proofs.ListLaws.{takes_number, one_probability, fraction_in_range}
+use Rattle.polcert_items.proofs.PatternLaws.{list_in, probability_state}
 use Rattle.polcert_items.proofs.WantLaws.{list_numeral_leads}
 
 fed_both : (k : Known) (a b c : EntryReader) (us vs : List Lexeme) → AreFed k a us b → AreFed k b vs c → AreFed k a (us ++ vs) c
@@ -52,8 +52,8 @@ probability_fed k r old new l p not_reward v small sign room is = subst (λ n. I
   inside = numeral_inside l v.kind;
   table = refl;
   within = (not_reward, omega (arith, room, length-append old.read (p ∷ [])));
-  takes = probabilities_in (preamble_in k) (with_probabilities r old) old next l refl
-      (probabilities_take_value old next l refl p (subst (λ s. IsMillionths (is_negative s) l (pos p)) (sym sign) v) small refl refl);
+  takes = list_in of_probabilities states.Probabilities probability_state (preamble_in k) (with_probabilities r old) old l refl next
+      (takes_number of_probabilities old next l refl p one_probability (subst (λ s. IsMillionths (is_negative s) l (pos p)) (sym sign) v) (fraction_in_range p small) refl refl);
   sign = ap is_sign v.kind;
   leads = list_numeral_leads old l (old.read ++ p ∷ []) p v.kind refl;
 })

@@ -1,5 +1,5 @@
 -- The places of an entry and the first number behind them, taken at once.
-use Rattle.std.proofs.Common.{◌≡◌, ◌∙◌, ⊎_elim, inl, ℕ, zero, suc, ◌+◌, ◌<◌, ◌≤◌, true, false, None, List, [], ◌∷◌, ◌++◌, length, drop, get_or, ℤ, pos, refl, sym, ap, subst, length-append, arith}
+use Rattle.std.proofs.Common.{◌≡◌, ◌∙◌, ⊎_elim, inl, ℕ, zero, suc, ◌+◌, ◌<◌, ◌≤◌, true, false, None, List, [], ◌∷◌, ◌++◌, length, drop, get_or, pos, refl, sym, ap, subst, length-append, arith}
 use Rattle.polcert_text.specs.Beginning.{BeginWithOne, BeginWithNumber, BeginWithDigits}
 use Rattle.polcert_text.specs.Cut.{Lexeme}
 use Rattle.polcert_text.specs.declared.beginning.FrontNumber.{FrontNumber}
@@ -24,15 +24,15 @@ use Rattle.polcert_format.specs.Text.{Known}
 use Rattle.polcert_format.specs.Wants.{least_written, numbers_want}
 use Rattle.polcert_format.specs.Wants as wants
 use Rattle.polcert_items.specs.Steps.Ahead.{IsFed, none, more, FedAhead, BeginWithPlace, AwaitsColon, AreBegunWith}
-use Rattle.polcert_items.specs.Steps.Entries.{StateGoes, IsFirstPlace, IsEntryBehind, IsStateWithin, IsWithinIndices, AreBegun, no_numbers, entry_sign}
-use Rattle.polcert_items.specs.Steps.Numbers.{SignIs}
-use Rattle.polcert_items.specs.Steps.Wants.{Leads, state_wants, entry_wants}
+use Rattle.polcert_items.specs.Steps.Entries.{NumberListGoes, StateGoes, IsFirstPlace, IsEntryBehind, IsStateWithin, IsWithinIndices, AreBegun, no_numbers, one_number, entry_sign}
+use Rattle.polcert_items.specs.Steps.Numbers.{IsInRange, ListKind, of_probabilities, of_rewards, SignIs}
+use Rattle.polcert_items.specs.Steps.Lines.{Takes}
+use Rattle.polcert_items.specs.Steps.Wants.{Leads, list_wants, state_wants, entry_wants}
 use Rattle.polcert_items.specs.declared.entry_reader.EntryReader.{EntryReader}
 use Rattle.polcert_items.specs.declared.entry_reader.EntryState.{EntryState}
 use Rattle.polcert_items.specs.declared.entry_reader.EntryState.TheVariants as states
-use Rattle.polcert_items.specs.declared.entry_reader.Numbers.{Numbers}
 use Rattle.polcert_items.proofs.AheadLaws.{numeral_inside}
-use Rattle.polcert_items.proofs.ListLaws.{probabilities_take_value, rewards_take_value}
+use Rattle.polcert_items.proofs.ListLaws.{takes_number, one_probability, fraction_in_range}
 use Rattle.polcert_items.proofs.PatternLaws.{in_state, colon_takes, numbers_begin, number_not_colon, number_not_name, BeginsNumber}
 use Rattle.polcert_items.proofs.WantLaws.{body_leads, colon_leads, numbers_lead, number_begins, list_numeral_leads, no_numbers_lead}
 
@@ -133,29 +133,24 @@ record Begun (p : Preamble) (ds : List Elements) (places : List Place) (needed :
   leads : Leads (numbers_want false needed) l (state_wants p table places state)
 
 module _ (p : Preamble) (ds : List Elements) (places : List Place) (needed v : ℕ) (l : Lexeme) (is : IsMillionths false l (pos v)) (room : 0 < needed) where
-  probabilities : Numbers ℕ
-  probabilities = record { read = v ∷ []; needed = needed; sign = None }
+  -- a list that this number begins
+  begun_list : (table : Table) {T : Type 0} (kind : ListKind T) (x : T) (state : EntryState) → ((y z : T) → kind.worth y ≡ kind.worth z → y ≡ z) → kind.worth x ≡ pos v → IsInRange kind.range (pos v)
+      → (Takes (NumberListGoes kind) (no_numbers needed) l (one_number needed x) → AreBegun table needed l state) → IsStateWithin ds table places state → entry_sign state ≡ None
+      → ((ls : List Lexeme) → state_wants p table places state ls ≡ list_wants (one_number needed x) ls) → Begun p ds places needed l table state
+  begun_list table {T} kind x state one worth fits begun within no_sign wants = record {
+    begun = begun (takes_number kind (no_numbers needed) (one_number needed x) l refl x one (subst (IsMillionths false l) (sym worth) is) (subst (IsInRange kind.range) (sym worth) fits) refl refl);
+    within = within;
+    sign = subst (λ s. SignIs s l) (sym no_sign) (ap is_sign is.kind);
+    leads = record { same = λ ls. (no_numbers_lead {T = T} (no_numbers needed) needed l _ refl (list_numeral_leads {T = T} (no_numbers needed) l (x ∷ []) x is.kind refl)).same ls ∙ sym (wants ls) };
+  }
 
   begun_with : (table : Table) (state : EntryState) → AreBegunWith table needed v state → Begun p ds places needed l table state
-  unfolding probabilities
-  begun_with Transition state b = subst (Begun p ds places needed l Transition) (sym b.0) (record {
-    begun = probabilities_take_value (no_numbers needed) probabilities l refl v is b.1 refl refl;
-    within = (λ e. absurd (cc), omega (arith, room));
-    sign = ap is_sign is.kind;
-    leads = record { same = λ ls. (no_numbers_lead {T = ℕ} (no_numbers needed) needed l _ refl (list_numeral_leads {T = ℕ} (no_numbers needed) l (v ∷ []) v is.kind refl)).same ls };
-  })
-  begun_with Observation state b = subst (Begun p ds places needed l Observation) (sym b.0) (record {
-    begun = probabilities_take_value (no_numbers needed) probabilities l refl v is b.1 refl refl;
-    within = (λ e. absurd (cc), omega (arith, room));
-    sign = ap is_sign is.kind;
-    leads = record { same = λ ls. (no_numbers_lead {T = ℕ} (no_numbers needed) needed l _ refl (list_numeral_leads {T = ℕ} (no_numbers needed) l (v ∷ []) v is.kind refl)).same ls };
-  })
-  begun_with Reward state b = subst (Begun p ds places needed l Reward) (sym b) (record {
-    begun = rewards_take_value (no_numbers needed) (record { read = pos v ∷ []; needed = needed; sign = None }) l refl (pos v) is refl refl;
-    within = (refl, omega (arith, room));
-    sign = ap is_sign is.kind;
-    leads = record { same = λ ls. (no_numbers_lead {T = ℤ} (no_numbers needed) needed l _ refl (list_numeral_leads {T = ℤ} (no_numbers needed) l (pos v ∷ []) (pos v) is.kind refl)).same ls };
-  })
+  begun_with Transition state b = subst (Begun p ds places needed l Transition) (sym b.0)
+      (begun_list Transition of_probabilities v _ one_probability refl (fraction_in_range v b.1) (λ t. t) (λ e. absurd (cc), omega (arith, room)) refl (λ ls. refl))
+  begun_with Observation state b = subst (Begun p ds places needed l Observation) (sym b.0)
+      (begun_list Observation of_probabilities v _ one_probability refl (fraction_in_range v b.1) (λ t. t) (λ e. absurd (cc), omega (arith, room)) refl (λ ls. refl))
+  begun_with Reward state b = subst (Begun p ds places needed l Reward) (sym b)
+      (begun_list Reward of_rewards (pos v) _ (λ y z e. e) refl tt (λ t. t) (refl, omega (arith, room)) refl (λ ls. refl))
 
 numeral_begins : (l : Lexeme) → l.kind ≡ Numeral → BeginsNumber l.kind
 numeral_begins l is = inl is

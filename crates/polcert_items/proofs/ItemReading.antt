@@ -15,8 +15,8 @@ use Rattle.polcert_cells.specs.declared.words.Topic.TheVariants.{Start}
 use Rattle.polcert_cells.specs.declared.elements.Elements.{Elements}
 use Rattle.polcert_cells.specs.declared.elements.Elements.TheVariants.{Count}
 use Rattle.polcert_cells.specs.Elements.{count_of}
-use Rattle.polcert_format.specs.Misfits.{misfit}
-use Rattle.polcert_items.specs.Steps.Wants.{Leads, start_wants, item_wants, IfAtEnd, IfStart}
+use Rattle.polcert_format.specs.Misfits.{misfit, IsMisfit}
+use Rattle.polcert_items.specs.Steps.Wants.{Leads, start_wants, item_wants, IfAtEnd, IfNotStart, IfStart}
 use Rattle.polcert_items.specs.declared.stop.Stop.{Stop}
 use Rattle.polcert_items.specs.declared.stop.Stop.TheVariants as stops
 use Rattle.polcert_items.specs.declared.signed_number.Refusal.{Refusal}
@@ -31,7 +31,7 @@ use Rattle.polcert_format.specs.Reasons.{is_sign, ends_in_sign, IsOfElements}
 use Rattle.polcert_items.specs.Steps.Numbers.{SignIs, SignEnds}
 use Rattle.polcert_items.specs.Steps.Elements.{ElementsReason, AreElementsSeen}
 use Rattle.polcert_items.specs.Steps.Start.{StartGoes, StartGives, IfNotMemory, start_sign, pending, IsStartSeen, IsStartReason, IsStartEndReason, IsStop, IsDue, IsHeld, IsEndDue, IsLateEnd, StopsStart}
-use Rattle.polcert_items.specs.Steps.Items.{ItemGoes, ItemForms, IsSeen, topic_in, pending_in, IsItemReason, of_token, of_start, IsItemEndReason}
+use Rattle.polcert_items.specs.Steps.Items.{ItemGoes, ItemForms, IsItemWithin, IsItemFed, RefusesInItem, IsSeen, topic_in, pending_in, IsItemReason, of_token, of_start, IsItemEndReason}
 use Rattle.polcert_items.proofs.ElementLaws.{repeated_name}
 
 -- ---- what is seen of the body
@@ -226,3 +226,23 @@ start_stuck_end k states item r e known is none = subst (λ i. IfNotMemory e (Ca
     of (ends.AtEnd kind) none = λ next g. none g.0 g.1.0
     of (ends.At x) none = λ next g. none g.0 g.1.0
     of ends.Memory none = tt
+
+-- ---- all that is said where a token is taken, and where it is refused
+
+pub all_fed : {T E : Type 0} (r : Result T E) (k : Known) (old new : ItemReader) (l : Lexeme) → OnOk r (IsItemWithin k new) → OnOk r (Takes (ItemGoes k) old l new) → OnOk r (IfStart (topic_in old) (Takes (ItemForms k) old l new))
+    → ((body : List Lexeme) → IsSeen (states_known k) body old → OnOk r (IsSeen (states_known k) (body ++ l ∷ []) new)) → OnOk r (Leads (item_wants k old) l (item_wants k new)) → OnOk r (IsItemFed k old l new)
+all_fed (Ok v) k old new l within takes formed seen leads = record { within = within; takes = takes; formed = formed; seen = seen; leads = leads }
+all_fed (Err e) k old new l within takes formed seen leads = tt
+
+-- a refusal of which this holds
+abbrev On : {T : Type 0} → Result T Stop → (Refusal → Type 0) → Type 0
+On r P = IfErr r (λ stop. IfRefused stop P)
+
+pub all_refused : {T : Type 0} (r : Result T Stop) (k : Known) (old : ItemReader) (l : Lexeme) → On r (λ x. CannotTake (ItemGoes k) old l) → On r (λ x. IfStart (topic_in old) (CannotTake (ItemForms k) old l))
+    → ((body : List Lexeme) → IsSeen (states_known k) body old → On r (λ x. IsItemReason old body l x.kind x.place)) → On r (λ x. IfNotStart (topic_in old) (IsMisfit (item_wants k old []) l x.kind))
+    → ((body : List Lexeme) → IsSeen (states_known k) body old → On r (λ x. IfStart (topic_in old) (StopsStart (pending_in old) (states_known k) body (item_wants k old []) l x.kind x.place)))
+    → ((body more : List Lexeme) (ends : Bool) (late : Refusal) → IsSeen (states_known k) body old → topic_in old ≡ Start → IsLate (states_known k) (body ++ l ∷ more) ends late.kind late.place → On r (λ x. (x.kind ≡ late.kind) × (x.place ≡ late.place)))
+    → On r (RefusesInItem k old l)
+all_refused (Ok v) k old l stuck formless reason kind start late = tt
+all_refused (Err (stops.Refused x)) k old l stuck formless reason kind start late = record { stuck = stuck; formless = formless; reason = reason; kind = kind; start = start; late = late }
+all_refused (Err stops.Memory) k old l stuck formless reason kind start late = tt

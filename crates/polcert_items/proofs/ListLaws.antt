@@ -1,9 +1,7 @@
 -- Lists of numbers, token by token.
 use Rattle.std.proofs.Common.{◌≡◌, ◌∙◌, ℕ, ◌≤◌, inl, inr, true, false, Option, Some, None, List, [], ◌∷◌, ◌++◌, length, map, ℤ, pos, refl, sym, ap, subst, All, arith, append_assoc, Result, Ok, Err, IfErr}
-use lib.IntN.{nat_abs}
-use Rattle.std.proofs.lemmas.List.Elements.{All-cons, All-tail}
+use Rattle.std.proofs.lemmas.List.Elements.{All-cons, All-tail, All-map}
 use Rattle.polcert_text.specs.Cut.{Lexeme}
-use Rattle.polcert_cells.specs.declared.entry.Body.TheVariants as bodies
 use Rattle.polcert_cells.specs.declared.entry.Body.{Body}
 use Rattle.polcert_items.specs.declared.entry_reader.Numbers.{Numbers}
 use Rattle.polcert_items.specs.declared.signed_number.Sign.{Sign}
@@ -12,13 +10,13 @@ use Rattle.polcert_text.specs.declared.lexeme.TokenKind.{TokenKind}
 use Rattle.polcert_text.specs.declared.lexeme.TokenKind.TheVariants.{Plus, Minus}
 use Rattle.polcert_cells.specs.Numbers.{IsMillionths, AreNumbers, one}
 use Rattle.polcert_cells.specs.Numbers as numbers
-use Rattle.polcert_cells.proofs.Basics.{true≢false}
+use Rattle.polcert_cells.proofs.Basics.{true≢false, cons≢nil, same_head, same_tail}
 use Rattle.polcert_format.specs.Reasons.{is_sign}
 use Rattle.polcert_format.proofs.StillPossible.{a_zero, zero_is}
 use Rattle.polcert_items.specs.Steps.Start.{IsNumberHeld}
-use Rattle.polcert_items.specs.Steps.Numbers.{AreNumbersBehind, IsInRange, is_negative, IsSignAt, IsNoNumber}
+use Rattle.polcert_items.specs.Steps.Numbers.{AreNumbersBehind, IsInRange, ListKind, is_negative, IsSignAt, IsNoNumber}
 use Rattle.polcert_items.specs.Steps.Lines.{Takes, CannotTake}
-use Rattle.polcert_items.specs.Steps.Entries.{ProbabilitiesGo, RewardsGo, IfRefused}
+use Rattle.polcert_items.specs.Steps.Entries.{NumberListGoes, IfRefused}
 use Rattle.polcert_items.specs.declared.stop.Stop.{Stop}
 use Rattle.polcert_items.specs.declared.stop.Stop.TheVariants.{Refused, Memory}
 use Rattle.polcert_items.proofs.SignedNumbers.{sign_back, sign_on, value_back, value_on}
@@ -26,108 +24,60 @@ use Rattle.polcert_items.proofs.SignedNumbers.{sign_back, sign_on, value_back, v
 pub all_none : {X : Type 0} (P : X → Type 0) → All P []
 all_none P = λ k d h. absurd (omega arith)
 
-in_range : (ps : List ℕ) → All (λ p. p ≤ one) ps → All (IsInRange Probability) (map pos ps)
-in_range [] small = all_none (IsInRange Probability)
-in_range (p ∷ ps) small =
-    All-cons (IsInRange Probability) (pos p) (map pos ps) (p, (refl, small 0 0 (omega arith))) (in_range ps (All-tail (λ p. p ≤ one) p ps small))
+module _ {T : Type 0} (kind : ListKind T) where
+  pub no_number : (n : Numbers T) (l : Lexeme) → IsNoNumber kind.range n.sign l → CannotTake (NumberListGoes kind) n l
+  no_number n l no_value = λ ls body g. no_value ls (map kind.worth g.further) g.numbers (All-map (IsInRange kind.range) kind.worth g.further g.in_range)
 
-pub no_probability : (n : Numbers ℕ) (l : Lexeme) → IsNoNumber Probability n.sign l → CannotTake ProbabilitiesGo n l
-no_probability n l no_value = λ ls body g. no_value ls (map pos g.further) g.numbers (in_range g.further g.small)
+  module _ (old new : Numbers T) (l : Lexeme) (same_needed : new.needed ≡ old.needed) where
+    module _ (s : Sign) (at : IsSignAt s l) (was : old.sign ≡ None) (is : new.sign ≡ Some s) (same_read : new.read ≡ old.read) where
+      pub takes_sign : Takes (NumberListGoes kind) old l new
+      takes_sign = record {
+        back = λ ls body g. record {
+          further = g.further;
+          numbers = subst (λ x. AreNumbersBehind x (l ∷ ls) (map kind.worth g.further)) (sym was) (sign_back s l ls (map kind.worth g.further) at (subst (λ x. AreNumbersBehind x ls (map kind.worth g.further)) is g.numbers));
+          in_range = g.in_range;
+          enough = ap (λ r. length (r ++ g.further)) (sym same_read) ∙ g.enough ∙ same_needed;
+          body_is = g.body_is ∙ ap (λ r. kind.body (r ++ g.further)) same_read;
+        };
+        on = λ ls body g. record {
+          further = g.further;
+          numbers = subst (λ x. AreNumbersBehind x ls (map kind.worth g.further)) (sym is) (sign_on s l ls (map kind.worth g.further) at (subst (λ x. AreNumbersBehind x (l ∷ ls) (map kind.worth g.further)) was g.numbers));
+          in_range = g.in_range;
+          enough = ap (λ r. length (r ++ g.further)) same_read ∙ g.enough ∙ sym same_needed;
+          body_is = g.body_is ∙ ap (λ r. kind.body (r ++ g.further)) (sym same_read);
+        };
+      }
 
-module _ (old new : Numbers ℕ) (l : Lexeme) (same_needed : new.needed ≡ old.needed) where
-  module _ (s : Sign) (at : IsSignAt s l) (was : old.sign ≡ None) (is : new.sign ≡ Some s) (same_read : new.read ≡ old.read) where
-    pub probabilities_take_sign : Takes ProbabilitiesGo old l new
-    probabilities_take_sign = record {
-      back = λ ls body g. record {
-        further = g.further;
-        numbers = subst (λ x. AreNumbersBehind x (l ∷ ls) (map pos g.further)) (sym was) (sign_back s l ls (map pos g.further) at (subst (λ x. AreNumbersBehind x ls (map pos g.further)) is g.numbers));
-        small = g.small;
-        enough = ap (λ r. length (r ++ g.further)) (sym same_read) ∙ g.enough ∙ same_needed;
-        body_is = g.body_is ∙ ap (λ r. bodies.Probabilities (r ++ g.further)) same_read;
-      };
-      on = λ ls body g. record {
-        further = g.further;
-        numbers = subst (λ x. AreNumbersBehind x ls (map pos g.further)) (sym is) (sign_on s l ls (map pos g.further) at (subst (λ x. AreNumbersBehind x (l ∷ ls) (map pos g.further)) was g.numbers));
-        small = g.small;
-        enough = ap (λ r. length (r ++ g.further)) same_read ∙ g.enough ∙ sym same_needed;
-        body_is = g.body_is ∙ ap (λ r. bodies.Probabilities (r ++ g.further)) (sym same_read);
-      };
-    }
+    module _ (x : T) (distinct : (y z : T) → kind.worth y ≡ kind.worth z → y ≡ z) (v : IsMillionths (is_negative old.sign) l (kind.worth x)) (fits : IsInRange kind.range (kind.worth x)) (is : new.sign ≡ None) (read : new.read ≡ old.read ++ x ∷ []) where
+      joined : (further : List T) → new.read ++ further ≡ old.read ++ x ∷ further
+      joined further = ap (λ r. r ++ further) read ∙ append_assoc old.read (x ∷ []) further
 
-  module _ (p : ℕ) (v : IsMillionths (is_negative old.sign) l (pos p)) (small : p ≤ one) (is : new.sign ≡ None) (read : new.read ≡ old.read ++ p ∷ []) where
-    joined : (further : List ℕ) → new.read ++ further ≡ old.read ++ p ∷ further
-    joined further = ap (λ r. r ++ further) read ∙ append_assoc old.read (p ∷ []) further
-
-    goes_on : (ls : List Lexeme) (further : List ℕ) (body : Body) → AreNumbersBehind old.sign (l ∷ ls) (map pos further) → All (λ p. p ≤ one) further
-        → length (old.read ++ further) ≡ old.needed → body ≡ bodies.Probabilities (old.read ++ further) → ProbabilitiesGo new ls body
-    goes_on ls [] body a all enough is_body =
-        let b = value_on old.sign l ls (pos p) [] v a in absurd (cc)
-    goes_on ls (q ∷ qs) body a all enough is_body =
-        let b = value_on old.sign l ls (pos p) (pos q ∷ map pos qs) v a in
-        let first = b.joined in
-        let same : q ≡ p = cc in
-        let rest : map pos qs ≡ b.rest = cc in
-        let whole : new.read ++ qs ≡ old.read ++ q ∷ qs = joined qs ∙ ap (λ x. old.read ++ x ∷ qs) (sym same) in
-        record {
-          further = qs;
-          numbers = subst (λ x. AreNumbersBehind x ls (map pos qs)) (sym is) (subst (AreNumbers ls) (sym rest) b.numbers);
-          small = All-tail (λ p. p ≤ one) q qs all;
-          enough = ap length whole ∙ enough ∙ sym same_needed;
-          body_is = is_body ∙ ap bodies.Probabilities (sym whole);
-        }
-
-    pub probabilities_take_value : Takes ProbabilitiesGo old l new
-    probabilities_take_value = record {
-      back = λ ls body g. record {
-        further = p ∷ g.further;
-        numbers = value_back old.sign l ls (pos p) (map pos g.further) v (subst (λ x. AreNumbersBehind x ls (map pos g.further)) is g.numbers);
-        small = All-cons (λ p. p ≤ one) p g.further small g.small;
-        enough = ap length (sym (joined g.further)) ∙ g.enough ∙ same_needed;
-        body_is = g.body_is ∙ ap bodies.Probabilities (joined g.further);
-      };
-      on = λ ls body g. goes_on ls g.further body g.numbers g.small g.enough g.body_is;
-    }
-
-module _ (old new : Numbers ℤ) (l : Lexeme) (same_needed : new.needed ≡ old.needed) where
-  module _ (s : Sign) (at : IsSignAt s l) (was : old.sign ≡ None) (is : new.sign ≡ Some s) (same_read : new.read ≡ old.read) where
-    pub rewards_take_sign : Takes RewardsGo old l new
-    rewards_take_sign = record {
-      back = λ ls body g. record {
-        further = g.further;
-        numbers = subst (λ x. AreNumbersBehind x (l ∷ ls) g.further) (sym was) (sign_back s l ls g.further at (subst (λ x. AreNumbersBehind x ls g.further) is g.numbers));
-        enough = ap (λ r. length (r ++ g.further)) (sym same_read) ∙ g.enough ∙ same_needed;
-        body_is = g.body_is ∙ ap (λ r. bodies.Rewards (r ++ g.further)) same_read;
-      };
-      on = λ ls body g. record {
-        further = g.further;
-        numbers = subst (λ x. AreNumbersBehind x ls g.further) (sym is) (sign_on s l ls g.further at (subst (λ x. AreNumbersBehind x (l ∷ ls) g.further) was g.numbers));
-        enough = ap (λ r. length (r ++ g.further)) same_read ∙ g.enough ∙ sym same_needed;
-        body_is = g.body_is ∙ ap (λ r. bodies.Rewards (r ++ g.further)) (sym same_read);
-      };
-    }
-
-  module _ (h : ℤ) (v : IsMillionths (is_negative old.sign) l h) (is : new.sign ≡ None) (read : new.read ≡ old.read ++ h ∷ []) where
-    joined_rewards : (further : List ℤ) → new.read ++ further ≡ old.read ++ h ∷ further
-    joined_rewards further = ap (λ r. r ++ further) read ∙ append_assoc old.read (h ∷ []) further
-
-    pub rewards_take_value : Takes RewardsGo old l new
-    rewards_take_value = record {
-      back = λ ls body g. record {
-        further = h ∷ g.further;
-        numbers = value_back old.sign l ls h g.further v (subst (λ x. AreNumbersBehind x ls g.further) is g.numbers);
-        enough = ap length (sym (joined_rewards g.further)) ∙ g.enough ∙ same_needed;
-        body_is = g.body_is ∙ ap bodies.Rewards (joined_rewards g.further);
-      };
-      on = λ ls body g.
-          let b = value_on old.sign l ls h g.further v g.numbers in
-          let whole : new.read ++ b.rest ≡ old.read ++ g.further = joined_rewards b.rest ∙ ap (λ r. old.read ++ r) (sym b.joined) in
+      goes_on : (ls : List Lexeme) (further : List T) (body : Body) → AreNumbersBehind old.sign (l ∷ ls) (map kind.worth further) → All (λ y. IsInRange kind.range (kind.worth y)) further
+          → length (old.read ++ further) ≡ old.needed → body ≡ kind.body (old.read ++ further) → NumberListGoes kind new ls body
+      goes_on ls [] body a all enough is_body = absurd (cons≢nil (sym (value_on old.sign l ls (kind.worth x) [] v a).joined))
+      goes_on ls (y ∷ ys) body a all enough is_body =
+          let b = value_on old.sign l ls (kind.worth x) (map kind.worth (y ∷ ys)) v a in
+          let same : y ≡ x = distinct y x (same_head b.joined) in
+          let whole : new.read ++ ys ≡ old.read ++ y ∷ ys = joined ys ∙ ap (λ z. old.read ++ z ∷ ys) (sym same) in
           record {
-            further = b.rest;
-            numbers = subst (λ x. AreNumbersBehind x ls b.rest) (sym is) b.numbers;
-            enough = ap length whole ∙ g.enough ∙ sym same_needed;
-            body_is = g.body_is ∙ ap bodies.Rewards (sym whole);
-          };
-    }
+            further = ys;
+            numbers = subst (λ s. AreNumbersBehind s ls (map kind.worth ys)) (sym is) (subst (AreNumbers ls) (sym (same_tail b.joined)) b.numbers);
+            in_range = All-tail (λ z. IsInRange kind.range (kind.worth z)) y ys all;
+            enough = ap length whole ∙ enough ∙ sym same_needed;
+            body_is = is_body ∙ ap kind.body (sym whole);
+          }
+
+      pub takes_number : Takes (NumberListGoes kind) old l new
+      takes_number = record {
+        back = λ ls body g. record {
+          further = x ∷ g.further;
+          numbers = value_back old.sign l ls (kind.worth x) (map kind.worth g.further) v (subst (λ s. AreNumbersBehind s ls (map kind.worth g.further)) is g.numbers);
+          in_range = All-cons (λ z. IsInRange kind.range (kind.worth z)) x g.further fits g.in_range;
+          enough = ap length (sym (joined g.further)) ∙ g.enough ∙ same_needed;
+          body_is = g.body_is ∙ ap kind.body (joined g.further);
+        };
+        on = λ ls body g. goes_on ls g.further body g.numbers g.in_range g.enough g.body_is;
+      }
 
 -- what holds of each error holds of this one
 pub if_err : {T E : Type 0} (r : Result T E) (P : E → Type 0) → ((e : E) → P e) → IfErr r P
@@ -138,13 +88,19 @@ pub if_refused : {P : Type 0} (stop : Stop) → P → IfRefused stop (λ r. P)
 if_refused (Refused r) p = p
 if_refused Memory p = tt
 
--- the same with the value as it was read
-pub probabilities_take_number : (old new : Numbers ℕ) (l : Lexeme) (h : ℤ) → new.needed ≡ old.needed → IsMillionths (is_negative old.sign) l h → IsInRange Probability h
-    → new.sign ≡ None → new.read ≡ old.read ++ nat_abs h ∷ [] → Takes ProbabilitiesGo old l new
-probabilities_take_number old new l h same_needed v range is read =
-    let p = range.0 in
-    let size : nat_abs h ≡ p = ap nat_abs range.1.0 in
-    probabilities_take_value old new l same_needed p (subst (IsMillionths (is_negative old.sign) l) range.1.0 v) range.1.1 is (read ∙ ap (λ n. old.read ++ n ∷ []) size)
+-- no two probabilities are worth the same
+pub one_probability : (x y : ℕ) → pos x ≡ pos y → x ≡ y
+one_probability x y e = cc
+
+-- a probability lies from 0 to one
+pub fraction_in_range : (p : ℕ) → p ≤ one → IsInRange Probability (pos p)
+fraction_in_range p small = (p, (refl, small))
+
+pub fractions_in_range : (ps : List ℕ) → All (λ p. p ≤ one) ps → All (λ p. IsInRange Probability (pos p)) ps
+fractions_in_range ps small = λ k d h. fraction_in_range _ (small k d h)
+
+pub small_fractions : (ps : List ℕ) → All (λ p. IsInRange Probability (pos p)) ps → All (λ p. p ≤ one) ps
+small_fractions ps fit = λ k d h. let f = fit k d h in subst (λ q. q ≤ one) (one_probability _ _ (sym f.1.0)) f.1.1
 
 -- ---- what goes on to a number
 

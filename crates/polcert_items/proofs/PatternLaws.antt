@@ -1,9 +1,9 @@
 -- The places and the body of an entry, token by token.
-use Rattle.std.proofs.Common.{◌≡◌, ◌∙◌, ℕ, suc, ◌+◌, ◌≤◌, Bool, true, false, Option, Some, None, List, [], ◌∷◌, ◌++◌, length, drop, map, ℤ, pos, refl, sym, ap, subst, arith, append_assoc, append-nil, length-append, ◌⊎◌, inl, inr, Result, Ok, Err, IfErr, OnOk, zero}
+use Rattle.std.proofs.Common.{◌≡◌, ◌∙◌, ℕ, suc, ◌+◌, ◌≤◌, Bool, true, false, Option, Some, None, List, [], ◌∷◌, ◌++◌, length, drop, map, ℤ, pos, refl, sym, ap, subst, arith, append_assoc, append-nil, length-append, ◌⊎◌, inl, inr, Result, Ok, Err, IfErr, OnOk, zero, All}
 use Rattle.std.specs.Prelude.{◌==◌}
 use Rattle.std.specs.List.{list_any}
 use Rattle.std.proofs.lemmas.Bool.Decides.{nat_tests}
-use Rattle.std.proofs.lemmas.List.{drop-drop, drop_all}
+use Rattle.std.proofs.lemmas.List.{drop-drop, drop_all, map-id}
 use Rattle.std.proofs.lemmas.List.Elements.{All-tail}
 use Rattle.std.proofs.Math.Nat.{mul-pos}
 use Rattle.polcert_text.specs.Cut.{Lexeme}
@@ -29,7 +29,7 @@ use Rattle.polcert_items.specs.declared.signed_number.Range.TheVariants.{Probabi
 use Rattle.polcert_items.specs.declared.stop.Stop.{Stop}
 use Rattle.polcert_items.specs.declared.stop.Stop.TheVariants.{Refused, Memory}
 use Rattle.polcert_cells.specs.Words.{IsWord}
-use Rattle.polcert_cells.specs.Numbers.{AreNumbers, one}
+use Rattle.polcert_cells.specs.Numbers.{AreNumbers}
 use Rattle.polcert_cells.specs.Numbers as numbers
 use Rattle.polcert_cells.specs.declared.elements.Elements.{Elements}
 use Rattle.polcert_cells.specs.Elements.{count_of, StandsFor}
@@ -38,12 +38,12 @@ use Rattle.polcert_cells.specs.Entry as entries
 use Rattle.polcert_format.specs.Text.{Known}
 use Rattle.polcert_format.specs.Wants.{least_written}
 use Rattle.polcert_items.specs.Steps.Lines.{Takes, CannotTake, CannotEnd}
-use Rattle.polcert_items.specs.Steps.Numbers.{AreNumbersBehind}
+use Rattle.polcert_items.specs.Steps.Numbers.{AreNumbersBehind, IsInRange, ListKind, of_probabilities, of_rewards}
 use Rattle.polcert_items.specs.Steps.Entries as reasons
-use Rattle.polcert_items.proofs.ListLaws.{all_none}
+use Rattle.polcert_items.proofs.ListLaws.{all_none, fractions_in_range, small_fractions}
 use Rattle.polcert_cells.specs.Preamble.{Preamble, is_mdp, dimensions, named}
 use Rattle.polcert_format.specs.KnownPreamble.{preamble_in, indices_in}
-use Rattle.polcert_items.specs.Steps.Entries.{IsEntryBehind, IsFirstPlace, PlaceRest, entry_with, ProbabilitiesGo, RewardsGo, StateGoes, EntryGoes, IfRefused, body_of, word_text, MayStand, IsWordBehind, no_numbers, AreBegun, CannotBegin, IsFull, IsListReason, IsEntryReason, entry_sign, AreSome}
+use Rattle.polcert_items.specs.Steps.Entries.{IsEntryBehind, IsFirstPlace, PlaceRest, entry_with, NumberListGoes, ProbabilitiesGo, RewardsGo, BodyIs, StateGoes, EntryGoes, IfRefused, body_of, word_text, MayStand, IsWordBehind, no_numbers, AreBegun, CannotBegin, IsFull, IsListReason, IsEntryReason, entry_sign, AreSome}
 use Rattle.polcert_cells.proofs.Basics.{cons≢nil, same_head, same_tail}
 use Rattle.polcert_cells.proofs.EntryLaws.{NoColonFirst, body_no_colon, uniform_not_identity}
 use Rattle.polcert_format.proofs.FurtherNumbers.{begins_no_number}
@@ -154,56 +154,58 @@ no_form b e f = cc
 -- a body that begins with a numeral or a sign is numbers
 probabilities_of : (mdp : Bool) (cells n : ℕ) (l : Lexeme) (ls : List Lexeme) (table : Table) (b : Body) → IsBody cells (l ∷ ls) b → MayStand mdp table b n → (l.kind ≡ Name → ⊥) → ((hs : List ℤ) → MayStand mdp table (bodies.Rewards hs) n → ⊥)
     → ProbabilitiesGo (no_numbers cells) (l ∷ ls) b
-probabilities_of mdp cells n l ls table b (entries.probabilities {ps} a count all) form no_name no_rewards = record { further = ps; numbers = a; small = all; enough = count; body_is = refl }
+probabilities_of mdp cells n l ls table b (entries.probabilities {ps} a count all) form no_name no_rewards = record { further = ps; numbers = a; in_range = fractions_in_range ps all; enough = count; body_is = refl }
 probabilities_of mdp cells n l ls table b (entries.rewards {hs} a count) form no_name no_rewards = absurd (no_rewards hs form)
 probabilities_of mdp cells n l ls table b (entries.uniform w) form no_name no_rewards = absurd (no_name w.kind)
 probabilities_of mdp cells n l ls table b (entries.identity w) form no_name no_rewards = absurd (no_name w.kind)
 
 rewards_of : (mdp : Bool) (cells n : ℕ) (l : Lexeme) (ls : List Lexeme) (b : Body) → IsBody cells (l ∷ ls) b → MayStand mdp Reward b n → RewardsGo (no_numbers cells) (l ∷ ls) b
 rewards_of mdp cells n l ls b (entries.probabilities {ps} a count all) form = absurd (no_form _ refl form)
-rewards_of mdp cells n l ls b (entries.rewards {hs} a count) form = record { further = hs; numbers = a; enough = count; body_is = refl }
+rewards_of mdp cells n l ls b (entries.rewards {hs} a count) form = record { further = hs; numbers = subst (AreNumbers (l ∷ ls)) (sym (map-id hs)) a; in_range = λ k d h. tt; enough = count; body_is = refl }
 rewards_of mdp cells n l ls b (entries.uniform w) form = absurd (no_form _ refl form)
 rewards_of mdp cells n l ls b (entries.identity w) form = absurd (no_form _ refl form)
 
-module _ (preamble : Preamble) (before : List Place) (l : Lexeme) (no_colon : l.kind ≡ Colon → ⊥) (needed : ℕ) where
-  module _ (table : Table) (cells : needed ≡ cells_in (drop (length before) (dimensions preamble table))) (no_name : l.kind ≡ Name → ⊥) (no_rewards : (hs : List ℤ) → MayStand (is_mdp preamble) table (bodies.Rewards hs) (length before) → ⊥)
-      (may : (ps : List ℕ) → MayStand (is_mdp preamble) table (bodies.Probabilities ps) (length before)) (n : Numbers ℕ) (t : Takes ProbabilitiesGo (no_numbers needed) l n) where
-    probabilities_begin : Takes (StateGoes preamble table before) states.Body l (states.Probabilities n)
-    probabilities_begin = record {
-      back = λ ls e r.
-          let g = t.back ls r.0 r.1.0 in
-          let body_is : e.body ≡ bodies.Probabilities g.further = ap (λ (x : Entry). x.body) r.1.1 ∙ g.body_is in
-          let body : IsBody (cells_in (drop (length before) (dimensions preamble table))) (l ∷ ls) (bodies.Probabilities g.further) = entries.probabilities g.numbers (g.enough ∙ cells) g.small in
-          there preamble table before (l ∷ ls) e (record {
-            places_are = ap (λ (x : Entry). x.places) r.1.1;
-            table_is = ap (λ (x : Entry). x.table) r.1.1;
-            form = subst (λ b. MayStand (is_mdp preamble) table b (length before)) (sym body_is) (may g.further);
-            body = subst (IsBody (cells_in (drop (length before) (dimensions preamble table))) (l ∷ ls)) (sym body_is) body;
-          });
-      on = λ ls e b.
-          let h = here preamble table before l ls e no_colon b in
-          let go = probabilities_of (is_mdp preamble) needed (length before) l ls table e.body (subst (λ c. IsBody c (l ∷ ls) e.body) (sym cells) h.body) h.form no_name no_rewards in
-          (e.body, (t.on ls e.body go, entry_eta preamble table before e h.places_are h.table_is e.body refl));
-    }
+-- a list of such numbers is this state of an entry
+pub record IsStateOf {T : Type 0} (kind : ListKind T) (state : Numbers T → EntryState) : Type 0 where
+  out : (p : Preamble) (table : Table) (places : List Place) (n : Numbers T) (ls : List Lexeme) (e : Entry) → StateGoes p table places (state n) ls e → BodyIs table places (NumberListGoes kind n) ls e
+  into : (p : Preamble) (table : Table) (places : List Place) (n : Numbers T) (ls : List Lexeme) (e : Entry) → BodyIs table places (NumberListGoes kind n) ls e → StateGoes p table places (state n) ls e
 
-  module _ (cells : needed ≡ cells_in (drop (length before) (dimensions preamble Reward))) (may : (hs : List ℤ) → MayStand (is_mdp preamble) Reward (bodies.Rewards hs) (length before)) (n : Numbers ℤ) (t : Takes RewardsGo (no_numbers needed) l n) where
-    rewards_begin : Takes (StateGoes preamble Reward before) states.Body l (states.Rewards n)
-    rewards_begin = record {
-      back = λ ls e r.
-          let g = t.back ls r.0 r.1.0 in
-          let body_is : e.body ≡ bodies.Rewards g.further = ap (λ (x : Entry). x.body) r.1.1 ∙ g.body_is in
-          let body : IsBody (cells_in (drop (length before) (dimensions preamble Reward))) (l ∷ ls) (bodies.Rewards g.further) = entries.rewards g.numbers (g.enough ∙ cells) in
-          there preamble Reward before (l ∷ ls) e (record {
-            places_are = ap (λ (x : Entry). x.places) r.1.1;
-            table_is = ap (λ (x : Entry). x.table) r.1.1;
-            form = subst (λ b. MayStand (is_mdp preamble) Reward b (length before)) (sym body_is) (may g.further);
-            body = subst (IsBody (cells_in (drop (length before) (dimensions preamble Reward))) (l ∷ ls)) (sym body_is) body;
-          });
-      on = λ ls e b.
-          let h = here preamble Reward before l ls e no_colon b in
-          let go = rewards_of (is_mdp preamble) needed (length before) l ls e.body (subst (λ c. IsBody c (l ∷ ls) e.body) (sym cells) h.body) h.form in
-          (e.body, (t.on ls e.body go, entry_eta preamble Reward before e h.places_are h.table_is e.body refl));
-    }
+pub probability_state : IsStateOf of_probabilities states.Probabilities
+probability_state = record { out = λ p table places n ls e g. g; into = λ p table places n ls e g. g }
+
+pub reward_state : IsStateOf of_rewards states.Rewards
+reward_state = record { out = λ p table places n ls e g. g; into = λ p table places n ls e g. g }
+
+-- numbers of the kind are a body
+abbrev AreBody : {T : Type 0} → ListKind T → Type 0
+AreBody {T} kind = (cells : ℕ) (ls : List Lexeme) (xs : List T) → AreNumbers ls (map kind.worth xs) → length xs ≡ cells → All (λ x. IsInRange kind.range (kind.worth x)) xs → IsBody cells ls (kind.body xs)
+
+probability_body : AreBody of_probabilities
+probability_body cells ls ps a count all = entries.probabilities a count (small_fractions ps all)
+
+reward_body : AreBody of_rewards
+reward_body cells ls hs a count all = entries.rewards (subst (AreNumbers ls) (map-id hs) a) count
+
+module _ (preamble : Preamble) (table : Table) (before : List Place) (l : Lexeme) (no_colon : l.kind ≡ Colon → ⊥) (needed : ℕ) (cells : needed ≡ cells_in (drop (length before) (dimensions preamble table)))
+    {T : Type 0} (kind : ListKind T) (state : Numbers T → EntryState) (is_state : IsStateOf kind state) (body : AreBody kind) (may : (xs : List T) → MayStand (is_mdp preamble) table (kind.body xs) (length before))
+    (of_body : (ls : List Lexeme) (b : Body) → IsBody needed (l ∷ ls) b → MayStand (is_mdp preamble) table b (length before) → NumberListGoes kind (no_numbers needed) (l ∷ ls) b) (n : Numbers T) (t : Takes (NumberListGoes kind) (no_numbers needed) l n) where
+  list_begins : Takes (StateGoes preamble table before) states.Body l (state n)
+  list_begins = record {
+    back = λ ls e r.
+        let r' = is_state.out preamble table before n ls e r in
+        let g = t.back ls r'.0 r'.1.0 in
+        let body_is : e.body ≡ kind.body g.further = ap (λ (x : Entry). x.body) r'.1.1 ∙ g.body_is in
+        there preamble table before (l ∷ ls) e (record {
+          places_are = ap (λ (x : Entry). x.places) r'.1.1;
+          table_is = ap (λ (x : Entry). x.table) r'.1.1;
+          form = subst (λ b. MayStand (is_mdp preamble) table b (length before)) (sym body_is) (may g.further);
+          body = subst (IsBody (cells_in (drop (length before) (dimensions preamble table))) (l ∷ ls)) (sym body_is) (body _ (l ∷ ls) g.further g.numbers (g.enough ∙ cells) g.in_range);
+        });
+    on = λ ls e b.
+        let h = here preamble table before l ls e no_colon b in
+        let go = of_body ls e.body (subst (λ c. IsBody c (l ∷ ls) e.body) (sym cells) h.body) h.form in
+        is_state.into preamble table before n ls e (e.body, (t.on ls e.body go, entry_eta preamble table before e h.places_are h.table_is e.body refl));
+  }
 
 pub one_to_three : (n : ℕ) → 1 ≤ n → n ≤ 3 → list_any (λ k. k == n) (1 ∷ 2 ∷ 3 ∷ []) ≡ true
 one_to_three n low high = grind (arith, nat_tests)
@@ -224,11 +226,14 @@ pub numbers_begin : (k : Known) (table : Table) (before : List Place) (l : Lexem
     → needed ≡ cells_in (drop (length before) (indices_in k table)) → least_written (is_mdp (preamble_in k)) table ≤ length before → length before ≤ length (indices_in k table)
     → AreBegun table needed l new → Takes (StateGoes (preamble_in k) table before) states.Body l new
 numbers_begin k Transition before l (states.Probabilities n) needed no_colon no_name cells low high t =
-    probabilities_begin (preamble_in k) before l no_colon needed Transition cells no_name (λ hs form. no_form _ refl form) (λ ps. one_to_three (length before) low high) n t
+    list_begins (preamble_in k) Transition before l no_colon needed cells of_probabilities states.Probabilities probability_state probability_body (λ ps. one_to_three (length before) low high)
+    (λ ls b is form. probabilities_of (is_mdp (preamble_in k)) needed (length before) l ls Transition b is form no_name (λ hs form. no_form _ refl form)) n t
 numbers_begin k Observation before l (states.Probabilities n) needed no_colon no_name cells low high t =
-    probabilities_begin (preamble_in k) before l no_colon needed Observation cells no_name (λ hs form. no_form _ refl form) (λ ps. one_to_three (length before) low high) n t
+    list_begins (preamble_in k) Observation before l no_colon needed cells of_probabilities states.Probabilities probability_state probability_body (λ ps. one_to_three (length before) low high)
+    (λ ls b is form. probabilities_of (is_mdp (preamble_in k)) needed (length before) l ls Observation b is form no_name (λ hs form. no_form _ refl form)) n t
 numbers_begin k Reward before l (states.Rewards n) needed no_colon no_name cells low high t =
-    rewards_begin (preamble_in k) before l no_colon needed cells (λ hs. rewards_may_stand (is_mdp (preamble_in k)) (length before) hs low high) n t
+    list_begins (preamble_in k) Reward before l no_colon needed cells of_rewards states.Rewards reward_state reward_body (λ hs. rewards_may_stand (is_mdp (preamble_in k)) (length before) hs low high)
+    (λ ls b is form. rewards_of (is_mdp (preamble_in k)) needed (length before) l ls b is form) n t
 numbers_begin k Transition before l states.Colon needed no_colon no_name cells low high t = absurd t
 numbers_begin k Transition before l states.Place needed no_colon no_name cells low high t = absurd t
 numbers_begin k Transition before l states.Body needed no_colon no_name cells low high t = absurd t
@@ -431,21 +436,13 @@ pub probability_reason : (r : EntryReader) (n : Numbers ℕ) (l : Lexeme) (kind 
 probability_reason r n l kind place is not_reward reason = reasons.no_probability not_reward (subst (λ s. IsListReason Probability (entry_sign s) l kind place) (sym is) reason)
 
 -- a list that is full goes on with nothing
-pub full_probabilities : (n : Numbers ℕ) → IsFull n → ProbabilitiesGo n [] (bodies.Probabilities n.read)
-full_probabilities n full = record {
+pub full_list : {T : Type 0} (kind : ListKind T) (n : Numbers T) → IsFull n → NumberListGoes kind n [] (kind.body n.read)
+full_list kind n full = record {
   further = [];
   numbers = subst (λ s. AreNumbersBehind s [] []) (sym full.sign) numbers.none;
-  small = all_none (λ p. p ≤ one);
+  in_range = all_none (λ x. IsInRange kind.range (kind.worth x));
   enough = ap length (append-nil n.read) ∙ full.count;
-  body_is = ap bodies.Probabilities (sym (append-nil n.read));
-}
-
-pub full_rewards : (n : Numbers ℤ) → IsFull n → RewardsGo n [] (bodies.Rewards n.read)
-full_rewards n full = record {
-  further = [];
-  numbers = subst (λ s. AreNumbersBehind s [] []) (sym full.sign) numbers.none;
-  enough = ap length (append-nil n.read) ∙ full.count;
-  body_is = ap bodies.Rewards (sym (append-nil n.read));
+  body_is = ap kind.body (sym (append-nil n.read));
 }
 
 record NoMore (sign : Option Sign) (hs : List ℤ) : Type 0 where
@@ -457,15 +454,15 @@ none_behind None [] a = record { no_sign = refl; none = refl }
 none_behind None (h ∷ hs) a = elim a [ ]
 none_behind (Some s) hs a = absurd a
 
-none_mapped : (ps : List ℕ) → map pos ps ≡ [] → ps ≡ []
-none_mapped [] e = refl
-none_mapped (p ∷ ps) e = cc
+none_mapped : {X Y : Type 0} (f : X → Y) (xs : List X) → map f xs ≡ [] → xs ≡ []
+none_mapped f [] e = refl
+none_mapped f (x ∷ xs) e = absurd (cons≢nil e)
 
 -- a list that goes on with nothing is full
-pub probabilities_full : (n : Numbers ℕ) (body : Body) → ProbabilitiesGo n [] body → IsFull n
-probabilities_full n body g =
-    let m = none_behind n.sign (map pos g.further) g.numbers in
-    let none = none_mapped g.further m.none in
+pub list_full : {T : Type 0} (kind : ListKind T) (n : Numbers T) (body : Body) → NumberListGoes kind n [] body → IsFull n
+list_full kind n body g =
+    let m = none_behind n.sign (map kind.worth g.further) g.numbers in
+    let none = none_mapped kind.worth g.further m.none in
     record { sign = m.no_sign; count = ap length (sym (append-nil n.read)) ∙ ap (λ f. length (n.read ++ f)) (sym none) ∙ g.enough }
 
 pub cells_some : (ds : List Elements) → AreSome ds → 1 ≤ cells_in ds
@@ -482,7 +479,7 @@ some_dropped (suc n) (d ∷ ds) some = some_dropped n ds (All-tail (λ d. 1 ≤ 
 
 no_body : (cells : ℕ) (b : Body) → 1 ≤ cells → IsBody cells [] b → ⊥
 no_body cells b some (entries.probabilities {ps} a count all) =
-    let none = none_mapped ps (none_behind None (map pos ps) a).none in
+    let none = none_mapped pos ps (none_behind None (map pos ps) a).none in
     let zero_long : length ps ≡ 0 = ap length none in
     omega arith
 no_body cells b some (entries.rewards {hs} a count) =
@@ -506,23 +503,15 @@ pub ends_in : (preamble : Preamble) (r : EntryReader) (old : EntryState) (e : En
 ends_in preamble r old e is goes = subst (λ s. StateGoes preamble r.table r.places s [] e) (sym is) goes
 
 -- the numbers of an entry go on
-pub probabilities_in : (preamble : Preamble) (r : EntryReader) (old new : Numbers ℕ) (l : Lexeme) → r.state ≡ states.Probabilities old → Takes ProbabilitiesGo old l new → Takes (EntryGoes preamble) r l (record r { state = states.Probabilities new })
-probabilities_in preamble r old new l is t = in_state preamble r (states.Probabilities old) (states.Probabilities new) l is (record {
-  back = λ ls e g. (g.0, (t.back ls g.0 g.1.0, g.1.1));
-  on = λ ls e g. (g.0, (t.on ls g.0 g.1.0, g.1.1));
-})
+module _ {T : Type 0} (kind : ListKind T) (state : Numbers T → EntryState) (is_state : IsStateOf kind state) (p : Preamble) (r : EntryReader) (old : Numbers T) (l : Lexeme) (is : r.state ≡ state old) where
+  pub list_in : (new : Numbers T) → Takes (NumberListGoes kind) old l new → Takes (EntryGoes p) r l (record r { state = state new })
+  list_in new t = in_state p r (state old) (state new) l is (record {
+    back = λ ls e g. let g' = is_state.out p r.table r.places new ls e g in is_state.into p r.table r.places old (l ∷ ls) e (g'.0, (t.back ls g'.0 g'.1.0, g'.1.1));
+    on = λ ls e g. let g' = is_state.out p r.table r.places old (l ∷ ls) e g in is_state.into p r.table r.places new ls e (g'.0, (t.on ls g'.0 g'.1.0, g'.1.1));
+  })
 
-pub rewards_in : (preamble : Preamble) (r : EntryReader) (old new : Numbers ℤ) (l : Lexeme) → r.state ≡ states.Rewards old → Takes RewardsGo old l new → Takes (EntryGoes preamble) r l (record r { state = states.Rewards new })
-rewards_in preamble r old new l is t = in_state preamble r (states.Rewards old) (states.Rewards new) l is (record {
-  back = λ ls e g. (g.0, (t.back ls g.0 g.1.0, g.1.1));
-  on = λ ls e g. (g.0, (t.on ls g.0 g.1.0, g.1.1));
-})
-
-pub probabilities_stuck : (preamble : Preamble) (r : EntryReader) (old : Numbers ℕ) (l : Lexeme) → r.state ≡ states.Probabilities old → CannotTake ProbabilitiesGo old l → CannotTake (EntryGoes preamble) r l
-probabilities_stuck preamble r old l is stuck = stuck_in_state preamble r (states.Probabilities old) l is (λ ls e g. stuck ls g.0 g.1.0)
-
-pub rewards_stuck : (preamble : Preamble) (r : EntryReader) (old : Numbers ℤ) (l : Lexeme) → r.state ≡ states.Rewards old → CannotTake RewardsGo old l → CannotTake (EntryGoes preamble) r l
-rewards_stuck preamble r old l is stuck = stuck_in_state preamble r (states.Rewards old) l is (λ ls e g. stuck ls g.0 g.1.0)
+  pub list_stuck : CannotTake (NumberListGoes kind) old l → CannotTake (EntryGoes p) r l
+  list_stuck stuck = stuck_in_state p r (state old) l is (λ ls e g. let g' = is_state.out p r.table r.places old (l ∷ ls) e g in stuck ls g'.0 g'.1.0)
 
 -- what is no `*` and stands for no element is no place
 pub no_place : (d : Elements) (l : Lexeme) → (l.kind ≡ Star → ⊥) → ((index : ℕ) → StandsFor d l index → ⊥) → (p : Place) → IsPlace d l p → ⊥

@@ -17,18 +17,18 @@ use Rattle.polcert_items.specs.declared.start_reader.StartReader.{StartReader}
 use Rattle.polcert_items.specs.declared.start_reader.StartReader.TheVariants as reader
 use Rattle.polcert_cells.specs.Numbers.{IsMillionths, AreNumbers, one}
 use Rattle.polcert_cells.specs.Numbers as numbers
-use Rattle.polcert_items.specs.Steps.Numbers.{AreNumbersBehind, is_negative, IsSignAt}
+use Rattle.polcert_items.specs.Steps.Numbers.{AreNumbersBehind, of_probabilities, is_negative, IsSignAt}
 use Rattle.polcert_cells.specs.declared.elements.Elements.{Elements}
 use Rattle.polcert_cells.specs.Elements.{count_of}
 use Rattle.polcert_cells.specs.declared.shares.Shares.{Shares}
 use Rattle.polcert_cells.specs.Start.{all_states, shares_of}
 use Rattle.polcert_items.specs.Steps.Lines.{Takes, CannotTake}
-use Rattle.polcert_items.specs.Steps.Entries.{ProbabilitiesGo, IsFull, no_numbers}
+use Rattle.polcert_items.specs.Steps.Entries.{ProbabilitiesGo, IsFull, one_number}
 use Rattle.polcert_items.specs.Steps.Start.{only_state, probabilities, alone, each, AreGiven, NumbersGo, DigitsGo, state_number, first_of_more, AreWhole, SharesGo, StartGoes, StartGives, Begins, IsOutside, IsDueNumber, IsDueValue, IsStop, due, at_once}
 use Rattle.polcert_format.specs.Misfits.{Wanted}
 use Rattle.polcert_cells.proofs.Basics.{true≢false, cons≢nil, same_head, same_tail}
-use Rattle.polcert_items.proofs.ListLaws.{all_none}
-use Rattle.polcert_items.proofs.PatternLaws.{full_probabilities}
+use Rattle.polcert_items.proofs.ListLaws.{all_none, fractions_in_range, small_fractions}
+use Rattle.polcert_items.proofs.PatternLaws.{full_list}
 use Rattle.polcert_items.proofs.SignedNumbers.{sign_back, sign_on, value_back, value_on}
 
 -- ---- one token more
@@ -143,10 +143,9 @@ pub record IsOneRead (states : Elements) (p : ℕ) (n : Numbers ℕ) : Type 0 wh
   pub sign : n.sign ≡ None
 
 -- the list that begins with this number
-pub one_read : (states : Elements) (p count : ℕ) (read : List ℕ) (n : Numbers ℕ) → n ≡ no_numbers count → count ≡ count_of states → read ≡ n.read ++ p ∷ []
-    → IsOneRead states p (record { read = read; needed = n.needed; sign = n.sign })
-one_read states p count read n is same pushed = record {
-  read = pushed ∙ ap (λ (m : Numbers ℕ). m.read ++ p ∷ []) is;
+pub one_read : (states : Elements) (p count : ℕ) (n : Numbers ℕ) → n ≡ one_number count p → count ≡ count_of states → IsOneRead states p n
+one_read states p count n is same = record {
+  read = ap (λ (m : Numbers ℕ). m.read) is;
   needed = ap (λ (m : Numbers ℕ). m.needed) is ∙ same;
   sign = ap (λ (m : Numbers ℕ). m.sign) is;
 }
@@ -165,7 +164,7 @@ module _ (states : Elements) (p : ℕ) (n : Numbers ℕ) (small : p ≤ one) (is
         go = record {
           further = f.rest;
           numbers = subst (λ s. AreNumbersBehind s (l ∷ ls) (map pos f.rest)) (sym is.sign) (subst (AreNumbers (l ∷ ls)) f.rest_is g.numbers);
-          small = All-tail (λ p. p ≤ one) f.first f.rest f.small;
+          in_range = fractions_in_range f.rest (All-tail (λ p. p ≤ one) f.first f.rest f.small);
           enough = ap length whole ∙ f.count ∙ sym is.needed;
           body_is = ap bodies.Probabilities (sym whole);
         };
@@ -182,7 +181,7 @@ module _ (states : Elements) (p : ℕ) (n : Numbers ℕ) (small : p ≤ one) (is
       record {
         further = map pos g.go.further;
         numbers = subst (λ s. AreNumbersBehind s ls (map pos g.go.further)) is.sign g.go.numbers;
-        given = given asked g.all (ap (map pos) (sym whole)) count (subst (All (λ q. q ≤ one)) (sym whole) (All-cons (λ q. q ≤ one) p g.go.further small g.go.small)) g.whole;
+        given = given asked g.all (ap (map pos) (sym whole)) count (subst (All (λ q. q ≤ one)) (sym whole) (All-cons (λ q. q ≤ one) p g.go.further small (small_fractions g.go.further g.go.in_range))) g.whole;
       }
     where
       same_body : (xs ys : List ℕ) → bodies.Probabilities xs ≡ bodies.Probabilities ys → xs ≡ ys
@@ -252,7 +251,7 @@ number_ends states f v count is shares = record { further = []; numbers = number
     whole (inr e) = inr (ap (λ h. h ∷ []) e)
 
 pub shares_end : (states : Elements) (n : Numbers ℕ) (v : Shares) → IsFull n → sum n.read ≡ one → v ≡ shares_of n.read → StartGives states (reader.Probabilities n) [] v
-shares_end states n v full total shares = record { all = n.read; go = full_probabilities n full; whole = (total, shares) }
+shares_end states n v full total shares = record { all = n.read; go = full_list of_probabilities n full; whole = (total, shares) }
 
 -- ---- reasons
 

@@ -206,16 +206,14 @@ fn begun_with(
             if value > LARGEST {
                 return Ok(None);
             }
-            let mut numbers = Numbers::new(alloc, needed);
-            numbers.read.push(value as i64)?;
+            let numbers = Numbers::begun(alloc, needed, value as i64)?;
             Ok(Some(EntryState::Rewards(numbers)))
         }
         Table::Transition | Table::Observation => {
             if value > ONE {
                 return Ok(None);
             }
-            let mut numbers = Numbers::new(alloc, needed);
-            numbers.read.push(value as u32)?;
+            let numbers = Numbers::begun(alloc, needed, value as u32)?;
             Ok(Some(EntryState::Probabilities(numbers)))
         }
     }

@@ -10,7 +10,7 @@ ghost use Rattle.polcert_cells.specs.Entry.{IsPlace};
 ghost use Rattle.polcert_format.specs.Wants.{least_written, numbers_want, place_wants};
 ghost use Rattle.polcert_items.specs.Steps.Lines.{Takes, CannotTake, CannotEnd};
 ghost use Rattle.polcert_format.specs.KnownPreamble.{preamble_in, indices_in, named_in};
-ghost use Rattle.polcert_items.specs.Steps.Entries.{IsFirstPlace, ProbabilitiesGo, RewardsGo, EntryGoes, IsWithinIndices, IsEntryReason, IsPlaceReason, IfRefused, IsFull, IsListReason, MayStand, IsWordBehind, AreBegun, CannotBegin, range_of, HasRoom, HasRoomIn, no_numbers, body_of, entry_sign, AreSome};
+ghost use Rattle.polcert_items.specs.Steps.Entries.{IsFirstPlace, NumberListGoes, EntryGoes, IsWithinIndices, IsEntryReason, IsPlaceReason, IfRefused, IsFull, IsListReason, MayStand, IsWordBehind, AreBegun, CannotBegin, range_of, HasRoom, HasRoomIn, no_numbers, one_number, body_of, entry_sign, AreSome};
 ghost use Rattle.polcert_format.specs.Misfits.{misfit, IsMisfit, Index, Mark};
 ghost use Rattle.polcert_items.specs.Steps.Numbers.{SignIs};
 ghost use Rattle.polcert_items.specs.Steps.Items.{IsEndReason};
@@ -22,13 +22,14 @@ ghost use Rattle.polcert_items.specs.declared.entry_reader.Word.{Word};
 
 use crate::elements::element_of;
 use crate::known::Known;
+use crate::list_number::ListNumber;
 use crate::preamble_lines::colon;
-use crate::signed_number::{Range, Refusal, Sign, Step, behind_numbers, misplaced, number_step};
+use crate::signed_number::{Refusal, Sign, Step, behind_numbers, misplaced, number_step};
 use crate::stop::Stop;
 use polcert_cells::{Body, Elements, Entry, Place, Places, Sequence, Table, Topic, is_word};
 use polcert_format::ItemFault;
 use polcert_text::{Token, TokenKind};
-use std::alloc::Global;
+use std::alloc::{AllocError, Global};
 
 /// A list of so many numbers, as far as it has been read.
 #[derive(Debug, Drop)]
@@ -47,6 +48,15 @@ impl<T: Copy> Numbers<T> {
             needed,
             sign: None,
         }
+    }
+
+    /// The list behind its first number.
+    pub fn begun(alloc: Global, needed: usize, first: T) -> Result<Numbers<T>, AllocError>
+        ensures { IfOk result (λ n. n ≡ one_number needed first) }
+    {
+        let mut numbers = Numbers::new(alloc, needed);
+        numbers.read.push(first)?;
+        Ok(numbers)
     }
 
     #[inline(always)]
@@ -71,18 +81,19 @@ impl<T: Copy> Numbers<T> {
     }
 }
 
-impl Numbers<u32> {
-    /// Goes on with a token of a list of probabilities.
+impl<T: ListNumber> Numbers<T> {
+    /// Goes on with a token of the list.
     #[inline(always)]
-    pub fn feed_probability(&mut self, token: Token<'_>) -> Result<(), Stop>
+    pub fn feed(&mut self, token: Token<'_>) -> Result<(), Stop>
         requires { HasRoom self.old }
         ensures needed { self.new.needed ≡ self.old.needed }
         ensures room { OnOk result (HasRoom self.new) }
-        ensures takes { OnOk result (Takes ProbabilitiesGo self.old (lexeme_of token.entry) self.new) }
-        ensures refused { IfErr result
-            (λ stop. IfRefused stop (λ r. CannotTake ProbabilitiesGo self.old (lexeme_of token.entry))) }
+        ensures takes { OnOk result
+            (Takes (NumberListGoes T.kind) self.old (lexeme_of token.entry) self.new) }
+        ensures refused { IfErr result (λ stop. IfRefused stop (λ r.
+            CannotTake (NumberListGoes T.kind) self.old (lexeme_of token.entry))) }
         ensures reason { IfErr result (λ stop. IfRefused stop (λ r.
-            IsListReason Range.Probability self.old.sign (lexeme_of token.entry) r.kind r.place)) }
+            IsListReason T.kind.range self.old.sign (lexeme_of token.entry) r.kind r.place)) }
         ensures sign { OnOk result (SignIs self.new.sign (lexeme_of token.entry)) }
         ensures leads { OnOk result
             (Leads (list_wants self.old) (lexeme_of token.entry) (list_wants self.new)) }
@@ -92,41 +103,10 @@ impl Numbers<u32> {
         if self.is_full() {
             return Err(Stop::Refused(behind_numbers(token)));
         }
-        match number_step(self.sign, token, Range::Probability)? {
+        match number_step(self.sign, token, T::range())? {
             Step::Sign(sign) => self.sign = Some(sign),
             Step::Value(value) => {
-                self.read.push(value as u32)?;
-                self.sign = None;
-            }
-        }
-        Ok(())
-    }
-}
-
-impl Numbers<i64> {
-    /// Goes on with a token of a list of rewards.
-    #[inline(always)]
-    fn feed_reward(&mut self, token: Token<'_>) -> Result<(), Stop>
-        requires { HasRoom self.old }
-        ensures room { OnOk result (HasRoom self.new) }
-        ensures takes { OnOk result (Takes RewardsGo self.old (lexeme_of token.entry) self.new) }
-        ensures refused { IfErr result
-            (λ stop. IfRefused stop (λ r. CannotTake RewardsGo self.old (lexeme_of token.entry))) }
-        ensures reason { IfErr result (λ stop. IfRefused stop (λ r.
-            IsListReason Range.Reward self.old.sign (lexeme_of token.entry) r.kind r.place)) }
-        ensures sign { OnOk result (SignIs self.new.sign (lexeme_of token.entry)) }
-        ensures leads { OnOk result
-            (Leads (list_wants self.old) (lexeme_of token.entry) (list_wants self.new)) }
-        ensures kind { IfErr result (λ stop. IfRefused stop (λ r.
-            IsMisfit (list_wants self.old []) (lexeme_of token.entry) r.kind)) }
-    {
-        if self.is_full() {
-            return Err(Stop::Refused(behind_numbers(token)));
-        }
-        match number_step(self.sign, token, Range::Reward)? {
-            Step::Sign(sign) => self.sign = Some(sign),
-            Step::Value(value) => {
-                self.read.push(value)?;
+                self.read.push(T::of_millionths(value))?;
                 self.sign = None;
             }
         }
@@ -202,8 +182,8 @@ impl EntryReader {
             }
             EntryState::Place => self.feed_place(known, token),
             EntryState::Body => self.feed_body(alloc, known, token),
-            EntryState::Probabilities(numbers) => numbers.feed_probability(token),
-            EntryState::Rewards(numbers) => numbers.feed_reward(token),
+            EntryState::Probabilities(numbers) => numbers.feed(token),
+            EntryState::Rewards(numbers) => numbers.feed(token),
             EntryState::Word(_) => Err(Stop::Refused(misplaced(token))),
         }
     }
@@ -364,20 +344,25 @@ fn begin_numbers(
     ensures room { IfOk result HasRoomIn }
 {
     match table {
-        Table::Reward => Ok(EntryState::Rewards(begin_rewards(alloc, needed, token)?)),
-        Table::Transition | Table::Observation => Ok(EntryState::Probabilities(begin_probabilities(
+        Table::Reward => Ok(EntryState::Rewards(begin_list(alloc, needed, token)?)),
+        Table::Transition | Table::Observation => Ok(EntryState::Probabilities(begin_list(
             alloc, needed, token,
         )?)),
     }
 }
 
-/// Rewards behind their first token.
-fn begin_rewards(alloc: Global, needed: usize, token: Token<'_>) -> Result<Numbers<i64>, Stop>
-    ensures begun { IfOk result (Takes RewardsGo (no_numbers needed) (lexeme_of token.entry)) }
+/// Numbers of a list behind their first token.
+fn begin_list<T: ListNumber>(
+    alloc: Global,
+    needed: usize,
+    token: Token<'_>,
+) -> Result<Numbers<T>, Stop>
+    ensures begun { IfOk result
+        (Takes (NumberListGoes T.kind) (no_numbers needed) (lexeme_of token.entry)) }
     ensures refused { IfErr result (λ stop. IfRefused stop (λ r.
-        CannotTake RewardsGo (no_numbers needed) (lexeme_of token.entry))) }
+        CannotTake (NumberListGoes T.kind) (no_numbers needed) (lexeme_of token.entry))) }
     ensures reason { IfErr result (λ stop. IfRefused stop (λ r.
-        IsListReason Range.Reward None (lexeme_of token.entry) r.kind r.place)) }
+        IsListReason T.kind.range None (lexeme_of token.entry) r.kind r.place)) }
     ensures sign { IfOk result (λ n. SignIs n.sign (lexeme_of token.entry)) }
     ensures leads { IfOk result
         (λ n. Leads (numbers_want false needed) (lexeme_of token.entry) (list_wants n)) }
@@ -386,26 +371,7 @@ fn begin_rewards(alloc: Global, needed: usize, token: Token<'_>) -> Result<Numbe
     ensures room { IfOk result (λ n. HasRoom n) }
 {
     let mut numbers = Numbers::new(alloc, needed);
-    numbers.feed_reward(token)?;
-    Ok(numbers)
-}
-
-/// Probabilities behind their first token.
-fn begin_probabilities(alloc: Global, needed: usize, token: Token<'_>) -> Result<Numbers<u32>, Stop>
-    ensures begun { IfOk result (Takes ProbabilitiesGo (no_numbers needed) (lexeme_of token.entry)) }
-    ensures refused { IfErr result (λ stop. IfRefused stop (λ r.
-        CannotTake ProbabilitiesGo (no_numbers needed) (lexeme_of token.entry))) }
-    ensures reason { IfErr result (λ stop. IfRefused stop (λ r.
-        IsListReason Range.Probability None (lexeme_of token.entry) r.kind r.place)) }
-    ensures sign { IfOk result (λ n. SignIs n.sign (lexeme_of token.entry)) }
-    ensures leads { IfOk result
-        (λ n. Leads (numbers_want false needed) (lexeme_of token.entry) (list_wants n)) }
-    ensures kind { IfErr result (λ stop. IfRefused stop (λ r.
-        IsMisfit (numbers_want false needed []) (lexeme_of token.entry) r.kind)) }
-    ensures room { IfOk result (λ n. HasRoom n) }
-{
-    let mut numbers = Numbers::new(alloc, needed);
-    numbers.feed_probability(token)?;
+    numbers.feed(token)?;
     Ok(numbers)
 }
 

@@ -1,16 +1,16 @@
 //! An item behind its word, read token by token.
-ghost use Rattle.std.specs.Prelude.{◌≡◌, Bool, true, None, List, [], ◌∷◌, ◌++◌, IfOk, OnOk, IfErr};
+ghost use Rattle.std.specs.Prelude.{◌≡◌, true, None, List, [], IfOk, OnOk, IfErr};
 ghost use Rattle.polcert_text.specs.Cut.{Lexeme};
 ghost use Rattle.polcert_text.specs.Reading.{lexeme_of};
 ghost use Rattle.polcert_items.specs.Steps.Elements.{IsText};
 ghost use Rattle.polcert_items.specs.Steps.Entries.{IfRefused};
-ghost use Rattle.polcert_items.specs.Steps.Items.{ItemGoes, ItemForms, IsItemWithin, IsItemReason, IsItemEndReason, topic_in, IsSeen, new_item, HasElements, pending_in};
+ghost use Rattle.polcert_items.specs.Steps.Items.{ItemGoes, IsItemWithin, IsItemFed, RefusesInItem, IsItemEndReason, topic_in, IsSeen, new_item, HasElements, pending_in};
 ghost use Rattle.polcert_items.specs.Steps.Known.{learned, IsSaidOf, IsSaidWithin};
-ghost use Rattle.polcert_items.specs.Steps.Lines.{Takes, CannotTake, CannotEnd};
-ghost use Rattle.polcert_format.specs.Misfits.{misfit, IsMisfit};
-ghost use Rattle.polcert_items.specs.Steps.Start.{IfNotMemory, IsLateEnd, StopsStart};
+ghost use Rattle.polcert_items.specs.Steps.Lines.{CannotEnd};
+ghost use Rattle.polcert_format.specs.Misfits.{misfit};
+ghost use Rattle.polcert_items.specs.Steps.Start.{IfNotMemory, IsLateEnd};
 ghost use Rattle.polcert_format.specs.FirstNumber.{IsLate, states_known};
-ghost use Rattle.polcert_items.specs.Steps.Wants.{Leads, item_wants, IfNotStart, IfStart, IfAtEnd};
+ghost use Rattle.polcert_items.specs.Steps.Wants.{item_wants, IfAtEnd};
 
 use crate::elements_reader::ElementsReader;
 use crate::entry_reader::EntryReader;
@@ -70,32 +70,9 @@ impl ItemReader {
         requires within { IsItemWithin known.now self.old }
         requires text { IsText (lexeme_of token) }
         ensures topic { topic_in self.new ≡ topic_in self.old }
-        ensures within { OnOk result (IsItemWithin known.now self.new) }
-        ensures takes { OnOk result (Takes (ItemGoes known.now) self.old (lexeme_of token.entry) self.new) }
-        ensures seen { (body : List Lexeme) → IsSeen (states_known known.now) body self.old →
-            OnOk result (IsSeen (states_known known.now) (body ++ lexeme_of token.entry ∷ []) self.new) }
-        ensures refused { IfErr result (λ stop. IfRefused stop (λ r.
-            CannotTake (ItemGoes known.now) self.old (lexeme_of token.entry))) }
-        ensures reason { (body : List Lexeme) → IsSeen (states_known known.now) body self.old
-            → IfErr result (λ stop. IfRefused stop (λ r.
-            IsItemReason self.old body (lexeme_of token.entry) r.kind r.place)) }
-        ensures leads { OnOk result
-            (Leads (item_wants known.now self.old) (lexeme_of token.entry) (item_wants known.now self.new)) }
-        ensures kind { IfErr result (λ stop. IfRefused stop (λ r. IfNotStart (topic_in self.old)
-            (IsMisfit (item_wants known.now self.old []) (lexeme_of token.entry) r.kind))) }
-        ensures start { (body : List Lexeme) → IsSeen (states_known known.now) body self.old
-            → IfErr result (λ stop. IfRefused stop (λ r.
-            IfStart (topic_in self.old) (StopsStart (pending_in self.old) (states_known known.now) body
-            (item_wants known.now self.old []) (lexeme_of token.entry) r.kind r.place))) }
-        ensures formed { OnOk result (IfStart (topic_in self.old)
-            (Takes (ItemForms known.now) self.old (lexeme_of token.entry) self.new)) }
-        ensures formless { IfErr result (λ stop. IfRefused stop (λ r. IfStart (topic_in self.old)
-            (CannotTake (ItemForms known.now) self.old (lexeme_of token.entry)))) }
-        ensures late { (body more : List Lexeme) (ends : Bool) (late : Refusal) →
-            IsSeen (states_known known.now) body self.old →
-            topic_in self.old ≡ Topic.Start →
-            IsLate (states_known known.now) (body ++ lexeme_of token.entry ∷ more) ends late.kind late.place →
-            IfErr result (λ stop. IfRefused stop (λ r. (r.kind ≡ late.kind) × (r.place ≡ late.place))) }
+        ensures fed { OnOk result (IsItemFed known.now self.old (lexeme_of token.entry) self.new) }
+        ensures refused { IfErr result (λ stop. IfRefused stop
+            (RefusesInItem known.now self.old (lexeme_of token.entry))) }
     {
         match self {
             ItemReader::Entry(reader) => reader.feed(alloc, known, token),
@@ -109,32 +86,9 @@ impl ItemReader {
         requires within { IsItemWithin known.now self.old }
         requires text { IsText (lexeme_of token) }
         ensures topic { topic_in self.new ≡ topic_in self.old }
-        ensures within { OnOk result (IsItemWithin known.now self.new) }
-        ensures takes { OnOk result (Takes (ItemGoes known.now) self.old (lexeme_of token.entry) self.new) }
-        ensures seen { (body : List Lexeme) → IsSeen (states_known known.now) body self.old →
-            OnOk result (IsSeen (states_known known.now) (body ++ lexeme_of token.entry ∷ []) self.new) }
-        ensures refused { IfErr result (λ stop. IfRefused stop (λ r.
-            CannotTake (ItemGoes known.now) self.old (lexeme_of token.entry))) }
-        ensures reason { (body : List Lexeme) → IsSeen (states_known known.now) body self.old
-            → IfErr result (λ stop. IfRefused stop (λ r.
-            IsItemReason self.old body (lexeme_of token.entry) r.kind r.place)) }
-        ensures leads { OnOk result
-            (Leads (item_wants known.now self.old) (lexeme_of token.entry) (item_wants known.now self.new)) }
-        ensures kind { IfErr result (λ stop. IfRefused stop (λ r. IfNotStart (topic_in self.old)
-            (IsMisfit (item_wants known.now self.old []) (lexeme_of token.entry) r.kind))) }
-        ensures start { (body : List Lexeme) → IsSeen (states_known known.now) body self.old
-            → IfErr result (λ stop. IfRefused stop (λ r.
-            IfStart (topic_in self.old) (StopsStart (pending_in self.old) (states_known known.now) body
-            (item_wants known.now self.old []) (lexeme_of token.entry) r.kind r.place))) }
-        ensures formed { OnOk result (IfStart (topic_in self.old)
-            (Takes (ItemForms known.now) self.old (lexeme_of token.entry) self.new)) }
-        ensures formless { IfErr result (λ stop. IfRefused stop (λ r. IfStart (topic_in self.old)
-            (CannotTake (ItemForms known.now) self.old (lexeme_of token.entry)))) }
-        ensures late { (body more : List Lexeme) (ends : Bool) (late : Refusal) →
-            IsSeen (states_known known.now) body self.old →
-            topic_in self.old ≡ Topic.Start →
-            IsLate (states_known known.now) (body ++ lexeme_of token.entry ∷ more) ends late.kind late.place →
-            IfErr result (λ stop. IfRefused stop (λ r. (r.kind ≡ late.kind) × (r.place ≡ late.place))) }
+        ensures fed { OnOk result (IsItemFed known.now self.old (lexeme_of token.entry) self.new) }
+        ensures refused { IfErr result (λ stop. IfRefused stop
+            (RefusesInItem known.now self.old (lexeme_of token.entry))) }
     {
         match self {
             ItemReader::Discount(reader) => Ok(reader.feed(token)?),

@@ -75,9 +75,8 @@ impl FirstNumber {
         if count == 1 {
             return Err(Stop::Refused(behind_numbers(token)));
         }
-        let mut numbers = Numbers::new(alloc, count);
-        numbers.read.push(self.value as u32)?;
-        numbers.feed_probability(token)?;
+        let mut numbers = Numbers::begun(alloc, count, self.value as u32)?;
+        numbers.feed(token)?;
         Ok(numbers)
     }
 

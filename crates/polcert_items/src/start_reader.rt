@@ -121,7 +121,7 @@ impl StartReader {
                 *self = StartReader::Probabilities(digits.go_on(alloc, states, token)?);
                 Ok(())
             }
-            StartReader::Probabilities(numbers) => numbers.feed_probability(token),
+            StartReader::Probabilities(numbers) => numbers.feed(token),
         }
     }
 

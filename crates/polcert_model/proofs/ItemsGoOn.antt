@@ -1,5 +1,6 @@
 -- What an item's reader holds is still possible: the item can go on, with `: *`, zeros and the like, to its end.
 use Rattle.std.proofs.Common.{◌≡◌, ◌∙◌, ℕ, zero, suc, ◌+◌, ◌-◌, ◌<◌, ◌≤◌, ◌==◌, ◌⊎◌, inl, inr, ⊎_elim, Bool, true, false, Option, Some, None, unwrap_or, Result, Ok, Err, List, [], ◌∷◌, ◌++◌, length, drop, map, ℤ, pos, codes, refl, sym, ap, subst, arith, lit≤, length-append}
+use Rattle.std.proofs.lemmas.List.{map-id}
 use Rattle.std.specs.List.{list_any}
 use Rattle.polcert_text.specs.Cut.{Lexeme}
 use Rattle.polcert_text.specs.declared.lexeme.TokenKind.TheVariants.{Name}
@@ -39,6 +40,7 @@ use Rattle.polcert_items.specs.Steps.Start.{ListGoes, alone, first_of_more, Star
 use Rattle.polcert_cells.specs.Preamble.{Preamble, is_mdp, dimensions, named}
 use Rattle.polcert_format.specs.Wants.{least_written}
 use Rattle.polcert_items.specs.Steps.Known.{learned}
+use Rattle.polcert_items.proofs.ListLaws.{fractions_in_range}
 use Rattle.polcert_items.proofs.PatternLaws.{colon_takes, one_to_three, rewards_may_stand, same_length}
 use Rattle.polcert_items.proofs.ElementLaws.{elements_can_end}
 use Rattle.polcert_format.proofs.StillPossible.{a_zero, a_star, a_colon, zero_is, zeros, nothings, zeros_are, nothings_count, nothings_in_range, length-pos, same_form_of_probabilities}
@@ -165,7 +167,7 @@ probabilities_go n room =
     let m = n.needed - length n.read in
     let all : length (n.read ++ nothings m) ≡ length n.read + length (nothings m) = length-append n.read (nothings m) in
     let rest = nothings_count m in
-    record { further = nothings m; numbers = zeros_behind n.sign m (omega (arith, room)); small = nothings_in_range m; enough = omega (arith, all, rest, room); body_is = refl }
+    record { further = nothings m; numbers = zeros_behind n.sign m (omega (arith, room)); in_range = fractions_in_range (nothings m) (nothings_in_range m); enough = omega (arith, all, rest, room); body_is = refl }
 
 probabilities_continue : (preamble : Preamble) (table : Table) (places : List Place) (n : Numbers ℕ) → HasRoom n → Continues preamble table places (states.Probabilities n)
 probabilities_continue preamble table places n room =
@@ -180,7 +182,7 @@ rewards_continue preamble table places n room =
     let rest = length-pos (nothings m) ∙ nothings_count m in
     let body = bodies.Rewards (n.read ++ further) in
     let go : RewardsGo n (zeros m) body =
-    record { further = further; numbers = zeros_behind n.sign m (omega (arith, room)); enough = omega (arith, all, rest, room); body_is = refl } in
+    record { further = further; numbers = subst (AreNumbersBehind n.sign (zeros m)) (sym (map-id further)) (zeros_behind n.sign m (omega (arith, room))); in_range = λ k d h. tt; enough = omega (arith, all, rest, room); body_is = refl } in
     record { more = zeros m; entry = entry_with table places body; goes = (body, (go, refl)) }
 
 state_continues : (k : Known) (table : Table) (places : List Place) (state : EntryState) → IsStateWithin (indices_in k table) table places state → Continues (preamble_in k) table places state

@@ -44,8 +44,13 @@ module _ (known : Known) (number : ℕ) where
         on = λ ls next g. (g.0, (fed.takes.on ls g.0 g.1.0, g.1.1));
       } in
       let leads : Leads (item_wants known (Entry old)) l (item_wants known (Entry new)) = record { same = λ ls. fed.leads.same ls } in
-      item_takes seen (within_entry known number old) l (Entry old) (Entry new) read refl fed.inside (ap Cells fed.table)
-      (subst (λ t. IsWithinIndices (indices_in known t) new) (sym fed.table) fed.within) takes tt (λ body s. sign_ends (entry_sign new.state) body l fed.sign) leads
+      item_takes seen (within_entry known number old) l (Entry old) (Entry new) read refl fed.inside (ap Cells fed.table) (record {
+        within = subst (λ t. IsWithinIndices (indices_in known t) new) (sym fed.table) fed.within;
+        takes = takes;
+        formed = tt;
+        seen = λ body s. sign_ends (entry_sign new.state) body l fed.sign;
+        leads = leads;
+      })
 
   -- several
   entries_fed : (seen ls : List Lexeme) (old new : EntryReader) → AreFed known old ls new → IsTextRead seen (within_entry known number old) → IsTextRead (seen ++ ls) (within_entry known number new)

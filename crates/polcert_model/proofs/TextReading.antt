@@ -20,7 +20,7 @@ use Rattle.polcert_format.specs.Limits.{HasFewCells}
 use Rattle.polcert_format.specs.Order.{word_fault, preamble_fault}
 use Rattle.polcert_items.specs.Steps.Lines.{Takes, CannotTake, CannotEnd}
 use Rattle.polcert_items.specs.Steps.Start.{IsStartReason, StopsStart}
-use Rattle.polcert_items.specs.Steps.Items.{ItemGoes, ItemForms, IsItemWithin, IsItemReason, IsEndReason, IsSeen, topic_in, pending_in, new_item, HasElements}
+use Rattle.polcert_items.specs.Steps.Items.{ItemGoes, IsItemFed, RefusesInItem, IsItemWithin, IsItemReason, IsEndReason, IsSeen, topic_in, pending_in, new_item, HasElements}
 use Rattle.polcert_items.specs.Steps.Known.{learned, IsSaidOf, MayBeLearned}
 use Rattle.polcert_format.specs.Misfits.{misfit, IsMisfit}
 use Rattle.polcert_items.specs.Steps.Wants.{Leads, item_wants, IfNotStart, IfStart}
@@ -139,10 +139,9 @@ not_begun seen r l (item w) e inside = absurd (none≢some e w.item_is)
 
 -- the open item takes it
 pub item_takes : (seen : List Lexeme) (r : TextReader) (l : Lexeme) (old new : ItemReader) → IsTextRead seen r → r.item ≡ Some old → begins_item l ≡ false
-    → topic_in new ≡ topic_in old → IsItemWithin r.known new → Takes (ItemGoes r.known) old l new → IfStart (topic_in old) (Takes (ItemForms r.known) old l new) → ((body : List Lexeme) → IsSeen (states_known r.known) body old → IsSeen (states_known r.known) (body ++ l ∷ []) new)
-    → Leads (item_wants r.known old) l (item_wants r.known new) → IsTextRead (seen ++ l ∷ []) (reader_of r.known (Some new) r.number)
-item_takes seen r l old new (nothing n) e inside same within takes formed goes_on leads = absurd (none≢some n.item_is e)
-item_takes seen r l old new (item w) e inside same within takes formed goes_on leads =
+    → topic_in new ≡ topic_in old → IsItemFed r.known old l new → IsTextRead (seen ++ l ∷ []) (reader_of r.known (Some new) r.number)
+item_takes seen r l old new (nothing n) e inside same fed = absurd (none≢some n.item_is e)
+item_takes seen r l old new (item w) e inside same fed =
     let read : IsBodyRead r.known w.t w.body old = subst (IsBodyRead r.known w.t w.body) (same_item seen r old e w) w.read in
     item (record {
       t = w.t;
@@ -151,27 +150,17 @@ item_takes seen r l old new (item w) e inside same within takes formed goes_on l
       within = within_goes_on seen l r.known w.t w.body w.within inside;
       item_is = refl;
       number_is = w.number_is;
-      read = item_goes_on r.known w.t w.body old new l read same within takes formed (goes_on w.body read.seen) leads;
+      read = item_goes_on r.known w.t w.body old new l read same fed.within fed.takes fed.formed (fed.seen w.body read.seen) fed.leads;
     })
 
 -- it cannot
-pub item_refuses : (seen : List Lexeme) (r : TextReader) (l : Lexeme) (i : ItemReader) (kind : ItemFault) (place : ℕ) → IsTextRead seen r → r.item ≡ Some i → begins_item l ≡ false
-    → CannotTake (ItemGoes r.known) i l → ((body : List Lexeme) → IsSeen (states_known r.known) body i → IsItemReason i body l kind place)
-    → IfNotStart (topic_in i) (IsMisfit (item_wants r.known i []) l kind)
-    → ((body : List Lexeme) → IsSeen (states_known r.known) body i → IfStart (topic_in i) (StopsStart (pending_in i) (states_known r.known) body (item_wants r.known i []) l kind place))
-    → IfStart (topic_in i) (CannotTake (ItemForms r.known) i l)
-    → ((body more : List Lexeme) (ends : Bool) (late : Refusal) → IsSeen (states_known r.known) body i → topic_in i ≡ Start → IsLate (states_known r.known) (body ++ l ∷ more) ends late.kind late.place
-    → (kind ≡ late.kind) × (place ≡ late.place))
-    → IsRefusedBehind (seen ++ l ∷ []) (model_faults.Item kind r.number place)
-item_refuses seen r l i kind place (nothing n) e inside stuck reason unfit stops formless due = absurd (none≢some n.item_is e)
-item_refuses seen r l i kind place (item w) e inside stuck reason unfit stops formless due =
-    let same = sym (same_item seen r i e w) in
-    let read = subst (IsSeen (states_known r.known) w.body) (sym same) w.read.seen in
-    feed_refused seen r l kind place w inside (subst (λ j. CannotTake (ItemGoes r.known) j l) same stuck) (subst (λ j. IsItemReason j w.body l kind place) same (reason w.body read))
-    (subst (λ j. IfNotStart (topic_in j) (IsMisfit (item_wants r.known j []) l kind)) same unfit)
-    (subst (λ j. IfStart (topic_in j) (StopsStart (pending_in j) (states_known r.known) w.body (item_wants r.known j []) l kind place)) same (stops w.body read))
-    (subst (λ j. IfStart (topic_in j) (CannotTake (ItemForms r.known) j l)) same formless)
-    (λ more ends late start. due w.body more ends late read (ap topic_in same ∙ start))
+pub item_refuses : (seen : List Lexeme) (r : TextReader) (l : Lexeme) (i : ItemReader) (x : Refusal) → IsTextRead seen r → r.item ≡ Some i → begins_item l ≡ false → RefusesInItem r.known i l x
+    → IsRefusedBehind (seen ++ l ∷ []) (model_faults.Item x.kind r.number x.place)
+item_refuses seen r l i x (nothing n) e inside refuses = absurd (none≢some n.item_is e)
+item_refuses seen r l i x (item w) e inside refuses =
+    let here : RefusesInItem r.known w.item l x = subst (λ j. RefusesInItem r.known j l x) (sym (same_item seen r i e w)) refuses in
+    feed_refused seen r l x.kind x.place w inside here.stuck (here.reason w.body w.read.seen) here.kind (here.start w.body w.read.seen) here.formless
+    (λ more ends late start. here.late w.body more ends late w.read.seen start)
 
 -- ---- an item's word
 

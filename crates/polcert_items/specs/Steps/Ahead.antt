@@ -1,6 +1,6 @@
 -- An entry that goes on with several lexemes at once: those that stand whole at the front of some bytes.
 -- Nobody has to believe this: only contracts of the readers of items and texts cite it.
-use Rattle.std.specs.Prelude.{◌≡◌, ℕ, ◌≤◌, ◌⊎◌, false, None, List, [], ◌∷◌, ◌++◌, length, pos}
+use Rattle.std.specs.Prelude.{◌≡◌, ℕ, ◌≤◌, ◌⊎◌, false, List, [], ◌∷◌, ◌++◌, length, pos}
 use Rattle.polcert_text.specs.Beginning.{BeginWith}
 use Rattle.polcert_text.specs.Cut.{Lexeme}
 use Rattle.polcert_text.specs.declared.beginning.FrontNumber.{FrontNumber}
@@ -13,7 +13,7 @@ use Rattle.polcert_cells.specs.declared.entry.Table.{Table}
 use Rattle.polcert_cells.specs.declared.entry.Table.TheVariants.{Reward}
 use Rattle.polcert_format.specs.KnownPreamble.{preamble_in, indices_in}
 use Rattle.polcert_format.specs.Text.{Known}
-use Rattle.polcert_items.specs.Steps.Entries.{EntryGoes, IsFirstPlace, IsWithinIndices, entry_sign}
+use Rattle.polcert_items.specs.Steps.Entries.{EntryGoes, IsFirstPlace, IsWithinIndices, entry_sign, one_number}
 use Rattle.polcert_items.specs.Steps.Lines.{Takes}
 use Rattle.polcert_items.specs.Steps.Numbers.{SignIs}
 use Rattle.polcert_items.specs.Steps.Wants.{Leads, entry_wants}
@@ -67,5 +67,5 @@ AwaitsColon s = (s ≡ states.Colon) ⊎ (s ≡ states.Body)
 
 -- the body's numbers behind the first, which is so many millionths and in their range
 abbrev pub AreBegunWith : Table → ℕ → ℕ → EntryState → Type 0
-AreBegunWith Reward needed v s = s ≡ states.Rewards (record { read = pos v ∷ []; needed = needed; sign = None })
-AreBegunWith _ needed v s = (s ≡ states.Probabilities (record { read = v ∷ []; needed = needed; sign = None })) × (v ≤ one)
+AreBegunWith Reward needed v s = s ≡ states.Rewards (one_number needed (pos v))
+AreBegunWith _ needed v s = (s ≡ states.Probabilities (one_number needed v)) × (v ≤ one)

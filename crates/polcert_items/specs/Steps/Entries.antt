@@ -1,6 +1,6 @@
 -- An entry, token by token: what is still to come of an entry that was read so far.
 -- Nobody has to believe this: only contracts of the readers of items cite it.
-use Rattle.std.specs.Prelude.{◌≡◌, ◌≢◌, ℕ, ◌+◌, ◌<◌, ◌≤◌, ◌==◌, Bool, true, Option, Some, None, List, [], ◌∷◌, ◌++◌, length, drop, map, All, ℤ, pos, codes}
+use Rattle.std.specs.Prelude.{◌≡◌, ◌≢◌, ℕ, ◌+◌, ◌<◌, ◌≤◌, ◌==◌, Bool, true, Option, Some, None, List, [], ◌∷◌, ◌++◌, length, drop, map, All, ℤ, codes}
 use Rattle.std.specs.List.{list_any}
 use Rattle.polcert_text.specs.Cut.{Lexeme}
 use Rattle.polcert_format.specs.declared.fault.ItemFault.{ItemFault}
@@ -24,13 +24,12 @@ use Rattle.polcert_items.specs.declared.signed_number.Range.{Range}
 use Rattle.polcert_items.specs.declared.signed_number.Range.TheVariants as ranges
 use Rattle.polcert_items.specs.declared.signed_number.Sign.{Sign}
 use Rattle.polcert_cells.specs.Words.{IsName, IsWord}
-use Rattle.polcert_cells.specs.Numbers.{one}
 use Rattle.polcert_cells.specs.declared.elements.Elements.{Elements}
 use Rattle.polcert_cells.specs.Elements.{count_of}
 use Rattle.polcert_cells.specs.Preamble.{Preamble, is_mdp, dimensions, named}
 use Rattle.polcert_cells.specs.Entry.{forms, cells_in, IsPlace, ArePlaces, IsBody}
 use Rattle.polcert_format.specs.Reasons.{IsDigits}
-use Rattle.polcert_items.specs.Steps.Numbers.{AreNumbersBehind, IsNumberReason, IsMisplaced, IsBehindNumbers}
+use Rattle.polcert_items.specs.Steps.Numbers.{AreNumbersBehind, IsInRange, ListKind, of_probabilities, of_rewards, IsNumberReason, IsMisplaced, IsBehindNumbers}
 use Rattle.polcert_items.specs.Steps.Lines.{BehindColon, Takes, CannotTake}
 
 -- behind these places the lexemes go on as this entry
@@ -59,20 +58,19 @@ PlaceRest p table before (l ∷ ls) entry =
 abbrev pub entry_with : Table → List Place → Body → Entry
 entry_with table places body = record { table = table; places = places; body = body }
 
--- further probabilities, until there are enough
-pub record ProbabilitiesGo (n : Numbers ℕ) (ls : List Lexeme) (body : Body) : Type 0 where
-  pub further : List ℕ
-  pub numbers : AreNumbersBehind n.sign ls (map pos further)
-  pub small : All (λ p. p ≤ one) further
+-- further numbers of a list, until there are enough
+pub record NumberListGoes {T : Type 0} (kind : ListKind T) (n : Numbers T) (ls : List Lexeme) (body : Body) : Type 0 where
+  pub further : List T
+  pub numbers : AreNumbersBehind n.sign ls (map kind.worth further)
+  pub in_range : All (λ x. IsInRange kind.range (kind.worth x)) further
   pub enough : length (n.read ++ further) ≡ n.needed
-  pub body_is : body ≡ bodies.Probabilities (n.read ++ further)
+  pub body_is : body ≡ kind.body (n.read ++ further)
 
--- further rewards, until there are enough
-pub record RewardsGo (n : Numbers ℤ) (ls : List Lexeme) (body : Body) : Type 0 where
-  pub further : List ℤ
-  pub numbers : AreNumbersBehind n.sign ls further
-  pub enough : length (n.read ++ further) ≡ n.needed
-  pub body_is : body ≡ bodies.Rewards (n.read ++ further)
+abbrev pub ProbabilitiesGo : Numbers ℕ → List Lexeme → Body → Type 0
+ProbabilitiesGo = NumberListGoes of_probabilities
+
+abbrev pub RewardsGo : Numbers ℤ → List Lexeme → Body → Type 0
+RewardsGo = NumberListGoes of_rewards
 
 abbrev pub body_of : Word → Body
 body_of words.Uniform = bodies.Uniform
@@ -161,6 +159,10 @@ IsWordBehind mdp table written l w = IsWord (word_text w) l × MayStand mdp tabl
 -- before the first number
 abbrev pub no_numbers : {T : Type 0} → ℕ → Numbers T
 no_numbers needed = record { read = []; needed = needed; sign = None }
+
+-- behind the first number
+abbrev pub one_number : {T : Type 0} → ℕ → T → Numbers T
+one_number needed first = record { read = first ∷ []; needed = needed; sign = None }
 
 -- the body's numbers were begun with this lexeme
 abbrev pub AreBegun : Table → ℕ → Lexeme → EntryState → Type 0

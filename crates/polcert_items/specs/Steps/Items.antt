@@ -26,13 +26,15 @@ use Rattle.polcert_cells.specs.Elements.{most_states, most_actions, most_observa
 use Rattle.polcert_format.specs.Text.{Known}
 use Rattle.polcert_format.specs.Reasons.{ends_in_sign, IsNoFraction, IsOfElements, IsOfProbabilities, IsRepeated}
 use Rattle.polcert_items.specs.Steps.Numbers.{SignEnds, is_negative, number_place}
-use Rattle.polcert_items.specs.Steps.Lines.{DiscountGoes, discount_sign, ValuesGoes}
+use Rattle.polcert_items.specs.Steps.Lines.{Takes, CannotTake, DiscountGoes, discount_sign, ValuesGoes}
 use Rattle.polcert_items.specs.Steps.Elements.{ElementsGo, IsElementsRead, AreElementsSeen}
-use Rattle.polcert_format.specs.FirstNumber.{IsLate}
+use Rattle.polcert_format.specs.FirstNumber.{IsLate, states_known}
 use Rattle.polcert_format.specs.KnownPreamble.{preamble_in, indices_in}
 use Rattle.polcert_items.specs.Steps.Entries.{EntryGoes, IsWithinIndices, entry_sign, AreSome}
-use Rattle.polcert_items.specs.Steps.Start.{StartGoes, StartGives, new_start, pending, IsStartWithin, IsStartSeen, IsReasonAt, IsStartReason}
+use Rattle.polcert_items.specs.Steps.Start.{StartGoes, StartGives, new_start, pending, IsStartWithin, IsStartSeen, IsReasonAt, IsStartReason, StopsStart}
 use Rattle.polcert_items.specs.Steps.Known.{learned}
+use Rattle.polcert_items.specs.Steps.Wants.{Leads, item_wants, IfNotStart, IfStart}
+use Rattle.polcert_format.specs.Misfits.{IsMisfit}
 
 -- the lexemes end the item, and this is known behind it
 abbrev pub ItemGoes : Known → ItemReader → List Lexeme → Known → Type 0
@@ -131,3 +133,22 @@ IsItemEndReason count t body ends.Memory = Unit {0}
 abbrev pub HasElements : Known → Topic → Type 0
 HasElements k (Cells table) = AreSome (indices_in k table)
 HasElements k _ = Unit {0}
+
+-- an item's reader took one more lexeme
+pub record IsItemFed (k : Known) (old : ItemReader) (l : Lexeme) (new : ItemReader) : Type 0 where
+  pub within : IsItemWithin k new
+  pub takes : Takes (ItemGoes k) old l new
+  pub formed : IfStart (topic_in old) (Takes (ItemForms k) old l new)
+  pub seen : (body : List Lexeme) → IsSeen (states_known k) body old → IsSeen (states_known k) (body ++ l ∷ []) new
+  pub leads : Leads (item_wants k old) l (item_wants k new)
+
+-- an item's reader cannot take the lexeme, and refuses it so
+pub record RefusesInItem (k : Known) (old : ItemReader) (l : Lexeme) (r : Refusal) : Type 0 where
+  pub stuck : CannotTake (ItemGoes k) old l
+  pub formless : IfStart (topic_in old) (CannotTake (ItemForms k) old l)
+  pub reason : (body : List Lexeme) → IsSeen (states_known k) body old → IsItemReason old body l r.kind r.place
+  pub kind : IfNotStart (topic_in old) (IsMisfit (item_wants k old []) l r.kind)
+  pub start : (body : List Lexeme) → IsSeen (states_known k) body old
+      → IfStart (topic_in old) (StopsStart (pending_in old) (states_known k) body (item_wants k old []) l r.kind r.place)
+  pub late : (body more : List Lexeme) (ends : Bool) (late : Refusal) → IsSeen (states_known k) body old → topic_in old ≡ Start
+      → IsLate (states_known k) (body ++ l ∷ more) ends late.kind late.place → (r.kind ≡ late.kind) × (r.place ≡ late.place)

@@ -13,6 +13,8 @@ use Rattle.polcert_items.specs.declared.signed_number.Step.TheVariants as steps
 use Rattle.polcert_items.specs.declared.signed_number.Range.{Range}
 use Rattle.polcert_items.specs.declared.signed_number.Range.TheVariants as ranges
 use Rattle.polcert_cells.specs.Words.{IsWord}
+use Rattle.polcert_cells.specs.declared.entry.Body.{Body}
+use Rattle.polcert_cells.specs.declared.entry.Body.TheVariants as bodies
 use Rattle.polcert_cells.specs.Numbers.{IsMillionths, AreNumbers, one}
 use Rattle.polcert_format.specs.Reasons.{IsRefusedNumber, IsNoFraction, is_sign, ends_in_sign}
 
@@ -26,6 +28,18 @@ AreNumbersBehind (Some sign) _ _ = ⊥
 abbrev pub IsInRange : Range → ℤ → Type 0
 IsInRange ranges.Reward h = Unit {0}
 IsInRange _ h = (p : ℕ) × ((h ≡ pos p) × (p ≤ one))
+
+-- what a list's numbers are: what each is worth, where they lie, and the body that they are
+pub record ListKind (T : Type 0) : Type 0 where
+  pub worth : T → ℤ
+  pub range : Range
+  pub body : List T → Body
+
+abbrev pub of_probabilities : ListKind ℕ
+of_probabilities = record { worth = pos; range = ranges.Probability; body = bodies.Probabilities }
+
+abbrev pub of_rewards : ListKind ℤ
+of_rewards = record { worth = λ h. h; range = ranges.Reward; body = bodies.Rewards }
 
 abbrev pub is_negative : Option Sign → Bool
 is_negative None = false

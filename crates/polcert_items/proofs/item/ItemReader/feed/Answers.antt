@@ -1,8 +1,18 @@
+use Rattle.std.proofs.Common.{rules}
 use Rattle.polcert_text.specs.Reading.{lexeme_of}
 use Rattle.polcert_items.specs.Steps.Entries.{entry_sign}
+use Rattle.polcert_items.specs.declared.item.ItemReader.TheVariants as items
 use Rattle.polcert_items.proofs.PatternLaws.{on_ok_map}
-use Rattle.polcert_items.proofs.ItemReading.{sign_ends}
+use Rattle.polcert_items.proofs.ItemReading.{all_fed, all_refused, sign_ends}
 use Rattle.polcert_items.proofs.item.ItemReader.feed.Goals as goal
 
-pub returns-in-Entry-clause-seen : goal.returns-in-Entry-clause-seen
-returns-in-Entry-clause-seen c = λ body s. on_ok_map _ (sign_ends (entry_sign c.feed.new.self.state) body (lexeme_of c.args.token)) c.feed.ensures.sign
+pub returns-in-Entry-clause-fed : goal.returns-in-Entry-clause-fed
+returns-in-Entry-clause-fed c =
+    let l = lexeme_of c.args.token in
+    all_fed c.feed.result c.args.known.now c.args.self.now (items.Entry c.feed.new.self) l (search rules) (search rules) (search rules)
+    (λ body s. on_ok_map _ (sign_ends (entry_sign c.feed.new.self.state) body l) c.feed.ensures.sign) (search rules)
+
+pub returns-in-Entry-clause-refused : goal.returns-in-Entry-clause-refused
+returns-in-Entry-clause-refused c =
+    all_refused c.feed.result c.args.known.now c.args.self.now (lexeme_of c.args.token) (search rules) (search rules)
+    (λ body s. search rules) (search rules) (λ body s. search rules) (λ body more ends late s start due. search rules)

@@ -1,92 +1,117 @@
-use Rattle.std.proofs.Common.{None, [], ◌∷◌, ◌++◌, subst}
+use Rattle.std.proofs.Common.{None, [], ◌∷◌, ◌++◌, subst, rules}
 use Rattle.polcert_format.specs.FirstNumber.{states_known}
 use Rattle.polcert_text.specs.Reading.{lexeme_of}
 use Rattle.polcert_items.specs.Steps.Entries.{entry_sign}
 use Rattle.polcert_items.specs.Steps.Lines.{discount_sign}
 use Rattle.polcert_items.specs.Steps.Items.{IsSeen}
+use Rattle.polcert_items.specs.declared.item.ItemReader.TheVariants as items
 use Rattle.polcert_items.proofs.PatternLaws.{if_err_map, refused_map, each_refused_map, on_ok_map}
-use Rattle.polcert_items.proofs.ItemReading.{sign_ends, elements_seen, states_reason, actions_reason, observations_reason, start_reason, start_takes, start_stuck, start_forms, start_formless, start_leads, start_seen, start_keeps, start_stops_in, start_late}
+use Rattle.polcert_items.proofs.ItemReading.{all_fed, all_refused, sign_ends, elements_seen, states_reason, actions_reason, observations_reason, start_reason, start_takes, start_stuck, start_forms, start_formless, start_leads, start_seen, start_keeps, start_stops_in, start_late}
 use Rattle.polcert_items.proofs.item.ItemReader.feed_any.Goals as goal
 
-pub returns-in_ok-feed-in-Discount-clause-seen : goal.returns-in_ok-feed-in-Discount-clause-seen
-returns-in_ok-feed-in-Discount-clause-seen c = λ body s. sign_ends (discount_sign c.feed.new.self) body (lexeme_of c.args.token) c.in_ok-feed-in-Discount.ensures.sign
+pub returns-in_ok-feed-in-Discount-clause-fed : goal.returns-in_ok-feed-in-Discount-clause-fed
+returns-in_ok-feed-in-Discount-clause-fed c = record {
+  within = tt;
+  takes = search rules;
+  formed = search rules;
+  seen = λ body s. sign_ends (discount_sign c.feed.new.self) body (lexeme_of c.args.token) c.in_ok-feed-in-Discount.ensures.sign;
+  leads = search rules;
+}
 
-pub returns-in_ok-feed-in-Values-clause-seen : goal.returns-in_ok-feed-in-Values-clause-seen
-returns-in_ok-feed-in-Values-clause-seen c = λ body s. sign_ends None body (lexeme_of c.args.token) c.in_ok-feed-in-Values.ensures.sign
+pub returns-in_ok-feed-in-Values-clause-fed : goal.returns-in_ok-feed-in-Values-clause-fed
+returns-in_ok-feed-in-Values-clause-fed c = record {
+  within = tt;
+  takes = search rules;
+  formed = search rules;
+  seen = λ body s. sign_ends None body (lexeme_of c.args.token) c.in_ok-feed-in-Values.ensures.sign;
+  leads = search rules;
+}
 
-pub returns-in-States-clause-seen : goal.returns-in-States-clause-seen
-returns-in-States-clause-seen c = λ body s.
+pub returns-in-States-clause-fed : goal.returns-in-States-clause-fed
+returns-in-States-clause-fed c =
     let e = c.feed-in-States.ensures in
-    elements_seen c.feed-in-States.result body (lexeme_of c.args.token) c.feed-in-States.new.self e.sign (e.seen body (subst (IsSeen (states_known c.args.known.now) body) c.in-States.is s).1)
+    let l = lexeme_of c.args.token in
+    let known = c.args.known.now in
+    all_fed c.feed-in-States.result known c.args.self.now (items.States c.feed-in-States.new.self) l (search rules) (search rules) (search rules)
+    (λ body s. elements_seen c.feed-in-States.result body l c.feed-in-States.new.self e.sign (e.seen body (subst (IsSeen (states_known known) body) c.in-States.is s).1)) (search rules)
 
-pub returns-in-States-clause-reason : goal.returns-in-States-clause-reason
-returns-in-States-clause-reason c = λ body s.
-    if_err_map _ _ _ (λ stop h. each_refused_map stop (λ f x. states_reason c.args.self.now c.in-States.reader body (lexeme_of c.args.token) f.kind f.place (states_known c.args.known.now) s x c.in-States.is) h) c.feed-in-States.ensures.reason
+pub returns-in-States-clause-refused : goal.returns-in-States-clause-refused
+returns-in-States-clause-refused c =
+    let l = lexeme_of c.args.token in
+    let known = c.args.known.now in
+    all_refused c.feed-in-States.result known c.args.self.now l (search rules) (search rules)
+    (λ body s. if_err_map _ _ _ (λ stop h. each_refused_map stop (λ f x. states_reason c.args.self.now c.in-States.reader body l f.kind f.place (states_known known) s x c.in-States.is) h) c.feed-in-States.ensures.reason)
+    (search rules) (λ body s. search rules) (λ body more ends late s start due. search rules)
 
-pub returns-in-Actions-clause-seen : goal.returns-in-Actions-clause-seen
-returns-in-Actions-clause-seen c = λ body s.
+pub returns-in-Actions-clause-fed : goal.returns-in-Actions-clause-fed
+returns-in-Actions-clause-fed c =
     let e = c.feed-in-Actions.ensures in
-    elements_seen c.feed-in-Actions.result body (lexeme_of c.args.token) c.feed-in-Actions.new.self e.sign (e.seen body (subst (IsSeen (states_known c.args.known.now) body) c.in-Actions.is s).1)
+    let l = lexeme_of c.args.token in
+    let known = c.args.known.now in
+    all_fed c.feed-in-Actions.result known c.args.self.now (items.Actions c.feed-in-Actions.new.self) l (search rules) (search rules) (search rules)
+    (λ body s. elements_seen c.feed-in-Actions.result body l c.feed-in-Actions.new.self e.sign (e.seen body (subst (IsSeen (states_known known) body) c.in-Actions.is s).1)) (search rules)
 
-pub returns-in-Actions-clause-reason : goal.returns-in-Actions-clause-reason
-returns-in-Actions-clause-reason c = λ body s.
-    if_err_map _ _ _ (λ stop h. each_refused_map stop (λ f x. actions_reason c.args.self.now c.in-Actions.reader body (lexeme_of c.args.token) f.kind f.place (states_known c.args.known.now) s x c.in-Actions.is) h) c.feed-in-Actions.ensures.reason
+pub returns-in-Actions-clause-refused : goal.returns-in-Actions-clause-refused
+returns-in-Actions-clause-refused c =
+    let l = lexeme_of c.args.token in
+    let known = c.args.known.now in
+    all_refused c.feed-in-Actions.result known c.args.self.now l (search rules) (search rules)
+    (λ body s. if_err_map _ _ _ (λ stop h. each_refused_map stop (λ f x. actions_reason c.args.self.now c.in-Actions.reader body l f.kind f.place (states_known known) s x c.in-Actions.is) h) c.feed-in-Actions.ensures.reason)
+    (search rules) (λ body s. search rules) (λ body more ends late s start due. search rules)
 
-pub returns-in-Observations-clause-seen : goal.returns-in-Observations-clause-seen
-returns-in-Observations-clause-seen c = λ body s.
+pub returns-in-Observations-clause-fed : goal.returns-in-Observations-clause-fed
+returns-in-Observations-clause-fed c =
     let e = c.feed-in-Observations.ensures in
-    elements_seen c.feed-in-Observations.result body (lexeme_of c.args.token) c.feed-in-Observations.new.self e.sign (e.seen body (subst (IsSeen (states_known c.args.known.now) body) c.in-Observations.is s).1)
+    let l = lexeme_of c.args.token in
+    let known = c.args.known.now in
+    all_fed c.feed-in-Observations.result known c.args.self.now (items.Observations c.feed-in-Observations.new.self) l (search rules) (search rules) (search rules)
+    (λ body s. elements_seen c.feed-in-Observations.result body l c.feed-in-Observations.new.self e.sign (e.seen body (subst (IsSeen (states_known known) body) c.in-Observations.is s).1)) (search rules)
 
-pub returns-in-Observations-clause-reason : goal.returns-in-Observations-clause-reason
-returns-in-Observations-clause-reason c = λ body s.
-    if_err_map _ _ _ (λ stop h. each_refused_map stop (λ f x. observations_reason c.args.self.now c.in-Observations.reader body (lexeme_of c.args.token) f.kind f.place (states_known c.args.known.now) s x c.in-Observations.is) h)
-    c.feed-in-Observations.ensures.reason
+pub returns-in-Observations-clause-refused : goal.returns-in-Observations-clause-refused
+returns-in-Observations-clause-refused c =
+    let l = lexeme_of c.args.token in
+    let known = c.args.known.now in
+    all_refused c.feed-in-Observations.result known c.args.self.now l (search rules) (search rules)
+    (λ body s. if_err_map _ _ _ (λ stop h. each_refused_map stop (λ f x. observations_reason c.args.self.now c.in-Observations.reader body l f.kind f.place (states_known known) s x c.in-Observations.is) h) c.feed-in-Observations.ensures.reason)
+    (search rules) (λ body s. search rules) (λ body more ends late s start due. search rules)
 
-pub returns-in-Start-clause-takes : goal.returns-in-Start-clause-takes
-returns-in-Start-clause-takes c =
-    on_ok_map _ (start_takes c.args.known.now c.states.result.now c.args.self.now c.in-Start.reader c.feed-in-Start.new.self (lexeme_of c.args.token) c.states.ensures.states c.in-Start.is)
-    c.feed-in-Start.ensures.takes
+pub returns-in-Start-clause-fed : goal.returns-in-Start-clause-fed
+returns-in-Start-clause-fed c =
+    let known = c.args.known.now in
+    let states = c.states.result.now in
+    let old = c.args.self.now in
+    let l = lexeme_of c.args.token in
+    let new = c.feed-in-Start.new.self in
+    let e = c.feed-in-Start.ensures in
+    all_fed c.feed-in-Start.result known old (items.Start new) l (search rules)
+    (on_ok_map _ (start_takes known states old c.in-Start.reader new l c.states.ensures.states c.in-Start.is) e.takes)
+    (on_ok_map _ (start_forms known states old c.in-Start.reader new l c.states.ensures.states c.in-Start.is) e.takes)
+    (λ body s. on_ok_map _ (start_keeps known states new (body ++ l ∷ []) c.states.ensures.states) (e.seen body (start_seen known states old c.in-Start.reader body c.states.ensures.states c.in-Start.is s)))
+    (on_ok_map _ (start_leads known states old c.in-Start.reader new l c.states.ensures.states c.in-Start.is) e.leads)
 
 pub returns-in-Start-clause-refused : goal.returns-in-Start-clause-refused
 returns-in-Start-clause-refused c =
-    if_err_map _ _ _ (λ stop h. refused_map stop (start_stuck c.args.known.now c.states.result.now c.args.self.now c.in-Start.reader (lexeme_of c.args.token) c.states.ensures.states c.in-Start.is) h)
-    c.feed-in-Start.ensures.refused
-
-pub returns-in-Start-clause-reason : goal.returns-in-Start-clause-reason
-returns-in-Start-clause-reason c = λ body s.
-    if_err_map _ _ _ (λ stop h. each_refused_map stop (λ f x. start_reason c.args.self.now c.in-Start.reader body (lexeme_of c.args.token) f.kind f.place c.in-Start.is x) h)
-    (c.feed-in-Start.ensures.reason body (start_seen c.args.known.now c.states.result.now c.args.self.now c.in-Start.reader body c.states.ensures.states c.in-Start.is s))
-
-pub returns-in-Entry-clause-seen : goal.returns-in-Entry-clause-seen
-returns-in-Entry-clause-seen c = λ body s. on_ok_map _ (sign_ends (entry_sign c.feed-in-Entry.new.self.state) body (lexeme_of c.args.token)) c.feed-in-Entry.ensures.sign
-
-pub returns-in-Start-clause-leads : goal.returns-in-Start-clause-leads
-returns-in-Start-clause-leads c =
-    on_ok_map _ (start_leads c.args.known.now c.states.result.now c.args.self.now c.in-Start.reader c.feed-in-Start.new.self (lexeme_of c.args.token) c.states.ensures.states c.in-Start.is)
-    c.feed-in-Start.ensures.leads
-
-pub returns-in-Start-clause-seen : goal.returns-in-Start-clause-seen
-returns-in-Start-clause-seen c = λ body s.
+    let known = c.args.known.now in
+    let states = c.states.result.now in
+    let old = c.args.self.now in
     let l = lexeme_of c.args.token in
-    on_ok_map _ (start_keeps c.args.known.now c.states.result.now c.feed-in-Start.new.self (body ++ l ∷ []) c.states.ensures.states)
-    (c.feed-in-Start.ensures.seen body (start_seen c.args.known.now c.states.result.now c.args.self.now c.in-Start.reader body c.states.ensures.states c.in-Start.is s))
+    let result = c.feed-in-Start.result in
+    let e = c.feed-in-Start.ensures in
+    all_refused result known old l
+    (if_err_map _ _ _ (λ stop h. refused_map stop (start_stuck known states old c.in-Start.reader l c.states.ensures.states c.in-Start.is) h) e.refused)
+    (if_err_map _ _ _ (λ stop h. refused_map stop (start_formless known states old c.in-Start.reader l c.states.ensures.states c.in-Start.is) h) e.refused)
+    (λ body s. if_err_map _ _ _ (λ stop h. each_refused_map stop (λ f x. start_reason old c.in-Start.reader body l f.kind f.place c.in-Start.is x) h) (e.reason body (start_seen known states old c.in-Start.reader body c.states.ensures.states c.in-Start.is s)))
+    (search rules)
+    (λ body s. start_stops_in known states old c.in-Start.reader body l result c.states.ensures.states c.in-Start.is s e.late e.stops)
+    (λ body more ends late s start due. start_late known states old c.in-Start.reader body more l ends late result c.states.ensures.states c.in-Start.is s due e.late e.held)
 
-pub returns-in-Start-clause-start : goal.returns-in-Start-clause-start
-returns-in-Start-clause-start c = λ body s.
-    start_stops_in c.args.known.now c.states.result.now c.args.self.now c.in-Start.reader body (lexeme_of c.args.token) c.feed-in-Start.result c.states.ensures.states c.in-Start.is s
-    c.feed-in-Start.ensures.late c.feed-in-Start.ensures.stops
+pub returns-in-Entry-clause-fed : goal.returns-in-Entry-clause-fed
+returns-in-Entry-clause-fed c =
+    let l = lexeme_of c.args.token in
+    all_fed c.feed-in-Entry.result c.args.known.now c.args.self.now (items.Entry c.feed-in-Entry.new.self) l (search rules) (search rules) (search rules)
+    (λ body s. on_ok_map _ (sign_ends (entry_sign c.feed-in-Entry.new.self.state) body l) c.feed-in-Entry.ensures.sign) (search rules)
 
-pub returns-in-Start-clause-formed : goal.returns-in-Start-clause-formed
-returns-in-Start-clause-formed c =
-    on_ok_map _ (start_forms c.args.known.now c.states.result.now c.args.self.now c.in-Start.reader c.feed-in-Start.new.self (lexeme_of c.args.token) c.states.ensures.states c.in-Start.is)
-    c.feed-in-Start.ensures.takes
-
-pub returns-in-Start-clause-formless : goal.returns-in-Start-clause-formless
-returns-in-Start-clause-formless c =
-    if_err_map _ _ _ (λ stop h. refused_map stop (start_formless c.args.known.now c.states.result.now c.args.self.now c.in-Start.reader (lexeme_of c.args.token) c.states.ensures.states c.in-Start.is) h)
-    c.feed-in-Start.ensures.refused
-
-pub returns-in-Start-clause-late : goal.returns-in-Start-clause-late
-returns-in-Start-clause-late c = λ body more ends late s start due.
-    start_late c.args.known.now c.states.result.now c.args.self.now c.in-Start.reader body more (lexeme_of c.args.token) ends late c.feed-in-Start.result c.states.ensures.states c.in-Start.is s due
-    c.feed-in-Start.ensures.late c.feed-in-Start.ensures.held
+pub returns-in-Entry-clause-refused : goal.returns-in-Entry-clause-refused
+returns-in-Entry-clause-refused c =
+    all_refused c.feed-in-Entry.result c.args.known.now c.args.self.now (lexeme_of c.args.token) (search rules) (search rules)
+    (λ body s. search rules) (search rules) (λ body s. search rules) (λ body more ends late s start due. search rules)

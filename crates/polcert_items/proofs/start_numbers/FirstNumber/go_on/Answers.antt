@@ -24,13 +24,13 @@ returns-then-self-lt0-clause-refused c =
     subst (λ stop. IfRefused stop (λ r. CannotTake (StartGoes c.args.states.now) (reader.Number c.args.self) l)) (sym c.out_of_range.ensures)
     (outside_stuck c.args.states.now c.args.self l outside)
 
-pub returns-in_err-feed_probability-clause-refused : goal.returns-in_err-feed_probability-clause-refused
-returns-in_err-feed_probability-clause-refused c =
+pub returns-in_err-feed-clause-refused : goal.returns-in_err-feed-clause-refused
+returns-in_err-feed-clause-refused c =
     let h = c.args.self.value in
     let fits : FitsSigned w64 h = search rules in
     let f = fraction h (simp to_z-of_z at c.if-self-lt0.false) (simp to_z-of_z at c.if-self.false) in
     let more = more_states (count_of c.args.states.now) c.count-count.result c.count-count.ensures c.if-count-eq1.false c.requires.0 in
-    let is = one_read c.args.states.now _ c.count-count.result _ c.new-numbers.result c.new-numbers.ensures c.count-count.ensures (simp to_z-of_z at c.in_ok-push.ensures.ok) in
+    let is = one_read c.args.states.now _ c.count-count.result _ (simp to_z-of_z at c.in_ok-numbers.ensures) c.count-count.ensures in
     if_err_map _ _ _ (λ stop h. refused_map stop (number_stuck c.args.states.now c.args.self _ _ (lexeme_of c.args.token) f.value f.small more is) h) (search rules)
 
 pub returns-clause-takes : goal.returns-clause-takes
@@ -39,12 +39,12 @@ returns-clause-takes c =
     let fits : FitsSigned w64 h = search rules in
     let f = fraction h (simp to_z-of_z at c.if-self-lt0.false) (simp to_z-of_z at c.if-self.false) in
     let more = more_states (count_of c.args.states.now) c.count-count.result c.count-count.ensures c.if-count-eq1.false c.requires.0 in
-    let is = one_read c.args.states.now _ c.count-count.result _ c.new-numbers.result c.new-numbers.ensures c.count-count.ensures (simp to_z-of_z at c.in_ok-push.ensures.ok) in
-    number_takes c.args.states.now c.args.self _ _ _ (lexeme_of c.args.token) f.value f.small more is c.in_ok-feed_probability.ensures.takes
+    let is = one_read c.args.states.now _ c.count-count.result _ (simp to_z-of_z at c.in_ok-numbers.ensures) c.count-count.ensures in
+    number_takes c.args.states.now c.args.self _ _ _ (lexeme_of c.args.token) f.value f.small more is c.in_ok-feed.ensures.takes
 
 pub returns-clause-within : goal.returns-clause-within
 returns-clause-within c = record {
   more = more_states (count_of c.args.states.now) c.count-count.result c.count-count.ensures c.if-count-eq1.false c.requires.0;
-  needed = c.in_ok-feed_probability.ensures.needed ∙ ap (λ (n : Numbers ℕ). n.needed) c.new-numbers.ensures ∙ c.count-count.ensures;
-  room = c.in_ok-feed_probability.ensures.room;
+  needed = c.in_ok-feed.ensures.needed ∙ ap (λ (n : Numbers ℕ). n.needed) c.in_ok-numbers.ensures ∙ c.count-count.ensures;
+  room = c.in_ok-feed.ensures.room;
 }

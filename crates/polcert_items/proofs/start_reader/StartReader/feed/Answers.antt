@@ -127,26 +127,26 @@ pub returns-in-Probabilities-clause-takes : goal.returns-in-Probabilities-clause
 returns-in-Probabilities-clause-takes c =
     let l = lexeme_of c.args.token in
     let states = c.args.states.now in
-    on_ok_map _ (λ t. subst (λ s. Takes (StartGoes states) s l (reader.Probabilities c.feed_probability.new.self)) (sym c.in-Probabilities.is) (shares_take states c.in-Probabilities.numbers c.feed_probability.new.self l t)) c.feed_probability.ensures.takes
+    on_ok_map _ (λ t. subst (λ s. Takes (StartGoes states) s l (reader.Probabilities c.feed-in-Probabilities.new.self)) (sym c.in-Probabilities.is) (shares_take states c.in-Probabilities.numbers c.feed-in-Probabilities.new.self l t)) c.feed-in-Probabilities.ensures.takes
 
 pub returns-in-Probabilities-clause-refused : goal.returns-in-Probabilities-clause-refused
 returns-in-Probabilities-clause-refused c =
     let l = lexeme_of c.args.token in
     let states = c.args.states.now in
-    if_err_map _ _ _ (λ stop h. refused_map stop (λ none. subst (λ s. CannotTake (StartGoes states) s l) (sym c.in-Probabilities.is) (shares_stuck states c.in-Probabilities.numbers l none)) h) c.feed_probability.ensures.refused
+    if_err_map _ _ _ (λ stop h. refused_map stop (λ none. subst (λ s. CannotTake (StartGoes states) s l) (sym c.in-Probabilities.is) (shares_stuck states c.in-Probabilities.numbers l none)) h) c.feed-in-Probabilities.ensures.refused
 
 pub returns-in-Probabilities-clause-seen : goal.returns-in-Probabilities-clause-seen
 returns-in-Probabilities-clause-seen c = λ body seen.
     let l = lexeme_of c.args.token in
     let count = count_of c.args.states.now in
     let at = seen_as count body c.args.self.now (reader.Probabilities c.in-Probabilities.numbers) c.in-Probabilities.is seen in
-    on_ok_map _ (λ k. further_seen count body l c.in-Probabilities.numbers c.feed_probability.new.self at k) c.feed_probability.ensures.sign
+    on_ok_map _ (λ k. further_seen count body l c.in-Probabilities.numbers c.feed-in-Probabilities.new.self at k) c.feed-in-Probabilities.ensures.sign
 
 pub returns-in-Probabilities-clause-reason : goal.returns-in-Probabilities-clause-reason
 returns-in-Probabilities-clause-reason c = λ body seen.
     let l = lexeme_of c.args.token in
     let n = c.in-Probabilities.numbers in
-    if_err_map _ _ _ (λ stop h. each_refused_map stop (λ r x. reason_in (count_of c.args.states.now) body l c.args.self.now (reader.Probabilities n) r.kind r.place c.in-Probabilities.is seen (list_reason n.sign l r.kind r.place x)) h) c.feed_probability.ensures.reason
+    if_err_map _ _ _ (λ stop h. each_refused_map stop (λ r x. reason_in (count_of c.args.states.now) body l c.args.self.now (reader.Probabilities n) r.kind r.place c.in-Probabilities.is seen (list_reason n.sign l r.kind r.place x)) h) c.feed-in-Probabilities.ensures.reason
 
 pub returns-in_ok-self-in-Form-clause-leads : goal.returns-in_ok-self-in-Form-clause-leads
 returns-in_ok-self-in-Form-clause-leads c =

@@ -11,15 +11,10 @@ returns-in_default-clause-read c = λ seen read inside text ts further tokens sa
 pub returns-in-Ok-clause-read : goal.returns-in-Ok-clause-read
 returns-in-Ok-clause-read c = λ seen read inside.
     let e = c.in-Ok.ensures in
-    item_takes seen c.args.self.now (lexeme_of c.args.token) c.in-Some.item c.feed.new.self read c.in-Some.is inside e.topic e.within e.takes e.formed e.seen e.leads
+    item_takes seen c.args.self.now (lexeme_of c.args.token) c.in-Some.item c.feed.new.self read c.in-Some.is inside e.topic e.fed
 
 pub returns-in-Err-Refused-clause-read : goal.returns-in-Err-Refused-clause-read
 returns-in-Err-Refused-clause-read c = λ seen read inside text ts further tokens same.
-    let stuck = rw c.in-Err-Refused.field-0-is at c.in-Err-Refused.ensures.refused in
-    let reason = rw c.in-Err-Refused.field-0-is at c.in-Err-Refused.ensures.reason in
-    let unfit = rw c.in-Err-Refused.field-0-is at c.in-Err-Refused.ensures.kind in
-    let stops = rw c.in-Err-Refused.field-0-is at c.in-Err-Refused.ensures.start in
-    let formless = rw c.in-Err-Refused.field-0-is at c.in-Err-Refused.ensures.formless in
-    let late = rw c.in-Err-Refused.field-0-is at c.in-Err-Refused.ensures.late in
+    let refuses = rw c.in-Err-Refused.field-0-is at c.in-Err-Refused.ensures.refused in
     subst (Refuses ts) (sym c.fault-in-Err-Refused.ensures)
-    (item_refuses seen c.args.self.now (lexeme_of c.args.token) c.in-Some.item c.in-Err-Refused.refusal.kind c.in-Err-Refused.refusal.place read c.in-Some.is inside stuck reason unfit stops formless late text ts further tokens same)
+    (item_refuses seen c.args.self.now (lexeme_of c.args.token) c.in-Some.item c.in-Err-Refused.refusal read c.in-Some.is inside refuses text ts further tokens same)
