@@ -1,7 +1,10 @@
--- A refused text, and what is said of each text that fits what was read.
-use Rattle.std.proofs.Common.{◌≡◌, ℕ, List, Option, Result, Ok, Err, IfErr, subst, sym}
+-- A refused text, what is said of each text that fits what was read, and which source is named.
+use Rattle.std.proofs.Common.{◌≡◌, ℕ, List, Option, Result, Ok, Err, IfErr, IsErrOf, subst, sym}
 use Rattle.std.specs.Result.{IsErrAnd}
 use Rattle.polcert_text.specs.Source.{EachTextThatFits}
+use Rattle.polcert_text.specs.ReadTexts.{ReadsText}
+use Rattle.polcert_text.specs.declared.source.SourceFault.{SourceFault}
+use Rattle.polcert_text.specs.declared.source.SourceFault.TheVariants.{Device}
 use Rattle.polcert_format.specs.declared.fault.ModelFault.{ModelFault}
 use Rattle.polcert_format.specs.declared.fault.ModelFault.TheVariants as faults
 use Rattle.polcert_model.specs.RefusedTexts.{IsRefusedModelText}
@@ -10,7 +13,7 @@ use Rattle.polcert_answer.specs.declared.fault.Fault.TheVariants as texts
 use Rattle.polcert_answer.specs.declared.fault.RunFault.{RunFault}
 use Rattle.polcert_answer.specs.declared.fault.RunFault.TheVariants as runs
 use Rattle.polcert_answer.specs.Answer.{IsRefused, IsModelFault}
-use Rattle.polcert_answer.specs.Run.{ReadsInOrder}
+use Rattle.polcert_answer.specs.Run.{IsNamedRightly, ReadsInOrder}
 use Rattle.polcert_answer.specs.Steps.Reading.{IsGraphReadFault}
 
 -- what is promised of a refused text of a model
@@ -29,6 +32,16 @@ refused_of faults.Memory text says refused = absurd says
 pub each_text : {S : Type 0} {reads : S → ℕ → Option (List ℕ) → S → Type 0} {old new : S} {P Q : List ℕ → Type 0}
     → ((text : List ℕ) → P text → Q text) → EachTextThatFits reads old new P → EachTextThatFits reads old new Q
 each_text follows h = record { bytes = h.bytes; is_whole = h.is_whole; was_read = h.was_read; each = λ text fits. follows text (h.each text fits) }
+
+-- a source is named rightly where it is named just if what was read of it is that a read failed
+pub named_rightly : {S V F Named : Type 0} {reads : S → ℕ → Option (List ℕ) → S → Type 0} {failures : S → ℕ} {old new : S}
+    {Denotes : List ℕ → V → Type 0} {Refuses : F → List ℕ → Type 0} {result : Result V (SourceFault F)}
+    → ReadsText reads failures old new Denotes Refuses result → (Named → IsErrOf result Device) → (IsErrOf result Device → Named)
+    → IsNamedRightly Named (failures old) (failures new)
+named_rightly was named failed = record {
+  failed = λ is. was.device (named is);
+  passed_over = λ unnamed. was.same_count (λ is. unnamed (failed is));
+}
 
 -- ---- a fault of the graph's text or of its source
 of_graph_in_order : {G V : Type 0} (given : RunFault) (graph graph' : G) (vectors vectors' : V) → IsGraphReadFault given → vectors' ≡ vectors

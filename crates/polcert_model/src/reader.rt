@@ -1,8 +1,6 @@
 //! A model's text, read item by item.
-ghost use Rattle.std.specs.Prelude.{None, IfOk, OnOk, IfErr, IsErrOf, ◌≡◌, ◌≢◌, ◌+◌, ◌<◌, ◌≤◌, ◌^◌, ◌++◌, ◌∷◌, [], ℕ, Some, false, List, MatchResult};
-ghost use Rattle.polcert_text.specs.Device.{HasFailed};
-ghost use Rattle.polcert_text.specs.ReadFailures.{EndsInFailure};
-ghost use Rattle.polcert_text.specs.Source.{IsText, EachTextThatFits};
+ghost use Rattle.std.specs.Prelude.{None, IfOk, OnOk, IfErr, ◌≡◌, ◌+◌, ◌<◌, ◌≤◌, ◌^◌, ◌++◌, ◌∷◌, [], ℕ, Some, false, List, MatchResult};
+ghost use Rattle.polcert_text.specs.ReadTexts.{ReadsText};
 ghost use Rattle.polcert_text.specs.Cut.{Lexeme};
 ghost use Rattle.polcert_text.specs.Reading.{lexeme_of};
 ghost use Rattle.polcert_cells.specs.Words.{topic, begins_item};
@@ -249,14 +247,8 @@ fn read_items_from<S: Source>(
 ) -> Result<(), SourceFault<ModelFault>>
     requires none { IsTextRead [] reader.old }
     requires first { reader.old.number ≡ 0 }
-    ensures read { IfOk result (λ _. (text : List ℕ) × IsText S.reads source.old text source.new
-        × IsTextOf text reader.new.known) }
-    ensures refused { (fault : ModelFault) → IsErrOf result (SourceFault.Refused fault)
-        → EachTextThatFits S.reads source.old source.new (IsRefusedModelText fault) }
-    ensures device { IsErrOf result SourceFault.Device
-        → HasFailed (S.failures source.old) (S.failures source.new) }
-    ensures device_last { IsErrOf result SourceFault.Device → EndsInFailure S.reads source.old source.new }
-    ensures same_count { (result ≢ Err SourceFault.Device) → S.failures source.new ≡ S.failures source.old }
+    ensures read { ReadsText S.reads S.failures source.old source.new
+        (λ text _. IsTextOf text reader.new.known) IsRefusedModelText result }
 {
     let mut tokens = StreamTokens::new(TEXT_LIMIT);
     loop {
@@ -288,14 +280,7 @@ fn read_text_from<S: Source>(
     alloc: Global,
     source: &mut S,
 ) -> Result<Known, SourceFault<ModelFault>>
-    ensures read { IfOk result (λ k. (text : List ℕ) × IsText S.reads source.old text source.new
-        × IsTextOf text k) }
-    ensures refused { (fault : ModelFault) → IsErrOf result (SourceFault.Refused fault)
-        → EachTextThatFits S.reads source.old source.new (IsRefusedModelText fault) }
-    ensures device { IsErrOf result SourceFault.Device
-        → HasFailed (S.failures source.old) (S.failures source.new) }
-    ensures device_last { IsErrOf result SourceFault.Device → EndsInFailure S.reads source.old source.new }
-    ensures same_count { (result ≢ Err SourceFault.Device) → S.failures source.new ≡ S.failures source.old }
+    ensures read { ReadsText S.reads S.failures source.old source.new IsTextOf IsRefusedModelText result }
 {
     let mut reader = TextReader::new(alloc);
     match read_items_from(alloc, source, &mut reader) {
@@ -349,14 +334,8 @@ pub fn read_model_from<S: Source>(
     alloc: Global,
     source: &mut S,
 ) -> Result<Model, SourceFault<ModelFault>>
-    ensures accepted { IfOk result (λ m. (text : List ℕ) × IsText S.reads source.old text source.new
-        × IsModelText text (meaning m)) }
-    ensures refused { (fault : ModelFault) → IsErrOf result (SourceFault.Refused fault)
-        → EachTextThatFits S.reads source.old source.new (IsRefusedModelText fault) }
-    ensures device { IsErrOf result SourceFault.Device
-        → HasFailed (S.failures source.old) (S.failures source.new) }
-    ensures device_last { IsErrOf result SourceFault.Device → EndsInFailure S.reads source.old source.new }
-    ensures same_count { (result ≢ Err SourceFault.Device) → S.failures source.new ≡ S.failures source.old }
+    ensures read { ReadsText S.reads S.failures source.old source.new
+        (λ text m. IsModelText text (meaning m)) IsRefusedModelText result }
 {
     let known = read_text_from(alloc, source)?;
     match model_of(alloc, known) {

@@ -1,10 +1,8 @@
 //! Reads a policy graph.
-ghost use Rattle.std.specs.Prelude.{◌≡◌, ◌+◌, ◌<◌, ◌≤◌, ◌⊎◌, ◌++◌, ◌∷◌, [], ℕ, true, length, List, MatchResult, MatchOption, IfErr, IfOk, IsErrAnd, IsErrOf, ◌≢◌};
-ghost use Rattle.polcert_text.specs.Device.{HasFailed};
-ghost use Rattle.polcert_text.specs.Source.{IsText, EachTextThatFits};
+ghost use Rattle.std.specs.Prelude.{◌≡◌, ◌+◌, ◌<◌, ◌≤◌, ◌⊎◌, ◌++◌, ◌∷◌, [], ℕ, true, length, List, MatchResult, MatchOption, IfErr, IsErrAnd};
 ghost use Rattle.polcert_text.specs.Cut.{Lexeme};
 ghost use Rattle.polcert_text.specs.Reading.{lexeme_of};
-ghost use Rattle.polcert_text.specs.ReadFailures.{EndsInFailure};
+ghost use Rattle.polcert_text.specs.ReadTexts.{ReadsText};
 ghost use Rattle.polcert_policy.specs.Fields.{minus_kind, is_joined};
 ghost use Rattle.polcert_cells.specs.Elements.{most_actions, most_observations};
 ghost use Rattle.polcert_policy.specs.Graphs.{IsGraph, most_nodes};
@@ -292,16 +290,8 @@ pub fn read_graph_from<S: Source>(
     requires few_actions { actions ≤ most_actions }
     requires some_observations { 1 ≤ observations }
     requires few_observations { observations ≤ most_observations }
-    ensures accepted { IfOk result (λ g. (text : List ℕ) × IsText S.reads source.old text source.new
-        × IsGraphText actions observations text g) }
-    ensures refused { (fault : GraphFault) → IsErrOf result (SourceFault.Refused fault)
-        → EachTextThatFits S.reads source.old source.new (IsRefusedGraphText actions observations fault) }
-    ensures device { IsErrOf result SourceFault.Device
-        → HasFailed (S.failures source.old) (S.failures source.new) }
-
-    // The source isn't read again behind the read that failed.
-    ensures device_last { IsErrOf result SourceFault.Device → EndsInFailure S.reads source.old source.new }
-    ensures same_count { (result ≢ Err SourceFault.Device) → S.failures source.new ≡ S.failures source.old }
+    ensures read { ReadsText S.reads S.failures source.old source.new
+        (IsGraphText actions observations) (IsRefusedGraphText actions observations) result }
 {
     let mut tokens = StreamTokens::new(TEXT_LIMIT);
     let mut reading = GraphReading::new(alloc, actions, observations);

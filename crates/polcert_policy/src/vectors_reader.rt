@@ -1,10 +1,8 @@
 //! Reads the vectors of a policy graph.
-ghost use Rattle.std.specs.Prelude.{◌≡◌, ◌+◌, ◌<◌, ◌≤◌, [], true, false, ℕ, List, MatchResult, IfErr, IfOk, IsErrOf, ◌≢◌};
-ghost use Rattle.polcert_text.specs.Device.{HasFailed};
-ghost use Rattle.polcert_text.specs.Source.{IsText, EachTextThatFits};
+ghost use Rattle.std.specs.Prelude.{◌≡◌, ◌+◌, ◌<◌, ◌≤◌, [], true, false, List, MatchResult, IfErr};
 ghost use Rattle.polcert_text.specs.Cut.{Lexeme};
 ghost use Rattle.polcert_text.specs.Reading.{lexeme_of};
-ghost use Rattle.polcert_text.specs.ReadFailures.{EndsInFailure};
+ghost use Rattle.polcert_text.specs.ReadTexts.{ReadsText};
 ghost use Rattle.polcert_policy.specs.Fields.{numeral_kind, minus_kind};
 ghost use Rattle.polcert_policy.specs.Graphs.{PolicyGraph, IsProperGraph};
 ghost use Rattle.polcert_cells.specs.Elements.{most_states};
@@ -286,16 +284,8 @@ pub fn read_vectors_from<S: Source>(
 ) -> Result<Vectors, SourceFault<VectorFault>>
     requires some_states { 1 ≤ states }
     requires few_states { states ≤ most_states }
-    ensures accepted { IfOk result (λ v. (text : List ℕ) × IsText S.reads source.old text source.new
-        × IsVectorsText graph.now states text v) }
-    ensures refused { (fault : VectorFault) → IsErrOf result (SourceFault.Refused fault)
-        → EachTextThatFits S.reads source.old source.new (IsRefusedVectorsText graph.now states fault) }
-    ensures device { IsErrOf result SourceFault.Device
-        → HasFailed (S.failures source.old) (S.failures source.new) }
-
-    // The source isn't read again behind the read that failed.
-    ensures device_last { IsErrOf result SourceFault.Device → EndsInFailure S.reads source.old source.new }
-    ensures same_count { (result ≢ Err SourceFault.Device) → S.failures source.new ≡ S.failures source.old }
+    ensures read { ReadsText S.reads S.failures source.old source.new
+        (IsVectorsText graph.now states) (IsRefusedVectorsText graph.now states) result }
 {
     read_rounded_vectors_from(alloc, Rounding::Down, source, graph, states)
 }
@@ -314,17 +304,9 @@ pub fn read_vectors_up_from<S: Source>(
 ) -> Result<Vectors, SourceFault<VectorFault>>
     requires some_states { 1 ≤ states }
     requires few_states { states ≤ most_states }
-    ensures accepted { IfOk result (λ v. (text : List ℕ) × IsText S.reads source.old text source.new
-        × IsRoundedVectorsText Rounding.Up graph.now states text v) }
-    ensures refused { (fault : VectorFault) → IsErrOf result (SourceFault.Refused fault)
-        → EachTextThatFits S.reads source.old source.new
-        (IsRefusedRoundedVectorsText Rounding.Up graph.now states fault) }
-    ensures device { IsErrOf result SourceFault.Device
-        → HasFailed (S.failures source.old) (S.failures source.new) }
-
-    // The source isn't read again behind the read that failed.
-    ensures device_last { IsErrOf result SourceFault.Device → EndsInFailure S.reads source.old source.new }
-    ensures same_count { (result ≢ Err SourceFault.Device) → S.failures source.new ≡ S.failures source.old }
+    ensures read { ReadsText S.reads S.failures source.old source.new
+        (IsRoundedVectorsText Rounding.Up graph.now states)
+        (IsRefusedRoundedVectorsText Rounding.Up graph.now states) result }
 {
     read_rounded_vectors_from(alloc, Rounding::Up, source, graph, states)
 }
@@ -344,17 +326,9 @@ pub fn read_rounded_vectors_from<S: Source>(
 ) -> Result<Vectors, SourceFault<VectorFault>>
     requires some_states { 1 ≤ states }
     requires few_states { states ≤ most_states }
-    ensures accepted { IfOk result (λ v. (text : List ℕ) × IsText S.reads source.old text source.new
-        × IsRoundedVectorsText rounding graph.now states text v) }
-    ensures refused { (fault : VectorFault) → IsErrOf result (SourceFault.Refused fault)
-        → EachTextThatFits S.reads source.old source.new
-        (IsRefusedRoundedVectorsText rounding graph.now states fault) }
-    ensures device { IsErrOf result SourceFault.Device
-        → HasFailed (S.failures source.old) (S.failures source.new) }
-
-    // The source isn't read again behind the read that failed.
-    ensures device_last { IsErrOf result SourceFault.Device → EndsInFailure S.reads source.old source.new }
-    ensures same_count { (result ≢ Err SourceFault.Device) → S.failures source.new ≡ S.failures source.old }
+    ensures read { ReadsText S.reads S.failures source.old source.new
+        (IsRoundedVectorsText rounding graph.now states)
+        (IsRefusedRoundedVectorsText rounding graph.now states) result }
 {
     let mut tokens = StreamTokens::new(TEXT_LIMIT);
     let _nodes = graph.nodes();

@@ -1,5 +1,6 @@
 -- Texts that come from a source.
 pub mod Giving
+pub mod ReadTexts
 pub mod StreamGaps
 pub mod StreamLaws
 pub mod StreamLexemes

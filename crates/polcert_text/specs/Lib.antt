@@ -14,6 +14,7 @@ pub mod Lines
 pub mod Device
 pub mod Source
 pub mod ReadFailures
+pub mod ReadTexts
 pub mod Sink
 pub mod Memory
 pub mod Known

@@ -1,9 +1,8 @@
-use Rattle.std.proofs.Common.{◌≡◌, ◌∙◌, ◌++◌, ◌∷◌, ◌≤◌, ◌<◌, [], refl, sym, ap, subst, arith, Ok, Err}
+use Rattle.std.proofs.Common.{◌≡◌, ◌∙◌, ◌++◌, ◌∷◌, ◌≤◌, ◌<◌, [], refl, ap, arith, Ok, Err}
 use Rattle.polcert_text.specs.Cut.{text_limit}
 use Rattle.polcert_text.specs.Reading.{lexeme_of}
-use Rattle.polcert_text.specs.Source.{EachTextThatFits}
-use Rattle.polcert_text.proofs.Streams.StreamTaken.{none_taken, token_taken, place_grows, place_within, failed_since}
-use Rattle.polcert_format.specs.RefusedTexts.{IsRefusedModelText}
+use Rattle.polcert_text.proofs.Streams.ReadTexts.{value_read, text_refused, read_failed}
+use Rattle.polcert_text.proofs.Streams.StreamTaken.{none_taken, token_taken, place_grows, place_within}
 use Rattle.polcert_format.specs.declared.fault.ModelFault.TheVariants.{Memory}
 use Rattle.polcert_items.proofs.TokenTexts.{token_is_text}
 use Rattle.polcert_model.proofs.ReadingAhead.{all_passed}
@@ -71,80 +70,64 @@ read_ahead-requires-clause-read g c =
     let was = c.loop-token.invariant.seen in
     (was.0 ++ lexeme_of c.in-Ok-Some.token ∷ [], c.in_default.ensures.read was.0 was.2)
 
-pub returns-in-Err-read_ahead-clause-refused : goal.returns-in-Err-read_ahead-clause-refused
-returns-in-Err-read_ahead-clause-refused g c = λ fault is.
-    let same : c.in-Err-read_ahead.memory ≡ fault = cc in
+pub returns-in-Err-read_ahead : goal.returns-in-Err-read_ahead
+returns-in-Err-read_ahead g c =
     let was = c.loop-token.invariant.seen in
     let new = c.next_token.follows.lender-at-none in
     let gives = rw (c.in-Ok-Some.is ∙ ap Ok c.in-Ok-Some.field-0-is) at c.next_token.follows.holds-at-none.answers in
     let taken = token_taken _ _ _ _ was.0 c.loop-token.tokens c.loop-token.source (lexeme_of c.in-Ok-Some.token) new c.next_token.new.source was.1 gives.0 gives.2 in
-    subst (λ f. EachTextThatFits g.S.Source.reads c.args.source.now c.next_token.new.source (IsRefusedModelText f)) (sym c.in-Err-read_ahead.ensures.refused ∙ same)
-    (refused_at_token _ _ _ _ new c.next_token.new.source Memory taken (λ text ts further tokens all. record { refusal = tt; placed = tt }))
+    rw c.in-Err-read_ahead.ensures.refused (record {
+      read = text_refused Memory
+      (refused_at_token _ _ _ _ new c.next_token.new.source Memory taken (λ text ts further tokens all. record { refusal = tt; placed = tt }))
+      taken.same_count;
+    })
 
-pub returns-in-Err-clause-refused : goal.returns-in-Err-clause-refused
-returns-in-Err-clause-refused g c = λ fault is.
-    let same : c.in-Err.fault ≡ fault = cc in
+pub returns-in-Err : goal.returns-in-Err
+returns-in-Err g c =
     let was = c.loop-token.invariant.seen in
     let new = c.next_token.follows.lender-at-none in
     let gives = rw (c.in-Ok-Some.is ∙ ap Ok c.in-Ok-Some.field-0-is) at c.next_token.follows.holds-at-none.answers in
     let taken = token_taken _ _ _ _ was.0 c.loop-token.tokens c.loop-token.source (lexeme_of c.in-Ok-Some.token) new c.next_token.new.source was.1 gives.0 gives.2 in
-    subst (λ f. EachTextThatFits g.S.Source.reads c.args.source.now c.next_token.new.source (IsRefusedModelText f)) same
-    (refused_at_token _ _ _ _ new c.next_token.new.source c.in-Err.fault taken (c.in-Err.ensures.read was.0 was.2))
+    record {
+      read = text_refused c.in-Err.fault
+      (refused_at_token _ _ _ _ new c.next_token.new.source c.in-Err.fault taken (c.in-Err.ensures.read was.0 was.2))
+      taken.same_count;
+    }
 
-pub returns-in-Ok-clause-read : goal.returns-in-Ok-clause-read
-returns-in-Ok-clause-read g c =
+pub returns-in-Ok : goal.returns-in-Ok
+returns-in-Ok g c =
     let was = c.loop-token.invariant.seen in
     let gives = rw (c.in-Ok-None.is ∙ ap Ok c.in-Ok-None.field-0-is) at c.next_token.follows.holds-at-none.answers in
-    read_at_end _ _ _ was.0 _ _ _ _ c.finish.new.self.known was.1 gives.0 (c.in-Ok.ensures was.0 was.2)
+    record {
+      read = value_read _
+      (read_at_end _ _ _ was.0 _ _ _ _ c.finish.new.self.known was.1 gives.0 (c.in-Ok.ensures was.0 was.2))
+      (gives.0.same_count ∙ was.1.same_count);
+    }
 
-pub returns-in-Err-finish-clause-refused : goal.returns-in-Err-finish-clause-refused
-returns-in-Err-finish-clause-refused g c = λ fault is.
-    let same : c.in-Err-finish.fault ≡ fault = cc in
+pub returns-in-Err-finish : goal.returns-in-Err-finish
+returns-in-Err-finish g c =
     let was = c.loop-token.invariant.seen in
     let gives = rw (c.in-Ok-None.is ∙ ap Ok c.in-Ok-None.field-0-is) at c.next_token.follows.holds-at-none.answers in
-    subst (λ f. EachTextThatFits g.S.Source.reads c.args.source.now c.next_token.new.source (IsRefusedModelText f)) same
-    (refused_at_end _ _ _ was.0 _ _ _ _ c.in-Err-finish.fault c.place.result was.1 gives.0 c.place.ensures (c.in-Err-finish.ensures was.0 was.2))
+    record {
+      read = text_refused c.in-Err-finish.fault
+      (refused_at_end _ _ _ was.0 _ _ _ _ c.in-Err-finish.fault c.place.result was.1 gives.0 c.place.ensures (c.in-Err-finish.ensures was.0 was.2))
+      (gives.0.same_count ∙ was.1.same_count);
+    }
 
-pub returns-in-Err-Token-clause-refused : goal.returns-in-Err-Token-clause-refused
-returns-in-Err-Token-clause-refused g c = λ fault is.
-    let same : c.token_fault.result ≡ fault = cc in
+pub returns-in-Err-Token : goal.returns-in-Err-Token
+returns-in-Err-Token g c =
     let named = rw c.in-Err-Token.field-0-is at c.token_fault.ensures in
     let was = c.loop-token.invariant.seen in
     let new = c.next_token.follows.lender-at-none in
     let gives = rw (c.in-Err-Token.is ∙ ap Err c.in-Err-Token.field-0-is) at c.next_token.follows.holds-at-none.answers in
-    subst (λ f. EachTextThatFits g.S.Source.reads c.args.source.now c.next_token.new.source (IsRefusedModelText f)) (sym named ∙ same)
-    (refused_tokens _ _ _ was.0 c.loop-token.reader c.loop-token.tokens c.loop-token.source c.in-Err-Token.fault new.ahead c.next_token.new.source was.2 was.1 gives.0)
+    rw named (record {
+      read = text_refused _
+      (refused_tokens _ _ _ was.0 c.loop-token.reader c.loop-token.tokens c.loop-token.source c.in-Err-Token.fault new.ahead c.next_token.new.source was.2 was.1 gives.0)
+      (gives.0.same_count ∙ was.1.same_count);
+    })
 
-pub returns-in-Err-Device-clause-device : goal.returns-in-Err-Device-clause-device
-returns-in-Err-Device-clause-device g c = λ is.
+pub returns-in-Err-Device : goal.returns-in-Err-Device
+returns-in-Err-Device g c =
     let was = c.loop-token.invariant.seen in
-    let gives = rw (c.in-Err-Device.is ∙ ap Err c.in-Err-Device.field-0-is) at c.next_token.follows.holds-at-none.answers in
-    failed_since _ _ _ _ was.0 c.loop-token.tokens c.loop-token.source c.next_token.new.source was.1 (gives.0 was.1.goes_on)
-
-pub returns-in-Err-Device-clause-device_last : goal.returns-in-Err-Device-clause-device_last
-returns-in-Err-Device-clause-device_last g c = λ is.
-    let was = c.loop-token.invariant.seen.1 in
     let fails = rw (c.in-Err-Device.is ∙ ap Err c.in-Err-Device.field-0-is) at c.next_token.follows.holds-at-none.answers in
-    let failed = fails.0 was.goes_on in
-    record {
-      between = c.loop-token.source;
-      given = was.given;
-      is_whole = c.loop-token.tokens.ahead.is_whole;
-      was_read = was.was_read;
-      further = failed.given;
-      failed = failed.failed;
-    }
-
--- answers of one word: so a wrong body is refused at once
-
-pub returns-in-Err-Device-clause-read : goal.returns-in-Err-Device-clause-read
-returns-in-Err-Device-clause-read g c = tt
-
-pub returns-in-Err-Device-clause-same_count : goal.returns-in-Err-Device-clause-same_count
-returns-in-Err-Device-clause-same_count g c = λ differs. absurd (differs refl)
-
-pub returns-in-Err-clause-device : goal.returns-in-Err-clause-device
-returns-in-Err-clause-device g c = λ is. absurd (cc)
-
-pub returns-in-Err-clause-device_last : goal.returns-in-Err-clause-device_last
-returns-in-Err-clause-device_last g c = λ is. absurd (cc)
+    record { read = read_failed _ was.0 c.loop-token.tokens c.loop-token.source was.1 (fails.0 was.1.goes_on) }

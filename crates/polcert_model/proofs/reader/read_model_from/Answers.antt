@@ -1,12 +1,14 @@
-use Rattle.std.proofs.Common.{◌≡◌, subst}
-use Rattle.polcert_text.specs.Source.{EachTextThatFits}
-use Rattle.polcert_text.proofs.Streams.StreamTaken.{each_whole}
-use Rattle.polcert_format.specs.RefusedTexts.{IsRefusedModelText}
+use Rattle.std.proofs.lemmas.Result.{err_from_is_err_and}
+use Rattle.polcert_text.proofs.Streams.ReadTexts.{value_turned, value_refused, fault_passed_on}
 use Rattle.polcert_model.proofs.reader.read_model_from.Goals as goal
 
-pub returns-in-Err-clause-refused : goal.returns-in-Err-clause-refused
-returns-in-Err-clause-refused g c = λ fault is.
-    let same : c.in-Err.fault ≡ fault = cc in
-    let read = c.in_ok-known.ensures.read in
-    subst (λ f. EachTextThatFits g.S.Source.reads c.args.source.now c.read_text_from.new.source (IsRefusedModelText f)) same
-    (each_whole _ _ read.0 _ (IsRefusedModelText c.in-Err.fault) read.1 (c.in-Err.ensures read.0 read.2))
+pub returns-in_err-known : goal.returns-in_err-known
+returns-in_err-known g c =
+    let p = err_from_is_err_and c.from_residual.result c.from_residual.ensures.1 in
+    rw (p.1, p.2) (record { read = fault_passed_on c.in_err-known.ensures.read })
+
+pub returns-in-Ok : goal.returns-in-Ok
+returns-in-Ok g c = record { read = value_turned c.in-Ok.model c.in_ok-known.ensures.read (λ text is. c.in-Ok.ensures text is) }
+
+pub returns-in-Err : goal.returns-in-Err
+returns-in-Err g c = record { read = value_refused c.in-Err.fault c.in_ok-known.ensures.read (λ text is. c.in-Err.ensures text is) }

@@ -1,10 +1,9 @@
-use Rattle.std.proofs.Common.{◌≡◌, ◌∙◌, ◌++◌, ◌∷◌, ◌≤◌, ◌<◌, [], ap, subst, arith, Ok, Err}
+use Rattle.std.proofs.Common.{◌≡◌, ◌∙◌, ◌++◌, ◌∷◌, ◌≤◌, ◌<◌, [], ap, arith, Ok, Err}
 use Rattle.polcert_text.specs.Reading.{lexeme_of}
-use Rattle.polcert_text.specs.Source.{EachTextThatFits}
-use Rattle.polcert_text.proofs.Streams.StreamTaken.{none_taken, token_taken, failed_since, place_grows, place_within}
+use Rattle.polcert_text.proofs.Streams.ReadTexts.{value_read, text_refused, read_failed}
+use Rattle.polcert_text.proofs.Streams.StreamTaken.{none_taken, token_taken, place_grows, place_within}
 use Rattle.polcert_text.specs.Cut.{text_limit}
 use Rattle.polcert_policy.specs.declared.fault.GraphFault.TheVariants as faults
-use Rattle.polcert_policy.specs.GraphText.{IsRefusedGraphText}
 use Rattle.polcert_policy.proofs.ReadLaws.{possible_read}
 use Rattle.polcert_policy.proofs.GraphStreams.{refused_at_token, refused_tokens, graph_at_end, refused_at_end}
 use Rattle.polcert_policy.proofs.graph_reader.read_graph_from.Goals as goal
@@ -35,61 +34,57 @@ loop-token-smaller g c =
     let within : new.ahead.place ≤ text_limit = place_within _ _ _ _ _ new c.next_token.new.source taken in
     omega (arith, grows, within)
 
-pub returns-in-Err-clause-refused : goal.returns-in-Err-clause-refused
-returns-in-Err-clause-refused g c = λ fault is.
-    let same : c.in-Err.fault ≡ fault = cc in
+pub returns-in-Err : goal.returns-in-Err
+returns-in-Err g c =
     let was = c.loop-token.invariant.seen in
     let counts = c.loop-token.invariant.counts in
     let new = c.next_token.follows.lender-at-none in
     let gives = rw (c.in-Ok-Some.is ∙ ap Ok c.in-Ok-Some.field-0-is) at c.next_token.follows.holds-at-none.answers in
     let taken = token_taken _ _ _ _ was.0 c.loop-token.tokens c.loop-token.source (lexeme_of c.in-Ok-Some.token) new c.next_token.new.source was.1 gives.0 gives.2 in
-    subst (λ f. EachTextThatFits g.S.Source.reads c.args.source.now c.next_token.new.source (IsRefusedGraphText c.args.actions c.args.observations f)) same
-    (refused_at_token _ _ _ _ _ _ _ _ new c.next_token.new.source c.in-Err.fault counts.0 counts.1 taken (c.in-Err.ensures.read was.0 was.2))
+    record {
+      read = text_refused c.in-Err.fault
+          (refused_at_token _ _ _ _ _ _ _ _ new c.next_token.new.source c.in-Err.fault counts.0 counts.1 taken (c.in-Err.ensures.read was.0 was.2))
+          taken.same_count;
+    }
 
-pub returns-in-Ok-clause-accepted : goal.returns-in-Ok-clause-accepted
-returns-in-Ok-clause-accepted g c =
+pub returns-in-Ok : goal.returns-in-Ok
+returns-in-Ok g c =
     let was = c.loop-token.invariant.seen in
     let counts = c.loop-token.invariant.counts in
     let gives = rw (c.in-Ok-None.is ∙ ap Ok c.in-Ok-None.field-0-is) at c.next_token.follows.holds-at-none.answers in
-    graph_at_end _ _ _ _ _ _ _ was.0 _ _ _ _ c.in-Ok.graph counts.0 counts.1 was.1 gives.0 (c.in-Ok.ensures was.0 was.2)
+    record {
+      read = value_read c.in-Ok.graph
+          (graph_at_end _ _ _ _ _ _ _ was.0 _ _ _ _ c.in-Ok.graph counts.0 counts.1 was.1 gives.0 (c.in-Ok.ensures was.0 was.2))
+          (gives.0.same_count ∙ was.1.same_count);
+    }
 
-pub returns-in-Err-finish-clause-refused : goal.returns-in-Err-finish-clause-refused
-returns-in-Err-finish-clause-refused g c = λ fault is.
-    let same : c.in-Err-finish.fault ≡ fault = cc in
+pub returns-in-Err-finish : goal.returns-in-Err-finish
+returns-in-Err-finish g c =
     let was = c.loop-token.invariant.seen in
     let counts = c.loop-token.invariant.counts in
     let gives = rw (c.in-Ok-None.is ∙ ap Ok c.in-Ok-None.field-0-is) at c.next_token.follows.holds-at-none.answers in
-    subst (λ f. EachTextThatFits g.S.Source.reads c.args.source.now c.next_token.new.source (IsRefusedGraphText c.args.actions c.args.observations f)) same
-    (refused_at_end _ _ _ _ _ _ _ was.0 _ _ _ _ c.in-Err-finish.fault c.place.result counts.0 counts.1 was.1 gives.0 c.place.ensures (c.in-Err-finish.ensures was.0 was.2))
+    record {
+      read = text_refused c.in-Err-finish.fault
+          (refused_at_end _ _ _ _ _ _ _ was.0 _ _ _ _ c.in-Err-finish.fault c.place.result counts.0 counts.1 was.1 gives.0 c.place.ensures (c.in-Err-finish.ensures was.0 was.2))
+          (gives.0.same_count ∙ was.1.same_count);
+    }
 
-pub returns-in-Err-Token-clause-refused : goal.returns-in-Err-Token-clause-refused
-returns-in-Err-Token-clause-refused g c = λ fault is.
-    let same : faults.Token c.in-Err-Token.fault ≡ fault = cc in
+pub returns-in-Err-Token : goal.returns-in-Err-Token
+returns-in-Err-Token g c =
     let was = c.loop-token.invariant.seen in
     let counts = c.loop-token.invariant.counts in
     let r = c.loop-token.reading in
     let new = c.next_token.follows.lender-at-none in
     let gives = rw (c.in-Err-Token.is ∙ ap Err c.in-Err-Token.field-0-is) at c.next_token.follows.holds-at-none.answers in
-    subst (λ f. EachTextThatFits g.S.Source.reads c.args.source.now c.next_token.new.source (IsRefusedGraphText c.args.actions c.args.observations f)) same
-    (refused_tokens _ _ _ _ _ _ _ was.0 c.loop-token.tokens c.loop-token.source c.in-Err-Token.fault new.ahead c.next_token.new.source counts.0 counts.1 was.1 gives.0
-    (possible_read was.0 r r.some_actions r.some_observations was.2.nodes))
+    record {
+      read = text_refused (faults.Token c.in-Err-Token.fault)
+          (refused_tokens _ _ _ _ _ _ _ was.0 c.loop-token.tokens c.loop-token.source c.in-Err-Token.fault new.ahead c.next_token.new.source counts.0 counts.1 was.1 gives.0
+          (possible_read was.0 r r.some_actions r.some_observations was.2.nodes))
+          (gives.0.same_count ∙ was.1.same_count);
+    }
 
-pub returns-in-Err-Device-clause-device : goal.returns-in-Err-Device-clause-device
-returns-in-Err-Device-clause-device g c = λ is.
+pub returns-in-Err-Device : goal.returns-in-Err-Device
+returns-in-Err-Device g c =
     let was = c.loop-token.invariant.seen in
     let fails = rw (c.in-Err-Device.is ∙ ap Err c.in-Err-Device.field-0-is) at c.next_token.follows.holds-at-none.answers in
-    failed_since _ _ _ _ was.0 c.loop-token.tokens c.loop-token.source c.next_token.new.source was.1 (fails.0 was.1.goes_on)
-
-pub returns-in-Err-Device-clause-device_last : goal.returns-in-Err-Device-clause-device_last
-returns-in-Err-Device-clause-device_last g c = λ is.
-    let was = c.loop-token.invariant.seen.1 in
-    let fails = rw (c.in-Err-Device.is ∙ ap Err c.in-Err-Device.field-0-is) at c.next_token.follows.holds-at-none.answers in
-    let failed = fails.0 was.goes_on in
-    record {
-      between = c.loop-token.source;
-      given = was.given;
-      is_whole = c.loop-token.tokens.ahead.is_whole;
-      was_read = was.was_read;
-      further = failed.given;
-      failed = failed.failed;
-    }
+    record { read = read_failed _ was.0 c.loop-token.tokens c.loop-token.source was.1 (fails.0 was.1.goes_on) }
