@@ -1,7 +1,8 @@
 -- What a run says of the texts of three sources, from what its calls say of what these denote.
 use Rattle.std.proofs.Common.{◌≡◌, ◌∙◌, ℕ, ◌<◌, ℤ, neg_ℤ, List, ◌⊎◌, inl, inr, Result, Ok, Err, IfOk, subst, ap, refl}
 use Rattle.polcert_text.specs.declared.number.Rounding.TheVariants.{Down}
-use Rattle.polcert_cells.specs.Meaning.{Meaning, states_of}
+use Rattle.polcert_cells.specs.Meaning.{Meaning}
+use Rattle.polcert_cells.specs.Tables.{table_of}
 use Rattle.polcert_policy.specs.Graphs.{PolicyGraph, nodes}
 use Rattle.polcert_policy.specs.Vectors.{PolicyVectors, shifted_by}
 use Rattle.polcert_policy.specs.VectorText.{IsVectorsText}
@@ -13,8 +14,7 @@ use Rattle.polcert_answer.specs.declared.fault.RunFault.TheVariants.{Lower}
 use Rattle.polcert_check.specs.declared.verdict.Verdict.{Verdict}
 use Rattle.polcert_check.specs.declared.verdict.Verdict.TheVariants.{Yes}
 use Rattle.polcert_check.specs.Horizon.{Controller}
-use Rattle.polcert_check.specs.Lower.{HasLeastConstant, IsLeastConstant, IsNotLowered}
-use Rattle.polcert_check.specs.Shortfall.{Passes}
+use Rattle.polcert_check.specs.Lower.{HasLeastConstant, IsNotLowered, IsLowered}
 use Rattle.polcert_check.specs.StartWorth.{IsBestStart}
 use Rattle.polcert_check.specs.Verdict.{IsVerdict}
 use Rattle.polcert_check.proofs.Agreements.OneAnswer as checks
@@ -91,11 +91,11 @@ module _ (of_model of_graph of_vectors : List ℕ → Type 0) (m : Meaning) (g :
   pub has_lowered : (by : ℤ) (text : List ℕ) → AreLowered m g v by text → HasLowered of_model of_graph of_vectors by text
   has_lowered by text are =
       let passed : IsAnswer d.first d.second text (Ok Yes) =
-      (certificate_of m g are.lower d.has_graph are.reads_back, verdict_of_each m g are.lower d.has_graph are.reads_back Yes are.passes) in
-      let spelled : text ≡ vectors_text g (shifted_by v (neg_ℤ by)) = are.text_is ∙ ap (λ w. vectors_text g w) are.shifted in
+      (certificate_of m g are.lower d.has_graph are.reads_back, verdict_of_each m g are.lower d.has_graph are.reads_back Yes are.lowered.passes) in
+      let spelled : text ≡ vectors_text g (shifted_by v (neg_ℤ by)) = are.text_is ∙ ap (λ w. vectors_text g w) are.lowered.shifted in
       record {
         texts = texts_of of_model of_graph of_vectors m g v d;
-        least = constant_of_each m g v d.has_graph d.are_vectors by are.least;
+        least = constant_of_each m g v d.has_graph d.are_vectors by are.lowered.least;
         is_text = λ c. spelled ∙ text_of_each m g v d.has_graph d.are_vectors (neg_ℤ by) c;
         answer = passed;
         only_yes = but_for_memory Down IsVerdict checks.one_verdict d.first d.second text Yes passed;
@@ -118,15 +118,13 @@ module _ (of_model of_graph of_vectors : List ℕ → Type 0) (m : Meaning) (g :
   not_lowerable fault why = record { texts = texts_of of_model of_graph of_vectors m g v d; reason = why_of_each fault why }
 
 -- what is known of lowered vectors and of their full form
-pub are_lowered : (m : Meaning) (g : PolicyGraph) (v : PolicyVectors) (by : ℤ) (w : PolicyVectors) → IsLeastConstant (of_parts m g v) v by → w ≡ shifted_by v (neg_ℤ by)
-    → Passes (of_parts m g w) → w.states ≡ states_of m → IsVectorsText g w.states (vectors_text g w) w → AreLowered m g v by (vectors_text g w)
-are_lowered m g v by w least is passes states reads_back = record {
+pub are_lowered : (m : Meaning) (g : PolicyGraph) (v : PolicyVectors) (by : ℤ) (w : PolicyVectors) → IsLowered (table_of m) g v (by, w)
+    → IsVectorsText g w.states (vectors_text g w) w → AreLowered m g v by (vectors_text g w)
+are_lowered m g v by w lowered reads_back = record {
   lower = w;
-  least = least;
-  shifted = is;
-  passes = passes;
+  lowered = lowered;
   text_is = refl;
-  reads_back = subst (λ s. IsVectorsText g s (vectors_text g w) w) states reads_back;
+  reads_back = subst (λ s. IsVectorsText g s (vectors_text g w) w) lowered.fits_still.states reads_back;
 }
 
 -- why vectors are not lowered

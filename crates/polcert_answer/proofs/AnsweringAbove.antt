@@ -1,7 +1,8 @@
 -- What a run from above says of the texts of three sources, from what its calls say of what these denote.
 use Rattle.std.proofs.Common.{◌≡◌, ◌∙◌, ℕ, ℤ, List, ◌⊎◌, inl, inr, Result, Ok, Err, IfOk, subst, ap, refl}
 use Rattle.polcert_text.specs.declared.number.Rounding.TheVariants.{Up}
-use Rattle.polcert_cells.specs.Meaning.{Meaning, states_of}
+use Rattle.polcert_cells.specs.Meaning.{Meaning}
+use Rattle.polcert_cells.specs.Tables.{table_of}
 use Rattle.polcert_policy.specs.Graphs.{PolicyGraph}
 use Rattle.polcert_policy.specs.Vectors.{PolicyVectors, shifted_by}
 use Rattle.polcert_policy.specs.VectorText.{IsRoundedVectorsText}
@@ -13,8 +14,8 @@ use Rattle.polcert_answer.specs.declared.fault.RunFault.TheVariants.{Raise}
 use Rattle.polcert_check.specs.declared.above.AboveVerdict.{AboveVerdict}
 use Rattle.polcert_check.specs.declared.above.AboveVerdict.TheVariants.{Yes}
 use Rattle.polcert_check.specs.Horizon.{Controller}
-use Rattle.polcert_check.specs.Raise.{HasLeastRaise, IsLeastRaise, IsNotRaised}
-use Rattle.polcert_check.specs.Above.{PassesAbove, IsAboveVerdict}
+use Rattle.polcert_check.specs.Raise.{HasLeastRaise, IsNotRaised, IsRaised}
+use Rattle.polcert_check.specs.Above.{IsAboveVerdict}
 use Rattle.polcert_check.proofs.Mirrors.OneAbove.{one_above_verdict}
 use Rattle.polcert_answer.specs.Headline.{controller}
 use Rattle.polcert_answer.specs.HeadlineAbove.{CertificateAbove}
@@ -84,11 +85,11 @@ module _ (of_model of_graph of_vectors : List ℕ → Type 0) (m : Meaning) (g :
   pub has_raised : (by : ℤ) (text : List ℕ) → AreRaised m g v by text → HasRaised of_model of_graph of_vectors by text
   has_raised by text are =
       let passed : IsAnswerAbove d.first d.second text (Ok Yes) =
-      (certificate_of m g are.raise d.has_graph are.reads_back, verdict_of_each m g are.raise d.has_graph are.reads_back Yes are.passes) in
-      let spelled : text ≡ vectors_text g (shifted_by v by) = are.text_is ∙ ap (λ w. vectors_text g w) are.shifted in
+      (certificate_of m g are.raise d.has_graph are.reads_back, verdict_of_each m g are.raise d.has_graph are.reads_back Yes are.raised.passes) in
+      let spelled : text ≡ vectors_text g (shifted_by v by) = are.text_is ∙ ap (λ w. vectors_text g w) are.raised.shifted in
       record {
         texts = texts_of of_model of_graph of_vectors m g v d;
-        least = constant_of_each m g v d.has_graph d.are_vectors by are.least;
+        least = constant_of_each m g v d.has_graph d.are_vectors by are.raised.least;
         is_text = λ c. spelled ∙ text_of_each m g v d.has_graph d.are_vectors by c;
         answer = passed;
         only_yes = but_for_memory Up IsAboveVerdict one_above_verdict d.first d.second text Yes passed;
@@ -111,15 +112,13 @@ module _ (of_model of_graph of_vectors : List ℕ → Type 0) (m : Meaning) (g :
   not_raisable fault why = record { texts = texts_of of_model of_graph of_vectors m g v d; reason = why_of_each fault why }
 
 -- what is known of raised vectors and of their full form
-pub are_raised : (m : Meaning) (g : PolicyGraph) (v : PolicyVectors) (by : ℤ) (w : PolicyVectors) → IsLeastRaise (of_parts m g v) v by → w ≡ shifted_by v by
-    → PassesAbove (of_parts m g w) → w.states ≡ states_of m → IsRoundedVectorsText Up g w.states (vectors_text g w) w → AreRaised m g v by (vectors_text g w)
-are_raised m g v by w least is passes states reads_back = record {
+pub are_raised : (m : Meaning) (g : PolicyGraph) (v : PolicyVectors) (by : ℤ) (w : PolicyVectors) → IsRaised (table_of m) g v (by, w)
+    → IsRoundedVectorsText Up g w.states (vectors_text g w) w → AreRaised m g v by (vectors_text g w)
+are_raised m g v by w raised reads_back = record {
   raise = w;
-  least = least;
-  shifted = is;
-  passes = passes;
+  raised = raised;
   text_is = refl;
-  reads_back = subst (λ s. IsRoundedVectorsText Up g s (vectors_text g w) w) states reads_back;
+  reads_back = subst (λ s. IsRoundedVectorsText Up g s (vectors_text g w) w) raised.fits_still.states reads_back;
 }
 
 -- why vectors are not raised

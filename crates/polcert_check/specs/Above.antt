@@ -1,10 +1,13 @@
 -- The promise from above, for every number of steps: what a controller earns is expected to be at most what its vectors say.
 -- Runs, weights, totals and shortfalls are those of the promise from below.
 use Rattle.std.specs.Prelude.{◌≡◌, ℕ, ◌*◌, ◌^◌, ◌<◌, ◌≤◌, unsigned_abs, ⊤, ℤ, pos, neg_ℤ, ◌+ℤ◌, ◌*ℤ◌, ◌≤ℤ◌, ◌<ℤ◌, IsTrue, All, Some, None}
+use Rattle.polcert_cells.specs.Tables.{CellTable}
+use Rattle.polcert_policy.specs.Graphs.{PolicyGraph, nodes}
+use Rattle.polcert_policy.specs.Vectors.{PolicyVectors, value_of}
 use Rattle.polcert_check.specs.declared.above.AboveVerdict.{AboveVerdict}
 use Rattle.polcert_check.specs.declared.above.AboveVerdict.TheVariants.{Yes, Long, NoSuccessor}
-use Rattle.polcert_check.specs.Horizon.{Controller, one, step_scale, runs, is_cut, weight, weights_sum, worth_sum, rewards_sum, HasCutRun}
-use Rattle.polcert_check.specs.Shortfall.{short, most_short, Lacks}
+use Rattle.polcert_check.specs.Horizon.{Controller, Fits, controller_of, one, step_scale, runs, is_cut, weight, weights_sum, worth_sum, rewards_sum, HasCutRun}
+use Rattle.polcert_check.specs.Shortfall.{short, most_short, Lacks, Passes}
 use Rattle.polcert_check.specs.Verdict.{IsBefore, IsLeastLacking}
 
 -- From n and s each cut run of k steps weighs nothing, and the others are worth at most the vector's value.
@@ -60,3 +63,7 @@ abbrev pub NamesSmallAmountAbove : Controller → AboveVerdict → Type 0
 NamesSmallAmountAbove c Yes = ⊤
 NamesSmallAmountAbove c (Long n s amount) = unsigned_abs amount ≤ most_short c
 NamesSmallAmountAbove c (NoSuccessor n s z) = ⊤
+
+-- where the discount is below 1, vectors of the graph that pass from below are nowhere above these
+abbrev pub AreNowhereExceeded : CellTable → PolicyGraph → PolicyVectors → Type 0
+AreNowhereExceeded t g high = t.discount < one → (low : PolicyVectors) → Fits t g low → Passes (controller_of t g low) → (n s : ℕ) → n < nodes g → s < t.states → value_of low n s ≤ℤ value_of high n s

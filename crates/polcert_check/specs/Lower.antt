@@ -1,9 +1,11 @@
 -- What lowering every vector value by one constant does, and the least constant by which the vectors pass.
-use Rattle.std.specs.Prelude.{◌≡◌, ℕ, ◌<◌, ◌≤◌, unsigned_abs, ⊤, ℤ, pos, neg_ℤ, ◌-ℤ◌, ◌≤ℤ◌, ◌<ℤ◌, Some, None}
-use Rattle.polcert_policy.specs.Vectors.{PolicyVectors, CanShift}
+use Rattle.std.specs.Prelude.{◌≡◌, ℕ, ◌<◌, ◌≤◌, ◌⊎◌, unsigned_abs, ⊤, ℤ, pos, neg_ℤ, ◌-ℤ◌, ◌≤ℤ◌, ◌<ℤ◌, Some, None}
+use Rattle.polcert_cells.specs.Tables.{CellTable}
+use Rattle.polcert_policy.specs.Graphs.{PolicyGraph}
+use Rattle.polcert_policy.specs.Vectors.{PolicyVectors, CanShift, shifted_by}
 use Rattle.polcert_check.specs.declared.fault.LowerFault.{LowerFault}
 use Rattle.polcert_check.specs.declared.fault.LowerFault.TheVariants.{NoSuccessor, NoConstant, OutOfRange, Memory}
-use Rattle.polcert_check.specs.Horizon.{Controller}
+use Rattle.polcert_check.specs.Horizon.{Controller, Fits, controller_of}
 use Rattle.polcert_check.specs.Shortfall.{short, most_short, Passes}
 use Rattle.polcert_check.specs.Verdict.{IsBefore, IsLeastLacking}
 
@@ -56,3 +58,24 @@ RefusesSmallAmount c (NoConstant n s amount) = unsigned_abs amount ≤ most_shor
 RefusesSmallAmount c (NoSuccessor n s z) = ⊤
 RefusesSmallAmount c OutOfRange = ⊤
 RefusesSmallAmount c Memory = ⊤
+
+-- ---- the vectors that a call answers
+
+-- The vectors are the given ones moved by the constant, which is the least by which they pass. `Least` says which constant that is,
+-- `added` what is added to each value for it, and `Pass` what it is to pass.
+pub record IsMoved (Least : Controller → PolicyVectors → ℤ → Type 0) (added : ℤ → ℤ) (Pass : Controller → Type 0)
+    (t : CellTable) (g : PolicyGraph) (v : PolicyVectors) (answer : ℤ × PolicyVectors) : Type 0 where
+  pub least : Least (controller_of t g v) v answer.0
+  pub shifted : answer.1 ≡ shifted_by v (added answer.0)
+  -- with the moved vectors every pair passes
+  pub fits_still : Fits t g answer.1
+  pub passes : Pass (controller_of t g answer.1)
+
+-- the least constant, and the vectors lowered by it
+abbrev pub IsLowered : CellTable → PolicyGraph → PolicyVectors → ℤ × PolicyVectors → Type 0
+IsLowered t g v answer = IsMoved IsLeastConstant neg_ℤ Passes t g v answer
+
+-- why none are answered: want of memory, where there is such a constant, or the reason why there is none
+pub record RefusesToLower (t : CellTable) (g : PolicyGraph) (v : PolicyVectors) (fault : LowerFault) : Type 0 where
+  pub refused : ((fault ≡ Memory) × HasLeastConstant (controller_of t g v) v) ⊎ IsNotLowered (controller_of t g v) v fault
+  pub small : RefusesSmallAmount (controller_of t g v) fault

@@ -1,12 +1,14 @@
 -- What raising every vector value by one constant does, and the least constant by which the vectors pass from above.
-use Rattle.std.specs.Prelude.{◌≡◌, ℕ, ◌<◌, ◌≤◌, unsigned_abs, ⊤, ℤ, pos, neg_ℤ, ◌+ℤ◌, ◌≤ℤ◌, ◌<ℤ◌}
+use Rattle.std.specs.Prelude.{◌≡◌, ℕ, ◌<◌, ◌≤◌, ◌⊎◌, unsigned_abs, ⊤, ℤ, pos, neg_ℤ, ◌+ℤ◌, ◌≤ℤ◌, ◌<ℤ◌}
+use Rattle.polcert_cells.specs.Tables.{CellTable}
+use Rattle.polcert_policy.specs.Graphs.{PolicyGraph}
 use Rattle.polcert_policy.specs.Vectors.{PolicyVectors, CanShift}
 use Rattle.polcert_check.specs.declared.fault.RaiseFault.{RaiseFault}
 use Rattle.polcert_check.specs.declared.fault.RaiseFault.TheVariants.{NoSuccessor, NoConstant, OutOfRange, Memory}
-use Rattle.polcert_check.specs.Horizon.{Controller}
+use Rattle.polcert_check.specs.Horizon.{Controller, controller_of}
 use Rattle.polcert_check.specs.Shortfall.{short, most_short}
 use Rattle.polcert_check.specs.Verdict.{IsBefore}
-use Rattle.polcert_check.specs.Lower.{NoneLacks, IsFirstLack}
+use Rattle.polcert_check.specs.Lower.{NoneLacks, IsFirstLack, IsMoved}
 use Rattle.polcert_check.specs.Above.{PassesAbove}
 
 -- the controller with every vector value plus `by`
@@ -47,3 +49,12 @@ RefusesSmallRaise c (NoConstant n s amount) = unsigned_abs amount ≤ most_short
 RefusesSmallRaise c (NoSuccessor n s z) = ⊤
 RefusesSmallRaise c OutOfRange = ⊤
 RefusesSmallRaise c Memory = ⊤
+
+-- the least constant, and the vectors raised by it
+abbrev pub IsRaised : CellTable → PolicyGraph → PolicyVectors → ℤ × PolicyVectors → Type 0
+IsRaised t g v answer = IsMoved IsLeastRaise (λ by. by) PassesAbove t g v answer
+
+-- why none are answered: want of memory, where there is such a constant, or the reason why there is none
+pub record RefusesToRaise (t : CellTable) (g : PolicyGraph) (v : PolicyVectors) (fault : RaiseFault) : Type 0 where
+  pub refused : ((fault ≡ Memory) × HasLeastRaise (controller_of t g v) v) ⊎ IsNotRaised (controller_of t g v) v fault
+  pub small : RefusesSmallRaise (controller_of t g v) fault

@@ -1,11 +1,9 @@
 //! The verdict from above: whether the vectors bound what a policy graph earns from above.
-ghost use Rattle.std.specs.Prelude.{◌≡◌, ℕ, ◌<◌, ◌≤ℤ◌};
-ghost use Rattle.polcert_policy.specs.Graphs.{nodes};
-ghost use Rattle.polcert_policy.specs.Vectors.{PolicyVectors, value_of};
-ghost use Rattle.polcert_check.specs.Horizon.{Fits, controller_of, one};
-ghost use Rattle.polcert_check.specs.Shortfall.{Passes};
-ghost use Rattle.polcert_check.specs.Above.{MeetsHorizonAbove, IsAboveVerdict, NamesSmallAmountAbove};
+ghost use Rattle.std.specs.Prelude.{◌≡◌};
+ghost use Rattle.polcert_check.specs.Horizon.{Fits, controller_of};
+ghost use Rattle.polcert_check.specs.Above.{MeetsHorizonAbove, IsAboveVerdict, NamesSmallAmountAbove, AreNowhereExceeded};
 ghost use Rattle.polcert_check.specs.Steps.Mirrored.{above_of};
+ghost use Rattle.polcert_check.specs.declared.above.AboveVerdict.TheVariants.{Yes};
 
 use crate::certificate::Certificate;
 use crate::findings::Aim;
@@ -79,11 +77,7 @@ pub fn check_above<C: Cells>(cells: &C, graph: &Graph, vectors: &Vectors) -> Abo
     ensures small { NamesSmallAmountAbove (controller_of (C.table cells.now) graph.now vectors.now) result }
 
     // Where the discount is below 1, vectors that pass from below are nowhere above these.
-    ensures interval { (result ≡ AboveVerdict.Yes) → (C.table cells.now).discount < one →
-        (low : PolicyVectors) →
-        Fits (C.table cells.now) graph.now low → Passes (controller_of (C.table cells.now) graph.now low) →
-        (n s : ℕ) → n < nodes graph.now → s < (C.table cells.now).states
-        → value_of low n s ≤ℤ value_of vectors.now n s }
+    ensures interval { (result ≡ Yes) → AreNowhereExceeded (C.table cells.now) graph.now vectors.now }
 {
     check_above_watched(cells, graph, vectors, &mut Unwatched)
 }
@@ -99,11 +93,7 @@ pub fn check_above_watched<C: Cells, W: Watch>(
     ensures verdict { IsAboveVerdict (controller_of (C.table cells.now) graph.now vectors.now) result }
     ensures horizon { MeetsHorizonAbove (controller_of (C.table cells.now) graph.now vectors.now) result }
     ensures small { NamesSmallAmountAbove (controller_of (C.table cells.now) graph.now vectors.now) result }
-    ensures interval { (result ≡ AboveVerdict.Yes) → (C.table cells.now).discount < one →
-        (low : PolicyVectors) →
-        Fits (C.table cells.now) graph.now low → Passes (controller_of (C.table cells.now) graph.now low) →
-        (n s : ℕ) → n < nodes graph.now → s < (C.table cells.now).states
-        → value_of low n s ≤ℤ value_of vectors.now n s }
+    ensures interval { (result ≡ Yes) → AreNowhereExceeded (C.table cells.now) graph.now vectors.now }
 {
     let certificate = Certificate::new(Side::Above, cells, graph, vectors);
     above_of(survey(&certificate, Aim::Check, watch).first)

@@ -1,7 +1,8 @@
 //! What a node expects behind an end state.
 ghost use Rattle.std.specs.Prelude.{◌≡◌, ◌<◌};
 ghost use Rattle.polcert_check.specs.Steps.Certificate.{controller};
-ghost use Rattle.polcert_check.specs.Steps.Factored.{value_term, value_behind, IsLeastOf, Misses, IsMissedAt, IsLesser};
+ghost use Rattle.polcert_check.specs.Steps.Factored.{value_term, IsMissedAt, IsLesser};
+ghost use Rattle.polcert_check.specs.Steps.Walks.{AreStepsBehind};
 
 use crate::certificate::Certificate;
 use crate::earned::weighed;
@@ -65,10 +66,7 @@ fn one_end<C: Cells>(certificate: &Certificate<'_, C>, n: usize, sight: Sight) -
 pub(crate) fn end_of<C: Cells>(certificate: &Certificate<'_, C>, n: usize, e: usize) -> Steps
     requires node { n < (controller certificate.now).nodes }
     requires end { e < (controller certificate.now).cells.states }
-    ensures worth { result.worth ≡ value_behind (controller certificate.now) n e }
-    ensures missing { IsLeastOf
-        (Misses (controller certificate.now) n e (controller certificate.now).cells.observations)
-        result.missing }
+    ensures { AreStepsBehind (controller certificate.now) n e result }
 {
     let a = certificate.graph.action(n);
     let mut worth: i128 = 0;

@@ -1,9 +1,5 @@
 //! What a node expects behind the end states of a block: of each it is found where it is first asked for.
-ghost use Rattle.std.specs.Prelude.{◌≡◌, ◌<◌, ◌≤◌, ℕ, IsTrue, length};
-ghost use Rattle.polcert_check.specs.Steps.Certificate.{controller};
-ghost use Rattle.polcert_check.specs.Horizon.{Controller};
-ghost use Rattle.polcert_check.specs.Steps.Factored.{value_behind, IsLeastOf, Misses};
-ghost use Rattle.polcert_check.specs.Steps.Walks.{AreFollowed, AreKnown, IsKnownAs};
+ghost use Rattle.std.specs.Prelude.{◌≡◌, length};
 ghost use Rattle.polcert_check.specs.declared.blocks.TheConstants.{ENDS_AT_ONCE};
 
 use crate::asked::Asked;
@@ -34,17 +30,26 @@ pub(crate) struct Ends {
     ghost room_for_worths: { length worths ≡ ENDS_AT_ONCE },
 }
 
-/// What is known where this observation is the least that has no successor, or there is none.
-fn known_of(missing: Option<usize>) -> Known
-    ensures { IsKnownAs missing result }
-{
-    match missing {
-        Some(observation) => Known::Missing(observation),
-        None => Known::Followed,
+impl Known {
+    ghost use Rattle.polcert_check.specs.Steps.Walks.{IsKnownAs};
+
+    /// What is known where this observation is the least that has no successor, or there is none.
+    fn of(missing: Option<usize>) -> Self
+        ensures { IsKnownAs missing result }
+    {
+        match missing {
+            Some(observation) => Known::Missing(observation),
+            None => Known::Followed,
+        }
     }
 }
 
 impl Ends {
+    ghost use Rattle.std.specs.Prelude.{◌<◌, ◌≤◌, ℕ, IsTrue};
+    ghost use Rattle.polcert_check.specs.Steps.Certificate.{controller};
+    ghost use Rattle.polcert_check.specs.Horizon.{Controller};
+    ghost use Rattle.polcert_check.specs.Steps.Walks.{AreFollowed, AreKnown, AreStepsBehind, CanAsk};
+
     /// Room for a block of which nothing is known.
     pub(crate) fn new() -> Self {
         Ends {
@@ -58,8 +63,7 @@ impl Ends {
     /// Goes on to a block of end states, of which nothing is known yet.
     fn clear(&mut self, block: EndBlock)
         ensures block { self.new.block ≡ block }
-        ensures known { (c : Controller) (n : ℕ)
-            → AreKnown c n self.new.block self.new.known self.new.worths }
+        ensures known { (c : Controller) (n : ℕ) → AreKnown c n self.new }
     {
         self.block = block;
         for i in 0..block.until - block.first {
@@ -79,8 +83,7 @@ impl Ends {
         requires end { first < (controller certificate.now).cells.states }
         ensures first { self.new.block.first ≡ first }
         ensures within { self.new.block.until ≤ (controller certificate.now).cells.states }
-        ensures known { AreKnown (controller certificate.now) n self.new.block self.new.known
-            self.new.worths }
+        ensures known { AreKnown (controller certificate.now) n self.new }
     {
         let block = EndBlock::from(first, certificate.cells.states());
         self.clear(block);
@@ -117,19 +120,11 @@ impl Ends {
         n: usize,
         e: usize,
     ) -> Steps
-        requires node { n < (controller certificate.now).nodes }
-        requires within { self.old.block.until ≤ (controller certificate.now).cells.states }
-        requires from { self.old.block.first ≤ e }
-        requires until { e < self.old.block.until }
-        requires known { AreKnown (controller certificate.now) n self.old.block self.old.known
-            self.old.worths }
-        ensures worth { result.worth ≡ value_behind (controller certificate.now) n e }
-        ensures missing { IsLeastOf
-            (Misses (controller certificate.now) n e (controller certificate.now).cells.observations)
-            result.missing }
+        requires asked { CanAsk (controller certificate.now) n self.old.block e }
+        requires known { AreKnown (controller certificate.now) n self.old }
+        ensures steps { AreStepsBehind (controller certificate.now) n e result }
         ensures block { self.new.block ≡ self.old.block }
-        ensures known { AreKnown (controller certificate.now) n self.new.block self.new.known
-            self.new.worths }
+        ensures known { AreKnown (controller certificate.now) n self.new }
     {
         let i = e - self.block.first;
         match self.known[i] {
@@ -148,25 +143,17 @@ impl Ends {
     /// The same, where it is not known yet.
     #[inline(never)]
     fn find<C: Cells>(&mut self, certificate: &Certificate<'_, C>, n: usize, e: usize) -> Steps
-        requires node { n < (controller certificate.now).nodes }
-        requires within { self.old.block.until ≤ (controller certificate.now).cells.states }
-        requires from { self.old.block.first ≤ e }
-        requires until { e < self.old.block.until }
-        requires known { AreKnown (controller certificate.now) n self.old.block self.old.known
-            self.old.worths }
-        ensures worth { result.worth ≡ value_behind (controller certificate.now) n e }
-        ensures missing { IsLeastOf
-            (Misses (controller certificate.now) n e (controller certificate.now).cells.observations)
-            result.missing }
+        requires asked { CanAsk (controller certificate.now) n self.old.block e }
+        requires known { AreKnown (controller certificate.now) n self.old }
+        ensures steps { AreStepsBehind (controller certificate.now) n e result }
         ensures block { self.new.block ≡ self.old.block }
-        ensures known { AreKnown (controller certificate.now) n self.new.block self.new.known
-            self.new.worths }
+        ensures known { AreKnown (controller certificate.now) n self.new }
     {
         self.asked.note(e);
         let end = end_of(certificate, n, e);
         let i = e - self.block.first;
         self.worths[i] = end.worth;
-        self.known[i] = known_of(end.missing);
+        self.known[i] = Known::of(end.missing);
         end
     }
 }

@@ -1,16 +1,15 @@
 //! Laws of the definitions from above, each the contract of a function with nothing to do.
-ghost use Rattle.std.specs.Prelude.{◌≡◌, ◌<◌, ◌≤ℤ◌, ℕ, ℤ};
+ghost use Rattle.std.specs.Prelude.{◌≡◌, ◌<◌, ℕ, ℤ};
 ghost use Rattle.polcert_cells.specs.Meaning.{Meaning, IsSame};
 ghost use Rattle.polcert_cells.specs.SameCells.{HasSameCells};
 ghost use Rattle.polcert_cells.specs.Tables.{CellTable, IsProper, IsWithinLimits, table_of};
 ghost use Rattle.polcert_policy.specs.Graphs.{PolicyGraph, IsProperGraph, nodes};
-ghost use Rattle.polcert_policy.specs.Vectors.{PolicyVectors, value_of};
+ghost use Rattle.polcert_policy.specs.Vectors.{PolicyVectors};
 ghost use Rattle.polcert_check.specs.declared.above.AboveVerdict.{AboveVerdict};
 ghost use Rattle.polcert_check.specs.declared.fault.RaiseFault.{RaiseFault};
-ghost use Rattle.polcert_check.specs.Above.{IsAboveVerdict, MeetsEveryHorizonAbove, MeetsHorizonAbove, PairPassesAbove, PassesAbove, PromiseAbove, RewardPromiseAbove};
-ghost use Rattle.polcert_check.specs.Horizon.{Controller, Fits, controller_of, one};
+ghost use Rattle.polcert_check.specs.Above.{AreNowhereExceeded, IsAboveVerdict, MeetsEveryHorizonAbove, MeetsHorizonAbove, PairPassesAbove, PassesAbove, PromiseAbove, RewardPromiseAbove};
+ghost use Rattle.polcert_check.specs.Horizon.{Controller, Fits, controller_of};
 ghost use Rattle.polcert_check.specs.Raise.{IsLeastRaise, IsNotRaised};
-ghost use Rattle.polcert_check.specs.Shortfall.{Passes};
 ghost use Rattle.polcert_check.specs.StartMost.{IsStartMost, StartPromiseAbove};
 
 /// Where every pair passes from above, the promise from above holds for every number of steps, with the vectors at the end and
@@ -26,11 +25,9 @@ pub fn promise_above_for_every_horizon()
 /// Where the discount is below 1, vectors that pass from below are nowhere above vectors that pass from above: the two bound what
 /// the graph earns from both sides.
 pub fn bounds_are_an_interval()
-    ensures { (x : CellTable) (graph : PolicyGraph) (low high : PolicyVectors) → IsProper x →
-        IsWithinLimits x → IsProperGraph graph →
-        Fits x graph low → Fits x graph high → x.discount < one →
-        Passes (controller_of x graph low) → PassesAbove (controller_of x graph high) →
-        (n s : ℕ) → n < nodes graph → s < x.states → value_of low n s ≤ℤ value_of high n s }
+    ensures { (x : CellTable) (graph : PolicyGraph) (vectors : PolicyVectors) → IsProper x →
+        IsWithinLimits x → IsProperGraph graph → Fits x graph vectors →
+        PassesAbove (controller_of x graph vectors) → AreNowhereExceeded x graph vectors }
 {}
 
 /// What a check from above says over one table it says over every table with the same counts and the same cells in range.

@@ -1,13 +1,11 @@
 //! The least constant by which all vectors can be lowered to pass.
-ghost use Rattle.std.specs.Prelude.{◌≡◌, ℕ, ◌+◌, ◌*◌, ◌^◌, ◌<◌, ◌≤◌, pos, neg_ℤ, ◌+ℤ◌, ◌⊎◌, ◌↔◌, IsTrue, IfOk, IfErr};
-ghost use Rattle.polcert_policy.specs.Vectors.{IsInRange, shifted_by};
+ghost use Rattle.std.specs.Prelude.{◌≡◌, ℕ, ◌+◌, ◌*◌, ◌^◌, ◌<◌, ◌≤◌, pos, neg_ℤ, ◌+ℤ◌, ◌↔◌, IsTrue, IfOk, IfErr};
+ghost use Rattle.polcert_policy.specs.Vectors.{IsInRange};
 ghost use Rattle.polcert_check.specs.Steps.Certificate.{judged};
 ghost use Rattle.polcert_check.specs.Horizon.{Fits, controller_of, one};
-ghost use Rattle.polcert_check.specs.Shortfall.{Passes};
-ghost use Rattle.polcert_check.specs.Lower.{NoneLacks, IsLeast, IsLeastConstant, HasLeastConstant, IsNotMended, IsNotLowered, RefusesSmallAmount};
+ghost use Rattle.polcert_check.specs.Lower.{NoneLacks, IsLeast, IsLeastConstant, IsNotMended, IsNotLowered, RefusesSmallAmount, IsLowered, RefusesToLower};
 ghost use Rattle.polcert_check.specs.Steps.Mirrored.{CanMove, IsLeastMove};
 ghost use Rattle.polcert_check.specs.Steps.Findings.{IsFound, IsPair, IsRefused, IsWorstOf};
-ghost use Rattle.polcert_check.specs.declared.fault.LowerFault.TheVariants.{Memory};
 ghost use Rattle.polcert_check.specs.declared.findings.Aim.TheVariants.{Lowering};
 ghost use Rattle.polcert_check.specs.declared.verdict.Verdict.TheVariants.{Yes};
 
@@ -187,21 +185,12 @@ pub fn lowered<C: Cells>(
     vectors: &Vectors,
 ) -> Result<(i64, Vectors), LowerFault>
     requires fits { Fits (C.table cells.now) graph.now vectors.now }
-    ensures least { IfOk result (λ lowered.
-        IsLeastConstant (controller_of (C.table cells.now) graph.now vectors.now) vectors.now lowered.0) }
-    ensures shifted { IfOk result (λ lowered. lowered.1 ≡ shifted_by vectors.now (neg_ℤ lowered.0)) }
 
-    // With the lowered vectors every pair passes.
-    ensures fits_still { IfOk result (λ lowered. Fits (C.table cells.now) graph.now lowered.1) }
-    ensures passes { IfOk result (λ lowered. Passes (controller_of (C.table cells.now) graph.now lowered.1)) }
+    // The least constant, and with the lowered vectors every pair passes.
+    ensures lowered { IfOk result (IsLowered (C.table cells.now) graph.now vectors.now) }
 
     // Want of memory is answered only where there is such a constant.
-    ensures refused { IfErr result (λ fault.
-        ((fault ≡ Memory) × HasLeastConstant (controller_of (C.table cells.now) graph.now vectors.now)
-        vectors.now)
-        ⊎ IsNotLowered (controller_of (C.table cells.now) graph.now vectors.now) vectors.now fault) }
-    ensures small { IfErr result
-        (RefusesSmallAmount (controller_of (C.table cells.now) graph.now vectors.now)) }
+    ensures not_lowered { IfErr result (RefusesToLower (C.table cells.now) graph.now vectors.now) }
 {
     lowered_watched(alloc, cells, graph, vectors, &mut Unwatched)
 }
@@ -215,17 +204,8 @@ pub fn lowered_watched<C: Cells, W: Watch>(
     watch: &mut W,
 ) -> Result<(i64, Vectors), LowerFault>
     requires fits { Fits (C.table cells.now) graph.now vectors.now }
-    ensures least { IfOk result (λ lowered.
-        IsLeastConstant (controller_of (C.table cells.now) graph.now vectors.now) vectors.now lowered.0) }
-    ensures shifted { IfOk result (λ lowered. lowered.1 ≡ shifted_by vectors.now (neg_ℤ lowered.0)) }
-    ensures fits_still { IfOk result (λ lowered. Fits (C.table cells.now) graph.now lowered.1) }
-    ensures passes { IfOk result (λ lowered. Passes (controller_of (C.table cells.now) graph.now lowered.1)) }
-    ensures refused { IfErr result (λ fault.
-        ((fault ≡ Memory) × HasLeastConstant (controller_of (C.table cells.now) graph.now vectors.now)
-        vectors.now)
-        ⊎ IsNotLowered (controller_of (C.table cells.now) graph.now vectors.now) vectors.now fault) }
-    ensures small { IfErr result
-        (RefusesSmallAmount (controller_of (C.table cells.now) graph.now vectors.now)) }
+    ensures lowered { IfOk result (IsLowered (C.table cells.now) graph.now vectors.now) }
+    ensures not_lowered { IfErr result (RefusesToLower (C.table cells.now) graph.now vectors.now) }
 {
     let nodes = graph.nodes();
     let vector_count = vectors.nodes();

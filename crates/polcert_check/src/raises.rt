@@ -1,11 +1,8 @@
 //! The least constant by which all vectors can be raised to pass from above.
-ghost use Rattle.std.specs.Prelude.{◌≡◌, ◌⊎◌, IfOk, IfErr};
-ghost use Rattle.polcert_policy.specs.Vectors.{shifted_by};
+ghost use Rattle.std.specs.Prelude.{◌≡◌, IfOk, IfErr};
 ghost use Rattle.polcert_check.specs.Horizon.{Fits, controller_of};
-ghost use Rattle.polcert_check.specs.Above.{PassesAbove};
-ghost use Rattle.polcert_check.specs.Raise.{IsLeastRaise, HasLeastRaise, IsNotRaised, RefusesSmallRaise};
+ghost use Rattle.polcert_check.specs.Raise.{IsLeastRaise, IsNotRaised, RefusesSmallRaise, IsRaised, RefusesToRaise};
 ghost use Rattle.polcert_check.specs.Steps.Mirrored.{raise_of};
-ghost use Rattle.polcert_check.specs.declared.fault.RaiseFault.TheVariants.{Memory};
 
 use crate::certificate::Certificate;
 use crate::fault::{LowerFault, RaiseFault};
@@ -97,23 +94,12 @@ pub fn raised<C: Cells>(
     vectors: &Vectors,
 ) -> Result<(i64, Vectors), RaiseFault>
     requires fits { Fits (C.table cells.now) graph.now vectors.now }
-    ensures least { IfOk result
-        (λ raised. IsLeastRaise (controller_of (C.table cells.now) graph.now vectors.now) vectors.now
-        raised.0) }
-    ensures shifted { IfOk result (λ raised. raised.1 ≡ shifted_by vectors.now raised.0) }
 
-    // With the raised vectors every pair passes from above.
-    ensures fits_still { IfOk result (λ raised. Fits (C.table cells.now) graph.now raised.1) }
-    ensures passes { IfOk result
-        (λ raised. PassesAbove (controller_of (C.table cells.now) graph.now raised.1)) }
+    // The least constant, and with the raised vectors every pair passes from above.
+    ensures raised { IfOk result (IsRaised (C.table cells.now) graph.now vectors.now) }
 
     // Want of memory is answered only where there is such a constant.
-    ensures refused { IfErr result (λ fault.
-        ((fault ≡ Memory) × HasLeastRaise (controller_of (C.table cells.now) graph.now vectors.now)
-        vectors.now)
-        ⊎ IsNotRaised (controller_of (C.table cells.now) graph.now vectors.now) vectors.now fault) }
-    ensures small { IfErr result
-        (RefusesSmallRaise (controller_of (C.table cells.now) graph.now vectors.now)) }
+    ensures not_raised { IfErr result (RefusesToRaise (C.table cells.now) graph.now vectors.now) }
 {
     raised_watched(alloc, cells, graph, vectors, &mut Unwatched)
 }
@@ -127,19 +113,8 @@ pub fn raised_watched<C: Cells, W: Watch>(
     watch: &mut W,
 ) -> Result<(i64, Vectors), RaiseFault>
     requires fits { Fits (C.table cells.now) graph.now vectors.now }
-    ensures least { IfOk result
-        (λ raised. IsLeastRaise (controller_of (C.table cells.now) graph.now vectors.now) vectors.now
-        raised.0) }
-    ensures shifted { IfOk result (λ raised. raised.1 ≡ shifted_by vectors.now raised.0) }
-    ensures fits_still { IfOk result (λ raised. Fits (C.table cells.now) graph.now raised.1) }
-    ensures passes { IfOk result
-        (λ raised. PassesAbove (controller_of (C.table cells.now) graph.now raised.1)) }
-    ensures refused { IfErr result (λ fault.
-        ((fault ≡ Memory) × HasLeastRaise (controller_of (C.table cells.now) graph.now vectors.now)
-        vectors.now)
-        ⊎ IsNotRaised (controller_of (C.table cells.now) graph.now vectors.now) vectors.now fault) }
-    ensures small { IfErr result
-        (RefusesSmallRaise (controller_of (C.table cells.now) graph.now vectors.now)) }
+    ensures raised { IfOk result (IsRaised (C.table cells.now) graph.now vectors.now) }
+    ensures not_raised { IfErr result (RefusesToRaise (C.table cells.now) graph.now vectors.now) }
 {
     let nodes = graph.nodes();
     let vector_count = vectors.nodes();

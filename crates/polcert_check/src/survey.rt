@@ -22,39 +22,6 @@ struct Surveyed {
     findings: Findings,
 }
 
-/// Notes what is found at each state of a block and node `n`.
-fn survey_states<C: Cells>(
-    certificate: &Certificate<'_, C>,
-    n: usize,
-    block: StartBlock,
-    survey: &mut Surveyed,
-)
-    requires node { n < (controller certificate.now).nodes }
-    requires within { block.until ≤ (controller certificate.now).cells.states }
-    requires first { survey.old.earnings.first ≡ block.first }
-    requires kept { AreKept (controller certificate.now).cells ((controller certificate.now).action n)
-        block.first survey.old.earnings.sums survey.old.earnings.count }
-    requires found { IsFoundBefore (judged certificate.now) ((controller certificate.now).action n)
-        block.first block.until n block.first survey.old.findings }
-    ensures first { survey.new.earnings.first ≡ block.first }
-    ensures kept { AreKept (controller certificate.now).cells ((controller certificate.now).action n)
-        block.first survey.new.earnings.sums survey.new.earnings.count }
-    ensures found { IsFoundBefore (judged certificate.now) ((controller certificate.now).action n)
-        block.first block.until (n + 1) block.first survey.new.findings }
-    ensures aim { survey.new.findings.aim ≡ survey.old.findings.aim }
-{
-    let a = certificate.graph.action(n);
-    survey.walks.walk(certificate, n, block);
-    for s in block.first..block.until {
-        let earned = survey.earnings.earned(certificate.cells, a, s);
-        let steps = survey.walks.walks[s - block.first].steps;
-        let found = at_pair(certificate, n, s, earned, steps);
-        if survey.findings.note(n, found) {
-            return;
-        }
-    }
-}
-
 /// Notes what is found at each pair of node `n` and a state of a block, unless none of them can be the first that is sought. With the
 /// last block all pairs of the node have been walked.
 fn survey_node<C: Cells, W: Watch>(
@@ -81,8 +48,17 @@ fn survey_node<C: Cells, W: Watch>(
     if survey.findings.is_settled(n) {
         return;
     }
-    survey_states(certificate, n, block, survey);
-    if block.until == certificate.cells.states() && !survey.findings.is_settled(n) {
+    let a = certificate.graph.action(n);
+    survey.walks.walk(certificate, n, block);
+    for s in block.first..block.until {
+        let earned = survey.earnings.earned(certificate.cells, a, s);
+        let steps = survey.walks.walks[s - block.first].steps;
+        let found = at_pair(certificate, n, s, earned, steps);
+        if survey.findings.note(n, found) {
+            return;
+        }
+    }
+    if block.until == certificate.cells.states() {
         watch.node_done();
     }
 }

@@ -48,10 +48,10 @@ fn go_on<C: Cells>(
     requires node { n < (controller certificate.now).nodes }
     requires start { s < (controller certificate.now).cells.states }
     requires within { ends.old.block.until ≤ (controller certificate.now).cells.states }
-    requires known { AreKnown (controller certificate.now) n ends.old.block ends.old.known ends.old.worths }
+    requires known { AreKnown (controller certificate.now) n ends.old }
     requires walk { IsWalk (controller certificate.now) n s ends.old.block.first walk }
     ensures block { ends.new.block ≡ ends.old.block }
-    ensures known { AreKnown (controller certificate.now) n ends.new.block ends.new.known ends.new.worths }
+    ensures known { AreKnown (controller certificate.now) n ends.new }
     ensures walk { IsWalk (controller certificate.now) n s ends.new.block.until result }
 {
     let until = ends.block.until;

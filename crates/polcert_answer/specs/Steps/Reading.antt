@@ -1,18 +1,16 @@
 -- Helper definitions of private functions: what is read of three sources, and written of it. Nobody has to believe them.
-use Rattle.std.specs.Prelude.{◌≡◌, ℕ, ℤ, neg_ℤ, List}
+use Rattle.std.specs.Prelude.{◌≡◌, ℕ, ℤ, List}
 use Rattle.polcert_text.specs.declared.number.Rounding.{Rounding}
 use Rattle.polcert_text.specs.declared.number.Rounding.TheVariants.{Up}
 use Rattle.polcert_cells.specs.Meaning.{Meaning, states_of}
 use Rattle.polcert_cells.specs.Tables.{table_of}
 use Rattle.polcert_policy.specs.Graphs.{PolicyGraph}
-use Rattle.polcert_policy.specs.Vectors.{PolicyVectors, shifted_by}
+use Rattle.polcert_policy.specs.Vectors.{PolicyVectors}
 use Rattle.polcert_policy.specs.VectorText.{IsVectorsText, IsRoundedVectorsText}
 use Rattle.polcert_policy.specs.FullForm.{vectors_text}
 use Rattle.polcert_check.specs.Horizon.{Controller, controller_of}
-use Rattle.polcert_check.specs.Lower.{IsLeastConstant}
-use Rattle.polcert_check.specs.Raise.{IsLeastRaise}
-use Rattle.polcert_check.specs.Shortfall.{Passes}
-use Rattle.polcert_check.specs.Above.{PassesAbove}
+use Rattle.polcert_check.specs.Lower.{IsLowered}
+use Rattle.polcert_check.specs.Raise.{IsRaised}
 use Rattle.polcert_answer.specs.declared.fault.Fault.TheVariants.{Model, Graph, Vectors}
 use Rattle.polcert_answer.specs.declared.fault.RunFault.{RunFault}
 use Rattle.polcert_answer.specs.declared.fault.RunFault.TheVariants.{Text, ReadModel, ReadGraph, ReadVectors, Write, Lower, Raise, TooLargeToPrint}
@@ -39,18 +37,14 @@ pub record IsAnswerLine {V : Type 0} (Is : Controller → V → Type 0) (IsLine 
 -- which reads back
 pub record AreLowered (m : Meaning) (g : PolicyGraph) (v : PolicyVectors) (by : ℤ) (text : List ℕ) : Type 0 where
   pub lower : PolicyVectors
-  pub least : IsLeastConstant (controller_of (table_of m) g v) v by
-  pub shifted : lower ≡ shifted_by v (neg_ℤ by)
-  pub passes : Passes (controller_of (table_of m) g lower)
+  pub lowered : IsLowered (table_of m) g v (by, lower)
   pub text_is : text ≡ vectors_text g lower
   pub reads_back : IsVectorsText g (states_of m) text lower
 
 -- the same from above, with the vectors raised
 pub record AreRaised (m : Meaning) (g : PolicyGraph) (v : PolicyVectors) (by : ℤ) (text : List ℕ) : Type 0 where
   pub raise : PolicyVectors
-  pub least : IsLeastRaise (controller_of (table_of m) g v) v by
-  pub shifted : raise ≡ shifted_by v by
-  pub passes : PassesAbove (controller_of (table_of m) g raise)
+  pub raised : IsRaised (table_of m) g v (by, raise)
   pub text_is : text ≡ vectors_text g raise
   pub reads_back : IsRoundedVectorsText Up g (states_of m) text raise
 

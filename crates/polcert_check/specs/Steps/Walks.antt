@@ -8,6 +8,7 @@ use Rattle.polcert_check.specs.Steps.Factored.{value_behind, IsLeastOf, Misses}
 use Rattle.polcert_check.specs.declared.blocks.Block.{Block}
 use Rattle.polcert_check.specs.declared.blocks.TheConstants.{ENDS_AT_ONCE, STARTS_AT_ONCE}
 use Rattle.polcert_check.specs.declared.ends.Steps.{Steps}
+use Rattle.polcert_check.specs.declared.known.Ends.{Ends}
 use Rattle.polcert_check.specs.declared.known.Known.{Known}
 use Rattle.polcert_check.specs.declared.known.Known.TheVariants.{Nothing, Followed, Missing}
 use Rattle.polcert_check.specs.declared.walks.Walk.{Walk}
@@ -26,8 +27,20 @@ IsKnown c n e Followed worth = (worth ≡ value_behind c n e) × IsLeastOf (Miss
 IsKnown c n e (Missing z) worth = (worth ≡ value_behind c n e) × IsLeastOf (Misses c n e c.cells.observations) (Some z)
 
 -- the same of each state of the block
-pub record AreKnown (c : Controller) (n : ℕ) (block : Block ENDS_AT_ONCE) (known : List Known) (worths : List ℤ) : Type 0 where
-  pub each : (i : ℕ) → block.first + i < block.until → IsKnown c n (block.first + i) (slice_index_or known i Nothing) (slice_index_or worths i (pos 0))
+pub record AreKnown (c : Controller) (n : ℕ) (ends : Ends) : Type 0 where
+  pub each : (i : ℕ) → ends.block.first + i < ends.block.until → IsKnown c n (ends.block.first + i) (slice_index_or ends.known i Nothing) (slice_index_or ends.worths i (pos 0))
+
+-- node n may be asked what it expects behind end state e, which is one of the block
+pub record CanAsk (c : Controller) (n : ℕ) (block : Block ENDS_AT_ONCE) (e : ℕ) : Type 0 where
+  pub node : n < c.nodes
+  pub within : block.until ≤ c.cells.states
+  pub from : block.first ≤ e
+  pub until : e < block.until
+
+-- what node n expects behind end state e, and the least observation there for which it has no successor
+pub record AreStepsBehind (c : Controller) (n e : ℕ) (steps : Steps) : Type 0 where
+  pub worth : steps.worth ≡ value_behind c n e
+  pub missing : IsLeastOf (Misses c n e c.cells.observations) steps.missing
 
 -- the list has what node n expects behind each of the first end states, and it has a successor for each observation there
 pub record AreFollowed (c : Controller) (n count : ℕ) (worths : List ℤ) : Type 0 where

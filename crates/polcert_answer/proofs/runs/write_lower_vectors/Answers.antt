@@ -7,18 +7,18 @@ use Rattle.polcert_answer.proofs.runs.write_lower_vectors.Goals as goal
 pub returns-in-Err-clause-not_lowered : goal.returns-in-Err-clause-not_lowered
 returns-in-Err-clause-not_lowered g c = λ fault same.
     let is_fault : c.in-Err.fault ≡ fault = same_lower _ _ _ refl same in
-    why_of _ _ fault (rw is_fault at c.in-Err.ensures.refused)
+    why_of _ _ fault (rw is_fault at c.in-Err.ensures.not_lowered.refused)
 
 pub returns-in-Ok-write_full_vectors-clause-lowered : goal.returns-in-Ok-write_full_vectors-clause-lowered
 returns-in-Ok-write_full_vectors-clause-lowered g c =
     let fits : FitsSigned w64 c.in-Ok.found.0 = search rules in
     let back : to_z w64 (of_z w64 c.in-Ok.found.0) ≡ c.in-Ok.found.0 = to_z-of_z fits in
-    let are = are_lowered (meaning c.args.given.now.model) c.args.given.now.graph c.args.given.now.vectors c.in-Ok.found.0 c.in-Ok.found.1
-    c.in-Ok.ensures.least c.in-Ok.ensures.shifted c.in-Ok.ensures.passes c.in-Ok.ensures.fits_still.states (c.in-Ok-write_full_vectors.ensures.reads_back Down) in
+    let are = are_lowered (meaning c.args.given.now.model) c.args.given.now.graph c.args.given.now.vectors c.in-Ok.found.0 c.in-Ok.found.1 c.in-Ok.ensures.lowered
+    (c.in-Ok-write_full_vectors.ensures.reads_back Down) in
     (_, rw back are, c.in-Ok-write_full_vectors.ensures.written.ok)
 
 pub returns-clause-begun : goal.returns-clause-begun
 returns-clause-begun g c = λ failed.
-    let are = are_lowered (meaning c.args.given.now.model) c.args.given.now.graph c.args.given.now.vectors c.in-Ok.found.0 c.in-Ok.found.1
-    c.in-Ok.ensures.least c.in-Ok.ensures.shifted c.in-Ok.ensures.passes c.in-Ok.ensures.fits_still.states (c.write_full_vectors.ensures.reads_back Down) in
+    let are = are_lowered (meaning c.args.given.now.model) c.args.given.now.graph c.args.given.now.vectors c.in-Ok.found.0 c.in-Ok.found.1 c.in-Ok.ensures.lowered
+    (c.write_full_vectors.ensures.reads_back Down) in
     (c.in-Ok.found.0, _, are, c.in-Err-write_full_vectors.ensures.written.err)

@@ -52,7 +52,7 @@ weighed-worth-requires g c =
     let k : Controller = controller c.args.certificate.now in
     let limits : IsWithinLimits k.cells = g.met.C.Cells.is_within_limits c.args.certificate.now.cells.now in
     let fy : FitsSigned w128 c.behind-step.result.worth = search rules in
-    let back : to_z w128 (of_z w128 c.behind-step.result.worth) ≡ value_behind k c.args.n c.in-Some.end.column = to_z-of_z w128 c.behind-step.result.worth fy ∙ c.behind-step.ensures.worth in
+    let back : to_z w128 (of_z w128 c.behind-step.result.worth) ≡ value_behind k c.args.n c.in-Some.end.column = to_z-of_z w128 c.behind-step.result.worth fy ∙ c.behind-step.ensures.steps.worth in
     let next = rw c.action-a.ensures.value at c.in-Some.ensures.0 in
     rw back (weight_room k.cells c.args.certificate.now.proper.cells limits (k.action c.args.n) c.args.s (c.args.certificate.now.proper.closed.actions_in_range c.args.n c.requires.node) c.requires.start c.in-Some.end.column c.in-Some.end.weight (value_behind k c.args.n c.in-Some.end.column) next.1 next.2 (value_behind_le k c.args.certificate.now.proper c.args.certificate.now.values c.args.n c.in-Some.end.column c.requires.node next.1))
 
@@ -64,7 +64,7 @@ overflow_add-worth g c =
     let fy : FitsSigned w128 c.behind-step.result.worth = search rules in
     let small : (e : ℕ) → e < k.cells.states → unsigned_abs (value_behind k c.args.n e) ≤ k.cells.o_scale * largest = λ e el. value_behind_le k c.args.certificate.now.proper c.args.certificate.now.values c.args.n e c.requires.node el in
     let next = rw c.action-a.ensures.value at c.in-Some.ensures.0 in
-    (ahead_step k.cells c.args.certificate.now.proper.cells limits (k.action c.args.n) c.args.s (c.args.certificate.now.proper.closed.actions_in_range c.args.n c.requires.node) c.requires.start (value_behind k c.args.n) small (reached c.t_row-row.result c.loop-end.at) c.in-Some.end.column c.in-Some.end.weight (to_z w128 c.loop-end.worth-bits) c.weighed-worth.result c.behind-step.result.worth next.0 next.1 next.2 next.4 c.loop-end.invariant.worth fx fy c.weighed-worth.ensures c.behind-step.ensures.worth).0
+    (ahead_step k.cells c.args.certificate.now.proper.cells limits (k.action c.args.n) c.args.s (c.args.certificate.now.proper.closed.actions_in_range c.args.n c.requires.node) c.requires.start (value_behind k c.args.n) small (reached c.t_row-row.result c.loop-end.at) c.in-Some.end.column c.in-Some.end.weight (to_z w128 c.loop-end.worth-bits) c.weighed-worth.result c.behind-step.result.worth next.0 next.1 next.2 next.4 c.loop-end.invariant.worth fx fy c.weighed-worth.ensures c.behind-step.ensures.steps.worth).0
 
 pub loop-end-preserved : goal.loop-end-preserved
 loop-end-preserved g c =
@@ -76,8 +76,8 @@ loop-end-preserved g c =
     let next = rw c.action-a.ensures.value at c.in-Some.ensures.0 in
     let first : c.loop-end.ends.block.first ≤ c.in-Some.end.column = not_nearer k c.args.n c.args.s (reached c.t_row-row.result c.loop-end.at) c.loop-end.ends.block.first c.in-Some.end.column c.in-Some.end.weight next.0 next.2 next.3 c.loop-end.invariant.clear in
     rw c.in-Some.ensures.1 (record {
-      worth = (ahead_step k.cells c.args.certificate.now.proper.cells limits (k.action c.args.n) c.args.s (c.args.certificate.now.proper.closed.actions_in_range c.args.n c.requires.node) c.requires.start (value_behind k c.args.n) small (reached c.t_row-row.result c.loop-end.at) c.in-Some.end.column c.in-Some.end.weight (to_z w128 c.loop-end.worth-bits) c.weighed-worth.result c.behind-step.result.worth next.0 next.1 next.2 next.4 c.loop-end.invariant.worth fx fy c.weighed-worth.ensures c.behind-step.ensures.worth).1;
-      missing = before_more k c.args.n c.args.s (reached c.t_row-row.result c.loop-end.at) c.in-Some.end.column c.in-Some.end.weight c.loop-end.missing c.behind-step.result.missing c.lesser-missing.result next.0 next.4 next.2 next.3 c.loop-end.invariant.missing c.behind-step.ensures.missing c.lesser-missing.ensures;
+      worth = (ahead_step k.cells c.args.certificate.now.proper.cells limits (k.action c.args.n) c.args.s (c.args.certificate.now.proper.closed.actions_in_range c.args.n c.requires.node) c.requires.start (value_behind k c.args.n) small (reached c.t_row-row.result c.loop-end.at) c.in-Some.end.column c.in-Some.end.weight (to_z w128 c.loop-end.worth-bits) c.weighed-worth.result c.behind-step.result.worth next.0 next.1 next.2 next.4 c.loop-end.invariant.worth fx fy c.weighed-worth.ensures c.behind-step.ensures.steps.worth).1;
+      missing = before_more k c.args.n c.args.s (reached c.t_row-row.result c.loop-end.at) c.in-Some.end.column c.in-Some.end.weight c.loop-end.missing c.behind-step.result.missing c.lesser-missing.result next.0 next.4 next.2 next.3 c.loop-end.invariant.missing c.behind-step.ensures.steps.missing c.lesser-missing.ensures;
       within = omega (arith, next.1);
       clear = λ j l h. absurd (omega (arith, l, first, subst (λ (b : Block ENDS_AT_ONCE). j < b.first) c.behind-step.ensures.block h));
       block = c.behind-step.ensures.block ∙ c.loop-end.invariant.block;

@@ -13,7 +13,7 @@ invariant-loop-end g l = record {
   within : reached l.row l.at ≤ (controller l.certificate).cells.states;
   clear : (k : ℕ) → reached l.row l.at ≤ k → k < l.ends.block.first → (controller l.certificate).cells.t ((controller l.certificate).action l.n) l.s k ≡ 0;
   block : l.ends.block ≡ l.fn.ends.block;
-  known : AreKnown (controller l.certificate) l.n l.ends.block l.ends.known l.ends.worths;
+  known : AreKnown (controller l.certificate) l.n l.ends;
 }
 
 abbrev pub decreases-loop-end : goal.decreases-loop-end

@@ -9,5 +9,5 @@ invariant-loop-e g l = record {
   from : l.self.block.first ≤ l.e;
   until : l.self.block.until ≡ l.e-end;
   within : l.self.block.until ≤ (controller l.certificate).cells.states;
-  known : AreKnown (controller l.certificate) l.n l.self.block l.self.known l.self.worths;
+  known : AreKnown (controller l.certificate) l.n l.self;
 }

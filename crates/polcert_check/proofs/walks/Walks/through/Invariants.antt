@@ -9,7 +9,7 @@ invariant-loop-s g l = record {
   further : l.self.ends.block.until ≤ l.nearest;
   within : l.self.ends.block.until ≤ (controller l.certificate).cells.states;
   first : l.self.ends.block.first ≡ l.first;
-  known : AreKnown (controller l.certificate) l.n l.self.ends.block l.self.ends.known l.self.ends.worths;
+  known : AreKnown (controller l.certificate) l.n l.self.ends;
   before : (i : ℕ) → l.block.first + i < l.s → IsWalk (controller l.certificate) l.n (l.block.first + i) l.nearest (walk_at l.self.walks i);
   behind : (i : ℕ) → l.s ≤ l.block.first + i → l.block.first + i < l.block.until → IsWalk (controller l.certificate) l.n (l.block.first + i) l.first (walk_at l.self.walks i);
 }

@@ -3,7 +3,7 @@ use Rattle.polcert_check.specs.Steps.Certificate.{controller, judged}
 use Rattle.polcert_check.specs.Steps.Factored.{AreKept}
 use Rattle.polcert_check.specs.Steps.Walks.{AreWalks}
 use Rattle.polcert_check.specs.Steps.Findings.{IsFoundBefore}
-use Rattle.polcert_check.proofs.survey.survey_states.Given as goal
+use Rattle.polcert_check.proofs.survey.survey_node.Given as goal
 
 abbrev pub invariant-loop-s : goal.invariant-loop-s
 invariant-loop-s g l = record {
