@@ -1,6 +1,8 @@
 //! Worked rows from above: what three texts answer, what is printed of it, and what raising gives.
-use super::answers::{ALWAYS_FIRST, COST, EITHER, LOSS, MDP, REFUSED, TIGER, TWO_STATES, answer};
-use super::runs::{Answer, Run, SOUND, Texts, over_devices};
+use super::answers::{
+    ALWAYS_FIRST, COST, EITHER, LOSS, MDP, TIGER, TWO_STATES, answer, first_accepted, refused_rows,
+};
+use super::runs::{Answer, Run, Texts, gives, refuses};
 use polcert_answer::{Fault, RunFault, check_texts_above, status_of, status_of_above_verdict};
 use polcert_check::{AboveVerdict, RaiseFault, Verdict};
 use std::alloc::Global;
@@ -65,6 +67,11 @@ const YES: [(Texts<'static>, &[u8]); 8] = [
     ),
 ];
 
+/// The rows of YES. (A function, so that the test is proved without the table.)
+fn yes_rows() -> [(Texts<'static>, &'static [u8]); 8] {
+    YES
+}
+
 /// Texts of which a value is too low at the first node and state, by how much, and the line.
 const TOO_LOW: [(Texts<'static>, i128, &[u8]); 4] = [
     (BELOW, 200_000_000_000_000_000, LONG),
@@ -85,6 +92,11 @@ const TOO_LOW: [(Texts<'static>, i128, &[u8]); 4] = [
     ),
 ];
 
+/// The rows of TOO_LOW. (A function, so that the test is proved without the table.)
+fn too_low_rows() -> [(Texts<'static>, i128, &'static [u8]); 4] {
+    TOO_LOW
+}
+
 /// Whether this is the verdict on the texts from above, with its exit status and its line.
 fn is_answered(
     alloc: Global,
@@ -93,26 +105,48 @@ fn is_answered(
     status: u8,
     line: &[u8],
 ) -> bool {
-    let outcome = over_devices(alloc, Run::CheckAbove, texts, SOUND);
     answer_above(alloc, texts) == Ok(verdict)
         && status_of_above_verdict(verdict) == status
-        && outcome.answer == Ok(Answer::SaidAbove(verdict))
-        && outcome.written.as_slice() == line
+        && gives(
+            alloc,
+            Run::CheckAbove,
+            texts,
+            Ok(Answer::SaidAbove(verdict)),
+            line,
+        )
 }
 
-#[test]
-fn answers_from_above(rt: HostRuntime) {
-    for (texts, line) in YES {
-        assert!(rt; is_answered(rt.alloc(), texts, AboveVerdict::Yes, 0, line));
+/// The first row that is not answered yes.
+fn first_no(alloc: Global, rows: &[(Texts<'static>, &[u8])]) -> Option<usize> {
+    for row in 0..rows.len() {
+        let (texts, line) = rows[row];
+        if !is_answered(alloc, texts, AboveVerdict::Yes, 0, line) {
+            return Some(row);
+        }
     }
-    for (texts, amount, line) in TOO_LOW {
+    None
+}
+
+/// The first row that is not found too low by its amount.
+fn first_not_too_low(alloc: Global, rows: &[(Texts<'static>, i128, &[u8])]) -> Option<usize> {
+    for row in 0..rows.len() {
+        let (texts, amount, line) = rows[row];
         let verdict = AboveVerdict::Long {
             node: 0,
             state: 0,
             amount,
         };
-        assert!(rt; is_answered(rt.alloc(), texts, verdict, 1, line));
+        if !is_answered(alloc, texts, verdict, 1, line) {
+            return Some(row);
+        }
     }
+    None
+}
+
+#[test]
+fn answers_from_above(rt: HostRuntime) {
+    assert_eq!(rt; first_no(rt.alloc(), &yes_rows()), None);
+    assert_eq!(rt; first_not_too_low(rt.alloc(), &too_low_rows()), None);
     let lack = AboveVerdict::NoSuccessor {
         node: 0,
         state: 0,
@@ -130,60 +164,81 @@ fn answers_from_above(rt: HostRuntime) {
     );
 }
 
-/// The answer from above to a model, a graph and the written text is yes.
+/// Whether raising by this constant writes this text, and the answer from above to it is yes.
+fn is_raised(alloc: Global, texts: Texts<'_>, by: i64, text: &[u8]) -> bool {
+    gives(alloc, Run::Raise, texts, Ok(Answer::By(by)), text)
+        && answer_above(alloc, (texts.0, texts.1, text)) == Ok(AboveVerdict::Yes)
+}
+
+/// Texts, the constant by which their vectors are raised, and what is written.
+const RAISES: [(Texts<'static>, i64, &[u8]); 5] = [
+    (BELOW, 1, RAISED),
+    ((TIGER, b"0 0 0 0", b"0 -20 -20"), 0, RAISED),
+    ((COST, b"0 0 0", b"0 -5"), 3_000_000, b"0\n-2\n\n"),
+    (
+        (MDP, b"0 0 0 0", b"0 1.333333 0.666666"),
+        1,
+        b"0\n1.333334 0.666667\n\n",
+    ),
+    (
+        (MDP, b"0 0 0 0", b"0 1.3333333 0.6666667"),
+        0,
+        b"0\n1.333334 0.666667\n\n",
+    ),
+];
+
+/// The first row whose vectors are raised otherwise.
+fn first_wrong_raise(alloc: Global, rows: &[(Texts<'static>, i64, &[u8])]) -> Option<usize> {
+    for row in 0..rows.len() {
+        let (texts, by, text) = rows[row];
+        if !is_raised(alloc, texts, by, text) {
+            return Some(row);
+        }
+    }
+    None
+}
+
 #[test]
 fn raises(rt: HostRuntime) {
-    let rows: [(Texts<'_>, i64, &[u8]); 5] = [
-        (BELOW, 1, RAISED),
-        ((TIGER, b"0 0 0 0", b"0 -20 -20"), 0, RAISED),
-        ((COST, b"0 0 0", b"0 -5"), 3_000_000, b"0\n-2\n\n"),
-        (
-            (MDP, b"0 0 0 0", b"0 1.333333 0.666666"),
-            1,
-            b"0\n1.333334 0.666667\n\n",
-        ),
-        (
-            (MDP, b"0 0 0 0", b"0 1.3333333 0.6666667"),
-            0,
-            b"0\n1.333334 0.666667\n\n",
-        ),
-    ];
-    for (texts, by, text) in rows {
-        let outcome = over_devices(rt.alloc(), Run::Raise, texts, SOUND);
-        assert_eq!(rt; outcome.answer, Ok(Answer::By(by)));
-        assert_eq!(rt; outcome.written.as_slice(), text);
-        let given_back = (texts.0, texts.1, outcome.written.as_slice());
-        assert_eq!(rt; answer_above(rt.alloc(), given_back), Ok(AboveVerdict::Yes));
+    assert_eq!(rt; first_wrong_raise(rt.alloc(), &RAISES), None);
+}
+
+/// Texts whose vectors no constant raises to pass, and why.
+const UNRAISED: [(Texts<'static>, RaiseFault); 3] = [
+    (
+        (GAIN, b"0 0 0", b"0 5"),
+        RaiseFault::NoConstant {
+            node: 0,
+            state: 0,
+            amount: 1_000_000_000_000_000_000_000_000,
+        },
+    ),
+    ((GREAT_GAIN, b"0 0 0", b"0 0"), RaiseFault::OutOfRange),
+    (
+        (EITHER, b"0 0 0 -", b"0 0"),
+        RaiseFault::NoSuccessor {
+            node: 0,
+            state: 0,
+            observation: 1,
+        },
+    ),
+];
+
+/// The first row that is not refused for its fault, with exit status 1.
+fn first_raised(alloc: Global, rows: &[(Texts<'static>, RaiseFault)]) -> Option<usize> {
+    for row in 0..rows.len() {
+        let (texts, fault) = rows[row];
+        let stopped = RunFault::Raise(fault);
+        if status_of(&stopped) != 1 || !refuses(alloc, Run::Raise, texts, stopped) {
+            return Some(row);
+        }
     }
+    None
 }
 
 #[test]
 fn refuses_to_raise(rt: HostRuntime) {
-    let rows: [(Texts<'_>, RaiseFault); 3] = [
-        (
-            (GAIN, b"0 0 0", b"0 5"),
-            RaiseFault::NoConstant {
-                node: 0,
-                state: 0,
-                amount: 1_000_000_000_000_000_000_000_000,
-            },
-        ),
-        ((GREAT_GAIN, b"0 0 0", b"0 0"), RaiseFault::OutOfRange),
-        (
-            (EITHER, b"0 0 0 -", b"0 0"),
-            RaiseFault::NoSuccessor {
-                node: 0,
-                state: 0,
-                observation: 1,
-            },
-        ),
-    ];
-    for (texts, fault) in rows {
-        let outcome = over_devices(rt.alloc(), Run::Raise, texts, SOUND);
-        assert_eq!(rt; outcome.answer, Err(RunFault::Raise(fault)));
-        assert_eq!(rt; status_of(&RunFault::Raise(fault)), 1);
-        assert_eq!(rt; outcome.written.len(), 0);
-    }
+    assert_eq!(rt; first_raised(rt.alloc(), &UNRAISED), None);
     assert_eq!(rt; status_of(&RunFault::Raise(RaiseFault::Memory)), 4);
 }
 
@@ -195,15 +250,26 @@ fn the_same_file_from_both_sides(rt: HostRuntime) {
     assert_eq!(rt; answer_above(rt.alloc(), texts), Ok(AboveVerdict::Yes));
 }
 
+/// The first row that the answer from above does not refuse for its fault.
+fn first_answered_above(alloc: Global, rows: &[(Texts<'static>, Fault)]) -> Option<usize> {
+    for row in 0..rows.len() {
+        let (texts, fault) = rows[row];
+        if answer_above(alloc, texts) != Err(fault) {
+            return Some(row);
+        }
+    }
+    None
+}
+
 /// The first text that denotes nothing is refused, and nothing is written.
 #[test]
 fn refuses_texts_from_above(rt: HostRuntime) {
-    for (texts, fault) in REFUSED {
-        assert_eq!(rt; answer_above(rt.alloc(), texts), Err(fault));
-        for run in [Run::CheckAbove, Run::Raise] {
-            let outcome = over_devices(rt.alloc(), run, texts, SOUND);
-            assert_eq!(rt; outcome.answer, Err(RunFault::Text(fault)), "{run:?}");
-            assert_eq!(rt; outcome.written.len(), 0);
-        }
+    assert_eq!(rt; first_answered_above(rt.alloc(), &refused_rows()), None);
+    for run in [Run::CheckAbove, Run::Raise] {
+        assert_eq!(rt;
+            first_accepted(rt.alloc(), run, &refused_rows()),
+            None,
+            "{run:?}"
+        );
     }
 }

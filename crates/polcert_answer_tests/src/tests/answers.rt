@@ -1,5 +1,5 @@
 //! Worked rows: what three texts answer, what is printed of it, and what lowering gives.
-use super::runs::{Answer, Run, SOUND, Texts, over_devices};
+use super::runs::{Answer, Run, Texts, gives, refuses};
 use polcert_answer::{Fault, RunFault, check_texts, status_of, status_of_verdict};
 use polcert_check::{LowerFault, Verdict};
 use polcert_model::{ItemFault, ModelFault};
@@ -144,83 +144,124 @@ const ANSWERS: [(Texts<'static>, Verdict, u8, &[u8]); 13] = [
     ),
 ];
 
-#[test]
-fn answers(rt: HostRuntime) {
-    for (texts, verdict, status, line) in ANSWERS {
-        assert_eq!(rt; answer(rt.alloc(), texts), Ok(verdict));
-        assert_eq!(rt; status_of_verdict(verdict), status);
-        let outcome = over_devices(rt.alloc(), Run::Check, texts, SOUND);
-        assert_eq!(rt; outcome.answer, Ok(Answer::Said(verdict)));
-        assert_eq!(rt; outcome.written.as_slice(), line);
-    }
+/// The rows of ANSWERS. (A function, so that the test is proved without the table.)
+fn answered_rows() -> [(Texts<'static>, Verdict, u8, &'static [u8]); 13] {
+    ANSWERS
 }
 
-/// The answer to a model, a graph and the written text is yes.
+/// Whether this is the verdict on the texts, with its exit status and its line.
+fn is_answered(alloc: Global, texts: Texts<'_>, verdict: Verdict, status: u8, line: &[u8]) -> bool {
+    answer(alloc, texts) == Ok(verdict)
+        && status_of_verdict(verdict) == status
+        && gives(alloc, Run::Check, texts, Ok(Answer::Said(verdict)), line)
+}
+
+/// The first row whose texts are answered otherwise.
+fn first_wrong_answer(
+    alloc: Global,
+    rows: &[(Texts<'static>, Verdict, u8, &[u8])],
+) -> Option<usize> {
+    for row in 0..rows.len() {
+        let (texts, verdict, status, line) = rows[row];
+        if !is_answered(alloc, texts, verdict, status, line) {
+            return Some(row);
+        }
+    }
+    None
+}
+
+#[test]
+fn answers(rt: HostRuntime) {
+    assert_eq!(rt; first_wrong_answer(rt.alloc(), &answered_rows()), None);
+}
+
+/// Texts, the constant by which their vectors are lowered, and what is written.
+const LOWERED: [(Texts<'static>, i64, &[u8]); 5] = [
+    (
+        (TIGER, b"0 0 0 0", b"0 -19.999999 -19.999999"),
+        1,
+        b"0\n-20 -20\n\n",
+    ),
+    ((TIGER, b"0 0 0 0", b"0 -20 -20"), 0, b"0\n-20 -20\n\n"),
+    ((COST, b"0 0 0", b"0 2"), 4_000_000, b"0\n-2\n\n"),
+    ((COST, b"0 0 0", b"0 -2"), 0, b"0\n-2\n\n"),
+    (
+        (MDP, b"0 0 0 0", b"0 1.333334 0.666667"),
+        1,
+        b"0\n1.333333 0.666666\n\n",
+    ),
+];
+
+/// Whether lowering by this constant writes this text, and the answer to it is yes.
+fn is_lowered(alloc: Global, texts: Texts<'_>, by: i64, text: &[u8]) -> bool {
+    gives(alloc, Run::Lower, texts, Ok(Answer::By(by)), text)
+        && answer(alloc, (texts.0, texts.1, text)) == Ok(Verdict::Yes)
+}
+
+/// The first row whose vectors are lowered otherwise.
+fn first_wrong_lowering(alloc: Global, rows: &[(Texts<'static>, i64, &[u8])]) -> Option<usize> {
+    for row in 0..rows.len() {
+        let (texts, by, text) = rows[row];
+        if !is_lowered(alloc, texts, by, text) {
+            return Some(row);
+        }
+    }
+    None
+}
+
 #[test]
 fn lowers(rt: HostRuntime) {
-    let rows: [(Texts<'_>, i64, &[u8]); 5] = [
-        (
-            (TIGER, b"0 0 0 0", b"0 -19.999999 -19.999999"),
-            1,
-            b"0\n-20 -20\n\n",
-        ),
-        ((TIGER, b"0 0 0 0", b"0 -20 -20"), 0, b"0\n-20 -20\n\n"),
-        ((COST, b"0 0 0", b"0 2"), 4_000_000, b"0\n-2\n\n"),
-        ((COST, b"0 0 0", b"0 -2"), 0, b"0\n-2\n\n"),
-        (
-            (MDP, b"0 0 0 0", b"0 1.333334 0.666667"),
-            1,
-            b"0\n1.333333 0.666666\n\n",
-        ),
-    ];
-    for (texts, by, text) in rows {
-        let outcome = over_devices(rt.alloc(), Run::Lower, texts, SOUND);
-        assert_eq!(rt; outcome.answer, Ok(Answer::By(by)));
-        assert_eq!(rt; outcome.written.as_slice(), text);
-        let given_back = (texts.0, texts.1, outcome.written.as_slice());
-        assert_eq!(rt; answer(rt.alloc(), given_back), Ok(Verdict::Yes));
+    assert_eq!(rt; first_wrong_lowering(rt.alloc(), &LOWERED), None);
+}
+
+/// Texts whose vectors no constant lowers to pass, and why.
+const UNLOWERED: [(Texts<'static>, LowerFault); 4] = [
+    (
+        (LOSS, b"0 0 0", b"0 5"),
+        LowerFault::NoConstant {
+            node: 0,
+            state: 0,
+            amount: 1_000_000_000_000_000_000_000_000,
+        },
+    ),
+    ((GREAT_LOSS, b"0 0 0", b"0 0"), LowerFault::OutOfRange),
+    (
+        (EITHER, b"0 0 0 -", b"0 0"),
+        LowerFault::NoSuccessor {
+            node: 0,
+            state: 0,
+            observation: 1,
+        },
+    ),
+    (
+        (EITHER, b"0 0 0 -", b"0 5"),
+        LowerFault::NoSuccessor {
+            node: 0,
+            state: 0,
+            observation: 1,
+        },
+    ),
+];
+
+/// The first row that is not refused for its fault, with exit status 1.
+fn first_lowered(alloc: Global, rows: &[(Texts<'static>, LowerFault)]) -> Option<usize> {
+    for row in 0..rows.len() {
+        let (texts, fault) = rows[row];
+        let stopped = RunFault::Lower(fault);
+        if status_of(&stopped) != 1 || !refuses(alloc, Run::Lower, texts, stopped) {
+            return Some(row);
+        }
     }
+    None
 }
 
 #[test]
 fn refuses_to_lower(rt: HostRuntime) {
-    let rows: [(Texts<'_>, LowerFault); 4] = [
-        (
-            (LOSS, b"0 0 0", b"0 5"),
-            LowerFault::NoConstant {
-                node: 0,
-                state: 0,
-                amount: 1_000_000_000_000_000_000_000_000,
-            },
-        ),
-        ((GREAT_LOSS, b"0 0 0", b"0 0"), LowerFault::OutOfRange),
-        (
-            (EITHER, b"0 0 0 -", b"0 0"),
-            LowerFault::NoSuccessor {
-                node: 0,
-                state: 0,
-                observation: 1,
-            },
-        ),
-        (
-            (EITHER, b"0 0 0 -", b"0 5"),
-            LowerFault::NoSuccessor {
-                node: 0,
-                state: 0,
-                observation: 1,
-            },
-        ),
-    ];
-    for (texts, fault) in rows {
-        let outcome = over_devices(rt.alloc(), Run::Lower, texts, SOUND);
-        assert_eq!(rt; outcome.answer, Err(RunFault::Lower(fault)));
-        assert_eq!(rt; status_of(&RunFault::Lower(fault)), 1);
-        assert_eq!(rt; outcome.written.len(), 0);
-    }
+    assert_eq!(rt; first_lowered(rt.alloc(), &UNLOWERED), None);
 }
 
 /// Texts, and the fault of the first that denotes nothing.
-pub const REFUSED: [(Texts<'static>, Fault); 20] = [
+const REFUSED: [(Texts<'static>, Fault); 20] = [
     (
         (b"discount: 2", b"", b""),
         Fault::Model(ModelFault::Item {
@@ -310,16 +351,42 @@ pub const REFUSED: [(Texts<'static>, Fault); 20] = [
     ),
 ];
 
+/// The rows of REFUSED. (A function, so that a test is proved without the table.)
+pub fn refused_rows() -> [(Texts<'static>, Fault); 20] {
+    REFUSED
+}
+
+/// The first row that the answer does not refuse for its fault, with exit status 2.
+fn first_answered(alloc: Global, rows: &[(Texts<'static>, Fault)]) -> Option<usize> {
+    for row in 0..rows.len() {
+        let (texts, fault) = rows[row];
+        if status_of(&RunFault::Text(fault)) != 2 || answer(alloc, texts) != Err(fault) {
+            return Some(row);
+        }
+    }
+    None
+}
+
+/// The first row that the run does not refuse for its fault, or of which it writes something.
+pub fn first_accepted(alloc: Global, run: Run, rows: &[(Texts<'static>, Fault)]) -> Option<usize> {
+    for row in 0..rows.len() {
+        let (texts, fault) = rows[row];
+        if !refuses(alloc, run, texts, RunFault::Text(fault)) {
+            return Some(row);
+        }
+    }
+    None
+}
+
 /// The first text that denotes nothing is refused, and nothing is written.
 #[test]
 fn refuses_texts(rt: HostRuntime) {
-    for (texts, fault) in REFUSED {
-        assert_eq!(rt; answer(rt.alloc(), texts), Err(fault));
-        assert_eq!(rt; status_of(&RunFault::Text(fault)), 2);
-        for run in [Run::Check, Run::Lower] {
-            let outcome = over_devices(rt.alloc(), run, texts, SOUND);
-            assert_eq!(rt; outcome.answer, Err(RunFault::Text(fault)), "{run:?}");
-            assert_eq!(rt; outcome.written.len(), 0);
-        }
+    assert_eq!(rt; first_answered(rt.alloc(), &refused_rows()), None);
+    for run in [Run::Check, Run::Lower] {
+        assert_eq!(rt;
+            first_accepted(rt.alloc(), run, &refused_rows()),
+            None,
+            "{run:?}"
+        );
     }
 }

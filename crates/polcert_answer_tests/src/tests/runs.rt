@@ -160,3 +160,56 @@ pub fn over_slices(alloc: Global, run: Run, texts: Texts<'_>) -> Outcome {
         written: sink.writer.taken,
     }
 }
+
+impl Outcome {
+    /// Whether the run answered and wrote this.
+    pub fn has_given(&self, answer: Result<Answer, RunFault>, written: &[u8]) -> bool {
+        self.answer == answer && self.written.as_slice() == written
+    }
+
+    /// The same, and no device failed.
+    pub fn has_soundly_given(&self, answer: Result<Answer, RunFault>, written: &[u8]) -> bool {
+        self.failures == 0 && self.has_given(answer, written)
+    }
+
+    /// Whether the run stopped with this fault, one of its devices failed once, and nothing was written.
+    pub fn has_stopped_unwritten(&self, fault: RunFault) -> bool {
+        self.failures == 1 && self.has_given(Err(fault), b"")
+    }
+
+    /// Whether the run stopped with this fault behind so many writes, one of its devices failed once, and this was written.
+    pub fn has_stopped(&self, fault: RunFault, writes: u64, written: &[u8]) -> bool {
+        self.failures == 1 && self.writes == writes && self.has_given(Err(fault), written)
+    }
+}
+
+/// Whether the run answers and writes this, over devices of one byte at a time.
+pub fn gives(
+    alloc: Global,
+    run: Run,
+    texts: Texts<'_>,
+    answer: Result<Answer, RunFault>,
+    written: &[u8],
+) -> bool {
+    over_devices(alloc, run, texts, SOUND).has_given(answer, written)
+}
+
+/// Whether the run stops with this fault, and writes nothing.
+pub fn refuses(alloc: Global, run: Run, texts: Texts<'_>, fault: RunFault) -> bool {
+    gives(alloc, run, texts, Err(fault), b"")
+}
+
+/// Whether the run gives in pieces of this size what was given before, and no device fails.
+pub fn gives_the_same(
+    alloc: Global,
+    run: Run,
+    texts: Texts<'_>,
+    most: usize,
+    usual: &Outcome,
+) -> bool {
+    let devices = Devices { most, ..SOUND };
+    over_devices(alloc, run, texts, devices).has_soundly_given(
+        usual.answer,
+        usual.written.as_slice(),
+    )
+}

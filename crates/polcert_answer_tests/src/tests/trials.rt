@@ -1,9 +1,11 @@
 //! Runs over devices that fail at each of their calls, and over texts that are cut at every length, by tables: a trial more is
 //! a line more.
-use super::answers::{COST, EITHER, MDP, REFUSED, TIGER};
+use super::answers::{COST, EITHER, MDP, TIGER, refused_rows};
 use super::devices::{Endless, Failing, Taker};
-use super::runs::{Answer, Devices, Outcome, RUNS, Run, SOUND, Texts, over_devices, over_slices};
-use super::{FIRST, FULL, LINE, REFUSED_MODELS, item};
+use super::runs::{
+    Answer, Devices, Outcome, RUNS, Run, SOUND, Texts, gives_the_same, over_devices, over_slices,
+};
+use super::{FIRST, FULL, LINE, item, refused_models};
 use polcert_answer::{Fault, RunFault, check_texts};
 use polcert_check::{AboveVerdict, Verdict};
 use polcert_model::{ItemFault, ModelFault};
@@ -69,6 +71,11 @@ const WRITTEN: [Trial; 9] = [
     ),
     (Run::Raise, LOW, Answer::By(1), b"0\n-20 -20\n\n"),
 ];
+
+/// The trials of WRITTEN. (A function, so that a test is proved without the table.)
+fn written() -> [Trial; 9] {
+    WRITTEN
+}
 
 /// A text that a run reads.
 #[derive(Clone, Copy, Debug, PartialEq)]
@@ -137,107 +144,250 @@ fn is_read(run: Run, text: Text) -> bool {
     text == Text::Model || run.reads_all()
 }
 
+/// How often the run reads this text where no device fails: each byte once, and behind the last a read finds the end.
+fn reads_wanted(run: Run, texts: Texts<'_>, text: Text) -> u64 {
+    if !is_read(run, text) {
+        return 0;
+    }
+    (text.of(texts).len() as u64).saturating_add(1)
+}
+
+/// Whether the trial answers and writes what it is to, each byte once, and no device fails.
+fn is_written_once(alloc: Global, trial: Trial) -> bool {
+    let (run, texts, answer, written) = trial;
+    let outcome = over_devices(alloc, run, texts, SOUND);
+    outcome.writes == written.len() as u64 && outcome.has_soundly_given(Ok(answer), written)
+}
+
+/// The first of the trials that answers otherwise, or whose bytes are not written once each.
+fn first_not_written_once(alloc: Global, trials: &[Trial]) -> Option<usize> {
+    for row in 0..trials.len() {
+        if !is_written_once(alloc, trials[row]) {
+            return Some(row);
+        }
+    }
+    None
+}
+
+/// How often the run reads this text where no device fails.
+fn reads_of(alloc: Global, run: Run, texts: Texts<'_>, text: Text) -> u64 {
+    text.reads(&over_devices(alloc, run, texts, SOUND))
+}
+
+/// The first of the trials of which this text is read otherwise.
+fn first_not_read_once(alloc: Global, trials: &[Trial], text: Text) -> Option<usize> {
+    for row in 0..trials.len() {
+        let (run, texts, _, _) = trials[row];
+        if reads_of(alloc, run, texts, text) != reads_wanted(run, texts, text) {
+            return Some(row);
+        }
+    }
+    None
+}
+
 /// Each byte is read once, and behind the last of each text a read finds the end. Each byte of the answer is written once.
 #[test]
 fn each_byte_is_read_and_written_once(rt: HostRuntime) {
-    for (run, texts, answer, written) in WRITTEN {
-        let outcome = over_devices(rt.alloc(), run, texts, SOUND);
-        assert_eq!(rt; outcome.answer, Ok(answer));
-        assert_eq!(rt; outcome.written.as_slice(), written);
-        for text in TEXTS {
-            let reads = if is_read(run, text) {
-                text.of(texts).len() as u64 + 1
-            } else {
-                0
-            };
-            assert_eq!(rt; text.reads(&outcome), reads, "{run:?}, {text:?}");
-        }
-        assert_eq!(rt; outcome.writes, written.len() as u64);
-        assert_eq!(rt; outcome.failures, 0);
+    assert_eq!(rt; first_not_written_once(rt.alloc(), &written()), None);
+    for text in TEXTS {
+        assert_eq!(rt;
+            first_not_read_once(rt.alloc(), &written(), text),
+            None,
+            "{text:?}"
+        );
     }
+}
+
+/// Whether the source of this text, which fails at the read of this number, is named, nothing is written, and it is not asked again.
+fn is_named(alloc: Global, run: Run, texts: Texts<'_>, text: Text, read: u64) -> bool {
+    let outcome = over_devices(alloc, run, texts, text.failing(read));
+    text.reads(&outcome) == read.saturating_add(1) && outcome.has_stopped(text.fault(), 0, b"")
+}
+
+/// The first read of this text whose failure is answered otherwise.
+fn first_unnamed_read(alloc: Global, run: Run, texts: Texts<'_>, text: Text) -> Option<u64> {
+    for read in 0..=text.of(texts).len() as u64 {
+        if !is_named(alloc, run, texts, text, read) {
+            return Some(read);
+        }
+    }
+    None
+}
+
+/// The first of the trials of which a failing read of this text is answered otherwise, and the read.
+fn first_unnamed(alloc: Global, trials: &[Trial], text: Text) -> Option<(usize, u64)> {
+    for row in 0..trials.len() {
+        let (run, texts, _, _) = trials[row];
+        if is_read(run, text) {
+            if let Some(read) = first_unnamed_read(alloc, run, texts, text) {
+                return Some((row, read));
+            }
+        }
+    }
+    None
 }
 
 /// A source that fails is named, nothing is written, and neither it nor what comes behind it is asked again.
 #[test]
 fn each_read_fails(rt: HostRuntime) {
-    for (run, texts, _, _) in WRITTEN {
-        for text in TEXTS {
-            if !is_read(run, text) {
-                continue;
-            }
-            for read in 0..=text.of(texts).len() as u64 {
-                let outcome = over_devices(rt.alloc(), run, texts, text.failing(read));
-                assert_eq!(rt; outcome.answer, Err(text.fault()), "{run:?}, read {read}");
-                assert_eq!(rt; (outcome.failures, text.reads(&outcome)), (1, read + 1));
-                assert_eq!(rt; (outcome.written.len(), outcome.writes), (0, 0));
-            }
+    for text in TEXTS {
+        assert_eq!(rt;
+            first_unnamed(rt.alloc(), &written(), text),
+            None,
+            "{text:?}"
+        );
+    }
+}
+
+/// How often each text is read where the first read of this one fails.
+fn reads_behind(alloc: Global, run: Run, texts: Texts<'_>, text: Text) -> (u64, u64, u64) {
+    over_devices(alloc, run, texts, text.failing(0)).reads
+}
+
+/// Whether no text is read behind a model that fails, nor vectors behind a graph that fails.
+fn reads_nothing_behind(alloc: Global, run: Run, texts: Texts<'_>) -> bool {
+    let (model, graph, vectors) = reads_behind(alloc, run, texts, Text::Model);
+    if model != 1 || graph != 0 || vectors != 0 {
+        return false;
+    }
+    if !run.reads_all() {
+        return true;
+    }
+    let (_, graph, vectors) = reads_behind(alloc, run, texts, Text::Graph);
+    graph == 1 && vectors == 0
+}
+
+/// The first of the trials that reads a text behind one that fails.
+fn first_that_goes_on(alloc: Global, trials: &[Trial]) -> Option<usize> {
+    for row in 0..trials.len() {
+        let (run, texts, _, _) = trials[row];
+        if !reads_nothing_behind(alloc, run, texts) {
+            return Some(row);
         }
     }
+    None
 }
 
 /// The first read of a model fails, and no other text is read; nor are vectors behind a graph that fails.
 #[test]
 fn nothing_is_read_behind_a_failed_source(rt: HostRuntime) {
-    for (run, texts, _, _) in WRITTEN {
-        let outcome = over_devices(rt.alloc(), run, texts, Text::Model.failing(0));
-        assert_eq!(rt; outcome.reads, (1, 0, 0), "{run:?}");
-        if run.reads_all() {
-            let outcome = over_devices(rt.alloc(), run, texts, Text::Graph.failing(0));
-            assert_eq!(rt; (outcome.reads.1, outcome.reads.2), (1, 0), "{run:?}");
+    assert_eq!(rt; first_that_goes_on(rt.alloc(), &written()), None);
+}
+
+/// Whether a sink that fails so behind this text is named, and not asked again.
+fn is_cut_off(alloc: Global, run: Run, texts: Texts<'_>, sink: Failing, written: &[u8]) -> bool {
+    let devices = Devices { sink, ..SOUND };
+    let writes = (written.len() as u64).saturating_add(1);
+    over_devices(alloc, run, texts, devices).has_stopped(RunFault::Write, writes, written)
+}
+
+/// The first failure of a write that is answered otherwise, where the run would write this.
+fn first_wrong_write(alloc: Global, run: Run, texts: Texts<'_>, written: &[u8]) -> Option<Failing> {
+    for write in 0..written.len() {
+        let front = &written[..write];
+        let fails = Failing::Fails(write as u64);
+        if !is_cut_off(alloc, run, texts, fails, front) {
+            return Some(fails);
+        }
+        let takes_nothing = Failing::TakesNothing(write as u64);
+        if !is_cut_off(alloc, run, texts, takes_nothing, front) {
+            return Some(takes_nothing);
         }
     }
+    None
+}
+
+/// The first of the trials of which a failure of a write is answered otherwise, and the failure.
+fn first_cut_off_wrongly(alloc: Global, trials: &[Trial]) -> Option<(usize, Failing)> {
+    for row in 0..trials.len() {
+        let (run, texts, _, written) = trials[row];
+        if let Some(failing) = first_wrong_write(alloc, run, texts, written) {
+            return Some((row, failing));
+        }
+    }
+    None
 }
 
 /// A write that fails, or that takes nothing, is not tried again. What was taken is a beginning of the answer.
 #[test]
 fn each_write_fails(rt: HostRuntime) {
-    for (run, texts, _, written) in WRITTEN {
-        for write in 0..written.len() {
-            let number = write as u64;
-            for sink in [Failing::Fails(number), Failing::TakesNothing(number)] {
-                let devices = Devices { sink, ..SOUND };
-                let outcome = over_devices(rt.alloc(), run, texts, devices);
-                assert_eq!(rt; outcome.answer, Err(RunFault::Write), "{run:?}, {sink:?}");
-                assert_eq!(rt; (outcome.failures, outcome.writes), (1, number + 1));
-                assert_eq!(rt; outcome.written.as_slice(), &written[..write]);
-            }
+    assert_eq!(rt; first_cut_off_wrongly(rt.alloc(), &written()), None);
+}
+
+/// Whether the run stops with this fault behind one failure, and nothing is written.
+fn stops(alloc: Global, run: Run, texts: Texts<'_>, devices: Devices, fault: RunFault) -> bool {
+    over_devices(alloc, run, texts, devices).has_stopped_unwritten(fault)
+}
+
+/// Devices that all fail, and then those of which the first, the first two and the first three don't; and the fault.
+const FAILING: [(Devices, RunFault); 4] = [
+    (ALL_FAIL, RunFault::ReadModel),
+    (BEHIND_THE_MODEL, RunFault::ReadGraph),
+    (BEHIND_THE_GRAPH, RunFault::ReadVectors),
+    (BEHIND_ALL, RunFault::Write),
+];
+
+const ALL_FAIL: Devices = Devices {
+    most: 1,
+    model: Some(3),
+    graph: Some(2),
+    vectors: Some(1),
+    sink: Failing::Fails(0),
+};
+
+const BEHIND_THE_MODEL: Devices = Devices {
+    model: None,
+    ..ALL_FAIL
+};
+
+const BEHIND_THE_GRAPH: Devices = Devices {
+    graph: None,
+    ..BEHIND_THE_MODEL
+};
+
+const BEHIND_ALL: Devices = Devices {
+    vectors: None,
+    ..BEHIND_THE_GRAPH
+};
+
+/// The first of the trials that reads all texts and does not name this device.
+fn first_misnamed(
+    alloc: Global,
+    trials: &[Trial],
+    devices: Devices,
+    fault: RunFault,
+) -> Option<usize> {
+    for row in 0..trials.len() {
+        let (run, texts, _, _) = trials[row];
+        if run.reads_all() && !stops(alloc, run, texts, devices, fault) {
+            return Some(row);
         }
     }
+    None
+}
+
+/// The first of the devices that a trial does not name, and the trial.
+fn first_unnamed_device(
+    alloc: Global,
+    rows: &[(Devices, RunFault)],
+    trials: &[Trial],
+) -> Option<(usize, usize)> {
+    for row in 0..rows.len() {
+        let (devices, fault) = rows[row];
+        if let Some(trial) = first_misnamed(alloc, trials, devices, fault) {
+            return Some((row, trial));
+        }
+    }
+    None
 }
 
 /// Of several devices that fail the first is named, in the order of the run.
 #[test]
 fn the_first_device_that_fails_is_named(rt: HostRuntime) {
-    let all = Devices {
-        most: 1,
-        model: Some(3),
-        graph: Some(2),
-        vectors: Some(1),
-        sink: Failing::Fails(0),
-    };
-    let behind_the_model = Devices { model: None, ..all };
-    let behind_the_graph = Devices {
-        graph: None,
-        ..behind_the_model
-    };
-    let behind_all = Devices {
-        vectors: None,
-        ..behind_the_graph
-    };
-    for (devices, fault) in [
-        (all, RunFault::ReadModel),
-        (behind_the_model, RunFault::ReadGraph),
-        (behind_the_graph, RunFault::ReadVectors),
-        (behind_all, RunFault::Write),
-    ] {
-        for (run, texts, _, _) in WRITTEN {
-            if run.reads_all() {
-                let outcome = over_devices(rt.alloc(), run, texts, devices);
-                assert_eq!(rt; outcome.answer, Err(fault), "{run:?}");
-                assert_eq!(rt; (outcome.failures, outcome.written.len()), (1, 0));
-            }
-        }
-    }
+    assert_eq!(rt;
+        first_unnamed_device(rt.alloc(), &FAILING, &written()),
+        None
+    );
 }
 
 /// The text that the fault is of.
@@ -249,6 +399,34 @@ fn refused(fault: Fault) -> Text {
     }
 }
 
+/// How often this text is read until it is refused for this fault.
+fn reads_until_refused(
+    alloc: Global,
+    run: Run,
+    texts: Texts<'_>,
+    text: Text,
+    fault: RunFault,
+) -> Option<u64> {
+    let outcome = over_devices(alloc, run, texts, SOUND);
+    if outcome.answer == Err(fault) {
+        Some(text.reads(&outcome))
+    } else {
+        None
+    }
+}
+
+/// Whether the run stops with this fault before it writes.
+fn stops_unwritten(
+    alloc: Global,
+    run: Run,
+    texts: Texts<'_>,
+    devices: Devices,
+    fault: RunFault,
+) -> bool {
+    let outcome = over_devices(alloc, run, texts, devices);
+    outcome.writes == 0 && outcome.answer == Err(fault)
+}
+
 /// Of a text that is refused for this fault, the first read whose failure is answered otherwise: where it comes before what is refused, the
 /// source is named; behind that the text is refused as ever.
 fn first_wrong_read(
@@ -258,19 +436,42 @@ fn first_wrong_read(
     text: Text,
     fault: RunFault,
 ) -> Option<u64> {
-    let usual = over_devices(alloc, run, texts, SOUND);
-    if usual.answer != Err(fault) {
+    let Some(reads) = reads_until_refused(alloc, run, texts, text, fault) else {
         return Some(0);
-    }
+    };
     for read in 0..=text.of(texts).len() as u64 {
-        let wanted = if read < text.reads(&usual) {
-            text.fault()
-        } else {
-            fault
-        };
-        let outcome = over_devices(alloc, run, texts, text.failing(read));
-        if outcome.answer != Err(wanted) || outcome.writes > 0 {
+        let wanted = if read < reads { text.fault() } else { fault };
+        if !stops_unwritten(alloc, run, texts, text.failing(read), wanted) {
             return Some(read);
+        }
+    }
+    None
+}
+
+/// The first row of which a failing read is answered otherwise in a check, and the read.
+fn first_wrong_in_a_check(alloc: Global, rows: &[(Texts<'static>, Fault)]) -> Option<(usize, u64)> {
+    for row in 0..rows.len() {
+        let (texts, fault) = rows[row];
+        let text = refused(fault);
+        let stopped = RunFault::Text(fault);
+        if let Some(read) = first_wrong_read(alloc, Run::Check, texts, text, stopped) {
+            return Some((row, read));
+        }
+    }
+    None
+}
+
+/// The first row of which a failing read is answered otherwise where it is printed, and the read.
+fn first_wrong_in_print(
+    alloc: Global,
+    rows: &[(&'static [u8], ItemFault, u64, u64)],
+) -> Option<(usize, u64)> {
+    for row in 0..rows.len() {
+        let (model, kind, number, place) = rows[row];
+        let texts = (model, b"".as_slice(), b"".as_slice());
+        let fault = item(kind, number, place);
+        if let Some(read) = first_wrong_read(alloc, Run::Print, texts, Text::Model, fault) {
+            return Some((row, read));
         }
     }
     None
@@ -278,21 +479,8 @@ fn first_wrong_read(
 
 #[test]
 fn refused_or_failed(rt: HostRuntime) {
-    for (texts, fault) in REFUSED {
-        let wrong = first_wrong_read(
-            rt.alloc(),
-            Run::Check,
-            texts,
-            refused(fault),
-            RunFault::Text(fault),
-        );
-        assert_eq!(rt; wrong, None, "{fault:?}");
-    }
-    for (text, kind, number, place) in REFUSED_MODELS {
-        let fault = item(kind, number, place);
-        let wrong = first_wrong_read(rt.alloc(), Run::Print, (text, b"", b""), Text::Model, fault);
-        assert_eq!(rt; wrong, None, "{kind:?}");
-    }
+    assert_eq!(rt; first_wrong_in_a_check(rt.alloc(), &refused_rows()), None);
+    assert_eq!(rt; first_wrong_in_print(rt.alloc(), &refused_models()), None);
 }
 
 /// Runs, and the text of theirs that is cut at every length.
@@ -308,22 +496,59 @@ const CUT: [(Run, Texts<'static>, Text); 9] = [
     (Run::Raise, LOW, Text::Vectors),
 ];
 
+/// The first size of pieces in which the texts are answered otherwise than as slices.
+fn first_wrong_pieces(alloc: Global, run: Run, texts: Texts<'_>) -> Option<usize> {
+    let usual = over_slices(alloc, run, texts);
+    for most in [1usize, 3, 4_096] {
+        if !gives_the_same(alloc, run, texts, most, &usual) {
+            return Some(most);
+        }
+    }
+    None
+}
+
+/// The first length to which this text is cut and is answered otherwise than as a slice, and the size of the pieces.
+fn first_wrong_length(
+    alloc: Global,
+    run: Run,
+    texts: Texts<'_>,
+    text: Text,
+) -> Option<(usize, usize)> {
+    for len in 0..=text.of(texts).len() {
+        if let Some(most) = first_wrong_pieces(alloc, run, text.cut(texts, len)) {
+            return Some((len, most));
+        }
+    }
+    None
+}
+
+/// The first row whose text is answered otherwise at some length, the length, and the size of the pieces.
+fn first_wrong_cut(
+    alloc: Global,
+    rows: &[(Run, Texts<'static>, Text)],
+) -> Option<(usize, (usize, usize))> {
+    for row in 0..rows.len() {
+        let (run, texts, text) = rows[row];
+        if let Some(cut) = first_wrong_length(alloc, run, texts, text) {
+            return Some((row, cut));
+        }
+    }
+    None
+}
+
 /// What a run answers to a text that is cut is what it answers to its slice, whatever the pieces in which it comes.
 #[test]
 fn cut_anywhere(rt: HostRuntime) {
-    for (run, texts, text) in CUT {
-        for len in 0..=text.of(texts).len() {
-            let cut = text.cut(texts, len);
-            let usual = over_slices(rt.alloc(), run, cut);
-            for most in [1usize, 3, 4_096] {
-                let devices = Devices { most, ..SOUND };
-                let outcome = over_devices(rt.alloc(), run, cut, devices);
-                assert_eq!(rt; outcome.answer, usual.answer, "{run:?}, {text:?} to {len}");
-                assert_eq!(rt; outcome.written.as_slice(), usual.written.as_slice());
-                assert_eq!(rt; outcome.failures, 0);
-            }
-        }
-    }
+    assert_eq!(rt; first_wrong_cut(rt.alloc(), &CUT), None);
+}
+
+/// Whether the answer to slices is that of the run over them.
+fn is_that_of_the_run(alloc: Global, texts: Texts<'_>) -> bool {
+    let answer = match check_texts(alloc, texts.0, texts.1, texts.2) {
+        Ok(verdict) => Ok(Answer::Said(verdict)),
+        Err(fault) => Err(RunFault::Text(fault)),
+    };
+    over_slices(alloc, Run::Check, texts).answer == answer
 }
 
 /// The answer to slices is that of the run over them.
@@ -331,13 +556,8 @@ fn cut_anywhere(rt: HostRuntime) {
 fn cut_slices(rt: HostRuntime) {
     for text in TEXTS {
         for len in 0..=text.of(HIGH).len() {
-            let cut = text.cut(HIGH, len);
-            let run = over_slices(rt.alloc(), Run::Check, cut);
-            let answer = match check_texts(rt.alloc(), cut.0, cut.1, cut.2) {
-                Ok(verdict) => Ok(Answer::Said(verdict)),
-                Err(fault) => Err(RunFault::Text(fault)),
-            };
-            assert_eq!(rt; run.answer, answer, "{text:?} to {len}");
+            let is_right = is_that_of_the_run(rt.alloc(), text.cut(HIGH, len));
+            assert!(rt; is_right, "{text:?} to {len}");
         }
     }
 }
@@ -350,54 +570,90 @@ fn endless() -> ReaderSource<Endless> {
     })
 }
 
-/// A text of endless `1` is refused at its first lexeme, which is too long, after one read that filled its piece.
-#[test]
-fn endless_models(rt: HostRuntime) {
-    let wanted = Fault::Model(ModelFault::Item {
+/// What a run answered, how often its endless source was read, and how often it wrote.
+type Endlessly = (Result<Answer, RunFault>, u64, u64);
+
+fn over_endless_model(alloc: Global, run: Run) -> Endlessly {
+    let mut model = endless();
+    let mut sink = WriterSink::new(Taker::new(alloc, Failing::Never));
+    let answer = run.over(
+        alloc,
+        &mut model,
+        &mut SliceSource::new(b""),
+        &mut SliceSource::new(b""),
+        &mut sink,
+    );
+    (answer, model.reader.reads, sink.writer.writes)
+}
+
+fn over_endless_graph(alloc: Global, run: Run) -> Endlessly {
+    let mut graph = endless();
+    let mut sink = WriterSink::new(Taker::new(alloc, Failing::Never));
+    let answer = run.over(
+        alloc,
+        &mut SliceSource::new(TIGER),
+        &mut graph,
+        &mut SliceSource::new(b""),
+        &mut sink,
+    );
+    (answer, graph.reader.reads, sink.writer.writes)
+}
+
+fn over_endless_vectors(alloc: Global, run: Run) -> Endlessly {
+    let mut vectors = endless();
+    let mut sink = WriterSink::new(Taker::new(alloc, Failing::Never));
+    let answer = run.over(
+        alloc,
+        &mut SliceSource::new(TIGER),
+        &mut SliceSource::new(b"0 0 0 0"),
+        &mut vectors,
+        &mut sink,
+    );
+    (answer, vectors.reader.reads, sink.writer.writes)
+}
+
+/// Whether an endless text is refused at its first lexeme, for this fault, after one read, and nothing is written.
+fn is_at_its_first_lexeme(answered: Endlessly, fault: Fault) -> bool {
+    let (answer, reads, writes) = answered;
+    reads == 1 && writes == 0 && answer == Err(RunFault::Text(fault))
+}
+
+fn refuses_endless_model(alloc: Global, run: Run) -> bool {
+    let fault = Fault::Model(ModelFault::Item {
         kind: ItemFault::Token(TokenFault::TokenTooLong(0)),
         item: 0,
         place: 0,
     });
+    is_at_its_first_lexeme(over_endless_model(alloc, run), fault)
+}
+
+fn refuses_endless_graph(alloc: Global, run: Run) -> bool {
+    let fault = Fault::Graph(GraphFault::Token(TokenFault::TokenTooLong(0)));
+    is_at_its_first_lexeme(over_endless_graph(alloc, run), fault)
+}
+
+fn refuses_endless_vectors(alloc: Global, run: Run) -> bool {
+    let fault = Fault::Vectors(VectorFault::Token(TokenFault::TokenTooLong(0)));
+    is_at_its_first_lexeme(over_endless_vectors(alloc, run), fault)
+}
+
+/// A text of endless `1` is refused at its first lexeme, which is too long, after one read that filled its piece.
+#[test]
+fn endless_models(rt: HostRuntime) {
     for run in RUNS {
-        let mut model = endless();
-        let mut graph = SliceSource::new(b"");
-        let mut vectors = SliceSource::new(b"");
-        let mut sink = WriterSink::new(Taker::new(rt.alloc(), Failing::Never));
-        let answer = run.over(rt.alloc(), &mut model, &mut graph, &mut vectors, &mut sink);
-        assert_eq!(rt; answer, Err(RunFault::Text(wanted)), "{run:?}");
-        assert_eq!(rt; (model.reader.reads, sink.writer.writes), (1, 0));
+        assert!(rt; refuses_endless_model(rt.alloc(), run), "{run:?}");
     }
 }
 
 #[test]
 fn endless_graphs_and_vectors(rt: HostRuntime) {
-    let token = TokenFault::TokenTooLong(0);
     for run in RUNS {
-        if !run.reads_all() {
-            continue;
+        if run.reads_all() {
+            assert!(rt; refuses_endless_graph(rt.alloc(), run), "graph, {run:?}");
+            assert!(rt;
+                refuses_endless_vectors(rt.alloc(), run),
+                "vectors, {run:?}"
+            );
         }
-        let mut graph = endless();
-        let mut sink = WriterSink::new(Taker::new(rt.alloc(), Failing::Never));
-        let answer = run.over(
-            rt.alloc(),
-            &mut SliceSource::new(TIGER),
-            &mut graph,
-            &mut SliceSource::new(b""),
-            &mut sink,
-        );
-        let wanted = Fault::Graph(GraphFault::Token(token));
-        assert_eq!(rt; answer, Err(RunFault::Text(wanted)), "{run:?}");
-        assert_eq!(rt; (graph.reader.reads, sink.writer.writes), (1, 0));
-        let mut vectors = endless();
-        let answer = run.over(
-            rt.alloc(),
-            &mut SliceSource::new(TIGER),
-            &mut SliceSource::new(b"0 0 0 0"),
-            &mut vectors,
-            &mut sink,
-        );
-        let wanted = Fault::Vectors(VectorFault::Token(token));
-        assert_eq!(rt; answer, Err(RunFault::Text(wanted)), "{run:?}");
-        assert_eq!(rt; (vectors.reader.reads, sink.writer.writes), (1, 0));
     }
 }
