@@ -12,7 +12,7 @@ mod shares;
 mod table;
 mod words;
 
-pub use cell::Cell;
+pub use cell::{Cell, ONE};
 pub use elements::{Elements, Kind, MOST_ACTIONS, MOST_ELEMENTS, MOST_OBSERVATIONS, MOST_STATES};
 pub use entries::{BodyRef, Entries, EntryRef};
 pub use entry::{Body, Entry, Place, Places, Sequence, Table};

@@ -11,8 +11,8 @@ ghost use Rattle.polcert_full_form.specs.Steps.PrintedRows.{row_weights, row_bod
 
 use crate::print_words::{write_head, write_number_at, write_pattern, write_zeros};
 use crate::weight_row::{ColumnForm, WeightRow};
-use polcert_cells::{Step, Table};
-use polcert_tables::{Model, ONE};
+use polcert_cells::{ONE, Step, Table};
+use polcert_tables::Model;
 use polcert_text::{Sink, SinkFailed, write_all, write_scaled};
 
 /// Writes the rows of T or O, by action and state.

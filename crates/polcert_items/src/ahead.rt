@@ -12,12 +12,9 @@ ghost use Rattle.polcert_items.specs.declared.entry_reader.EntryReader.{EntryRea
 use crate::entry_reader::{EntryReader, EntryState, Numbers, indices_of, takes_numbers};
 use crate::item::ItemReader;
 use crate::known::Known;
-use polcert_cells::{Place, Table};
+use polcert_cells::{ONE, Place, Table};
 use polcert_text::{FrontNumber, front_colon, front_digits, front_number};
 use std::alloc::{AllocError, Global};
-
-/// The largest probability, in millionths.
-const ONE: u64 = 1_000_000;
 
 /// The largest reward, in millionths.
 const LARGEST: u64 = 10_000_000_000_000;

@@ -6,7 +6,7 @@ ghost use Rattle.polcert_items.specs.Steps.Numbers.{IsInRange, IsSignKind, IsRan
 ghost use Rattle.polcert_format.specs.Misfits.{misfit, IsMisfit, begins_number, EndOfNumbers, EndOfWord};
 ghost use Rattle.polcert_items.specs.Steps.Wants.{number_wants};
 
-use polcert_cells::is_word;
+use polcert_cells::{ONE, is_word};
 use polcert_format::ItemFault;
 use polcert_text::{Token, TokenKind, scaled_of};
 
@@ -41,8 +41,6 @@ pub enum Step {
     Sign(Sign),
     Value(i64),
 }
-
-const ONE: i64 = 1_000_000;
 
 /// What the token says in a number's place, behind this sign.
 #[inline(always)]
@@ -128,8 +126,8 @@ fn range_fault(range: Range, value: i64) -> Option<ItemFault>
 {
     match range {
         Range::Reward => None,
-        Range::Discount if value < 0 || ONE < value => Some(ItemFault::DiscountRange),
-        Range::Probability if value < 0 || ONE < value => Some(ItemFault::ProbabilityRange),
+        Range::Discount if value < 0 || value > ONE as i64 => Some(ItemFault::DiscountRange),
+        Range::Probability if value < 0 || value > ONE as i64 => Some(ItemFault::ProbabilityRange),
         Range::Discount | Range::Probability => None,
     }
 }

@@ -15,12 +15,9 @@ ghost use Rattle.polcert_items.specs.Steps.Wants.{list_wants, IfAtEnd};
 
 use crate::entry_reader::Numbers;
 use crate::stop::ItemEnd;
-use polcert_cells::{Sequence, Shares};
+use polcert_cells::{ONE, Sequence, Shares};
 use polcert_format::ItemFault;
 use std::alloc::{AllocError, Global};
-
-/// One, in millionths.
-pub(crate) const ONE: u32 = 1_000_000;
 
 /// The shares that a list of probabilities gives, if it is whole and sums to 1.
 pub(crate) fn end_probabilities(alloc: Global, numbers: Numbers<u32>) -> Result<Shares, ItemEnd>
@@ -37,7 +34,7 @@ pub(crate) fn end_probabilities(alloc: Global, numbers: Numbers<u32>) -> Result<
     if let Some(fault) = numbers.end_fault() {
         return Err(ItemEnd::AtEnd(fault));
     }
-    if sum_of(numbers.read.as_slice()) != ONE as u64 {
+    if sum_of(numbers.read.as_slice()) != ONE {
         return Err(ItemEnd::AtEnd(ItemFault::StartSum));
     }
     Ok(shares_of(alloc, numbers.read)?)
@@ -60,7 +57,7 @@ fn shares_of(alloc: Global, probabilities: Sequence<u32>) -> Result<Shares, Allo
     }
     Ok(Shares {
         weights: probabilities,
-        total: ONE,
+        total: ONE as u32,
     })
 }
 

@@ -7,11 +7,8 @@ ghost use Rattle.polcert_rules.specs.Steps.Given.{IsWithin, FitsShape, given};
 ghost use Rattle.polcert_cells.specs.Sparse.{IsRow};
 
 use crate::Shape;
-use polcert_cells::{BodyRef, Cell, EntryRef};
+use polcert_cells::{BodyRef, Cell, EntryRef, ONE};
 use std::alloc::{AllocError, Global};
-
-/// One, in millionths.
-const ONE: u64 = 1_000_000;
 
 /// What an entry of T or O that covers whole rows gives the row of this state.
 pub(crate) fn body_row(

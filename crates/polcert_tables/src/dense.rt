@@ -8,12 +8,9 @@ ghost use Rattle.polcert_cells.specs.SameCells.{HasSameCells};
 ghost use Rattle.polcert_format.specs.Printable.{IsPrintable};
 
 use crate::Model;
-use polcert_cells::{Cells, Row};
+use polcert_cells::{Cells, ONE, Row};
 use std::alloc::{AllocError, Global};
 use std::marker;
-
-/// What each cell of a row weighs, by the count of its columns: rows sum to 1,000,000 for each column.
-const ONE: u64 = 1_000_000;
 
 /// A model that keeps every cell of its tables: a cell is read in one step, whatever text the model came from.
 #[derive(Drop)]

@@ -16,13 +16,10 @@ ghost use Rattle.polcert_rules.specs.Steps.Shapes.{IsShapeOf, AreSound};
 ghost use Rattle.polcert_tables.specs.Steps.RowSums.{row_of};
 
 use crate::Preamble;
-use polcert_cells::{Cell, Elements, Entries, Kind, Row, Shares, Table};
+use polcert_cells::{Cell, Elements, Entries, Kind, ONE, Row, Shares, Table};
 use polcert_rules::{Index, RewardShape, Rewards, Rows, Shape};
 use std::alloc::{AllocError, Global};
 use std::marker;
-
-/// One, in millionths.
-pub const ONE: u64 = 1_000_000;
 
 /// How many things a reward of an MDP depends on beside the action and the states.
 const ONE_THING: usize = 1;

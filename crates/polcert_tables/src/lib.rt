@@ -10,7 +10,7 @@ mod row_sums;
 mod table;
 
 pub use dense::{DenseModel, dense_of};
-pub use draft::{Draft, ONE, count_or};
+pub use draft::{Draft, count_or};
 pub use model::{MOST_CELLS, Model};
 pub use preamble::Preamble;
 pub use row_sums::{WrongRow, first_wrong_row};

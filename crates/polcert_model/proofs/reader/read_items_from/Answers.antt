@@ -1,4 +1,4 @@
-use Rattle.std.proofs.Common.{◌≡◌, ◌∙◌, ◌++◌, ◌∷◌, ◌≤◌, ◌<◌, [], refl, ap, arith, Ok, Err}
+use Rattle.std.proofs.Common.{◌∙◌, ◌++◌, ◌∷◌, ◌≤◌, ◌<◌, [], refl, ap, arith, Ok, Err}
 use Rattle.polcert_text.specs.Cut.{text_limit}
 use Rattle.polcert_text.specs.Reading.{lexeme_of}
 use Rattle.polcert_text.proofs.Streams.ReadTexts.{value_read, text_refused, read_failed}
@@ -78,8 +78,8 @@ returns-in-Err-read_ahead g c =
     let taken = token_taken _ _ _ _ was.0 c.loop-token.tokens c.loop-token.source (lexeme_of c.in-Ok-Some.token) new c.next_token.new.source was.1 gives.0 gives.2 in
     rw c.in-Err-read_ahead.ensures.refused (record {
       read = text_refused Memory
-      (refused_at_token _ _ _ _ new c.next_token.new.source Memory taken (λ text ts further tokens all. record { refusal = tt; placed = tt }))
-      taken.same_count;
+          (refused_at_token _ _ _ _ new c.next_token.new.source Memory taken (λ text ts further tokens all. record { refusal = tt; placed = tt }))
+          taken.same_count;
     })
 
 pub returns-in-Err : goal.returns-in-Err
@@ -90,8 +90,8 @@ returns-in-Err g c =
     let taken = token_taken _ _ _ _ was.0 c.loop-token.tokens c.loop-token.source (lexeme_of c.in-Ok-Some.token) new c.next_token.new.source was.1 gives.0 gives.2 in
     record {
       read = text_refused c.in-Err.fault
-      (refused_at_token _ _ _ _ new c.next_token.new.source c.in-Err.fault taken (c.in-Err.ensures.read was.0 was.2))
-      taken.same_count;
+          (refused_at_token _ _ _ _ new c.next_token.new.source c.in-Err.fault taken (c.in-Err.ensures.read was.0 was.2))
+          taken.same_count;
     }
 
 pub returns-in-Ok : goal.returns-in-Ok
@@ -100,8 +100,8 @@ returns-in-Ok g c =
     let gives = rw (c.in-Ok-None.is ∙ ap Ok c.in-Ok-None.field-0-is) at c.next_token.follows.holds-at-none.answers in
     record {
       read = value_read _
-      (read_at_end _ _ _ was.0 _ _ _ _ c.finish.new.self.known was.1 gives.0 (c.in-Ok.ensures was.0 was.2))
-      (gives.0.same_count ∙ was.1.same_count);
+          (read_at_end _ _ _ was.0 _ _ _ _ c.finish.new.self.known was.1 gives.0 (c.in-Ok.ensures was.0 was.2))
+          (gives.0.same_count ∙ was.1.same_count);
     }
 
 pub returns-in-Err-finish : goal.returns-in-Err-finish
@@ -110,8 +110,8 @@ returns-in-Err-finish g c =
     let gives = rw (c.in-Ok-None.is ∙ ap Ok c.in-Ok-None.field-0-is) at c.next_token.follows.holds-at-none.answers in
     record {
       read = text_refused c.in-Err-finish.fault
-      (refused_at_end _ _ _ was.0 _ _ _ _ c.in-Err-finish.fault c.place.result was.1 gives.0 c.place.ensures (c.in-Err-finish.ensures was.0 was.2))
-      (gives.0.same_count ∙ was.1.same_count);
+          (refused_at_end _ _ _ was.0 _ _ _ _ c.in-Err-finish.fault c.place.result was.1 gives.0 c.place.ensures (c.in-Err-finish.ensures was.0 was.2))
+          (gives.0.same_count ∙ was.1.same_count);
     }
 
 pub returns-in-Err-Token : goal.returns-in-Err-Token
@@ -122,8 +122,8 @@ returns-in-Err-Token g c =
     let gives = rw (c.in-Err-Token.is ∙ ap Err c.in-Err-Token.field-0-is) at c.next_token.follows.holds-at-none.answers in
     rw named (record {
       read = text_refused _
-      (refused_tokens _ _ _ was.0 c.loop-token.reader c.loop-token.tokens c.loop-token.source c.in-Err-Token.fault new.ahead c.next_token.new.source was.2 was.1 gives.0)
-      (gives.0.same_count ∙ was.1.same_count);
+          (refused_tokens _ _ _ was.0 c.loop-token.reader c.loop-token.tokens c.loop-token.source c.in-Err-Token.fault new.ahead c.next_token.new.source was.2 was.1 gives.0)
+          (gives.0.same_count ∙ was.1.same_count);
     })
 
 pub returns-in-Err-Device : goal.returns-in-Err-Device

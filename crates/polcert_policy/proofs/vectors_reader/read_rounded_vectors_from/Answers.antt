@@ -1,4 +1,4 @@
-use Rattle.std.proofs.Common.{◌≡◌, ◌∙◌, ◌++◌, ◌∷◌, ◌≤◌, ◌<◌, [], ap, arith, Ok, Err}
+use Rattle.std.proofs.Common.{◌∙◌, ◌++◌, ◌∷◌, ◌≤◌, ◌<◌, [], ap, arith, Ok, Err}
 use Rattle.polcert_text.specs.Cut.{text_limit}
 use Rattle.polcert_text.specs.Reading.{lexeme_of}
 use Rattle.polcert_text.proofs.Streams.ReadTexts.{value_read, text_refused, read_failed}
