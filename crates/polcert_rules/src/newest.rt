@@ -47,6 +47,7 @@ pub(crate) struct NextPlace<'a> {
 }
 
 /// Of the rules whose places follow those of the key `low`, at most so many, those that go on with a place for an index.
+#[inline(always)]
 pub(crate) fn next_place(rules: &[Rule], low: u64, levels: usize, index: usize) -> NextPlace<'_>
     requires rising { IsRising rules.now }
     requires few { levels ≤ most_places }
