@@ -5,7 +5,7 @@ ghost use Rattle.polcert_text.specs.Reading.{lexeme_of};
 ghost use Rattle.polcert_items.specs.Steps.Elements.{IsText};
 ghost use Rattle.polcert_items.specs.Steps.Entries.{IfRefused};
 ghost use Rattle.polcert_items.specs.Steps.Items.{ItemGoes, IsItemWithin, IsItemFed, RefusesInItem, IsItemEndReason, topic_in, IsSeen, new_item, HasElements, pending_in};
-ghost use Rattle.polcert_items.specs.Steps.Known.{learned, IsSaidOf, IsSaidWithin};
+ghost use Rattle.polcert_items.specs.Steps.Known.{learned, AreContentsOf, AreContentsWithin};
 ghost use Rattle.polcert_items.specs.Steps.Lines.{CannotEnd};
 ghost use Rattle.polcert_format.specs.Misfits.{misfit};
 ghost use Rattle.polcert_items.specs.Steps.Start.{IfNotMemory, IsLateEnd};
@@ -115,8 +115,8 @@ impl ItemReader {
     pub fn end(self, alloc: Global, known: &Known) -> Result<ItemContents, ItemEnd>
         requires { IsItemWithin known.now self }
         ensures said { IfOk result (λ said. ItemGoes known.now self [] (learned known.now said)) }
-        ensures within { IfOk result IsSaidWithin }
-        ensures topic { IfOk result (IsSaidOf (topic_in self)) }
+        ensures within { IfOk result AreContentsWithin }
+        ensures topic { IfOk result (AreContentsOf (topic_in self)) }
         ensures refused { HasElements known.now (topic_in self)
             → IfErr result (λ e. IfNotMemory e (CannotEnd (ItemGoes known.now) self)) }
         ensures reason { (body : List Lexeme) → IsSeen (states_known known.now) body self →

@@ -12,7 +12,7 @@ ghost use Rattle.polcert_format.specs.KnownPreamble.{preamble_in, indices_in, na
 ghost use Rattle.polcert_format.specs.Wants.{least_written};
 ghost use Rattle.polcert_format.specs.Limits.{HasFewCells};
 ghost use Rattle.polcert_items.specs.Steps.Covering.{AreSizesOf};
-ghost use Rattle.polcert_items.specs.Steps.Known.{learned, IsSaidWithin, MayBeLearned, IsWholeRead, said};
+ghost use Rattle.polcert_items.specs.Steps.Known.{learned, AreContentsWithin, MayBeLearned, IsWholeRead, said};
 ghost use Rattle.polcert_cells.specs.Meaning.{IsCount};
 ghost use Rattle.polcert_tables.specs.Steps.KeptOf.{IsKeptOf};
 ghost use Rattle.polcert_format.specs.Order.{word_fault, count_in, preamble_fault, is_late, came_before, is_unobserved};
@@ -82,7 +82,7 @@ impl Known {
     /// Adds what a whole item says, unless it is an entry with which entries give too much of a large table.
     /// Where memory is wanting, too, all stays as it was.
     pub fn learn(&mut self, said: ItemContents) -> Result<(), Unlearned>
-        requires within { IsSaidWithin said }
+        requires within { AreContentsWithin said }
         requires next { MayBeLearned self.old said }
         ensures ok { OnOk result (self.new ≡ learned self.old said) }
         ensures few { OnOk result (HasFewCells (preamble_in self.old) (learned self.old said).entries) }

@@ -20,7 +20,7 @@ use Rattle.polcert_format.proofs.OrderLaws.{complete_fault, states_may_stand, ac
 use Rattle.polcert_format.proofs.SoundTexts.{right_entry_sound}
 use Rattle.polcert_items.specs.declared.item.ItemContents.{ItemContents}
 use Rattle.polcert_items.specs.declared.item.ItemContents.TheVariants as says
-use Rattle.polcert_items.specs.Steps.Known.{learned, IsSaidOf, MayBeLearned}
+use Rattle.polcert_items.specs.Steps.Known.{learned, AreContentsOf, MayBeLearned}
 use Rattle.polcert_model.specs.Steps.Texts.{IsEntryTo, IsShaped}
 
 pub right_shaped : (k : Known) (t : Topic) (body : List Lexeme) (next : Known) → IsRight k t body next → IsShaped k t body next
@@ -105,7 +105,7 @@ same_last [] (z ∷ ys) x y same e = cc
 same_last (w ∷ xs) [] x y same e = cc
 same_last (w ∷ xs) (z ∷ ys) x y same e = same_last xs ys x y (same_tail same) (same_tail e)
 
-pub may_be_learned : (k : Known) (t : Topic) (body : List Lexeme) (said : ItemContents) → word_fault k t ≡ None → IsSaidOf t said → IsShaped k t body (learned k said) → MayBeLearned k said
+pub may_be_learned : (k : Known) (t : Topic) (body : List Lexeme) (said : ItemContents) → word_fault k t ≡ None → AreContentsOf t said → IsShaped k t body (learned k said) → MayBeLearned k said
 may_be_learned k t body (says.Discount g) free about s = tt
 may_be_learned k t body (says.Costs b) free about s = tt
 may_be_learned k States body (says.States e) free about s = (states_may_stand k free).0.no_entry

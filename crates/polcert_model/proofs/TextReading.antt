@@ -21,7 +21,7 @@ use Rattle.polcert_format.specs.Order.{word_fault, preamble_fault}
 use Rattle.polcert_items.specs.Steps.Lines.{Takes, CannotTake, CannotEnd}
 use Rattle.polcert_items.specs.Steps.Start.{IsStartReason, StopsStart}
 use Rattle.polcert_items.specs.Steps.Items.{ItemGoes, IsItemFed, RefusesInItem, IsItemWithin, IsItemReason, IsEndReason, IsSeen, topic_in, pending_in, new_item, HasElements}
-use Rattle.polcert_items.specs.Steps.Known.{learned, IsSaidOf, MayBeLearned}
+use Rattle.polcert_items.specs.Steps.Known.{learned, AreContentsOf, MayBeLearned}
 use Rattle.polcert_format.specs.Misfits.{misfit, IsMisfit}
 use Rattle.polcert_items.specs.Steps.Wants.{Leads, item_wants, IfNotStart, IfStart}
 use Rattle.polcert_items.specs.declared.signed_number.Refusal.{Refusal}
@@ -66,12 +66,12 @@ shaped_end : (seen : List Lexeme) (r : TextReader) (i : ItemReader) (next : Know
 shaped_end seen r i next w e goes =
     subst (λ b. IsShaped r.known w.t b next) (append-nil w.body) (w.read.back [] next (subst (λ j. ItemGoes r.known j [] next) (sym (same_item seen r i e w)) goes))
 
-pub said_may_be_learned : (seen : List Lexeme) (r : TextReader) (i : ItemReader) (said : ItemContents) → IsTextRead seen r → r.item ≡ Some i → ItemGoes r.known i [] (learned r.known said) → IsSaidOf (topic_in i) said
+pub said_may_be_learned : (seen : List Lexeme) (r : TextReader) (i : ItemReader) (said : ItemContents) → IsTextRead seen r → r.item ≡ Some i → ItemGoes r.known i [] (learned r.known said) → AreContentsOf (topic_in i) said
     → MayBeLearned r.known said
 said_may_be_learned seen r i said (nothing n) e goes about = absurd (none≢some n.item_is e)
 said_may_be_learned seen r i said (item w) e goes about =
     let topics : topic_in i ≡ w.t = sym (ap topic_in (same_item seen r i e w)) ∙ w.read.topic_is in
-    may_be_learned r.known w.t w.body said w.read.may_stand (subst (λ t. IsSaidOf t said) topics about) (shaped_end seen r i (learned r.known said) w e goes)
+    may_be_learned r.known w.t w.body said w.read.may_stand (subst (λ t. AreContentsOf t said) topics about) (shaped_end seen r i (learned r.known said) w e goes)
 
 -- the open item ends
 pub item_ended : (seen : List Lexeme) (r : TextReader) (held : Option ItemReader) (i : ItemReader) (known : Known) (said : ItemContents) → IsTextRead seen r → r.item ≡ Some i → held ≡ None

@@ -45,21 +45,21 @@ learned k (says.Start found) = record k { start = Some found }
 learned k (says.Entry e) = record k { entries = k.entries ++ e ∷ [] }
 
 -- an item of this topic says so
-abbrev pub IsSaidOf : Topic → ItemContents → Type 0
-IsSaidOf Discount (says.Discount g) = Unit {0}
-IsSaidOf Values (says.Costs b) = Unit {0}
-IsSaidOf States (says.States e) = Unit {0}
-IsSaidOf Actions (says.Actions e) = Unit {0}
-IsSaidOf Observations (says.Observations e) = Unit {0}
-IsSaidOf Start (says.Start found) = Unit {0}
-IsSaidOf (Cells table) (says.Entry e) = Unit {0}
-IsSaidOf _ _ = ⊥
+abbrev pub AreContentsOf : Topic → ItemContents → Type 0
+AreContentsOf Discount (says.Discount g) = Unit {0}
+AreContentsOf Values (says.Costs b) = Unit {0}
+AreContentsOf States (says.States e) = Unit {0}
+AreContentsOf Actions (says.Actions e) = Unit {0}
+AreContentsOf Observations (says.Observations e) = Unit {0}
+AreContentsOf Start (says.Start found) = Unit {0}
+AreContentsOf (Cells table) (says.Entry e) = Unit {0}
+AreContentsOf _ _ = ⊥
 
-abbrev pub IsSaidWithin : ItemContents → Type 0
-IsSaidWithin (says.States e) = IsCount most_states (count_of e)
-IsSaidWithin (says.Actions e) = IsCount most_actions (count_of e)
-IsSaidWithin (says.Observations e) = IsCount most_observations (count_of e)
-IsSaidWithin _ = Unit {0}
+abbrev pub AreContentsWithin : ItemContents → Type 0
+AreContentsWithin (says.States e) = IsCount most_states (count_of e)
+AreContentsWithin (says.Actions e) = IsCount most_actions (count_of e)
+AreContentsWithin (says.Observations e) = IsCount most_observations (count_of e)
+AreContentsWithin _ = Unit {0}
 
 -- What may be learned behind what is known: an entry behind a complete preamble, and elements before all entries.
 abbrev pub MayBeLearned : Known → ItemContents → Type 0
