@@ -2,70 +2,18 @@
 use self::runs::{Answer, Devices, Run, SOUND, over_devices, over_slices};
 use polcert_answer::{Fault, RunFault, run_model, status_of};
 use polcert_model::{ItemFault, ModelFault, Table};
+use polcert_testing::{FIRST, refused_models};
 use polcert_text::{NumberFault, Sink, SinkFailed, SliceSink, SliceSource, TokenFault};
 use std::alloc::Global;
 use std::test::Fail;
 
 mod above;
 mod answers;
-mod devices;
 mod runs;
 mod streams;
 mod trials;
 
-/// A model of two states, one action and two observations.
-const FIRST: &[u8] =
-    b"discount: 0.95\nvalues: reward\nstates: 2\nactions: 1\nobservations: 2\nT: 0\n1 0\n0 1\nO: 0\n0.85 0.15\n0.15 0.85\nR: 0 : 0 : 0 : 0 -1\n";
-
 const LINE: &[u8] = b"pomdp: 2 states, 1 actions, 2 observations, discount 0.95, reward\n";
-
-/// The model FIRST in full form.
-const FULL: &[u8] =
-    b"discount: 0.95\nvalues: reward\nstates: 2\nactions: 1\nobservations: 2\nstart: uniform\nT: 0 : 0\n1 0\nT: 0 : 1\n0 1\nO: 0 : 0\n0.85 0.15\nO: 0 : 1\n0.15 0.85\nR: 0 : 0 : 0\n-1 0\n";
-
-/// Texts of models, and the kind, the item and the place of the fault of each.
-const REFUSED_MODELS: [(&[u8], ItemFault, u64, u64); 10] = [
-    (b"", ItemFault::MissingLine, 1, 0),
-    (b"hello discount: 1", ItemFault::BeforeFirstItem, 0, 0),
-    (
-        b"discount: 1 values: reward states: 0",
-        ItemFault::BadCount,
-        3,
-        35,
-    ),
-    (b"discount: 2", ItemFault::DiscountRange, 1, 10),
-    (b"discount: 1 discount: 1", ItemFault::DuplicateLine, 2, 12),
-    (
-        b"discount: 1.2.3",
-        ItemFault::Token(TokenFault::Glued(10)),
-        1,
-        10,
-    ),
-    (
-        b"discount: 0.1234567",
-        ItemFault::Number(NumberFault::TooFine),
-        1,
-        10,
-    ),
-    (
-        b"discount: 1e400",
-        ItemFault::Number(NumberFault::TooLarge),
-        1,
-        10,
-    ),
-    (b"discount: 0e400", ItemFault::MissingLine, 2, 15),
-    (
-        b"discount: 1 values: reward states: 2 actions: 1 observations: 1 T: 0 reset",
-        ItemFault::Reset,
-        6,
-        69,
-    ),
-];
-
-/// The rows of REFUSED_MODELS. (A function, so that a test is proved without the table.)
-fn refused_models() -> [(&'static [u8], ItemFault, u64, u64); 10] {
-    REFUSED_MODELS
-}
 
 /// Whether summing up the text of a slice answers and writes this.
 fn is_summed(alloc: Global, text: &[u8], answer: Result<Answer, RunFault>, written: &[u8]) -> bool {

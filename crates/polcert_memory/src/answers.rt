@@ -1,8 +1,7 @@
 //! Calls of the answer: three texts, and each of the runs.
 use crate::ended::{Ended, Want};
 use crate::texts::{
-    ALWAYS_FIRST, BACKED, LACKING, LISTENING, MDP, MDP_FULL, MDP_LINE, MOVED, NOTHING, TIGER,
-    TIGER_FULL, TIGER_LINE, TOO_LITTLE, TOO_MUCH,
+    BACKED, LACKING, MDP_FULL, MDP_LINE, MOVED, NOTHING, TIGER_LINE, TOO_LITTLE, TOO_MUCH,
 };
 use polcert_answer::{
     Fault, RunFault, check_texts, check_texts_above, run_check, run_check_above, run_lower,
@@ -11,6 +10,7 @@ use polcert_answer::{
 use polcert_check::{AboveVerdict, LowerFault, RaiseFault, Verdict};
 use polcert_model::ModelFault;
 use polcert_policy::{GraphFault, VectorFault};
+use polcert_testing::{ALWAYS_FIRST, LISTENING, MDP, TIGER, TIGER_FORM};
 use polcert_text::{SliceSink, SliceSource};
 use std::alloc::Global;
 
@@ -85,7 +85,7 @@ fn printing_of(alloc: Global, model: &[u8], full: &[u8]) -> Ended {
 }
 
 pub fn printing(alloc: Global) -> Ended {
-    printing_of(alloc, TIGER, TIGER_FULL)
+    printing_of(alloc, TIGER, TIGER_FORM)
 }
 
 pub fn printing_an_mdp(alloc: Global) -> Ended {

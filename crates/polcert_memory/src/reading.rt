@@ -3,7 +3,7 @@ ghost use Rattle.std.specs.Prelude.{IsTrue, negsuc};
 ghost use Rattle.polcert_policy.specs.Vectors.{CanShift};
 
 use crate::ended::{Ended, Want};
-use crate::texts::{COST, LISTENING, NAMED, TIGER};
+use crate::texts::{COST, NAMED};
 use polcert_check::{
     AboveVerdict, LowerFault, RaiseFault, Verdict, check, check_above, fits, lowered, raised,
 };
@@ -12,6 +12,7 @@ use polcert_policy::{
     Graph, GraphFault, VectorFault, Vectors, read_graph, read_graph_from, read_vectors,
     read_vectors_from, read_vectors_up,
 };
+use polcert_testing::{LISTENING, TIGER};
 use polcert_text::{ReadFault, SliceSource, SourceFault, read_all};
 use std::alloc::{AllocError, Global};
 

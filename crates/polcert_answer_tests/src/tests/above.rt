@@ -1,10 +1,9 @@
 //! Worked rows from above: what three texts answer, what is printed of it, and what raising gives.
-use super::answers::{
-    ALWAYS_FIRST, COST, EITHER, LOSS, MDP, TIGER, TWO_STATES, answer, first_accepted, refused_rows,
-};
+use super::answers::{EITHER, LOSS, answer, first_accepted, refused_rows};
 use super::runs::{Answer, Run, Texts, gives, refuses};
 use polcert_answer::{Fault, RunFault, check_texts_above, status_of, status_of_above_verdict};
 use polcert_check::{AboveVerdict, RaiseFault, Verdict};
+use polcert_testing::{ALWAYS_FIRST, COST, MDP, TIGER, TWO_STATES};
 use std::alloc::Global;
 
 /// One state that keeps to itself: 1 for each step, at a discount of 1.

@@ -4,16 +4,9 @@ use polcert_answer::{Fault, RunFault, check_texts, status_of, status_of_verdict}
 use polcert_check::{LowerFault, Verdict};
 use polcert_model::{ItemFault, ModelFault};
 use polcert_policy::{GraphFault, VectorFault};
+use polcert_testing::{ALWAYS_FIRST, COST, MDP, TIGER, TWO_STATES};
 use polcert_text::{NumberFault, TokenFault};
 use std::alloc::Global;
-
-/// Listening for a tiger behind one of two doors.
-pub const TIGER: &[u8] =
-    b"discount: 0.95\nvalues: reward\nstates: tiger-left tiger-right\nactions: listen open-left open-right\nobservations: tiger-left tiger-right\nT: listen\nidentity\nT: open-left\nuniform\nT: open-right\nuniform\nO: listen\n0.85 0.15\n0.15 0.85\nO: open-left\nuniform\nO: open-right\nuniform\nR: listen : * : * : * -1\nR: open-left : tiger-left : * : * -100\nR: open-left : tiger-right : * : * 10\nR: open-right : tiger-left : * : * 10\nR: open-right : tiger-right : * : * -100\n";
-
-/// One state that keeps to itself: a cost of 1 for each step, at a discount of one half.
-pub const COST: &[u8] =
-    b"discount: 0.5 values: cost states: 1 actions: 1 observations: 1 T: 0 identity O: 0 uniform R: 0 : 0 : 0 : 0 1";
 
 /// A loss of 1 for each step, at a discount of 1.
 pub const LOSS: &[u8] =
@@ -27,21 +20,9 @@ const NOTHING: &[u8] =
 const GREAT_LOSS: &[u8] =
     b"discount: 0.999999 values: reward states: 1 actions: 1 observations: 1 T: 0 identity O: 0 uniform R: 0 : 0 : 0 : 0 -10000000";
 
-/// Two observations, of which always the first comes.
-pub const ALWAYS_FIRST: &[u8] =
-    b"discount: 0.5 values: reward states: 1 actions: 1 observations: 2 T: 0 identity O: 0 1 0";
-
 /// Two observations, of which either may come.
 pub const EITHER: &[u8] =
     b"discount: 0.5 values: reward states: 1 actions: 1 observations: 2 T: 0 identity O: 0 0.5 0.5";
-
-/// Two states that keep to themselves, without rewards, at a discount of 1.
-pub const TWO_STATES: &[u8] =
-    b"discount: 1 values: reward states: 2 actions: 1 observations: 1 T: 0 identity O: 0 uniform";
-
-/// An MDP of two states, each of which leads to the other; the step from the first is worth 1.
-pub const MDP: &[u8] =
-    b"discount: 0.5 values: reward states: left right actions: 1 T: 0 0 1 1 0 R: 0 : left : right 1";
 
 /// The answer to the texts.
 pub fn answer(alloc: Global, texts: Texts<'_>) -> Result<Verdict, Fault> {

@@ -1,9 +1,9 @@
 //! The runs, by their names, over slices and over devices.
-use super::devices::{Failing, Giver, Taker};
 use polcert_answer::{
     RunFault, run_check, run_check_above, run_lower, run_model, run_print, run_raise,
 };
 use polcert_check::{AboveVerdict, Verdict};
+use polcert_testing::{Failing, Giver, Taker};
 use polcert_text::{ReaderSource, Sink, SliceSource, Source, WriterSink};
 use std::alloc::Global;
 

@@ -1,10 +1,10 @@
 //! Sources that give their bytes in pieces of any size.
-use super::answers::TIGER;
 use super::item;
 use super::runs::{Answer, Devices, Run, SOUND, Texts, gives_the_same, over_devices, over_slices};
 use polcert_answer::RunFault;
 use polcert_check::Verdict;
 use polcert_model::ItemFault;
+use polcert_testing::TIGER;
 use polcert_text::TokenFault;
 use std::alloc::Global;
 

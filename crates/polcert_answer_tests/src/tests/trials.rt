@@ -1,16 +1,18 @@
 //! Runs over devices that fail at each of their calls, and over texts that are cut at every length, by tables: a trial more is
 //! a line more.
-use super::answers::{COST, EITHER, MDP, TIGER, refused_rows};
-use super::devices::{Endless, Failing, Taker};
+use super::answers::{EITHER, refused_rows};
 use super::runs::{
     Answer, Devices, Outcome, RUNS, Run, SOUND, Texts, gives_the_same, over_devices, over_slices,
 };
-use super::{FIRST, FULL, LINE, item, refused_models};
+use super::{LINE, item};
 use polcert_answer::{Fault, RunFault, check_texts};
 use polcert_check::{AboveVerdict, Verdict};
 use polcert_model::{ItemFault, ModelFault};
 use polcert_policy::{GraphFault, VectorFault};
-use polcert_text::{ReaderSource, SliceSource, TokenFault, WriterSink};
+use polcert_testing::{
+    COST, Endless, FIRST, FIRST_FORM, Failing, MDP, TIGER, Taker, refused_models,
+};
+use polcert_text::{ReaderSource, SliceSource, Source, TokenFault, WriterSink};
 use std::alloc::Global;
 
 /// A run, its texts, what it answers and what it writes.
@@ -31,7 +33,7 @@ const WRITTEN: [Trial; 9] = [
         Answer::Done,
         b"mdp: 2 states, 1 actions, discount 0.5, reward\n",
     ),
-    (Run::Print, (FIRST, b"", b""), Answer::Done, FULL),
+    (Run::Print, (FIRST, b"", b""), Answer::Done, FIRST_FORM),
     (
         Run::Check,
         (TIGER, b"0 0 0 0", b"0 -20 -20"),
@@ -564,58 +566,24 @@ fn cut_slices(rt: HostRuntime) {
 
 /// A source that gives `1` for ever.
 fn endless() -> ReaderSource<Endless> {
-    ReaderSource::new(Endless {
-        byte: b'1',
-        reads: 0,
-    })
+    ReaderSource::new(Endless::new(b'1'))
 }
 
-/// What a run answered, how often its endless source was read, and how often it wrote.
-type Endlessly = (Result<Answer, RunFault>, u64, u64);
-
-fn over_endless_model(alloc: Global, run: Run) -> Endlessly {
-    let mut model = endless();
+/// What a run over three sources answers, where it writes nothing.
+fn unwritten<M: Source, G: Source, V: Source>(
+    alloc: Global,
+    run: Run,
+    model: &mut M,
+    graph: &mut G,
+    vectors: &mut V,
+) -> Option<Result<Answer, RunFault>> {
     let mut sink = WriterSink::new(Taker::new(alloc, Failing::Never));
-    let answer = run.over(
-        alloc,
-        &mut model,
-        &mut SliceSource::new(b""),
-        &mut SliceSource::new(b""),
-        &mut sink,
-    );
-    (answer, model.reader.reads, sink.writer.writes)
-}
-
-fn over_endless_graph(alloc: Global, run: Run) -> Endlessly {
-    let mut graph = endless();
-    let mut sink = WriterSink::new(Taker::new(alloc, Failing::Never));
-    let answer = run.over(
-        alloc,
-        &mut SliceSource::new(TIGER),
-        &mut graph,
-        &mut SliceSource::new(b""),
-        &mut sink,
-    );
-    (answer, graph.reader.reads, sink.writer.writes)
-}
-
-fn over_endless_vectors(alloc: Global, run: Run) -> Endlessly {
-    let mut vectors = endless();
-    let mut sink = WriterSink::new(Taker::new(alloc, Failing::Never));
-    let answer = run.over(
-        alloc,
-        &mut SliceSource::new(TIGER),
-        &mut SliceSource::new(b"0 0 0 0"),
-        &mut vectors,
-        &mut sink,
-    );
-    (answer, vectors.reader.reads, sink.writer.writes)
-}
-
-/// Whether an endless text is refused at its first lexeme, for this fault, after one read, and nothing is written.
-fn is_at_its_first_lexeme(answered: Endlessly, fault: Fault) -> bool {
-    let (answer, reads, writes) = answered;
-    reads == 1 && writes == 0 && answer == Err(RunFault::Text(fault))
+    let answer = run.over(alloc, model, graph, vectors, &mut sink);
+    if sink.writer.writes == 0 {
+        Some(answer)
+    } else {
+        None
+    }
 }
 
 fn refuses_endless_model(alloc: Global, run: Run) -> bool {
@@ -624,17 +592,29 @@ fn refuses_endless_model(alloc: Global, run: Run) -> bool {
         item: 0,
         place: 0,
     });
-    is_at_its_first_lexeme(over_endless_model(alloc, run), fault)
+    let mut model = endless();
+    let mut graph = SliceSource::new(b"");
+    let mut vectors = SliceSource::new(b"");
+    unwritten(alloc, run, &mut model, &mut graph, &mut vectors) == Some(Err(RunFault::Text(fault)))
+        && model.reader.reads == 1
 }
 
 fn refuses_endless_graph(alloc: Global, run: Run) -> bool {
     let fault = Fault::Graph(GraphFault::Token(TokenFault::TokenTooLong(0)));
-    is_at_its_first_lexeme(over_endless_graph(alloc, run), fault)
+    let mut model = SliceSource::new(TIGER);
+    let mut graph = endless();
+    let mut vectors = SliceSource::new(b"");
+    unwritten(alloc, run, &mut model, &mut graph, &mut vectors) == Some(Err(RunFault::Text(fault)))
+        && graph.reader.reads == 1
 }
 
 fn refuses_endless_vectors(alloc: Global, run: Run) -> bool {
     let fault = Fault::Vectors(VectorFault::Token(TokenFault::TokenTooLong(0)));
-    is_at_its_first_lexeme(over_endless_vectors(alloc, run), fault)
+    let mut model = SliceSource::new(TIGER);
+    let mut graph = SliceSource::new(b"0 0 0 0");
+    let mut vectors = endless();
+    unwritten(alloc, run, &mut model, &mut graph, &mut vectors) == Some(Err(RunFault::Text(fault)))
+        && vectors.reader.reads == 1
 }
 
 /// A text of endless `1` is refused at its first lexeme, which is too long, after one read that filled its piece.

@@ -3,41 +3,11 @@ use polcert_cells::Cells;
 use polcert_check::{LowerFault, Verdict, check, fits, least_constant, lowered, start_worth};
 use polcert_model::{DenseModel, Model, dense_of, read_model};
 use polcert_policy::{Graph, Vectors, read_graph, read_vectors};
+use polcert_testing::{NUMBERED_MDP, TIGER, TWO_STATES};
 use std::alloc::{AllocError, Global};
 use std::test::Fail;
 
 mod above;
-
-const TIGER: &[u8] = b"discount: 0.95
-values: reward
-states: tiger-left tiger-right
-actions: listen open-left open-right
-observations: tiger-left tiger-right
-T: listen
-identity
-T: open-left
-uniform
-T: open-right
-uniform
-O: listen
-0.85 0.15
-0.15 0.85
-O: open-left
-uniform
-O: open-right
-uniform
-R: listen : * : * : * -1
-R: open-left : tiger-left : * : * -100
-R: open-left : tiger-right : * : * 10
-R: open-right : tiger-left : * : * 10
-R: open-right : tiger-right : * : * -100
-";
-
-const PLAIN: &[u8] =
-    b"discount: 1 values: reward states: 2 actions: 1 observations: 1 T: 0 identity O: 0 uniform";
-
-/// An MDP: the end state is observed.
-const MDP: &[u8] = b"discount: 0.5 values: reward states: 2 actions: 1 T: 0 0 1 1 0 R: 0 : 0 : 1 1";
 
 /// A model, a graph and vectors, read one after another.
 #[derive(Drop)]
@@ -169,8 +139,8 @@ const VERDICTS: [(&[u8], &[u8], &[u8], Verdict); 17] = [
         b"0 -19.9999999999999964 -19.9999999999999964",
         Verdict::Yes,
     ),
-    (PLAIN, b"0 0 0", b"0 -0.000001 -0.000002", Verdict::Yes),
-    (PLAIN, b"0 0 0 1 0 1", b"0 1 1 0 1 1", Verdict::Yes),
+    (TWO_STATES, b"0 0 0", b"0 -0.000001 -0.000002", Verdict::Yes),
+    (TWO_STATES, b"0 0 0 1 0 1", b"0 1 1 0 1 1", Verdict::Yes),
     (
         b"discount: 1 values: reward states: 1 actions: 1 observations: 1 T: 0 identity O: 0 uniform R: 0 : 0 : 0 : 0 -1",
         b"0 0 0",
@@ -235,9 +205,14 @@ const VERDICTS: [(&[u8], &[u8], &[u8], Verdict); 17] = [
             observation: 1,
         },
     ),
-    (MDP, b"0 0 0 0", b"0 1.3333333 0.6666667", Verdict::Yes),
     (
-        MDP,
+        NUMBERED_MDP,
+        b"0 0 0 0",
+        b"0 1.3333333 0.6666667",
+        Verdict::Yes,
+    ),
+    (
+        NUMBERED_MDP,
         b"0 0 0 0",
         b"0 1.333334 0.666667",
         Verdict::Short {
@@ -248,13 +223,13 @@ const VERDICTS: [(&[u8], &[u8], &[u8], Verdict); 17] = [
     ),
     // each node is for one state, and the end state says which comes next
     (
-        MDP,
+        NUMBERED_MDP,
         b"0 0 0 1 1 0 0 1",
         b"0 1.333333 -1000 0 -1000 0.666666",
         Verdict::Yes,
     ),
     (
-        MDP,
+        NUMBERED_MDP,
         b"0 0 0 - 1 0 0 -",
         b"0 1.333333 -1000 0 -1000 0.666666",
         Verdict::NoSuccessor {
@@ -289,7 +264,7 @@ fn verdicts(rt: HostRuntime) {
 const LEAST_CONSTANTS: [(&[u8], &[u8], &[u8], Result<i64, LowerFault>); 7] = [
     (TIGER, b"0 0 0 0", b"0 -19.999999 -19.999999", Ok(1)),
     (TIGER, b"0 0 0 0", b"0 -20 -20", Ok(0)),
-    (MDP, b"0 0 0 0", b"0 1.333334 0.666667", Ok(1)),
+    (NUMBERED_MDP, b"0 0 0 0", b"0 1.333334 0.666667", Ok(1)),
     (
         b"discount: 0.5 values: cost states: 1 actions: 1 observations: 1 T: 0 identity O: 0 uniform R: 0 : 0 : 0 : 0 1",
         b"0 0 0",
@@ -519,8 +494,8 @@ const WORTHS: [(&[u8], &[u8], &[u8], (usize, i64)); 8] = [
         b"0 -20 -20 0 -19 -20",
         (1, -19_500_000),
     ),
-    (PLAIN, b"0 0 0", b"0 -0.000001 -0.000002", (0, -2)),
-    (PLAIN, b"0 0 0 1 0 1", b"0 1 1 0 1 1", (0, 1_000_000)),
+    (TWO_STATES, b"0 0 0", b"0 -0.000001 -0.000002", (0, -2)),
+    (TWO_STATES, b"0 0 0 1 0 1", b"0 1 1 0 1 1", (0, 1_000_000)),
     (
         b"discount: 0.5 values: cost states: 1 actions: 1 observations: 1 T: 0 identity O: 0 uniform R: 0 : 0 : 0 : 0 1",
         b"0 0 0",

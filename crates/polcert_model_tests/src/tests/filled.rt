@@ -1,7 +1,8 @@
 //! The cells of a model in filled tables.
 use crate::tests::numbers::{o, r, t};
-use crate::tests::texts::{GENERAL_FIRST, GENERAL_LAST, SINGLE, TIGER};
+use crate::tests::texts::{GENERAL_FIRST, GENERAL_LAST, SINGLE};
 use polcert_model::{Cells, DenseModel, Model, Row, dense_of, read_model};
+use polcert_testing::TIGER;
 use std::alloc::Global;
 
 /// An entry of each form and each pattern, for single cells, rows and matrices.

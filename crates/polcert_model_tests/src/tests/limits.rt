@@ -1,10 +1,11 @@
 //! The limits of elements and of cells.
-use crate::tests::numbers::{counts_and_printable, refusal};
-use polcert_model::{ItemFault, ModelFault};
+use crate::tests::numbers::{counts_and_printable, first_wrong_refusal};
+use polcert_model::ItemFault;
+use polcert_testing::RefusedModel;
 
 /// Texts, why each is refused, the item, and the place: that of a word, where the preamble has too many pairs, and an item's end,
 /// where entries give too many cells.
-const REFUSED: [(&[u8], ItemFault, u64, u64); 17] = [
+const REFUSED: [RefusedModel; 17] = [
     (
         b"discount: 1 values: reward states: 1001",
         ItemFault::MissingLine,
@@ -111,10 +112,7 @@ const REFUSED: [(&[u8], ItemFault, u64, u64); 17] = [
 
 #[test]
 fn beyond_the_limits(rt: HostRuntime) {
-    for (text, kind, item, place) in REFUSED {
-        let fault = ModelFault::Item { kind, item, place };
-        assert_eq!(rt; refusal(rt.alloc(), text), Some(fault));
-    }
+    assert_eq!(rt; first_wrong_refusal(rt.alloc(), &REFUSED), None);
 }
 
 /// Texts within the limits, with their states, actions and observations, and whether they may be printed.

@@ -1,6 +1,9 @@
 //! Texts without a line of observations: the end state is observed.
-use crate::tests::numbers::{Number, first_wrong, is_named, read_is_mdp, refusal};
+use crate::tests::numbers::{
+    Number, first_wrong, first_wrong_refusal, is_named, read_is_mdp, refusal,
+};
 use polcert_model::{ItemFault, Kind, ModelFault, Table};
+use polcert_testing::RefusedModel;
 use polcert_text::TokenFault;
 
 /// The same model of two states, by each form of its one reward.
@@ -73,7 +76,7 @@ fn a_cost_and_a_pomdp(rt: HostRuntime) {
 }
 
 /// Texts, why each is refused, the item, and the place.
-const REFUSED_ITEMS: [(&[u8], ItemFault, u64, u64); 17] = [
+const REFUSED_ITEMS: [RefusedModel; 17] = [
     (
         b"discount: 0.5 values: reward states: 2 actions: 1 T: 0 0 1 1 0 R: 0 : 0 : 1 : 0 1",
         ItemFault::BadShape,
@@ -175,14 +178,7 @@ const REFUSED_ITEMS: [(&[u8], ItemFault, u64, u64); 17] = [
 
 #[test]
 fn refused_items(rt: HostRuntime) {
-    for (text, kind, item, place) in REFUSED_ITEMS {
-        let fault = ModelFault::Item { kind, item, place };
-        assert_eq!(rt;
-            refusal(rt.alloc(), text),
-            Some(fault),
-            "item {item} at {place}"
-        );
-    }
+    assert_eq!(rt; first_wrong_refusal(rt.alloc(), &REFUSED_ITEMS), None);
 }
 
 /// No line of observations is missing here: the first row of T is all 0.

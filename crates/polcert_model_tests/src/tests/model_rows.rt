@@ -1,7 +1,8 @@
 //! Texts that are accepted, and their cells.
 use crate::tests::numbers::{Number, first_wrong, read_is_cost, refusal};
-use crate::tests::texts::{FIRST, GENERAL_FIRST, GENERAL_LAST, SINGLE};
+use crate::tests::texts::{GENERAL_FIRST, GENERAL_LAST, SINGLE};
 use polcert_model::{ModelFault, Table};
+use polcert_testing::FIRST;
 use std::alloc::Global;
 
 #[test]
@@ -236,19 +237,8 @@ fn rewards_by_four_patterns(rt: HostRuntime) {
     assert_eq!(rt; first_wrong(rt.alloc(), PATTERNS, &numbers), None);
 }
 
-const COST: &[u8] = b"discount: 0.95
-values: cost
-states: 2
-actions: 1
-observations: 2
-T: 0
-1 0
-0 1
-O: 0
-0.85 0.15
-0.15 0.85
-R: 0 : 0 : 0 : 0 -1
-";
+const COST: &[u8] =
+    b"discount: 0.95 values: cost states: 2 actions: 1 observations: 2 T: 0 1 0 0 1 O: 0 0.85 0.15 0.15 0.85 R: 0 : 0 : 0 : 0 -1";
 
 #[test]
 fn a_cost_is_a_reward_below_zero(rt: HostRuntime) {

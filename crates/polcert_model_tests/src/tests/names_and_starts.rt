@@ -1,7 +1,7 @@
 //! Names and start items: texts that are accepted, and what they say.
 use crate::tests::numbers::{Number, first_wrong, is_named, read_is_cost, starts_with};
-use crate::tests::texts::TIGER;
 use polcert_model::Kind;
+use polcert_testing::TIGER;
 
 const COUNTED: &[u8] =
     b"discount: 1 values: reward states: 2 actions: wait observations: 1 T: wait identity O: 00 uniform";

@@ -1,6 +1,7 @@
 //! What the tests read of a text: plain values, so that no model lives on in a test. Such tests are proved quickest.
 use crate::tests::sources::refusal_in_pieces;
 use polcert_model::{Cells, Kind, Model, ModelFault, read_model};
+use polcert_testing::RefusedModel;
 use std::alloc::Global;
 
 /// One of the numbers that a model says. Elements go by their numbers, in the order of `Model`'s methods.
@@ -157,4 +158,15 @@ pub fn refusal(alloc: Global, text: &[u8]) -> Option<ModelFault> {
         }
     }
     Some(fault)
+}
+
+/// The first of these texts that is not refused for its reason, in its item and at its place.
+pub fn first_wrong_refusal(alloc: Global, rows: &[RefusedModel]) -> Option<usize> {
+    for row in 0..rows.len() {
+        let (text, kind, item, place) = rows[row];
+        if refusal(alloc, text) != Some(ModelFault::Item { kind, item, place }) {
+            return Some(row);
+        }
+    }
+    None
 }

@@ -1,82 +1,8 @@
 //! Full forms, typed from the format's description.
-use crate::tests::texts::{FIRST, TIGER};
 use polcert_model::{Model, read_model, write_model};
+use polcert_testing::{FIRST, FIRST_FORM, NUMBERED_MDP, TIGER, TIGER_FORM};
 use polcert_text::{BufferedSink, Sink, SinkFailed, SliceSink};
 use std::alloc::Global;
-
-const TIGER_FORM: &[u8] = b"discount: 0.95
-values: reward
-states: tiger-left tiger-right
-actions: listen open-left open-right
-observations: tiger-left tiger-right
-start: uniform
-T: 0 : 0
-1 0
-T: 0 : 1
-0 1
-T: 1 : 0
-uniform
-T: 1 : 1
-uniform
-T: 2 : 0
-uniform
-T: 2 : 1
-uniform
-O: 0 : 0
-0.85 0.15
-O: 0 : 1
-0.15 0.85
-O: 1 : 0
-uniform
-O: 1 : 1
-uniform
-O: 2 : 0
-uniform
-O: 2 : 1
-uniform
-R: 0 : 0 : 0
--1 -1
-R: 0 : 0 : 1
--1 -1
-R: 0 : 1 : 0
--1 -1
-R: 0 : 1 : 1
--1 -1
-R: 1 : 0 : 0
--100 -100
-R: 1 : 0 : 1
--100 -100
-R: 1 : 1 : 0
-10 10
-R: 1 : 1 : 1
-10 10
-R: 2 : 0 : 0
-10 10
-R: 2 : 0 : 1
-10 10
-R: 2 : 1 : 0
--100 -100
-R: 2 : 1 : 1
--100 -100
-";
-
-const FIRST_FORM: &[u8] = b"discount: 0.95
-values: reward
-states: 2
-actions: 1
-observations: 2
-start: uniform
-T: 0 : 0
-1 0
-T: 0 : 1
-0 1
-O: 0 : 0
-0.85 0.15
-O: 0 : 1
-0.15 0.85
-R: 0 : 0 : 0
--1 0
-";
 
 const FULL3: &[u8] = b"discount: 1
 values: reward
@@ -222,8 +148,6 @@ R: 0 : 0 : 0
 1.5
 ";
 
-const MDP: &[u8] = b"discount: 0.5 values: reward states: 2 actions: 1 T: 0 0 1 1 0 R: 0 : 0 : 1 1";
-
 const MDP_FORM: &[u8] = b"discount: 0.5
 values: reward
 states: 2
@@ -282,7 +206,7 @@ fn full_forms(rt: HostRuntime) {
         (QUARTERS, QUARTERS_FORM),
         (THIRDS, THIRDS_FORM),
         (COST, COST_FORM),
-        (MDP, MDP_FORM),
+        (NUMBERED_MDP, MDP_FORM),
         (MDP_COST, MDP_COST_FORM),
     ] {
         assert_eq!(rt; prints(rt.alloc(), text, form), Some(true), "{text:?}");

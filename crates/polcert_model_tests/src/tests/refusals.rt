@@ -1,18 +1,11 @@
 //! Texts that are refused, and where.
-use crate::tests::numbers::refusal;
+use crate::tests::numbers::{first_wrong_refusal, refusal};
 use polcert_model::{ItemFault, ModelFault, Table};
+use polcert_testing::{RefusedModel, refused_models};
 use polcert_text::{NumberFault, TokenFault};
 
-/// Texts, why each is refused, the item, and the place.
-const REFUSED_ITEMS: [(&[u8], ItemFault, u64, u64); 20] = [
-    (b"", ItemFault::MissingLine, 1, 0),
-    (b"hello discount: 1", ItemFault::BeforeFirstItem, 0, 0),
-    (
-        b"discount: 1 values: reward states: 0",
-        ItemFault::BadCount,
-        3,
-        35,
-    ),
+/// Texts that are refused beside those that other crates try as well.
+const REFUSED_ITEMS: [RefusedModel; 10] = [
     (
         b"discount: 1 values: reward states: 10001",
         ItemFault::BadCount,
@@ -25,29 +18,9 @@ const REFUSED_ITEMS: [(&[u8], ItemFault, u64, u64); 20] = [
         3,
         35,
     ),
-    (b"discount: 2", ItemFault::DiscountRange, 1, 10),
-    (b"discount: 1 discount: 1", ItemFault::DuplicateLine, 2, 12),
-    (
-        b"discount: 1.2.3",
-        ItemFault::Token(TokenFault::Glued(10)),
-        1,
-        10,
-    ),
     (
         b"discount: 2ab",
         ItemFault::Token(TokenFault::Glued(10)),
-        1,
-        10,
-    ),
-    (
-        b"discount: 0.1234567",
-        ItemFault::Number(NumberFault::TooFine),
-        1,
-        10,
-    ),
-    (
-        b"discount: 1e400",
-        ItemFault::Number(NumberFault::TooLarge),
         1,
         10,
     ),
@@ -56,13 +29,6 @@ const REFUSED_ITEMS: [(&[u8], ItemFault, u64, u64); 20] = [
         ItemFault::Number(NumberFault::TooFine),
         1,
         10,
-    ),
-    (b"discount: 0e400", ItemFault::MissingLine, 2, 15),
-    (
-        b"discount: 1 values: reward states: 2 actions: 1 observations: 1 T: 0 reset",
-        ItemFault::Reset,
-        6,
-        69,
     ),
     (
         b"discount: 1 values: reward states: 2 actions: 1 observations: 1 T: 0 identity O: 0 uniform T: 0 : 0 : 0 2",
@@ -104,14 +70,8 @@ const REFUSED_ITEMS: [(&[u8], ItemFault, u64, u64); 20] = [
 
 #[test]
 fn refused_items(rt: HostRuntime) {
-    for (text, kind, item, place) in REFUSED_ITEMS {
-        let fault = ModelFault::Item { kind, item, place };
-        assert_eq!(rt;
-            refusal(rt.alloc(), text),
-            Some(fault),
-            "item {item} at {place}"
-        );
-    }
+    assert_eq!(rt; first_wrong_refusal(rt.alloc(), &refused_models()), None);
+    assert_eq!(rt; first_wrong_refusal(rt.alloc(), &REFUSED_ITEMS), None);
 }
 
 #[test]

@@ -4,49 +4,9 @@ use polcert_policy::{
     Graph, GraphFault, VectorFault, Vectors, read_graph, read_graph_from, read_vectors,
     read_vectors_from, read_vectors_up, read_vectors_up_from,
 };
-use polcert_text::{Source, SourceFailed, SourceFault, TokenFault};
+use polcert_testing::Pieces;
+use polcert_text::{SourceFault, TokenFault};
 use std::alloc::Global;
-
-/// Gives bytes in pieces of at most `most`, and then fails or ends. It counts its reads.
-#[derive(Drop)]
-struct Pieces<'a> {
-    rest: &'a [u8],
-    most: usize,
-    fails: bool,
-    failures: u64,
-    reads: u64,
-}
-
-impl<'a> Pieces<'a> {
-    fn new(rest: &'a [u8], most: usize, fails: bool) -> Pieces<'a> {
-        Pieces {
-            rest,
-            most,
-            fails,
-            failures: 0,
-            reads: 0,
-        }
-    }
-}
-
-impl Source for Pieces<'_> {
-    ghost failures = { λ s. s.failures };
-
-    ghost reads = { λ s room answer t. Unit {0} };
-
-    fn read(&mut self, piece: &mut [u8]) -> Result<usize, SourceFailed> {
-        self.reads = self.reads.saturating_add(1);
-        let count = self.rest.len().min(piece.len()).min(self.most);
-        if count == 0 && self.fails {
-            self.failures = self.failures.saturating_add(1);
-            return Err(SourceFailed);
-        }
-        let (front, rest) = self.rest.split_at(count);
-        piece[..count].copy_from_slice(front);
-        self.rest = rest;
-        Ok(count)
-    }
-}
 
 /// 27 bytes.
 const GRAPH: &[u8] = b"0 1 1 - # the first\n1 0 0 X";

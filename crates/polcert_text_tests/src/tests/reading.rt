@@ -1,66 +1,12 @@
 //! Sources that give a text in pieces, fail or never end.
+use polcert_testing::{Endless, Giver};
 use polcert_text::{ReadFault, ReaderSource, SliceSource, Source, SourceFailed, read_all};
-use std::io;
-use std::io::Read;
 use std::test::Fail;
-
-/// A reader of std that gives at most `most` bytes at a read, and counts its reads. The read of number `failing`, from 0
-/// on, fails with an error that some programs try again; the next read would succeed.
-#[derive(Drop)]
-struct Pieces<'a> {
-    rest: &'a [u8],
-    most: usize,
-    failing: Option<u64>,
-    reads: u64,
-}
-
-impl<'a> Pieces<'a> {
-    fn new(rest: &'a [u8], most: usize, failing: Option<u64>) -> Pieces<'a> {
-        Pieces {
-            rest,
-            most,
-            failing,
-            reads: 0,
-        }
-    }
-}
-
-impl Read for Pieces<'_> {
-    fn read(&mut self, piece: &mut [u8]) -> io::Result<usize> {
-        let number = self.reads;
-        self.reads = self.reads.saturating_add(1);
-        if self.failing == Some(number) {
-            return Err(io::Error::from(io::ErrorKind::Interrupted));
-        }
-        let most = piece.len().min(self.most);
-        self.rest.read(&mut piece[..most])
-    }
-}
-
-/// Never ends. It counts its reads.
-#[derive(Drop)]
-struct Endless {
-    reads: u64,
-}
-
-impl Source for Endless {
-    ghost failures = { λ _. 0 };
-
-    ghost reads = { λ s room answer t. Unit {0} };
-
-    fn read(&mut self, piece: &mut [u8]) -> Result<usize, SourceFailed> {
-        self.reads = self.reads.saturating_add(1);
-        for byte in piece.iter_mut() {
-            *byte = b'1';
-        }
-        Ok(piece.len())
-    }
-}
 
 #[test]
 fn reads_in_pieces(rt: HostRuntime) -> Result<(), Fail> {
     for (most, reads) in [(1usize, 12u64), (2, 7), (4, 4), (100, 2)] {
-        let mut source = ReaderSource::new(Pieces::new(b"discount: 1", most, None));
+        let mut source = ReaderSource::new(Giver::new(b"discount: 1", most, None));
         let bytes = read_all(rt.alloc(), &mut source, 100)?;
         assert_eq!(rt; bytes.as_slice(), b"discount: 1".as_slice());
         assert_eq!(rt; source.failures, 0);
@@ -74,7 +20,7 @@ fn reads_in_pieces(rt: HostRuntime) -> Result<(), Fail> {
 #[test]
 fn fails_at_each_read(rt: HostRuntime) {
     for failing in 0..12u64 {
-        let mut source = ReaderSource::new(Pieces::new(b"discount: 1", 1, Some(failing)));
+        let mut source = ReaderSource::new(Giver::new(b"discount: 1", 1, Some(failing)));
         match read_all(rt.alloc(), &mut source, 100) {
             Err(fault) => assert_eq!(rt; fault, ReadFault::Device),
             Ok(_) => panic!(rt; "read {failing} failed"),
@@ -87,10 +33,10 @@ fn fails_at_each_read(rt: HostRuntime) {
 /// A read has room for 4,096 bytes, and the third for as many as lead one past the limit.
 #[test]
 fn stops_past_the_limit(rt: HostRuntime) -> Result<(), Fail> {
-    let mut endless = Endless { reads: 0 };
+    let mut endless = ReaderSource::new(Endless::new(b'1'));
     let bytes = read_all(rt.alloc(), &mut endless, 10_000)?;
     assert_eq!(rt; bytes.len(), 10_001);
-    assert_eq!(rt; endless.reads, 3);
+    assert_eq!(rt; endless.reader.reads, 3);
     let whole = read_all(rt.alloc(), &mut SliceSource::new(b"abc"), 3)?;
     assert_eq!(rt; whole.as_slice(), b"abc".as_slice());
     let front = read_all(rt.alloc(), &mut SliceSource::new(b"abcde"), 3)?;
@@ -109,7 +55,7 @@ fn one_read_for_one_read(rt: HostRuntime) {
     assert_eq!(rt; slice.read(&mut piece), Ok(0));
     assert_eq!(rt; piece.as_slice(), b"abc...".as_slice());
 
-    let mut source = ReaderSource::new(Pieces::new(b"abc", 2, Some(1)));
+    let mut source = ReaderSource::new(Giver::new(b"abc", 2, Some(1)));
     let mut piece = [b'.'; 6];
     assert_eq!(rt; source.read(&mut piece), Ok(2));
     assert_eq!(rt; piece.as_slice(), b"ab....".as_slice());

@@ -1,76 +1,9 @@
 //! The tokens of sources that give a text in pieces, fail or never end.
+use polcert_testing::{Endless, Pieces};
 use polcert_text::{
-    Source, SourceFailed, StreamFault, StreamTokens, TEXT_LIMIT, TokenFault, TokenKind,
+    ReaderSource, Source, StreamFault, StreamTokens, TEXT_LIMIT, TokenFault, TokenKind,
 };
 use std::process::Abort;
-
-/// Gives bytes in pieces of at most `most`, and then fails or ends. It counts its reads.
-#[derive(Drop)]
-struct Pieces<'a> {
-    rest: &'a [u8],
-    most: usize,
-    fails: bool,
-    failures: u64,
-    reads: u64,
-}
-
-impl<'a> Pieces<'a> {
-    fn new(rest: &'a [u8], most: usize, fails: bool) -> Pieces<'a> {
-        Pieces {
-            rest,
-            most,
-            fails,
-            failures: 0,
-            reads: 0,
-        }
-    }
-}
-
-impl Source for Pieces<'_> {
-    ghost failures = { λ s. s.failures };
-
-    ghost reads = { λ s room answer t. Unit {0} };
-
-    fn read(&mut self, piece: &mut [u8]) -> Result<usize, SourceFailed> {
-        self.reads = self.reads.saturating_add(1);
-        let count = self.rest.len().min(piece.len()).min(self.most);
-        if count == 0 && self.fails {
-            self.failures = self.failures.saturating_add(1);
-            return Err(SourceFailed);
-        }
-        let (front, rest) = self.rest.split_at(count);
-        piece[..count].copy_from_slice(front);
-        self.rest = rest;
-        Ok(count)
-    }
-}
-
-/// Gives one byte without end. It counts its reads.
-#[derive(Drop)]
-struct Endless {
-    byte: u8,
-    reads: u64,
-}
-
-impl Endless {
-    fn new(byte: u8) -> Endless {
-        Endless { byte, reads: 0 }
-    }
-}
-
-impl Source for Endless {
-    ghost failures = { λ _. 0 };
-
-    ghost reads = { λ s room answer t. Unit {0} };
-
-    fn read(&mut self, piece: &mut [u8]) -> Result<usize, SourceFailed> {
-        self.reads = self.reads.saturating_add(1);
-        for byte in piece.iter_mut() {
-            *byte = self.byte;
-        }
-        Ok(piece.len())
-    }
-}
 
 /// The tokens of the source are these, and then comes this end, in so many reads. Two further calls answer the same, with no
 /// read.
@@ -267,16 +200,16 @@ fn a_comment_longer_than_the_buffer(rt: HostRuntime) {
 fn a_source_that_never_ends(rt: HostRuntime) {
     let at_limit = Some(StreamFault::Token(TokenFault::TextTooLong(10_000)));
     for byte in [b' ', b'#'] {
-        let mut source = Endless::new(byte);
+        let mut source = ReaderSource::new(Endless::new(byte));
         let mut found = StreamTokens::new(10_000);
         assert_end(&rt, &mut found, &mut source, at_limit);
         assert_end(&rt, &mut found, &mut source, at_limit);
-        assert_eq!(rt; source.reads, 3);
+        assert_eq!(rt; source.reader.reads, 3);
     }
     let too_long = Some(StreamFault::Token(TokenFault::TokenTooLong(0)));
-    let mut digits = Endless::new(b'1');
+    let mut digits = ReaderSource::new(Endless::new(b'1'));
     assert_end(&rt, &mut StreamTokens::new(10_000), &mut digits, too_long);
-    assert_eq!(rt; digits.reads, 1);
+    assert_eq!(rt; digits.reader.reads, 1);
 }
 
 #[test]

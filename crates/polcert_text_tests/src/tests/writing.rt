@@ -1,43 +1,7 @@
 //! Sinks that take a byte at a time, fail or take nothing.
+use polcert_testing::{Failing, Taker};
 use polcert_text::{BUFFER_SIZE, BufferedSink, Sink, SinkFailed, SliceSink, WriterSink, write_all};
-use std::alloc::Global;
-use std::io;
-use std::io::Write;
 use std::test::Fail;
-
-/// A writer of std that takes a byte at a time, and counts its writes. The write of number `failing`, from 0 on, fails
-/// with an error that some programs try again; the next write would succeed.
-#[derive(Drop)]
-struct OneByte {
-    taken: Vec<u8>,
-    failing: u64,
-    writes: u64,
-}
-
-impl OneByte {
-    fn new(alloc: Global, failing: u64) -> OneByte {
-        OneByte {
-            taken: Vec::new(alloc),
-            failing,
-            writes: 0,
-        }
-    }
-}
-
-impl Write for OneByte {
-    fn write(&mut self, piece: &[u8]) -> io::Result<usize> {
-        let number = self.writes;
-        self.writes = self.writes.saturating_add(1);
-        if number == self.failing {
-            return Err(io::Error::from(io::ErrorKind::Interrupted));
-        }
-        self.taken.write(&piece[..piece.len().min(1)])
-    }
-
-    fn flush(&mut self) -> io::Result<()> {
-        Ok(())
-    }
-}
 
 /// What a sink took before it failed is a beginning of the bytes. The failure was counted once, and the write is not tried
 /// again, though it would succeed then.
@@ -45,13 +9,13 @@ impl Write for OneByte {
 fn fails_at_each_write(rt: HostRuntime) {
     let text = b"yes: start node 0";
     for failing in 0..17usize {
-        let mut sink = WriterSink::new(OneByte::new(rt.alloc(), failing as u64));
+        let mut sink = WriterSink::new(Taker::new(rt.alloc(), Failing::Fails(failing as u64)));
         assert_eq!(rt; write_all(&mut sink, text), Err(SinkFailed));
         assert_eq!(rt; sink.writer.taken.as_slice(), &text[..failing]);
         assert_eq!(rt; sink.failures, 1);
         assert_eq!(rt; sink.writer.writes, failing as u64 + 1);
     }
-    let mut sink = WriterSink::new(OneByte::new(rt.alloc(), 17));
+    let mut sink = WriterSink::new(Taker::new(rt.alloc(), Failing::Never));
     assert_eq!(rt; write_all(&mut sink, text), Ok(()));
     assert_eq!(rt; sink.writer.taken.as_slice(), text.as_slice());
     assert_eq!(rt; sink.failures, 0);
@@ -69,27 +33,6 @@ fn a_full_slice_fails(rt: HostRuntime) {
     assert_eq!(rt; write_all(&mut sink, b""), Ok(()));
 }
 
-/// A writer of std that takes nothing at its first write, and counts its writes. The next would take all.
-#[derive(Drop)]
-struct NothingFirst {
-    writes: u64,
-}
-
-impl Write for NothingFirst {
-    fn write(&mut self, piece: &[u8]) -> io::Result<usize> {
-        let number = self.writes;
-        self.writes = self.writes.saturating_add(1);
-        if number == 0 {
-            return Ok(0);
-        }
-        Ok(piece.len())
-    }
-
-    fn flush(&mut self) -> io::Result<()> {
-        Ok(())
-    }
-}
-
 #[test]
 fn writes_to_a_writer_of_std(rt: HostRuntime) -> Result<(), Fail> {
     let mut sink = WriterSink::new(Vec::new(rt.alloc()));
@@ -103,7 +46,7 @@ fn writes_to_a_writer_of_std(rt: HostRuntime) -> Result<(), Fail> {
 /// A write that took nothing failed: it is not tried again, though it would succeed then. Nothing is written in no write.
 #[test]
 fn a_write_of_nothing_fails(rt: HostRuntime) {
-    let mut sink = WriterSink::new(NothingFirst { writes: 0 });
+    let mut sink = WriterSink::new(Taker::new(rt.alloc(), Failing::TakesNothing(0)));
     assert_eq!(rt; write_all(&mut sink, b"a"), Err(SinkFailed));
     assert_eq!(rt; (sink.failures, sink.writer.writes), (1, 1));
     assert_eq!(rt; write_all(&mut sink, b""), Ok(()));
@@ -115,10 +58,10 @@ fn a_write_of_nothing_fails(rt: HostRuntime) {
 /// One write of a sink over a writer of std is one write of the writer, also of an empty piece, of which nothing is taken.
 #[test]
 fn one_write_for_one_write(rt: HostRuntime) {
-    let mut sink = WriterSink::new(NothingFirst { writes: 0 });
+    let mut sink = WriterSink::new(Taker::new(rt.alloc(), Failing::TakesNothing(0)));
     assert_eq!(rt; sink.write(b""), Ok(0));
     assert_eq!(rt; (sink.failures, sink.writer.writes), (0, 1));
-    let mut sink = WriterSink::new(OneByte::new(rt.alloc(), 1));
+    let mut sink = WriterSink::new(Taker::new(rt.alloc(), Failing::Fails(1)));
     assert_eq!(rt; sink.write(b"ab"), Ok(1));
     assert_eq!(rt; sink.write(b"b"), Err(SinkFailed));
     assert_eq!(rt; (sink.failures, sink.writer.writes), (1, 2));

@@ -1,8 +1,9 @@
 //! Worked rows from above, from texts to verdicts.
-use super::{MDP, PLAIN, Parts, TIGER, ends};
+use super::{Parts, ends};
 use polcert_check::{AboveVerdict, RaiseFault, check_above, fits, least_raise, raised, start_most};
 use polcert_model::read_model;
 use polcert_policy::{read_graph, read_vectors_up};
+use polcert_testing::{NUMBERED_MDP, TIGER, TWO_STATES};
 use std::alloc::Global;
 
 /// The parts, where the texts are read, with values rounded up.
@@ -84,9 +85,14 @@ const MOSTS: [(&[u8], &[u8], &[u8], i64); 8] = [
         b"0 -20 -20 0 -19 -20",
         -19_500_000,
     ),
-    (PLAIN, b"0 0 0", b"0 -0.000001 -0.000002", -1),
-    (PLAIN, b"0 0 0 1 0 1", b"0 1 1 0 1 1", 1_000_000),
-    (MDP, b"0 0 0 0", b"0 1.3333333 0.6666667", 1_000_001),
+    (TWO_STATES, b"0 0 0", b"0 -0.000001 -0.000002", -1),
+    (TWO_STATES, b"0 0 0 1 0 1", b"0 1 1 0 1 1", 1_000_000),
+    (
+        NUMBERED_MDP,
+        b"0 0 0 0",
+        b"0 1.3333333 0.6666667",
+        1_000_001,
+    ),
     (
         b"discount: 0.5 values: reward states: 1 actions: 1 observations: 2 T: 0 identity O: 0 1 0",
         b"0 0 0 -",
@@ -148,9 +154,14 @@ const ABOVE: [(&[u8], &[u8], &[u8], AboveVerdict); 10] = [
             amount: 1_000_000_000_000_000_000_000_000,
         },
     ),
-    (MDP, b"0 0 0 0", b"0 1.3333333 0.6666667", AboveVerdict::Yes),
     (
-        MDP,
+        NUMBERED_MDP,
+        b"0 0 0 0",
+        b"0 1.3333333 0.6666667",
+        AboveVerdict::Yes,
+    ),
+    (
+        NUMBERED_MDP,
         b"0 0 0 0",
         b"0 1.333333 0.666666",
         AboveVerdict::Long {
@@ -159,8 +170,18 @@ const ABOVE: [(&[u8], &[u8], &[u8], AboveVerdict); 10] = [
             amount: 2_000_000_000_000_000_000,
         },
     ),
-    (PLAIN, b"0 0 0", b"0 -0.000001 -0.000002", AboveVerdict::Yes),
-    (PLAIN, b"0 0 0 1 0 1", b"0 1 1 0 1 1", AboveVerdict::Yes),
+    (
+        TWO_STATES,
+        b"0 0 0",
+        b"0 -0.000001 -0.000002",
+        AboveVerdict::Yes,
+    ),
+    (
+        TWO_STATES,
+        b"0 0 0 1 0 1",
+        b"0 1 1 0 1 1",
+        AboveVerdict::Yes,
+    ),
     (
         b"discount: 0.5 values: reward states: 1 actions: 1 observations: 2 T: 0 identity O: 0 1 0",
         b"0 0 0 -",

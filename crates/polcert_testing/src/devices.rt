@@ -39,8 +39,14 @@ impl Read for Giver<'_> {
 /// Gives the same byte for ever.
 #[derive(Drop)]
 pub struct Endless {
-    pub byte: u8,
+    byte: u8,
     pub reads: u64,
+}
+
+impl Endless {
+    pub fn new(byte: u8) -> Endless {
+        Endless { byte, reads: 0 }
+    }
 }
 
 impl Read for Endless {
