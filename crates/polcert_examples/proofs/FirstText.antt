@@ -1,8 +1,6 @@
 -- The small text by numbers is taken by the narrow stage, and denotes its model.
-use Rattle.std.proofs.Common.{◌≡◌, ℕ, zero, suc, ◌<◌, ◌≤◌, Bool, true, false, List, [], ◌∷◌, take, ℤ, pos, codes, refl, arith, lit≤, lit<}
+use Rattle.std.proofs.Common.{◌≡◌, ℕ, zero, suc, ◌<◌, ◌≤◌, List, [], ◌∷◌, take, codes, refl, arith, lit≤, lit<}
 use Rattle.std.proofs.lemmas.List.Elements.{All-from_recursion}
-use Rattle.polcert_text.specs.Bytes.{class_of}
-use Rattle.polcert_text.specs.Numbers.{IsExact, number_of, exponent_size, power_of, size_of, millionth}
 use Rattle.polcert_cells.specs.declared.entry.Table.TheVariants.{Transition, Observation, Reward}
 use Rattle.polcert_cells.specs.declared.entry.Place.TheVariants.{Only}
 use Rattle.polcert_cells.specs.declared.entry.Body.TheVariants.{Probabilities}
@@ -17,6 +15,7 @@ use Rattle.polcert_cells.specs.Elements.{StandsFor, count_of, counted, by_number
 use Rattle.polcert_format.specs.Items.{Item, IsItem, IsDivided}
 use Rattle.polcert_cells.specs.Entry as entries
 use Rattle.polcert_cells.specs.Entry.{ArePlaces, IsEntry}
+use Rattle.polcert_cells.specs.Preamble.{named as named_by}
 use Rattle.polcert_cells.specs.Meaning.{HasProperRows, sum_below}
 use Rattle.polcert_format.specs.Text as texts
 use Rattle.polcert_cells.specs.declared.entry.Table.{Table}
@@ -26,7 +25,8 @@ use Rattle.polcert_format.specs.Text.{Known, nothing_known, IsInPreamble, IsComp
 use Rattle.polcert_examples.specs.Worked.Examples.{name, numeral, colon, transition, observation, rewards}
 use Rattle.polcert_examples.specs.Worked.Tiger.{minus, minus_whole}
 use Rattle.polcert_examples.specs.Worked.FirstText.{first, first_preamble, first_entries, first_known, first_model}
-use Rattle.polcert_examples.proofs.WorkedTexts.{an_item, plain_item, a_word, n_0_95, n_0_85, n_0_15, n_1, e_95, e_85, e_15, e_minus_1, fresh, below_two}
+use Rattle.polcert_examples.proofs.WorkedTexts.{an_item, plain_item, a_word, an_entry, heard_right, fresh, below_two}
+use Rattle.polcert_examples.proofs.Computed.{numerals, wholes}
 
 abbrev first_items : List Item
 first_items =
@@ -48,76 +48,32 @@ divided = record {
       (plain_item _ refl refl, (plain_item _ refl refl, (plain_item _ refl refl, (plain_item _ refl refl, (plain_item _ refl refl, (plain_item _ refl refl, (plain_item _ refl refl, ((plain_item _ refl refl, tt)))))))));
 }
 
-whole_0 : IsWhole (numeral (codes "0")) 0
-unfolding class_of
-whole_0 = record { kind = refl; digits = refl; value = refl }
-
-whole_1 : IsWhole (numeral (codes "1")) 1
-unfolding class_of
-whole_1 = record { kind = refl; digits = refl; value = refl }
-
-whole_2 : IsWhole (numeral (codes "2")) 2
-unfolding class_of
-whole_2 = record { kind = refl; digits = refl; value = refl }
-
-n_0 : (negative : Bool) (h : ℤ) → IsExact negative (codes "0") h → IsMillionths negative (numeral (codes "0")) h
-unfolding class_of number_of exponent_size power_of size_of millionth
-n_0 negative h e = record { kind = refl; readable = record { numeral = refl; short = lit≤ tt; exponent = lit≤ tt; size = lit≤ tt }; exact = e }
-
-e_0 : IsExact false (codes "0") (pos 0)
-unfolding number_of exponent_size power_of size_of millionth class_of
-e_0 = refl
-
-e_1 : IsExact false (codes "1") (pos 1_000_000)
-unfolding number_of exponent_size power_of size_of millionth class_of
-e_1 = refl
-
 stands_0 : (elements : Elements) → 0 < count_of elements → StandsFor elements (numeral (codes "0")) 0
-stands_0 elements l = by_number whole_0 l
+stands_0 elements l = by_number wholes.zero l
+
+only_0 : ArePlaces (named_by first_preamble Transition) (colon ∷ numeral (codes "0") ∷ []) (Only 0 ∷ [])
+only_0 = entries.more refl (stands_0 (Count 1) (lit< tt)) entries.none
 
 move : IsEntry first_preamble Transition (colon ∷ numeral (codes "0") ∷ numeral (codes "1") ∷ numeral (codes "0") ∷ numeral (codes "0") ∷ numeral (codes "1") ∷ [])
     (transition (Only 0 ∷ []) (Probabilities (1_000_000 ∷ 0 ∷ 0 ∷ 1_000_000 ∷ [])))
-move = record {
-  pattern = colon ∷ numeral (codes "0") ∷ [];
-  rest = numeral (codes "1") ∷ numeral (codes "0") ∷ numeral (codes "0") ∷ numeral (codes "1") ∷ [];
-  whole = refl;
-  table_is = refl;
-  form = refl;
-  places = entries.more refl (stands_0 (Count 1) (lit< tt)) entries.none;
-  body = entries.probabilities
-      (numbers.unsigned (n_1 false (pos 1_000_000) e_1) (numbers.unsigned (n_0 false (pos 0) e_0) (numbers.unsigned (n_0 false (pos 0) e_0) (numbers.unsigned (n_1 false (pos 1_000_000) e_1) numbers.none))))
-      refl
-      (All-from_recursion (λ p. p ≤ 1_000_000) (1_000_000 ∷ 0 ∷ 0 ∷ 1_000_000 ∷ []) (lit≤ tt, (lit≤ tt, (lit≤ tt, (lit≤ tt, tt)))));
-}
+move = an_entry first_preamble (transition (Only 0 ∷ []) (Probabilities (1_000_000 ∷ 0 ∷ 0 ∷ 1_000_000 ∷ []))) (colon ∷ numeral (codes "0") ∷ []) _ refl only_0
+    (entries.probabilities
+    (numbers.unsigned (numerals.one _) (numbers.unsigned (numerals.zero _) (numbers.unsigned (numerals.zero _) (numbers.unsigned (numerals.one _) numbers.none))))
+    refl
+    (All-from_recursion (λ p. p ≤ 1_000_000) (1_000_000 ∷ 0 ∷ 0 ∷ 1_000_000 ∷ []) (lit≤ tt, (lit≤ tt, (lit≤ tt, (lit≤ tt, tt))))))
 
 hear : IsEntry first_preamble Observation (colon ∷ numeral (codes "0") ∷ numeral (codes "0.85") ∷ numeral (codes "0.15") ∷ numeral (codes "0.15") ∷ numeral (codes "0.85") ∷ [])
     (observation (Only 0 ∷ []) (Probabilities (850_000 ∷ 150_000 ∷ 150_000 ∷ 850_000 ∷ [])))
-hear = record {
-  pattern = colon ∷ numeral (codes "0") ∷ [];
-  rest = numeral (codes "0.85") ∷ numeral (codes "0.15") ∷ numeral (codes "0.15") ∷ numeral (codes "0.85") ∷ [];
-  whole = refl;
-  table_is = refl;
-  form = refl;
-  places = entries.more refl (stands_0 (Count 1) (lit< tt)) entries.none;
-  body = entries.probabilities
-      (numbers.unsigned (n_0_85 false (pos 850_000) e_85) (numbers.unsigned (n_0_15 false (pos 150_000) e_15)
-      (numbers.unsigned (n_0_15 false (pos 150_000) e_15) (numbers.unsigned (n_0_85 false (pos 850_000) e_85) numbers.none))))
-      refl
-      (All-from_recursion (λ p. p ≤ 1_000_000) (850_000 ∷ 150_000 ∷ 150_000 ∷ 850_000 ∷ []) (lit≤ tt, (lit≤ tt, (lit≤ tt, (lit≤ tt, tt)))));
-}
+hear = an_entry first_preamble (observation (Only 0 ∷ []) (Probabilities (850_000 ∷ 150_000 ∷ 150_000 ∷ 850_000 ∷ []))) (colon ∷ numeral (codes "0") ∷ []) _ refl
+    only_0 heard_right
 
 pay : IsEntry first_preamble Reward (colon ∷ numeral (codes "0") ∷ colon ∷ numeral (codes "0") ∷ colon ∷ numeral (codes "0") ∷ colon ∷ numeral (codes "0") ∷ minus ∷ numeral (codes "1") ∷ [])
     (rewards (Only 0 ∷ Only 0 ∷ Only 0 ∷ Only 0 ∷ []) (minus_whole 1 ∷ []))
-pay = record {
-  pattern = colon ∷ numeral (codes "0") ∷ colon ∷ numeral (codes "0") ∷ colon ∷ numeral (codes "0") ∷ colon ∷ numeral (codes "0") ∷ [];
-  rest = minus ∷ numeral (codes "1") ∷ [];
-  whole = refl;
-  table_is = refl;
-  form = refl;
-  places = entries.more refl (stands_0 (Count 1) (lit< tt)) (entries.more refl (stands_0 (Count 2) (lit< tt))
-      (entries.more refl (stands_0 (Count 2) (lit< tt)) (entries.more refl (stands_0 (Count 2) (lit< tt)) entries.none)));
-  body = entries.rewards (numbers.minus refl (n_1 true (minus_whole 1) e_minus_1) numbers.none) refl;
-}
+pay = an_entry first_preamble (rewards (Only 0 ∷ Only 0 ∷ Only 0 ∷ Only 0 ∷ []) (minus_whole 1 ∷ []))
+    (colon ∷ numeral (codes "0") ∷ colon ∷ numeral (codes "0") ∷ colon ∷ numeral (codes "0") ∷ colon ∷ numeral (codes "0") ∷ []) _ refl
+    (entries.more refl (stands_0 (Count 1) (lit< tt)) (entries.more refl (stands_0 (Count 2) (lit< tt))
+    (entries.more refl (stands_0 (Count 2) (lit< tt)) (entries.more refl (stands_0 (Count 2) (lit< tt)) entries.none))))
+    (entries.rewards (numbers.minus refl (numerals.minus_one _) numbers.none) refl)
 
 complete : (es : List Entry) → IsComplete (first_known es) first_preamble
 complete es = record {
@@ -136,11 +92,11 @@ few es = few_cells first_preamble es small
 right : AreRight nothing_known first_items (first_known first_entries)
 unfolding topic_of
 right =
-    texts.more Discount refl (texts.discount (fresh _ refl refl) refl refl (numbers.unsigned (n_0_95 false (pos 950_000) e_95) numbers.none) (lit≤ tt))
+    texts.more Discount refl (texts.discount (fresh _ refl refl) refl refl (numbers.unsigned (numerals.n_0_95 _) numbers.none) (lit≤ tt))
     (texts.more Values refl (texts.rewards (fresh _ refl refl) refl refl (a_word _))
-    (texts.more States refl (texts.states (fresh _ refl refl) refl refl (counted whole_2 (lit≤ tt) (lit≤ tt)))
-    (texts.more Actions refl (texts.actions (fresh _ refl refl) refl refl (counted whole_1 (lit≤ tt) (lit≤ tt)))
-    (texts.more Observations refl (texts.observations (fresh _ refl refl) refl refl (counted whole_2 (lit≤ tt) (lit≤ tt)))
+    (texts.more States refl (texts.states (fresh _ refl refl) refl refl (counted wholes.two (lit≤ tt) (lit≤ tt)))
+    (texts.more Actions refl (texts.actions (fresh _ refl refl) refl refl (counted wholes.one (lit≤ tt) (lit≤ tt)))
+    (texts.more Observations refl (texts.observations (fresh _ refl refl) refl refl (counted wholes.two (lit≤ tt) (lit≤ tt)))
     (texts.more (Cells Transition) refl (texts.entry (complete []) tt move (few (take 1 first_entries)))
     (texts.more (Cells Observation) refl (texts.entry (complete (take 1 first_entries)) refl hear (few (take 2 first_entries)))
     (texts.more (Cells Reward) refl (texts.entry (complete (take 2 first_entries)) tt pay (few first_entries))

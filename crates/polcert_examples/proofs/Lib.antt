@@ -1,3 +1,4 @@
+pub mod Computed
 pub mod FirstText
 pub mod FormExamples
 pub mod RefusedExamples

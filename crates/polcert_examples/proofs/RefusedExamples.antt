@@ -1,15 +1,13 @@
 -- Refused texts: kind, item and place are what one expects.
 use Rattle.std.proofs.Common.{◌≡◌, ℕ, ◌≤◌, false, Some, List, [], ◌∷◌, pos, codes, refl, sym, subst, arith, lit≤}
 use Rattle.std.proofs.lemmas.List.Elements.{All-from_recursion}
-use Rattle.polcert_text.specs.Bytes.{class_of}
 use Rattle.polcert_text.specs.Cut.{Lexeme}
-use Rattle.polcert_text.specs.Numbers.{number_of, exponent_size, power_of, size_of, millionth}
 use Rattle.polcert_text.specs.declared.tokens.TokenFault.TheVariants.{Glued}
 use Rattle.polcert_format.specs.declared.fault.ItemFault.TheVariants.{Token, BeforeFirstItem, DuplicateLine, MissingLine, DiscountRange}
 use Rattle.polcert_cells.specs.declared.words.Topic.TheVariants.{Discount, Start, Cells}
 use Rattle.polcert_cells.specs.declared.entry.Table.{Table}
 use Rattle.polcert_cells.specs.Words.{topic, topic_of}
-use Rattle.polcert_cells.specs.Numbers.{IsMillionths, none, unsigned, one}
+use Rattle.polcert_cells.specs.Numbers.{none, unsigned, one}
 use Rattle.polcert_format.specs.Items.{Item, IsItem, IsDivided}
 use Rattle.polcert_format.specs.Text as texts
 use Rattle.polcert_format.specs.Text.{Known, nothing_known, IsInPreamble, IsComplete, IsRight, AreRight}
@@ -20,6 +18,8 @@ use Rattle.polcert_format.specs.Reasons.{unsigned as unsigned_number}
 use Rattle.polcert_format.specs.Misfits.{of_value}
 use Rattle.polcert_format.specs.Refusals.{IsItemRefusal, StopsInBody, at_lexeme}
 use Rattle.polcert_examples.specs.Worked.RefusedExamples.{name_at, numeral_at, colon_at, empty_text, hello, twice, above_one, glued}
+use Rattle.polcert_examples.proofs.WorkedTexts.{fresh}
+use Rattle.polcert_examples.proofs.Computed.{numerals}
 use Rattle.polcert_cells.proofs.Basics.{one_some, same_head}
 use Rattle.polcert_cells.proofs.NumberLaws.{one_list}
 use Rattle.polcert_format.proofs.FurtherNumbers.{numbers_go_on}
@@ -71,10 +71,6 @@ hello_refused = record {
 
 -- ---- a line for the second time
 
-numeral_one : (place : ℕ) → IsMillionths false (numeral_at place (codes "1")) (pos 1_000_000)
-unfolding class_of number_of exponent_size power_of size_of millionth
-numeral_one place = record { kind = refl; readable = record { numeral = refl; short = lit≤ tt; exponent = lit≤ tt; size = lit≤ tt }; exact = refl }
-
 discount_topic : (place : ℕ) → topic (name_at place (codes "discount")) ≡ Some Discount
 unfolding topic_of
 discount_topic place = refl
@@ -84,7 +80,7 @@ discount_known = record nothing_known { discount = Some 1_000_000 }
 
 first_taken : AreRight nothing_known (one_item 0 8 10 (codes "1") ∷ []) discount_known
 first_taken =
-    texts.more Discount (discount_topic 0) (texts.discount (let k : IsInPreamble nothing_known = record { no_start = refl; no_entry = refl } in k) refl refl (unsigned (numeral_one 10) none) (lit≤ tt)) texts.none
+    texts.more Discount (discount_topic 0) (texts.discount (fresh _ refl refl) refl refl (unsigned (numerals.one 10) none) (lit≤ tt)) texts.none
 
 twice_divided : IsDivided twice.lexemes [] (one_item 0 8 10 (codes "1") ∷ one_item 12 20 22 (codes "1") ∷ [])
 twice_divided = record {
@@ -109,15 +105,11 @@ twice_refused = record {
 
 -- ---- a discount above one
 
-two : (place : ℕ) → IsMillionths false (numeral_at place (codes "2")) (pos 2_000_000)
-unfolding class_of number_of exponent_size power_of size_of millionth
-two place = record { kind = refl; readable = record { numeral = refl; short = lit≤ tt; exponent = lit≤ tt; size = lit≤ tt }; exact = refl }
-
 no_fraction : (p : ℕ) → pos 2_000_000 ≡ pos p → p ≤ one → ⊥
 no_fraction p e l = let f : ◌≡◌ {A = ℕ} 2_000_000 p = cc in omega (arith, f, l)
 
 two_is_wrong : IsWrong nothing_known Discount (colon_at 8 ∷ numeral_at 10 (codes "2") ∷ [])
-two_is_wrong after (texts.discount {g = g} p e c n l) = no_fraction g (same_head (one_list (unsigned (two 10) none) n)) l
+two_is_wrong after (texts.discount {g = g} p e c n l) = no_fraction g (same_head (one_list (unsigned (numerals.two 10) none) n)) l
 
 above_divided : IsDivided above_one.lexemes [] (one_item 0 8 10 (codes "2") ∷ [])
 above_divided = record { whole = refl; no_word = refl; each = All-from_recursion IsItem (one_item 0 8 10 (codes "2") ∷ []) (is_item 0 8 10 (codes "2"), tt) }
@@ -135,7 +127,7 @@ above_one_refused = record {
     number_is = refl;
     t = Discount;
     topic_is = discount_topic 0;
-    holds = (refl, unsigned_number (colon_at 8 ∷ []) (numeral_at 10 (codes "2")) [] refl refl refl (pos 2_000_000, two 10, no_fraction));
+    holds = (refl, unsigned_number (colon_at 8 ∷ []) (numeral_at 10 (codes "2")) [] refl refl refl (pos 2_000_000, numerals.two 10, no_fraction));
   };
   decided = λ fault at d. absurd (nothing_decided above_one [] (one_item 0 8 10 (codes "2")) [] nothing_known Discount fault at above_divided starts (discount_topic 0) refl d);
 }
@@ -165,7 +157,7 @@ glued_refused = record {
 colon_possible : IsPossible nothing_known Discount (colon_at 8 ∷ [])
 colon_possible = record {
   more = a_zero ∷ [];
-  form = right (texts.discount (let k : IsInPreamble nothing_known = record { no_start = refl; no_entry = refl } in k) refl refl (unsigned (zero_is false) none) (lit≤ tt));
+  form = right (texts.discount (fresh _ refl refl) refl refl (unsigned (zero_is false) none) (lit≤ tt));
 }
 
 not_start : Discount ≡ Start → ⊥
@@ -176,7 +168,7 @@ not_cells e = cc
 
 two_wrong : (further : List Lexeme) (after : Known) → IsRight nothing_known Discount (colon_at 8 ∷ numeral_at 10 (codes "2") ∷ further) after → ⊥
 two_wrong further after (texts.discount {g = g} p e c n l) =
-    let r = numbers_go_on further (unsigned (two 10) none) n refl in
+    let r = numbers_go_on further (unsigned (numerals.two 10) none) n refl in
     no_fraction g (sym (same_head r.joined)) l
 
 two_stuck : IsFormless nothing_known Discount (colon_at 8 ∷ numeral_at 10 (codes "2") ∷ [])

@@ -1,68 +1,42 @@
 -- Start items over two named states have the shares that one expects.
-use Rattle.std.proofs.Common.{◌≡◌, ◌∙◌, ℕ, ◌<◌, false, inl, inr, sum, List, [], ◌∷◌, map, pos, codes, refl, sym, ap, subst, arith, lit≤, lit<}
+use Rattle.std.proofs.Common.{◌≡◌, ◌∙◌, ℕ, ◌<◌, inl, inr, sum, List, [], ◌∷◌, map, pos, codes, refl, sym, ap, subst, arith, lit<}
 use Rattle.polcert_text.specs.Bytes.{class_of}
-use Rattle.polcert_text.specs.Numbers.{number_of, exponent_size, power_of, size_of, millionth}
 use Rattle.polcert_text.specs.Cut.{Lexeme}
-use Rattle.polcert_cells.specs.Words.{IsWord, IsName, is_reserved, topic_of}
-use Rattle.polcert_cells.specs.Numbers.{IsWhole, IsMillionths, AreNumbers, none, unsigned}
+use Rattle.polcert_cells.specs.Words.{IsWord, IsName}
+use Rattle.polcert_cells.specs.Numbers.{IsWhole, AreNumbers, none, unsigned}
 use Rattle.polcert_cells.specs.Elements.{StandsFor, by_name}
 use Rattle.polcert_cells.specs.declared.shares.Shares.{Shares}
 use Rattle.polcert_cells.specs.Start.{IsStart, IsStartBody, plain, include, exclude, uniform, name, number, only_state, probabilities, alike, excluded}
 use Rattle.polcert_examples.specs.Worked.Examples as examples
 use Rattle.polcert_examples.specs.Worked.Examples.{numeral}
 use Rattle.polcert_examples.specs.Worked.StartExamples.{a_b, shares, uniform_start, halves_start, quarters_start, name_start, number_start, include_start, exclude_start, exclude_none, exclude_all, unsummed_start, third_start, pointed_start, alone, zero_start}
+use Rattle.polcert_examples.proofs.WorkedTexts.{a_word}
+use Rattle.polcert_examples.proofs.Computed.{numerals, wholes, names}
 use Rattle.polcert_cells.proofs.Basics.{true≢false, cons≢nil, same_head, same_tail}
 use Rattle.polcert_cells.proofs.NumberLaws.{one_list, one_whole as one_whole_number}
 use Rattle.polcert_cells.proofs.EntryLaws.{pos_once}
 use Rattle.polcert_cells.proofs.StartLaws.{one_choice, include_not_exclude, name_not_colon, numbers_once}
 
-a_name : IsName (examples.name (codes "a"))
-unfolding is_reserved topic_of
-a_name = record { kind = refl; free = refl }
-
-b_name : IsName (examples.name (codes "b"))
-unfolding is_reserved topic_of
-b_name = record { kind = refl; free = refl }
-
 stands_a : StandsFor a_b (examples.name (codes "a")) 0
-stands_a = by_name a_name refl
+stands_a = by_name names.a refl
 
 stands_b : StandsFor a_b (examples.name (codes "b")) 1
-stands_b = by_name b_name refl
-
-a_word : (w : List ℕ) → IsWord w (examples.name w)
-a_word w = record { kind = refl; bytes = refl }
-
-one_whole : IsWhole (numeral (codes "1")) 1
-unfolding class_of
-one_whole = record { kind = refl; digits = refl; value = refl }
-
-half : IsMillionths false (numeral (codes "0.5")) (pos 500_000)
-unfolding class_of number_of exponent_size power_of size_of millionth
-half = record { kind = refl; readable = record { numeral = refl; short = lit≤ tt; exponent = lit≤ tt; size = lit≤ tt }; exact = refl }
-
-quarter : IsMillionths false (numeral (codes "0.25")) (pos 250_000)
-unfolding class_of number_of exponent_size power_of size_of millionth
-quarter = record { kind = refl; readable = record { numeral = refl; short = lit≤ tt; exponent = lit≤ tt; size = lit≤ tt }; exact = refl }
-
-three_quarters : IsMillionths false (numeral (codes "0.75")) (pos 750_000)
-unfolding class_of number_of exponent_size power_of size_of millionth
-three_quarters = record { kind = refl; readable = record { numeral = refl; short = lit≤ tt; exponent = lit≤ tt; size = lit≤ tt }; exact = refl }
+stands_b = by_name names.b refl
 
 pub uniform_shares : IsStart a_b uniform_start (shares (1 ∷ 1 ∷ []) 2)
 uniform_shares = plain refl (uniform (a_word _))
 
 pub halves_shares : IsStart a_b halves_start (shares (1 ∷ 1 ∷ []) 2)
-halves_shares = plain refl (probabilities (500_000 ∷ 500_000 ∷ []) (lit< tt) (unsigned half (unsigned half none)) refl refl)
+halves_shares = plain refl (probabilities (500_000 ∷ 500_000 ∷ []) (lit< tt) (unsigned (numerals.half _) (unsigned (numerals.half _) none)) refl refl)
 
 pub quarters_shares : IsStart a_b quarters_start (shares (250_000 ∷ 750_000 ∷ []) 1_000_000)
-quarters_shares = plain refl (probabilities (250_000 ∷ 750_000 ∷ []) (lit< tt) (unsigned quarter (unsigned three_quarters none)) refl refl)
+quarters_shares = plain refl (probabilities (250_000 ∷ 750_000 ∷ []) (lit< tt) (unsigned (numerals.quarter _) (unsigned (numerals.three_quarters _) none)) refl refl)
 
 pub name_shares : IsStart a_b name_start (shares (0 ∷ 1 ∷ []) 1)
-name_shares = plain refl (name {s = 1} b_name refl)
+name_shares = plain refl (name {s = 1} names.b refl)
 
 pub number_shares : IsStart a_b number_start (shares (0 ∷ 1 ∷ []) 1)
-number_shares = plain refl (number {s = 1} (lit< tt) one_whole (lit< tt))
+number_shares = plain refl (number {s = 1} (lit< tt) wholes.one (lit< tt))
 
 pub include_shares : IsStart a_b include_start (shares (1 ∷ 0 ∷ []) 1)
 include_shares = include (0 ∷ 0 ∷ []) (a_word _) refl (stands_a, (stands_a, tt)) (lit< tt)
@@ -84,10 +58,6 @@ exclude_all_refused x (exclude chosen w c z some) =
 
 -- ---- what isn't a start
 
-rest_of : IsMillionths false (numeral (codes "0.499999")) (pos 499_999)
-unfolding class_of number_of exponent_size power_of size_of millionth
-rest_of = record { kind = refl; readable = record { numeral = refl; short = lit≤ tt; exponent = lit≤ tt; size = lit≤ tt }; exact = refl }
-
 two_or_one : ◌≡◌ {A = ℕ} 2 1 → ⊥
 two_or_one e = omega (arith, e)
 
@@ -95,21 +65,16 @@ wrong_sum : (ps : List ℕ) → ps ≡ 500_000 ∷ 499_999 ∷ [] → sum ps ≡
 wrong_sum ps e s = let f : ◌≡◌ {A = ℕ} 999_999 1_000_000 = sym (ap sum e) ∙ s in omega (arith, f)
 
 unsummed_body : (ls : List Lexeme) (x : Shares) → ls ≡ numeral (codes "0.5") ∷ numeral (codes "0.499999") ∷ [] → IsStartBody a_b ls x → ⊥
-unsummed_body ls x e (uniform w) = cons≢nil (sym (same_tail e))
-unsummed_body ls x e (name n f) = cons≢nil (sym (same_tail e))
-unsummed_body ls x e (number m n b) = cons≢nil (sym (same_tail e))
 unsummed_body ls x e (only_state c n v) = two_or_one c
 unsummed_body ls x e (probabilities ps m n c s) =
-    wrong_sum ps (pos_once ps (500_000 ∷ 499_999 ∷ []) (one_list (subst (λ l. AreNumbers l (map pos ps)) e n) (unsigned half (unsigned rest_of none)))) s
+    wrong_sum ps (pos_once ps (500_000 ∷ 499_999 ∷ []) (one_list (subst (λ l. AreNumbers l (map pos ps)) e n)
+    (unsigned (numerals.half _) (unsigned (numerals.below_half _) none)))) s
+unsummed_body ls x e _ = cons≢nil (sym (same_tail e))
 
 pub unsummed_refused : (x : Shares) → IsStart a_b unsummed_start x → ⊥
 unsummed_refused x (plain c b) = unsummed_body _ x refl b
 unsummed_refused x (include chosen w c z some) = name_not_colon _ w.kind refl
 unsummed_refused x (exclude chosen w c z some) = name_not_colon _ w.kind refl
-
-two_whole : IsWhole (numeral (codes "2")) 2
-unfolding class_of
-two_whole = record { kind = refl; digits = refl; value = refl }
 
 numeral_no_name : (bytes : List ℕ) → IsName (numeral bytes) → ⊥
 numeral_no_name bytes n = let e = n.kind in cc
@@ -127,7 +92,7 @@ no_state bytes none_such ls x e (probabilities ps m n c s) =
     let count = numbers_once (numeral bytes) ps (subst (λ l. AreNumbers l (map pos ps)) e n) in omega (arith, count, c)
 
 pub third_refused : (x : Shares) → IsStart a_b third_start x → ⊥
-third_refused x (plain c b) = no_state (codes "2") (λ s n l. let e = one_whole_number _ s 2 n two_whole in omega (arith, e, l)) _ x refl b
+third_refused x (plain c b) = no_state (codes "2") (λ s n l. let e = one_whole_number _ s 2 n wholes.two in omega (arith, e, l)) _ x refl b
 third_refused x (include chosen w c z some) = name_not_colon _ w.kind refl
 third_refused x (exclude chosen w c z some) = name_not_colon _ w.kind refl
 
@@ -142,23 +107,11 @@ pointed_refused x (exclude chosen w c z some) = name_not_colon _ w.kind refl
 
 -- ---- one state alone
 
-zero_number : IsMillionths false (numeral (codes "0")) (pos 0)
-unfolding class_of number_of exponent_size power_of size_of millionth
-zero_number = record { kind = refl; readable = record { numeral = refl; short = lit≤ tt; exponent = lit≤ tt; size = lit≤ tt }; exact = refl }
-
-one_number : IsMillionths false (numeral (codes "1")) (pos 1_000_000)
-unfolding class_of number_of exponent_size power_of size_of millionth
-one_number = record { kind = refl; readable = record { numeral = refl; short = lit≤ tt; exponent = lit≤ tt; size = lit≤ tt }; exact = refl }
-
-pointed_number : IsMillionths false (numeral (codes "1.0")) (pos 1_000_000)
-unfolding class_of number_of exponent_size power_of size_of millionth
-pointed_number = record { kind = refl; readable = record { numeral = refl; short = lit≤ tt; exponent = lit≤ tt; size = lit≤ tt }; exact = refl }
-
 pub alone_zero : IsStart alone zero_start (shares (1 ∷ []) 1)
-alone_zero = plain refl (only_state refl (unsigned zero_number none) (inl refl))
+alone_zero = plain refl (only_state refl (unsigned (numerals.zero _) none) (inl refl))
 
 pub alone_one : IsStart alone number_start (shares (1 ∷ []) 1)
-alone_one = plain refl (only_state refl (unsigned one_number none) (inr refl))
+alone_one = plain refl (only_state refl (unsigned (numerals.one _) none) (inr refl))
 
 pub alone_pointed : IsStart alone pointed_start (shares (1 ∷ []) 1)
-alone_pointed = plain refl (only_state refl (unsigned pointed_number none) (inr refl))
+alone_pointed = plain refl (only_state refl (unsigned (numerals.one_pointed _) none) (inr refl))

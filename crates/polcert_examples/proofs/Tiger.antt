@@ -1,10 +1,8 @@
 -- The lexemes of the tiger problem are right, and denote its model.
-use Rattle.std.proofs.Common.{◌≡◌, ◌∙◌, ◌≢◌, ◌==◌, ℕ, length, take, drop, bytes_eq, ap, zero, suc, ◌<◌, ◌≤◌, Bool, true, false, Some, List, [], ◌∷◌, ◌++◌, AllPairs, ℤ, pos, codes, refl, arith, lit≤}
+use Rattle.std.proofs.Common.{◌≡◌, ◌∙◌, ◌≢◌, ◌==◌, ℕ, take, drop, bytes_eq, ap, zero, suc, ◌<◌, true, false, Some, List, [], ◌∷◌, ◌++◌, AllPairs, ℤ, codes, refl, arith, lit≤}
 use Rattle.std.proofs.lemmas.List.Elements.{All-from_recursion, All-nil}
 use Rattle.std.proofs.lemmas.List.Kept.{AllPairs-cons}
 use Rattle.std.specs.List.{list_any}
-use Rattle.polcert_text.specs.Bytes.{class_of}
-use Rattle.polcert_text.specs.Numbers.{IsExact, number_of, exponent_size, power_of, size_of, millionth}
 use Rattle.polcert_text.specs.Cut.{Lexeme}
 use Rattle.polcert_cells.specs.declared.entry.Table.{Table}
 use Rattle.polcert_cells.specs.declared.entry.Table.TheVariants.{Transition, Observation, Reward}
@@ -14,7 +12,7 @@ use Rattle.polcert_cells.specs.declared.entry.Body.{Body}
 use Rattle.polcert_cells.specs.declared.entry.Body.TheVariants.{Probabilities, Uniform, Identity}
 use Rattle.polcert_cells.specs.declared.entry.Entry.{Entry}
 use Rattle.polcert_cells.specs.declared.words.Topic.TheVariants.{Discount, Values, States, Actions, Observations, Cells}
-use Rattle.polcert_cells.specs.Words.{topic, topic_of, is_reserved, IsName}
+use Rattle.polcert_cells.specs.Words.{topic, topic_of, IsName}
 use Rattle.polcert_cells.specs.Numbers.{IsMillionths, AreNumbers}
 use Rattle.polcert_cells.specs.Numbers as numbers
 use Rattle.polcert_cells.specs.declared.elements.Elements.TheVariants.{Names}
@@ -32,7 +30,8 @@ use Rattle.polcert_format.proofs.CellLimits.{few_cells, not_large}
 use Rattle.polcert_format.specs.Text.{Known, nothing_known, IsInPreamble, IsComplete, IsRight, AreRight, Denotes}
 use Rattle.polcert_examples.specs.Worked.Examples.{name, numeral, colon, observation, rewards, whole}
 use Rattle.polcert_examples.specs.Worked.Tiger.{star, minus, tiger, tiger_states, tiger_actions, tiger_preamble, tiger_entries, tiger_known, tiger_model, minus_whole}
-use Rattle.polcert_examples.proofs.WorkedTexts.{an_item, plain_item, a_word, n_0_95, n_0_85, n_0_15, n_1, e_95, e_85, e_15, e_minus_1, fresh, below_two}
+use Rattle.polcert_examples.proofs.WorkedTexts.{an_item, plain_item, a_word, an_entry, heard_right, fresh, below_two}
+use Rattle.polcert_examples.proofs.Computed.{numerals, names}
 
 -- ---- items
 
@@ -66,56 +65,20 @@ divided = record {
 
 -- ---- names and numbers
 
-tiger_left_name : IsName (name (codes "tiger-left"))
-unfolding is_reserved topic_of
-tiger_left_name = record { kind = refl; free = refl }
-
-tiger_right_name : IsName (name (codes "tiger-right"))
-unfolding is_reserved topic_of
-tiger_right_name = record { kind = refl; free = refl }
-
-listen_name : IsName (name (codes "listen"))
-unfolding is_reserved topic_of
-listen_name = record { kind = refl; free = refl }
-
-open_left_name : IsName (name (codes "open-left"))
-unfolding is_reserved topic_of
-open_left_name = record { kind = refl; free = refl }
-
-open_right_name : IsName (name (codes "open-right"))
-unfolding is_reserved topic_of
-open_right_name = record { kind = refl; free = refl }
-
 stands_tiger_left : StandsFor (Names tiger_states) (name (codes "tiger-left")) 0
-stands_tiger_left = by_name tiger_left_name refl
+stands_tiger_left = by_name names.tiger_left refl
 
 stands_tiger_right : StandsFor (Names tiger_states) (name (codes "tiger-right")) 1
-stands_tiger_right = by_name tiger_right_name refl
+stands_tiger_right = by_name names.tiger_right refl
 
 stands_listen : StandsFor (Names tiger_actions) (name (codes "listen")) 0
-stands_listen = by_name listen_name refl
+stands_listen = by_name names.listen refl
 
 stands_open_left : StandsFor (Names tiger_actions) (name (codes "open-left")) 1
-stands_open_left = by_name open_left_name refl
+stands_open_left = by_name names.open_left refl
 
 stands_open_right : StandsFor (Names tiger_actions) (name (codes "open-right")) 2
-stands_open_right = by_name open_right_name refl
-
-n_10 : (negative : Bool) (h : ℤ) → IsExact negative (codes "10") h → IsMillionths negative (numeral (codes "10")) h
-unfolding class_of number_of exponent_size power_of size_of millionth
-n_10 negative h e = record { kind = refl; readable = record { numeral = refl; short = lit≤ tt; exponent = lit≤ tt; size = lit≤ tt }; exact = e }
-
-n_100 : (negative : Bool) (h : ℤ) → IsExact negative (codes "100") h → IsMillionths negative (numeral (codes "100")) h
-unfolding class_of number_of exponent_size power_of size_of millionth
-n_100 negative h e = record { kind = refl; readable = record { numeral = refl; short = lit≤ tt; exponent = lit≤ tt; size = lit≤ tt }; exact = e }
-
-e_10 : IsExact false (codes "10") (whole 10)
-unfolding number_of exponent_size power_of size_of millionth class_of
-e_10 = refl
-
-e_minus_100 : IsExact true (codes "100") (minus_whole 100)
-unfolding number_of exponent_size power_of size_of millionth class_of
-e_minus_100 = refl
+stands_open_right = by_name names.open_right refl
 
 -- ---- elements
 
@@ -139,37 +102,27 @@ three_apart x y z xy xz yz = AllPairs-cons (λ a b. a ≢ b) x (y ∷ z ∷ []) 
 
 the_states : AreElements most_states (name (codes "tiger-left") ∷ name (codes "tiger-right") ∷ []) (Names tiger_states)
 the_states = named
-    (All-from_recursion IsName (name (codes "tiger-left") ∷ name (codes "tiger-right") ∷ []) (tiger_left_name, (tiger_right_name, tt)))
+    (All-from_recursion IsName (name (codes "tiger-left") ∷ name (codes "tiger-right") ∷ []) (names.tiger_left, (names.tiger_right, tt)))
     (lit≤ tt) (lit≤ tt) (two_apart _ _ (differ _ _ refl refl))
 
 the_actions : AreElements most_actions (name (codes "listen") ∷ name (codes "open-left") ∷ name (codes "open-right") ∷ []) (Names tiger_actions)
 the_actions = named
-    (All-from_recursion IsName (name (codes "listen") ∷ name (codes "open-left") ∷ name (codes "open-right") ∷ []) (listen_name, (open_left_name, (open_right_name, tt))))
+    (All-from_recursion IsName (name (codes "listen") ∷ name (codes "open-left") ∷ name (codes "open-right") ∷ []) (names.listen, (names.open_left, (names.open_right, tt))))
     (lit≤ tt) (lit≤ tt) (three_apart _ _ _ (differ _ _ refl refl) (differ _ _ refl refl) (differ _ _ refl refl))
 
 -- ---- entries
-
-an_entry : (table : Table) (entry : Entry) (pattern rest : List Lexeme) → entry.table ≡ table → list_any (λ n. n == length entry.places) (entries.forms false table entry.body) ≡ true
-    → ArePlaces (named_by tiger_preamble table) pattern entry.places → IsBody (entries.cells_in (drop (length entry.places) (dimensions tiger_preamble table))) rest entry.body
-    → IsEntry tiger_preamble table (pattern ++ rest) entry
-an_entry table entry pattern rest t f p b = record { pattern = pattern; rest = rest; whole = refl; table_is = t; form = f; places = p; body = b }
 
 -- a word for one action
 word_entry : (table : Table) (action : List ℕ) (n : ℕ) (w : List ℕ) (body : Body) → StandsFor (Names tiger_actions) (name action) n → list_any (λ k. k == 1) (entries.forms false table body) ≡ true
     → IsBody (entries.cells_in (drop 1 (dimensions tiger_preamble table))) (name w ∷ []) body
     → ArePlaces (named_by tiger_preamble table) (colon ∷ name action ∷ []) (Only n ∷ [])
     → IsEntry tiger_preamble table (colon ∷ name action ∷ name w ∷ []) (record { table = table; places = Only n ∷ []; body = body })
-word_entry table action n w body a f b p = an_entry table (record { table = table; places = Only n ∷ []; body = body }) (colon ∷ name action ∷ []) (name w ∷ []) refl f p b
+word_entry table action n w body a f b p = an_entry tiger_preamble (record { table = table; places = Only n ∷ []; body = body }) (colon ∷ name action ∷ []) (name w ∷ []) f p b
 
 hear : IsEntry tiger_preamble Observation (colon ∷ name (codes "listen") ∷ numeral (codes "0.85") ∷ numeral (codes "0.15") ∷ numeral (codes "0.15") ∷ numeral (codes "0.85") ∷ [])
     (observation (Only 0 ∷ []) (Probabilities (850_000 ∷ 150_000 ∷ 150_000 ∷ 850_000 ∷ [])))
-hear = an_entry Observation (observation (Only 0 ∷ []) (Probabilities (850_000 ∷ 150_000 ∷ 150_000 ∷ 850_000 ∷ []))) (colon ∷ name (codes "listen") ∷ []) _ refl refl
-    (entries.more refl stands_listen entries.none)
-    (entries.probabilities
-    (numbers.unsigned (n_0_85 false (pos 850_000) e_85) (numbers.unsigned (n_0_15 false (pos 150_000) e_15)
-    (numbers.unsigned (n_0_15 false (pos 150_000) e_15) (numbers.unsigned (n_0_85 false (pos 850_000) e_85) numbers.none))))
-    refl
-    (All-from_recursion (λ p. p ≤ 1_000_000) (850_000 ∷ 150_000 ∷ 150_000 ∷ 850_000 ∷ []) (lit≤ tt, (lit≤ tt, (lit≤ tt, (lit≤ tt, tt))))))
+hear = an_entry tiger_preamble (observation (Only 0 ∷ []) (Probabilities (850_000 ∷ 150_000 ∷ 150_000 ∷ 850_000 ∷ []))) (colon ∷ name (codes "listen") ∷ []) _ refl
+    (entries.more refl stands_listen entries.none) heard_right
 
 -- a reward by action and start state
 reward_entry : (ls behind : List Lexeme) (action state : Lexeme) (p q : Place) (h : ℤ) → entries.IsPlace (Names tiger_actions) action p → entries.IsPlace (Names tiger_states) state q
@@ -186,13 +139,13 @@ reward_entry ls behind action state p q h a s n e = record {
 }
 
 ten : AreNumbers (numeral (codes "10") ∷ []) (whole 10 ∷ [])
-ten = numbers.unsigned (n_10 false (whole 10) e_10) numbers.none
+ten = numbers.unsigned (numerals.ten _) numbers.none
 
 minus_one : AreNumbers (minus ∷ numeral (codes "1") ∷ []) (minus_whole 1 ∷ [])
-minus_one = numbers.minus refl (n_1 true (minus_whole 1) e_minus_1) numbers.none
+minus_one = numbers.minus refl (numerals.minus_one _) numbers.none
 
 minus_hundred : AreNumbers (minus ∷ numeral (codes "100") ∷ []) (minus_whole 100 ∷ [])
-minus_hundred = numbers.minus refl (n_100 true (minus_whole 100) e_minus_100) numbers.none
+minus_hundred = numbers.minus refl (numerals.minus_hundred _) numbers.none
 
 -- ---- the whole
 
@@ -243,7 +196,7 @@ right_weights =
 right_preamble : AreRight nothing_known (take 5 tiger_items) (tiger_known [])
 unfolding topic_of
 right_preamble =
-    texts.more Discount refl (texts.discount (fresh _ refl refl) refl refl (numbers.unsigned (n_0_95 false (pos 950_000) e_95) numbers.none) (lit≤ tt))
+    texts.more Discount refl (texts.discount (fresh _ refl refl) refl refl (numbers.unsigned (numerals.n_0_95 _) numbers.none) (lit≤ tt))
     (texts.more Values refl (texts.rewards (fresh _ refl refl) refl refl (a_word _))
     (texts.more States refl (texts.states (fresh _ refl refl) refl refl the_states)
     (texts.more Actions refl (texts.actions (fresh _ refl refl) refl refl the_actions)

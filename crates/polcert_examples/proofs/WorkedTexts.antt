@@ -1,15 +1,20 @@
 -- What the worked texts have in common: items, numerals and their values.
-use Rattle.std.proofs.Common.{◌≡◌, ℕ, zero, suc, ◌<◌, Bool, true, false, None, List, [], ℤ, pos, codes, refl, arith, lit≤}
+use Rattle.std.proofs.Common.{◌≡◌, ℕ, ◌≤◌, ◌==◌, ◌∷◌, ◌++◌, length, drop, zero, suc, ◌<◌, true, false, None, List, [], codes, refl, arith, lit≤}
 use Rattle.std.specs.List.{list_any}
-use Rattle.polcert_text.specs.Bytes.{class_of}
-use Rattle.polcert_text.specs.Numbers.{IsExact, number_of, exponent_size, power_of, size_of, millionth}
 use Rattle.polcert_text.specs.Cut.{Lexeme}
 use Rattle.polcert_cells.specs.Words.{begins_item, IsWord}
+use Rattle.polcert_cells.specs.declared.entry.Entry.{Entry}
+use Rattle.polcert_cells.specs.declared.entry.Body.TheVariants.{Probabilities}
+use Rattle.polcert_cells.specs.Entry as entries
+use Rattle.polcert_cells.specs.Entry.{ArePlaces, IsEntry, IsBody}
+use Rattle.polcert_cells.specs.Preamble.{Preamble, is_mdp, dimensions, named as named_by}
+use Rattle.std.proofs.lemmas.List.Elements.{All-from_recursion}
+use Rattle.polcert_cells.specs.Numbers as numbers
+use Rattle.polcert_examples.proofs.Computed.{numerals}
 use Rattle.polcert_cells.specs.Numbers.{IsMillionths}
 use Rattle.polcert_format.specs.Items.{Item, IsItem}
 use Rattle.polcert_format.specs.Text.{Known, IsInPreamble}
 use Rattle.polcert_examples.specs.Worked.Examples.{name, numeral}
-use Rattle.polcert_examples.specs.Worked.Tiger.{minus_whole}
 
 abbrev pub an_item : List ℕ → List Lexeme → Item
 an_item word body = record { word = name word; body = body }
@@ -20,38 +25,6 @@ plain_item x w b = record { word = w; body = b }
 pub a_word : (w : List ℕ) → IsWord w (name w)
 a_word w = record { kind = refl; bytes = refl }
 
-pub n_0_95 : (negative : Bool) (h : ℤ) → IsExact negative (codes "0.95") h → IsMillionths negative (numeral (codes "0.95")) h
-unfolding class_of number_of exponent_size power_of size_of millionth
-n_0_95 negative h e = record { kind = refl; readable = record { numeral = refl; short = lit≤ tt; exponent = lit≤ tt; size = lit≤ tt }; exact = e }
-
-pub n_0_85 : (negative : Bool) (h : ℤ) → IsExact negative (codes "0.85") h → IsMillionths negative (numeral (codes "0.85")) h
-unfolding class_of number_of exponent_size power_of size_of millionth
-n_0_85 negative h e = record { kind = refl; readable = record { numeral = refl; short = lit≤ tt; exponent = lit≤ tt; size = lit≤ tt }; exact = e }
-
-pub n_0_15 : (negative : Bool) (h : ℤ) → IsExact negative (codes "0.15") h → IsMillionths negative (numeral (codes "0.15")) h
-unfolding class_of number_of exponent_size power_of size_of millionth
-n_0_15 negative h e = record { kind = refl; readable = record { numeral = refl; short = lit≤ tt; exponent = lit≤ tt; size = lit≤ tt }; exact = e }
-
-pub n_1 : (negative : Bool) (h : ℤ) → IsExact negative (codes "1") h → IsMillionths negative (numeral (codes "1")) h
-unfolding class_of number_of exponent_size power_of size_of millionth
-n_1 negative h e = record { kind = refl; readable = record { numeral = refl; short = lit≤ tt; exponent = lit≤ tt; size = lit≤ tt }; exact = e }
-
-pub e_95 : IsExact false (codes "0.95") (pos 950_000)
-unfolding number_of exponent_size power_of size_of millionth class_of
-e_95 = refl
-
-pub e_85 : IsExact false (codes "0.85") (pos 850_000)
-unfolding number_of exponent_size power_of size_of millionth class_of
-e_85 = refl
-
-pub e_15 : IsExact false (codes "0.15") (pos 150_000)
-unfolding number_of exponent_size power_of size_of millionth class_of
-e_15 = refl
-
-pub e_minus_1 : IsExact true (codes "1") (minus_whole 1)
-unfolding number_of exponent_size power_of size_of millionth class_of
-e_minus_1 = refl
-
 pub fresh : (k : Known) → k.start ≡ None → k.entries ≡ [] → IsInPreamble k
 fresh k s e = record { no_start = s; no_entry = e }
 
@@ -59,3 +32,17 @@ pub below_two : (P : ℕ → Type 0) → P 0 → P 1 → (n : ℕ) → n < 2 →
 below_two P p q zero l = p
 below_two P p q (suc zero) l = q
 below_two P p q (suc (suc n)) l = absurd (omega (arith, l))
+
+pub an_entry : (p : Preamble) (entry : Entry) (pattern rest : List Lexeme) → list_any (λ n. n == length entry.places) (entries.forms (is_mdp p) entry.table entry.body) ≡ true
+    → ArePlaces (named_by p entry.table) pattern entry.places → IsBody (entries.cells_in (drop (length entry.places) (dimensions p entry.table))) rest entry.body
+    → IsEntry p entry.table (pattern ++ rest) entry
+an_entry p entry pattern rest form places body = record { pattern = pattern; rest = rest; whole = refl; table_is = refl; form = form; places = places; body = body }
+
+-- the numbers 0.85, 0.15, 0.15 and 0.85
+pub heard_right : IsBody 4 (numeral (codes "0.85") ∷ numeral (codes "0.15") ∷ numeral (codes "0.15") ∷ numeral (codes "0.85") ∷ [])
+    (Probabilities (850_000 ∷ 150_000 ∷ 150_000 ∷ 850_000 ∷ []))
+heard_right = entries.probabilities
+    (numbers.unsigned (numerals.n_0_85 _) (numbers.unsigned (numerals.n_0_15 _)
+    (numbers.unsigned (numerals.n_0_15 _) (numbers.unsigned (numerals.n_0_85 _) numbers.none))))
+    refl
+    (All-from_recursion (λ p. p ≤ 1_000_000) (850_000 ∷ 150_000 ∷ 150_000 ∷ 850_000 ∷ []) (lit≤ tt, (lit≤ tt, (lit≤ tt, (lit≤ tt, tt)))))

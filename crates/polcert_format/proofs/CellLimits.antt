@@ -43,19 +43,13 @@ no_cells : {A : Type 0} {t : Topic} {table : Table} → t ≡ Cells table → (t
 no_cells e other = absurd (other e)
 
 pub too_much_wrong : (k : Known) (t : Topic) (body : List Lexeme) → IsTooMuch k t body → IsWrong k t body
-too_much_wrong k t body m after (texts.discount p e c n l) = no_cells m.topic_is (λ s. cc)
-too_much_wrong k t body m after (texts.rewards p e c w) = no_cells m.topic_is (λ s. cc)
-too_much_wrong k t body m after (texts.costs p e c w) = no_cells m.topic_is (λ s. cc)
-too_much_wrong k t body m after (texts.states p e c a) = no_cells m.topic_is (λ s. cc)
-too_much_wrong k t body m after (texts.actions p e c a) = no_cells m.topic_is (λ s. cc)
-too_much_wrong k t body m after (texts.observations p e c a) = no_cells m.topic_is (λ s. cc)
-too_much_wrong k t body m after (texts.start i c a) = no_cells m.topic_is (λ s. cc)
 too_much_wrong k t body m after (texts.entry {p = p} {table = table} {e = e} c g a few) =
     let preambles : p ≡ m.p = one_preamble k p m.p c m.complete in
     let tables : table ≡ m.table = same_table m.topic_is in
     let here : IsEntry m.p m.table body e = subst (λ u. IsEntry m.p u body e) tables (subst (λ q. IsEntry q table body e) preambles a) in
     let entries : e ≡ m.e = one_entry m.p m.table body e m.e here m.entry in
     m.too_many (subst (λ x. HasFewCells m.p (k.entries ++ x ∷ [])) entries (subst (λ q. HasFewCells q (k.entries ++ e ∷ [])) preambles few))
+too_much_wrong k t body m after _ = no_cells m.topic_is (λ s. cc)
 
 pub too_much_possible : (k : Known) (t : Topic) (body : List Lexeme) → IsTooMuch k t body → IsPossible k t body
 too_much_possible k t body m = record { more = []; form = subst (HasForm k t) (sym (append-nil body)) (shapes.entry m.topic_is m.complete m.may_be_given m.entry) }

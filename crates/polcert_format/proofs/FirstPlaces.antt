@@ -7,7 +7,7 @@ use Rattle.polcert_cells.specs.declared.entry.Table.{Table}
 use Rattle.polcert_cells.specs.declared.entry.Table.TheVariants.{Transition, Observation, Reward}
 use Rattle.polcert_cells.specs.declared.entry.Place.{Place}
 use Rattle.polcert_cells.specs.declared.entry.Body.{Body}
-use Rattle.polcert_cells.specs.declared.entry.Body.TheVariants.{Probabilities, Rewards, Uniform, Identity}
+use Rattle.polcert_cells.specs.declared.entry.Body.TheVariants.{Rewards, Uniform}
 use Rattle.polcert_cells.specs.declared.elements.Elements.{Elements}
 use Rattle.polcert_cells.specs.Entry as entries
 use Rattle.polcert_cells.specs.Entry.{ArePlaces, IsEntry, forms}
@@ -16,19 +16,11 @@ use Rattle.polcert_cells.specs.Preamble.{Preamble}
 
 -- each form has places
 no_form_without_places : (mdp : Bool) (table : Table) (body : Body) → list_any (λ n. n == 0) (forms mdp table body) ≡ true → ⊥
-no_form_without_places mdp Transition (Probabilities ps) e = cc
-no_form_without_places mdp Transition (Rewards hs) e = cc
-no_form_without_places mdp Transition Uniform e = cc
-no_form_without_places mdp Transition Identity e = cc
-no_form_without_places mdp Observation (Probabilities ps) e = cc
-no_form_without_places mdp Observation (Rewards hs) e = cc
-no_form_without_places mdp Observation Uniform e = cc
-no_form_without_places mdp Observation Identity e = cc
-no_form_without_places mdp Reward (Probabilities ps) e = cc
 no_form_without_places true Reward (Rewards hs) e = cc
 no_form_without_places false Reward (Rewards hs) e = cc
-no_form_without_places mdp Reward Uniform e = cc
-no_form_without_places mdp Reward Identity e = cc
+no_form_without_places _ Transition Uniform e = cc
+no_form_without_places _ Observation Uniform e = cc
+no_form_without_places _ _ _ e = cc
 
 -- a colon and a place at the front
 pub record BeginsWithPlace (body : List Lexeme) : Type 0 where

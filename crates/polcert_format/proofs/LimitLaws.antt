@@ -14,7 +14,7 @@ use Rattle.polcert_cells.specs.Elements.{count_of, most_states, most_actions, mo
 use Rattle.polcert_format.specs.Items.{Item}
 use Rattle.polcert_cells.specs.Preamble.{Preamble, observed}
 use Rattle.polcert_cells.specs.declared.entry.Body.{Body}
-use Rattle.polcert_cells.specs.declared.entry.Body.TheVariants.{Probabilities, Rewards, Uniform, Identity}
+use Rattle.polcert_cells.specs.declared.entry.Body.TheVariants.{Rewards}
 use Rattle.polcert_cells.specs.declared.entry.Entry.{Entry}
 use Rattle.polcert_cells.specs.Entry.{IsBody, IsEntry}
 use Rattle.polcert_cells.specs.Entry as entries
@@ -37,7 +37,7 @@ abs-signed : (negative : Bool) (n : ℕ) → unsigned_abs (signed negative n) �
 abs-signed true n = abs-negative n
 abs-signed false n = refl
 
-abs-neg : (h : ℤ) → unsigned_abs (neg_ℤ h) ≡ unsigned_abs h
+pub abs-neg : (h : ℤ) → unsigned_abs (neg_ℤ h) ≡ unsigned_abs h
 abs-neg (pos n) = abs-negative n
 abs-neg (negsuc n) = refl
 
@@ -98,9 +98,7 @@ reward_in_within : (costs : Bool) (b : Body) (ds : List Elements) (indices : Lis
 reward_in_within true (Rewards hs) ds indices a =
     subst (λ n. n ≤ largest) (sym (abs-neg (get_or hs (row_major ds indices) (pos 0)))) (one_within hs (row_major ds indices) a)
 reward_in_within false (Rewards hs) ds indices a = one_within hs (row_major ds indices) a
-reward_in_within costs (Probabilities ps) ds indices a = zero_within
-reward_in_within costs Uniform ds indices a = zero_within
-reward_in_within costs Identity ds indices a = zero_within
+reward_in_within costs _ ds indices a = zero_within
 
 found_within : (p : Preamble) (es : List Entry) (indices : List ℕ) (found : Option Entry) → EntriesWithin es → IsLastCovering es Reward indices found → unsigned_abs (value_or (pos 0) (reward_of p indices) found) ≤ largest
 found_within p es indices (Some f) a (last before e after whole here behind) =

@@ -73,10 +73,6 @@ record Given (d : Option ℕ) (c : Option Bool) (s a o : Option Elements) : Type
   observations : o ≡ preamble.observations
 
 given : (d : Option ℕ) (c : Option Bool) (s a o : Option Elements) → (is_some d && is_some c && is_some s && is_some a) ≡ true → Given d c s a o
-given None c s a o e = absurd cc
-given (Some d) None s a o e = absurd cc
-given (Some d) (Some c) None a o e = absurd cc
-given (Some d) (Some c) (Some s) None o e = absurd cc
 given (Some d) (Some c) (Some s) (Some a) o e = record {
   preamble = record { discount = d; costs = c; states = s; actions = a; observations = o };
   discount = refl;
@@ -85,6 +81,7 @@ given (Some d) (Some c) (Some s) (Some a) o e = record {
   actions = refl;
   observations = refl;
 }
+given _ _ _ _ o e = absurd cc
 
 few : (n : ℕ) → nat_lt most_pairs n ≡ false → n ≤ most_pairs
 few n e = grind (arith, nat_tests)

@@ -4,7 +4,7 @@ use Rattle.std.proofs.lemmas.List.{append_assoc}
 use Rattle.std.proofs.lemmas.Bool.Decides.{nat_tests}
 use Rattle.polcert_text.specs.Cut.{Lexeme, Rest, TakesToken, EndsAt, IsCut, text_rest, end_place, text_limit}
 use Rattle.polcert_text.specs.Reading.{fault_place}
-use Rattle.polcert_text.specs.declared.tokens.TokenFault.TheVariants.{BadByte, TokenTooLong, Glued, TextTooLong}
+use Rattle.polcert_text.specs.declared.tokens.TokenFault.TheVariants.{TextTooLong}
 use Rattle.polcert_format.specs.Items.{Item, lexemes_of, IsDivided}
 use Rattle.polcert_format.specs.FirstWrong.{TextTokens, AreTokensOf, word_place, item_begin, LiesIn}
 use Rattle.polcert_format.specs.Refusals.{place_or}
@@ -78,6 +78,21 @@ place_behind : (rest : List Lexeme) (items : List Item) (stop : ℕ) → place_o
 place_behind [] items stop = first_place items stop
 place_behind (r ∷ rest) items stop = refl
 
+-- what stands from its word on, up to the next, lies in an item
+lies_between : (ts : TextTokens) (before : List Item) (item : Item) (after : List Item) (place : ℕ) → IsDivided ts.lexemes [] (before ++ item ∷ after)
+    → item.word.place ≤ place → place ≤ word_place after ts.end 0 → LiesIn ts (length before + 1) place
+lies_between ts before item after place d low high =
+    let begin : word_place (before ++ item ∷ after) ts.end (length before) ≡ item.word.place = nth_place before (item ∷ after) ts.end in
+    let stop : word_place (before ++ item ∷ after) ts.end (suc (length before)) ≡ word_place after ts.end 0 = next_place before item after ts.end in
+    let number : length before + 1 ≡ suc (length before) = add-one (length before) in
+    record {
+      front = [];
+      items = before ++ item ∷ after;
+      divided = d;
+      from = subst (λ n. item_begin (before ++ item ∷ after) ts.end n ≤ place) (sym number) (omega (arith, begin, low));
+      to = subst (λ n. place ≤ word_place (before ++ item ∷ after) ts.end n) (sym number) (omega (arith, stop, high));
+    }
+
 -- a place where a part of the item's body was taken lies in the item
 pub lies_in_item : (ts : TextTokens) (before : List Item) (item : Item) (after : List Item) (taken rest : List Lexeme) → Rises 0 ts.lexemes ts.end
     → IsDivided ts.lexemes [] (before ++ item ∷ after) → item.body ≡ taken ++ rest → LiesIn ts (length before + 1) (place_or rest (word_place after ts.end 0))
@@ -91,16 +106,7 @@ lies_in_item ts before item after taken rest rises d e =
     let outer = rises_split (place_or (rest ++ behind) ts.end) ts.end rest behind inner.1 in
     let next : place_or behind ts.end ≡ word_place after ts.end 0 = first_place after ts.end in
     let high = rises_le (place_or (rest ++ behind) ts.end) (place_or behind ts.end) rest outer.0 in
-    let begin : word_place (before ++ item ∷ after) ts.end (length before) ≡ item.word.place = nth_place before (item ∷ after) ts.end in
-    let stop : word_place (before ++ item ∷ after) ts.end (suc (length before)) ≡ word_place after ts.end 0 = next_place before item after ts.end in
-    let number : length before + 1 ≡ suc (length before) = add-one (length before) in
-    record {
-      front = [];
-      items = before ++ item ∷ after;
-      divided = d;
-      from = subst (λ n. item_begin (before ++ item ∷ after) ts.end n ≤ place_or rest (word_place after ts.end 0)) (sym number) (omega (arith, begin, low, place));
-      to = subst (λ n. place_or rest (word_place after ts.end 0) ≤ word_place (before ++ item ∷ after) ts.end n) (sym number) (omega (arith, stop, high, place, next));
-    }
+    lies_between ts before item after (place_or rest (word_place after ts.end 0)) d (omega (arith, low, place)) (omega (arith, high, place, next))
 
 -- so does the place of its word
 pub lies_at_word : (ts : TextTokens) (before : List Item) (item : Item) (after : List Item) → Rises 0 ts.lexemes ts.end
@@ -112,16 +118,7 @@ lies_at_word ts before item after rises d =
     let inner = rises_split item.word.place ts.end item.body behind all.1.1 in
     let next : place_or behind ts.end ≡ word_place after ts.end 0 = first_place after ts.end in
     let high = rises_le item.word.place (place_or behind ts.end) item.body inner.0 in
-    let begin : word_place (before ++ item ∷ after) ts.end (length before) ≡ item.word.place = nth_place before (item ∷ after) ts.end in
-    let stop : word_place (before ++ item ∷ after) ts.end (suc (length before)) ≡ word_place after ts.end 0 = next_place before item after ts.end in
-    let number : length before + 1 ≡ suc (length before) = add-one (length before) in
-    record {
-      front = [];
-      items = before ++ item ∷ after;
-      divided = d;
-      from = subst (λ n. item_begin (before ++ item ∷ after) ts.end n ≤ item.word.place) (sym number) (omega (arith, begin));
-      to = subst (λ n. item.word.place ≤ word_place (before ++ item ∷ after) ts.end n) (sym number) (omega (arith, stop, high, next));
-    }
+    lies_between ts before item after item.word.place d (omega arith) (omega (arith, high, next))
 
 -- what stands before the first item word lies in item 0
 pub lies_before_items : (ts : TextTokens) (l : Lexeme) (ls : List Lexeme) (items : List Item) → Rises 0 ts.lexemes ts.end → IsDivided ts.lexemes (l ∷ ls) items → LiesIn ts 0 l.place
@@ -158,10 +155,8 @@ lies_at_end ts items d =
 
 ends_place : (place : ℕ) (bytes : List ℕ) (ending : Option TokenFault) (f : TokenFault) → EndsAt place bytes ending (Some f) → (fault_place f ≡ place) ⊎ (ending ≡ Some f)
 ends_place place [] ending f e = inr (sym e)
-ends_place place (b ∷ bs) ending (BadByte at) e = inl e.0
-ends_place place (b ∷ bs) ending (TokenTooLong at) e = inl e.0
-ends_place place (b ∷ bs) ending (Glued at) e = inl e.0
 ends_place place (b ∷ bs) ending (TextTooLong at) e = absurd e
+ends_place place (b ∷ bs) ending _ e = inl e.0
 
 -- a fault in place of the clean end stands where the bytes end
 abbrev EndsThere : Rest → Type 0

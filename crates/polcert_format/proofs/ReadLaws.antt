@@ -116,7 +116,7 @@ same_place k m n (z ∷ xs) (w ∷ ys) x y us vs (more {next = p} t f a behind) 
     let rest = same_place p m n xs ys x y us vs behind (subst (λ v. AreRight v ys n) known after) wrong other (same_tail e) in
     ap suc rest
 
-no_empty : (xs : List Item) (x : Item) (ys : List Item) → xs ++ x ∷ ys ≡ [] → ⊥
+pub no_empty : (xs : List Item) (x : Item) (ys : List Item) → xs ++ x ∷ ys ≡ [] → ⊥
 no_empty [] x ys e = cons≢nil e
 no_empty (z ∷ xs) x ys e = cons≢nil e
 

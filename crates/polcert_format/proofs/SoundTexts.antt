@@ -7,7 +7,7 @@ use Rattle.std.proofs.lemmas.List.Quantifiers.{position-Some}
 use Rattle.polcert_text.specs.Cut.{Lexeme}
 use Rattle.polcert_text.specs.Numbers.{largest}
 use Rattle.polcert_cells.specs.declared.entry.Table.{Table}
-use Rattle.polcert_cells.specs.declared.entry.Table.TheVariants.{Transition, Observation, Reward}
+use Rattle.polcert_cells.specs.declared.entry.Table.TheVariants.{Reward}
 use Rattle.polcert_cells.specs.declared.entry.Place.{Place}
 use Rattle.polcert_cells.specs.declared.entry.Place.TheVariants.{Every, Only}
 use Rattle.polcert_cells.specs.declared.entry.Body.{Body}
@@ -65,12 +65,6 @@ fills (entries.identity w) = tt
 
 -- what a place may name is an index
 names_index : (p : Preamble) (table : Table) (ps : List Place) → ArePlacesIn (named p table) ps → ArePlacesIn (dimensions p table) ps
-names_index p Transition ps a = a
-names_index p Observation ps a = a
-names_index p Reward [] a = a
-names_index p Reward (x ∷ []) a = a
-names_index p Reward (x ∷ y ∷ []) a = a
-names_index p Reward (x ∷ y ∷ z ∷ []) a = a
 names_index p Reward (x ∷ y ∷ z ∷ w ∷ ps) a = (a.0, (a.1.0, (a.1.1.0, (last p.observations w a.1.1.1.0, rest ps a.1.1.1.1))))
   where
     last : (o : Option Elements) (w : Place) → IsPlaceIn (unwrap_or o (Count 0)) w → IsPlaceIn (unwrap_or o (Count 1)) w
@@ -80,6 +74,7 @@ names_index p Reward (x ∷ y ∷ z ∷ w ∷ ps) a = (a.0, (a.1.0, (a.1.1.0, (l
 
     rest : (ps : List Place) → ArePlacesIn [] ps → ArePlacesIn [] ps
     rest ps a = a
+names_index p _ _ a = a
 
 -- a right entry is sound
 pub right_entry_sound : (p : Preamble) (table : Table) (ls : List Lexeme) (entry : Entry) → IsEntry p table ls entry → IsSoundEntry p entry

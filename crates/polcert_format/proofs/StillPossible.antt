@@ -13,8 +13,7 @@ use Rattle.polcert_cells.specs.declared.words.Topic.{Topic}
 use Rattle.polcert_cells.specs.Numbers.{IsMillionths, AreNumbers, none, unsigned, one}
 use Rattle.polcert_cells.specs.Entry.{forms}
 use Rattle.polcert_format.specs.Text.{Known}
-use Rattle.polcert_format.specs.Forms.{HasForm, right, IsFormless, IsPossible}
-use Rattle.polcert_format.specs.Reading.{CannotGoOn}
+use Rattle.polcert_format.specs.Forms.{HasForm, IsPossible}
 
 -- ---- lexemes to go on with
 
@@ -61,10 +60,6 @@ length-pos (q ∷ qs) = ap suc (length-pos qs)
 -- what begins something possible is possible
 pub possible_front : (k : Known) (t : Topic) (taken further : List Lexeme) → IsPossible k t (taken ++ further) → IsPossible k t taken
 possible_front k t taken further p = record { more = further ++ p.more; form = subst (HasForm k t) (append_assoc taken further p.more) p.form }
-
--- what hasn't even the form of an item isn't right
-pub formless_wrong : (k : Known) (t : Topic) (body : List Lexeme) → IsFormless k t body → CannotGoOn k t body
-formless_wrong k t body formless more after r = formless more (right r)
 
 -- the forms of numbers don't depend on the numbers
 pub same_form_of_probabilities : (mdp : Bool) (table : Table) (qs rs : List ℕ) → forms mdp table (Probabilities qs) ≡ forms mdp table (Probabilities rs)

@@ -4,6 +4,7 @@ use Rattle.std.proofs.lemmas.List.{map-id}
 use Rattle.std.specs.List.{list_any}
 use Rattle.polcert_text.specs.Cut.{Lexeme}
 use Rattle.polcert_text.specs.declared.lexeme.TokenKind.TheVariants.{Name}
+use Rattle.polcert_cells.specs.declared.entry.Body.{Body as EntryBody}
 use Rattle.polcert_cells.specs.declared.entry.Body.TheVariants as bodies
 use Rattle.polcert_cells.specs.declared.entry.Entry.{Entry}
 use Rattle.polcert_cells.specs.declared.entry.Place.{Place}
@@ -27,7 +28,7 @@ use Rattle.polcert_cells.specs.declared.elements.Elements.TheVariants.{Count}
 use Rattle.polcert_cells.specs.declared.elements.Elements.{Elements}
 use Rattle.polcert_cells.specs.Elements.{most_states, most_actions, most_observations}
 use Rattle.polcert_cells.specs.Entry as entries
-use Rattle.polcert_cells.specs.Entry.{forms, cells_in}
+use Rattle.polcert_cells.specs.Entry.{forms, cells_in, IsBody}
 use Rattle.polcert_cells.specs.Numbers as numbers
 use Rattle.polcert_cells.specs.Numbers.{AreNumbers}
 use Rattle.polcert_format.specs.Forms as shapes
@@ -70,31 +71,16 @@ no_further : (ps : List Place) → ps ≡ ps ++ []
 no_further [] = refl
 no_further (p ∷ ps) = ap (λ (qs : List Place). p ∷ qs) (no_further ps)
 
-with_probabilities : (preamble : Preamble) (table : Table) (places : List Place) → list_any (λ n. n == length places) (forms (is_mdp preamble) table (bodies.Probabilities [])) ≡ true → Continues preamble table places states.Body
-with_probabilities preamble table places form =
+-- with zeros for all its numbers
+with_body : (preamble : Preamble) (table : Table) (places : List Place) (body : EntryBody)
+    → list_any (λ n. n == length places) (forms (is_mdp preamble) table body) ≡ true
+    → IsBody (cells_in (drop (length places) (dimensions preamble table))) (zeros (cells_in (drop (length places) (dimensions preamble table)))) body
+    → Continues preamble table places states.Body
+with_body preamble table places body form filled =
     let m = cells_in (drop (length places) (dimensions preamble table)) in
     record {
       more = zeros m;
-      entry = entry_with table places (bodies.Probabilities (nothings m));
-      goes = record {
-        further = [];
-        pattern = [];
-        rest = zeros m;
-        whole = refl;
-        places_are = no_further places;
-        table_is = refl;
-        form = subst (λ f. list_any (λ n. n == length places) f ≡ true) (same_form_of_probabilities (is_mdp preamble) table [] (nothings m)) form;
-        places = entries.none;
-        body = entries.probabilities (zeros_are m) (nothings_count m) (nothings_in_range m);
-      };
-    }
-
-with_rewards : (preamble : Preamble) (places : List Place) → list_any (λ n. n == length places) (forms (is_mdp preamble) Reward (bodies.Rewards [])) ≡ true → Continues preamble Reward places states.Body
-with_rewards preamble places form =
-    let m = cells_in (drop (length places) (dimensions preamble Reward)) in
-    record {
-      more = zeros m;
-      entry = entry_with Reward places (bodies.Rewards (map pos (nothings m)));
+      entry = entry_with table places body;
       goes = record {
         further = [];
         pattern = [];
@@ -104,9 +90,22 @@ with_rewards preamble places form =
         table_is = refl;
         form = form;
         places = entries.none;
-        body = entries.rewards (zeros_are m) (length-pos (nothings m) ∙ nothings_count m);
+        body = filled;
       };
     }
+
+with_probabilities : (preamble : Preamble) (table : Table) (places : List Place)
+    → list_any (λ n. n == length places) (forms (is_mdp preamble) table (bodies.Probabilities [])) ≡ true → Continues preamble table places states.Body
+with_probabilities preamble table places form =
+    let m = cells_in (drop (length places) (dimensions preamble table)) in
+    with_body preamble table places (bodies.Probabilities (nothings m))
+    (subst (λ f. list_any (λ n. n == length places) f ≡ true) (same_form_of_probabilities (is_mdp preamble) table [] (nothings m)) form)
+    (entries.probabilities (zeros_are m) (nothings_count m) (nothings_in_range m))
+
+with_rewards : (preamble : Preamble) (places : List Place) → list_any (λ n. n == length places) (forms (is_mdp preamble) Reward (bodies.Rewards [])) ≡ true → Continues preamble Reward places states.Body
+with_rewards preamble places form =
+    let m = cells_in (drop (length places) (dimensions preamble Reward)) in
+    with_body preamble Reward places (bodies.Rewards (map pos (nothings m))) form (entries.rewards (zeros_are m) (length-pos (nothings m) ∙ nothings_count m))
 
 first_star : (n : ℕ) (ds : List Elements) → n < length ds → IsFirstPlace (drop n ds) a_star Every
 first_star n [] l = absurd (omega (arith, l))

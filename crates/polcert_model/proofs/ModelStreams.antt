@@ -33,22 +33,11 @@ refused_text fault text h = record {
 }
 
 -- what is said of an answer to a text, from what its last step says of it
-module _ (text : List ℕ) {V : Type 0} (P : V → Type 0) where
-  pub said_exactly : (r : Result V ModelFault) → MatchResult r P (λ fault. IsRefusedModelText fault text) → MatchResult r P (IsNoModel text)
-  said_exactly (Ok v) is = is
-  said_exactly (Err fault) refused = refused.no_model
-
-  pub said_accepted : (r : Result V ModelFault) → MatchResult r P (λ fault. IsRefusedModelText fault text) → IfOk r P
-  said_accepted (Ok v) is = is
-  said_accepted (Err fault) refused = tt
-
-  pub said_refused : (r : Result V ModelFault) → MatchResult r P (λ fault. IsRefusedModelText fault text) → IfErr r (λ fault. (ts : TextTokens) → AreTokensOf text ts → IsRefusal ts fault)
-  said_refused (Ok v) is = tt
-  said_refused (Err fault) refused = refused.refusal
-
-  pub said_placed : (r : Result V ModelFault) → MatchResult r P (λ fault. IsRefusedModelText fault text) → IfErr r (λ fault. (ts : TextTokens) → AreTokensOf text ts → IsPlacedRight ts fault)
-  said_placed (Ok v) is = tt
-  said_placed (Err fault) refused = refused.placed
+pub said_of : (text : List ℕ) {V : Type 0} (P : V → Type 0) (r : Result V ModelFault) → MatchResult r P (λ fault. IsRefusedModelText fault text)
+    → MatchResult r P (IsNoModel text) × IfOk r P × IfErr r (λ fault. (ts : TextTokens) → AreTokensOf text ts → IsRefusal ts fault)
+    × IfErr r (λ fault. (ts : TextTokens) → AreTokensOf text ts → IsPlacedRight ts fault)
+said_of text P (Ok v) is = (is, is, tt, tt)
+said_of text P (Err fault) refused = (refused.no_model, tt, refused.refusal, refused.placed)
 
 -- where the items are right, the first row that is wrong is refused
 pub row_sum_refused : (seen : List Lexeme) (k : Known) → IsWholeRead seen k → (m : Kept) → IsKeptOf (said k) m → (text : List ℕ) (table : Table) (a s : ℕ)

@@ -13,9 +13,8 @@ use Rattle.polcert_items.specs.declared.item.ItemReader.TheVariants as items
 use Rattle.polcert_items.specs.declared.signed_number.Refusal.{Refusal}
 use Rattle.polcert_items.specs.declared.signed_number.Sign.{Sign}
 use Rattle.polcert_model.specs.declared.reader.TextReader.{TextReader}
-use Rattle.polcert_cells.specs.declared.entry.Table.{Table}
 use Rattle.polcert_cells.specs.declared.words.Topic.{Topic}
-use Rattle.polcert_cells.specs.declared.words.Topic.TheVariants.{Discount, Values, States, Actions, Observations, Start, Cells}
+use Rattle.polcert_cells.specs.declared.words.Topic.TheVariants.{Start}
 use Rattle.polcert_cells.specs.Words.{topic, begins_item}
 use Rattle.polcert_format.specs.Items.{Item, IsDivided}
 use Rattle.polcert_format.specs.Text.{Known, nothing_known, IsRight, AreRight}
@@ -54,26 +53,8 @@ use Rattle.polcert_format.proofs.BegunItems.{within_goes_on}
 use Rattle.polcert_items.proofs.StartSeen.{pending_reason}
 use Rattle.polcert_model.proofs.Shaped.{right_shaped, too_much_shaped}
 
-none≢some : {A : Type 0} {x : A} → None ≡ Some x → ⊥
+pub none≢some : {A : Type 0} {x : A} → None ≡ Some x → ⊥
 none≢some e = cc
-
-discount_no_start : Discount ≡ Start → ⊥
-discount_no_start e = cc
-
-values_no_start : Values ≡ Start → ⊥
-values_no_start e = cc
-
-states_no_start : States ≡ Start → ⊥
-states_no_start e = cc
-
-actions_no_start : Actions ≡ Start → ⊥
-actions_no_start e = cc
-
-observations_no_start : Observations ≡ Start → ⊥
-observations_no_start e = cc
-
-cells_no_start : (table : Table) → Cells table ≡ Start → ⊥
-cells_no_start table e = cc
 
 -- an item of the text with this number, topic and body, behind right ones
 pub record Here (ts : TextTokens) (n : ℕ) (k : Known) (t : Topic) (body : List Lexeme) : Type 0 where
@@ -101,36 +82,88 @@ here ts n seen body tail f k t ys w e number d = record {
   number_is = number;
 }
 
--- it is the first wrong item
-pub first_here : (ts : TextTokens) (n : ℕ) (k : Known) (t : Topic) (body : List Lexeme) (h : Here ts n k t body) → IsWrong k t body → IsFirstWrong ts n
-first_here ts n k t body h wrong =
-    wrong_item h.before (item_here h) h.after k h.divided h.taken (λ u e. subst (λ x. IsWrong k x body) (one_some h.topic_is e) wrong) h.number_is
+module _ {ts : TextTokens} {n : ℕ} {k : Known} {t : Topic} {body : List Lexeme} (h : Here ts n k t body) where
+  -- it is the first wrong item
+  pub first_here : IsWrong k t body → IsFirstWrong ts n
+  first_here wrong = wrong_item h.before (item_here h) h.after k h.divided h.taken (λ u e. subst (λ x. IsWrong k x body) (one_some h.topic_is e) wrong) h.number_is
 
--- a place in its body lies in it
-lies_here : (ts : TextTokens) (n place : ℕ) (k : Known) (t : Topic) (body taken rest : List Lexeme) (h : Here ts n k t body) → Rises 0 ts.lexemes ts.end
-    → body ≡ taken ++ rest → place ≡ place_or rest (word_place h.after ts.end 0) → LiesIn ts n place
-lies_here ts n place k t body taken rest h rises e at =
-    subst (λ m. LiesIn ts m place) (sym h.number_is)
-    (subst (LiesIn ts (length h.before + 1)) (sym at) (lies_in_item ts h.before (item_here h) h.after taken rest rises h.divided e))
+  -- a place in its body lies in it
+  lies_here : (place : ℕ) (taken rest : List Lexeme) → Rises 0 ts.lexemes ts.end → body ≡ taken ++ rest
+      → place ≡ place_or rest (word_place h.after ts.end 0) → LiesIn ts n place
+  lies_here place taken rest rises e at =
+      subst (λ m. LiesIn ts m place) (sym h.number_is)
+      (subst (LiesIn ts (length h.before + 1)) (sym at) (lies_in_item ts h.before (item_here h) h.after taken rest rises h.divided e))
 
--- this is so of its body
-so_here : (ts : TextTokens) (n : ℕ) (k : Known) (t : Topic) (body : List Lexeme) (Is : Topic → List Lexeme → Type 0) → Here ts n k t body → Is t body → InItem ts n Is
-so_here ts n k t body Is h so = record {
-  before = h.before;
-  item = item_here h;
-  after = h.after;
-  divided = h.divided;
-  number_is = h.number_is;
-  t = t;
-  topic_is = h.topic_is;
-  holds = so;
-}
+  -- this is so of its body
+  so_here : {Is : Topic → List Lexeme → Type 0} → Is t body → InItem ts n Is
+  so_here so = record {
+    before = h.before;
+    item = item_here h;
+    after = h.after;
+    divided = h.divided;
+    number_is = h.number_is;
+    t = t;
+    topic_is = h.topic_is;
+    holds = so;
+  }
 
--- nothing is decided where its word may stand
-pub free_here : (ts : TextTokens) (n : ℕ) (k : Known) (t : Topic) (body : List Lexeme) (h : Here ts n k t body) → word_fault k t ≡ None
-    → (fault : ItemFault) (at : ℕ) → IsDecided ts n fault at → ⊥
-free_here ts n k t body h free fault at d =
-    nothing_decided ts h.before (item_here h) h.after k t fault at h.divided h.taken h.topic_is free (subst (λ m. IsDecided ts m fault at) h.number_is d)
+  -- nothing is decided where its word may stand
+  pub free_here : word_fault k t ≡ None → (fault : ItemFault) (at : ℕ) → IsDecided ts n fault at → ⊥
+  free_here free fault at d =
+      nothing_decided ts h.before (item_here h) h.after k t fault at h.divided h.taken h.topic_is free (subst (λ m. IsDecided ts m fault at) h.number_is d)
+
+  -- a part of the body was taken, and there it stops
+  stops_here : (kind : ItemFault) (place : ℕ) (taken rest : List Lexeme) → body ≡ taken ++ rest → IsPossible k t taken → Stops k t kind taken rest
+      → place ≡ place_or rest (word_place h.after ts.end 0) → (rest ≡ [] → h.after ≡ [] → ts.ending ≡ None) → StopsInBody ts kind n place
+  stops_here kind place taken rest whole possible stops at clean = record {
+    before = h.before;
+    item = item_here h;
+    after = h.after;
+    divided = h.divided;
+    number_is = h.number_is;
+    k = k;
+    t = t;
+    known = h.taken;
+    topic_is = h.topic_is;
+    taken = taken;
+    rest = rest;
+    whole = whole;
+    possible = possible;
+    stops = stops;
+    place_is = at;
+    clean = clean;
+  }
+
+  -- the refusal of a start item's first number that is due here
+  late_in : (kind : ItemFault) (place : ℕ) → t ≡ Start → word_fault k t ≡ None
+      → IsLate (states_known k) body (ends_cleanly h.after ts.ending) kind place → IsLateIn ts n kind place
+  late_in kind place start free late = record {
+    before = h.before;
+    item = item_here h;
+    after = h.after;
+    divided = h.divided;
+    number_is = h.number_is;
+    k = k;
+    known = h.taken;
+    topic_is = h.topic_is ∙ ap Some start;
+    may_stand = sym (ap (word_fault k) start) ∙ free;
+    late = late;
+  }
+
+  late_of : (kind : ItemFault) (place : ℕ) → IsLateIn ts n kind place → (t ≡ Start) × IsLate (states_known k) body (ends_cleanly h.after ts.ending) kind place
+  late_of kind place w = late_here ts n kind place h.before (item_here h) h.after k t h.divided h.taken h.topic_is h.number_is w
+
+  -- a refusal in a start item, at some lexeme of its body
+  start_lies : (place : ℕ) → Rises 0 ts.lexemes ts.end → StandsIn body place (λ l. Unit {0}) → LiesIn ts n place
+  start_lies place rises s = lies_here place s.before (s.lexeme ∷ s.after) rises s.whole s.place_is
+
+  end_reason : (place : ℕ) (kind : ItemFault) → IsEndReason t kind → IsReason ts n place kind
+  end_reason place BadCount m = so_here m
+  end_reason place StartSum m = so_here m
+  end_reason place StartEmpty m = so_here m
+  end_reason place BadShape m = tt
+  end_reason place WrongNumberCount m = tt
+  end_reason place _ m = absurd m
 
 -- ---- where a number stands in the body
 
@@ -153,13 +186,6 @@ number_stands : (sign : Option Sign) (body more : List Lexeme) (l : Lexeme) (pla
 number_stands None body more l place Is ends p so = reasons.unsigned body l more (append_assoc body (l ∷ []) more) ends p so
 number_stands (Some sign) body more l place Is ends p so = signed_stands sign body ends.0 more ends.1.0 l place Is ends.1.1.0 ends.1.1.1 p so
 
-number_lies : (ts : TextTokens) (n place : ℕ) (k : Known) (t : Topic) (sign : Option Sign) (body more : List Lexeme) (l : Lexeme) → Here ts n k t ((body ++ l ∷ []) ++ more)
-    → Rises 0 ts.lexemes ts.end → SignEnds sign body → place ≡ number_place sign l → LiesIn ts n place
-number_lies ts n place k t None body more l h rises ends p = lies_here ts n place k t ((body ++ l ∷ []) ++ more) body (l ∷ more) h rises (append_assoc body (l ∷ []) more) p
-number_lies ts n place k t (Some sign) body more l h rises ends p =
-    lies_here ts n place k t ((body ++ l ∷ []) ++ more) ends.0 (ends.1.0 ∷ l ∷ more) h rises (signed_whole body ends.0 more ends.1.0 l ends.1.1.0)
-    (p ∙ sign_place sign ends.1.0 ends.1.1.1)
-
 -- ---- a token that is refused
 
 -- the place and the reason of a refusal at the lexeme behind the body, or at the sign before it
@@ -168,95 +194,66 @@ record Refused (ts : TextTokens) (n place : ℕ) (kind : ItemFault) : Type 0 whe
   reason : IsReason ts n place kind
   stops : StopsInBody ts kind n place
 
--- a part of the body was taken, and there it stops
-stops_here : (ts : TextTokens) (kind : ItemFault) (n place : ℕ) (k : Known) (t : Topic) (body taken rest : List Lexeme) (h : Here ts n k t body) → body ≡ taken ++ rest
-    → IsPossible k t taken → Stops k t kind taken rest → place ≡ place_or rest (word_place h.after ts.end 0) → (rest ≡ [] → h.after ≡ [] → ts.ending ≡ None) → StopsInBody ts kind n place
-stops_here ts kind n place k t body taken rest h whole possible stops at clean = record {
-  before = h.before;
-  item = item_here h;
-  after = h.after;
-  divided = h.divided;
-  number_is = h.number_is;
-  k = k;
-  t = t;
-  known = h.taken;
-  topic_is = h.topic_is;
-  taken = taken;
-  rest = rest;
-  whole = whole;
-  possible = possible;
-  stops = stops;
-  place_is = at;
-  clean = clean;
-}
-
 sign_kind : (sign : Sign) (s : Lexeme) → IsSignAt sign s → is_sign s.kind ≡ true
 sign_kind sign s (steps.plus kind negative place) = ap is_sign kind
 sign_kind sign s (steps.minus kind negative place) = ap is_sign kind
 
-number_stops : (ts : TextTokens) (kind : ItemFault) (n place : ℕ) (k : Known) (t : Topic) (sign : Option Sign) (body more : List Lexeme) (l : Lexeme) → Here ts n k t ((body ++ l ∷ []) ++ more)
-    → SignEnds sign body → place ≡ number_place sign l → l.kind ≡ Numeral → IsPossible k t body → IsFormless k t (body ++ l ∷ []) → IsOfValue kind → IsMisfit (wanted k t body) l kind
-    → StopsInBody ts kind n place
-number_stops ts kind n place k t None body more l h ends p numeral taken stuck value unfit =
-    stops_here ts kind n place k t ((body ++ l ∷ []) ++ more) body (l ∷ more) h (append_assoc body (l ∷ []) more) taken (refusals.at_lexeme stuck unfit) p (λ none. absurd (cons≢nil none))
-number_stops ts kind n place k t (Some sign) body more l h ends p numeral taken stuck value unfit =
-    let before = ends.0 in
-    let s = ends.1.0 in
-    let whole = ends.1.1.0 in
-    let signed : IsPossible k t (before ++ s ∷ []) = subst (IsPossible k t) whole taken in
-    let front : IsPossible k t before = possible_front k t before (s ∷ []) signed in
-    let pair : IsFormless k t (before ++ s ∷ l ∷ []) = subst (IsFormless k t) (ap (λ (b : List Lexeme). b ++ l ∷ []) whole ∙ append_assoc before (s ∷ []) (l ∷ [])) stuck in
-    let behind : IsMisfit (wanted k t (before ++ s ∷ [])) l kind = subst (λ b. IsMisfit (wanted k t b) l kind) whole unfit in
-    stops_here ts kind n place k t ((body ++ l ∷ []) ++ more) before (s ∷ l ∷ more) h (signed_whole body before more s l whole) front
-    (refusals.at_number (sign_kind sign s ends.1.1.1) numeral signed pair value behind) (p ∙ sign_place sign s ends.1.1.1)
-    (λ none. absurd (cons≢nil none))
-
-at_number : (ts : TextTokens) (n place : ℕ) (k : Known) (t : Topic) (sign : Option Sign) (body more : List Lexeme) (l : Lexeme) (kind : ItemFault) → Here ts n k t ((body ++ l ∷ []) ++ more)
-    → Rises 0 ts.lexemes ts.end → SignEnds sign body → IsPossible k t body → IsFormless k t (body ++ l ∷ []) → IsOfValue kind → IsMisfit (wanted k t body) l kind → l.kind ≡ Numeral
-    → place ≡ number_place sign l → IsReason ts n place kind → Refused ts n place kind
-at_number ts n place k t sign body more l kind h rises ends taken stuck value unfit numeral p reason = record {
-  lies = number_lies ts n place k t sign body more l h rises ends p;
-  reason = reason;
-  stops = number_stops ts kind n place k t sign body more l h ends p numeral taken stuck value unfit;
-}
-
-at_lexeme : (ts : TextTokens) (n place : ℕ) (k : Known) (t : Topic) (body more : List Lexeme) (l : Lexeme) (kind : ItemFault) → Here ts n k t ((body ++ l ∷ []) ++ more)
-    → Rises 0 ts.lexemes ts.end → IsPossible k t body → IsFormless k t (body ++ l ∷ []) → IsMisfit (wanted k t body) l kind → place ≡ l.place → IsReason ts n place kind → Refused ts n place kind
-at_lexeme ts n place k t body more l kind h rises taken stuck unfit p reason = record {
-  lies = lies_here ts n place k t ((body ++ l ∷ []) ++ more) body (l ∷ more) h rises (append_assoc body (l ∷ []) more) p;
-  reason = reason;
-  stops = stops_here ts kind n place k t ((body ++ l ∷ []) ++ more) body (l ∷ more) h (append_assoc body (l ∷ []) more) taken (refusals.at_lexeme stuck unfit) p (λ none. absurd (cons≢nil none));
-}
-
 stands : (body more : List Lexeme) (l : Lexeme) (place : ℕ) (Is : Lexeme → Type 0) → place ≡ l.place → Is l → reasons.StandsIn ((body ++ l ∷ []) ++ more) place Is
 stands body more l place Is p so = record { before = body; lexeme = l; after = more; whole = append_assoc body (l ∷ []) more; place_is = p; holds = so }
 
-refused_here : (ts : TextTokens) (n place : ℕ) (k : Known) (t : Topic) (sign : Option Sign) (body more : List Lexeme) (l : Lexeme) (kind : ItemFault)
-    → Here ts n k t ((body ++ l ∷ []) ++ more) → Rises 0 ts.lexemes ts.end → SignEnds sign body → IsPossible k t body → IsFormless k t (body ++ l ∷ []) → IsMisfit (wanted k t body) l kind → IsTokenReason t sign body l kind place
-    → Refused ts n place kind
-refused_here ts n place k t sign body more l (Number fault) h rises ends taken stuck unfit m =
-    at_number ts n place k t sign body more l (Number fault) h rises ends taken stuck tt unfit m.1.0 m.0
-    (so_here ts n k t _ _ h (number_stands sign body more l place (reasons.IsRefusedNumber fault) ends m.0 m.1))
-refused_here ts n place k t sign body more l DiscountRange h rises ends taken stuck unfit m =
-    at_number ts n place k t sign body more l DiscountRange h rises ends taken stuck tt unfit m.2.1.kind m.1
-    (so_here ts n k t _ _ h (m.0, number_stands sign body more l place reasons.IsNoFraction ends m.1 m.2))
-refused_here ts n place k t sign body more l ProbabilityRange h rises ends taken stuck unfit m =
-    at_number ts n place k t sign body more l ProbabilityRange h rises ends taken stuck tt unfit m.1.1.1.kind m.1.0
-    (so_here ts n k t _ _ h (m.0, number_stands sign body more l place reasons.IsNoFraction ends m.1.0 m.1.1))
-refused_here ts n place k t sign body more l Reset h rises ends taken stuck unfit m =
-    at_lexeme ts n place k t body more l Reset h rises taken stuck unfit m.0 (so_here ts n k t _ _ h (stands body more l place _ m.0 m.1))
-refused_here ts n place k t sign body more l DuplicateName h rises ends taken stuck unfit m =
-    at_lexeme ts n place k t body more l DuplicateName h rises taken stuck unfit m.0
-    (so_here ts n k t _ _ h (m.1, subst (λ b. IsRepeated b place) (sym (append_assoc body (l ∷ []) more)) (m.2 more)))
-refused_here ts n place k t sign body more l UnknownName h rises ends taken stuck unfit m =
-    at_lexeme ts n place k t body more l UnknownName h rises taken stuck unfit m.0 (so_here ts n k t _ _ h (stands body more l place _ m.0 m.1))
-refused_here ts n place k t sign body more l IndexOutOfRange h rises ends taken stuck unfit m =
-    at_lexeme ts n place k t body more l IndexOutOfRange h rises taken stuck unfit m.0 (so_here ts n k t _ _ h (stands body more l place _ m.0 m.1))
-refused_here ts n place k t sign body more l BadCount h rises ends taken stuck unfit m =
-    at_lexeme ts n place k t body more l BadCount h rises taken stuck unfit m.0 (so_here ts n k t _ _ h m.1)
-refused_here ts n place k t sign body more l BadShape h rises ends taken stuck unfit m = at_lexeme ts n place k t body more l BadShape h rises taken stuck unfit m tt
-refused_here ts n place k t sign body more l WrongNumberCount h rises ends taken stuck unfit m = at_lexeme ts n place k t body more l WrongNumberCount h rises taken stuck unfit m tt
-refused_here ts n place k t sign body more l _ h rises ends taken stuck unfit m = absurd m
+-- the next lexeme is this one, of a body that was possible so far, and isn't with it
+module _ {ts : TextTokens} {n : ℕ} (place : ℕ) {k : Known} {t : Topic} (sign : Option Sign) (body more : List Lexeme) (l : Lexeme)
+    (h : Here ts n k t ((body ++ l ∷ []) ++ more)) (rises : Rises 0 ts.lexemes ts.end) (ends : SignEnds sign body) (taken : IsPossible k t body)
+    (stuck : IsFormless k t (body ++ l ∷ [])) where
+  number_lies : (s : Option Sign) → SignEnds s body → place ≡ number_place s l → LiesIn ts n place
+  number_lies None ends p = lies_here h place body (l ∷ more) rises (append_assoc body (l ∷ []) more) p
+  number_lies (Some s) ends p =
+      lies_here h place ends.0 (ends.1.0 ∷ l ∷ more) rises (signed_whole body ends.0 more ends.1.0 l ends.1.1.0) (p ∙ sign_place s ends.1.0 ends.1.1.1)
+
+  number_stops : (kind : ItemFault) (s : Option Sign) → SignEnds s body → place ≡ number_place s l → l.kind ≡ Numeral → IsOfValue kind → IsMisfit (wanted k t body) l kind
+      → StopsInBody ts kind n place
+  number_stops kind None ends p numeral value unfit =
+      stops_here h kind place body (l ∷ more) (append_assoc body (l ∷ []) more) taken (refusals.at_lexeme stuck unfit) p (λ none. absurd (cons≢nil none))
+  number_stops kind (Some g) ends p numeral value unfit =
+      let before = ends.0 in
+      let s = ends.1.0 in
+      let whole = ends.1.1.0 in
+      let signed : IsPossible k t (before ++ s ∷ []) = subst (IsPossible k t) whole taken in
+      let front : IsPossible k t before = possible_front k t before (s ∷ []) signed in
+      let pair : IsFormless k t (before ++ s ∷ l ∷ []) = subst (IsFormless k t) (ap (λ (b : List Lexeme). b ++ l ∷ []) whole ∙ append_assoc before (s ∷ []) (l ∷ [])) stuck in
+      let behind : IsMisfit (wanted k t (before ++ s ∷ [])) l kind = subst (λ b. IsMisfit (wanted k t b) l kind) whole unfit in
+      stops_here h kind place before (s ∷ l ∷ more) (signed_whole body before more s l whole) front
+      (refusals.at_number (sign_kind g s ends.1.1.1) numeral signed pair value behind) (p ∙ sign_place g s ends.1.1.1)
+      (λ none. absurd (cons≢nil none))
+
+  at_number : (kind : ItemFault) → IsOfValue kind → IsMisfit (wanted k t body) l kind → l.kind ≡ Numeral → place ≡ number_place sign l
+      → IsReason ts n place kind → Refused ts n place kind
+  at_number kind value unfit numeral p reason =
+      record { lies = number_lies sign ends p; reason = reason; stops = number_stops kind sign ends p numeral value unfit }
+
+  at_lexeme : (kind : ItemFault) → IsMisfit (wanted k t body) l kind → place ≡ l.place → IsReason ts n place kind → Refused ts n place kind
+  at_lexeme kind unfit p reason = record {
+    lies = lies_here h place body (l ∷ more) rises (append_assoc body (l ∷ []) more) p;
+    reason = reason;
+    stops = stops_here h kind place body (l ∷ more) (append_assoc body (l ∷ []) more) taken (refusals.at_lexeme stuck unfit) p (λ none. absurd (cons≢nil none));
+  }
+
+  refused_here : (kind : ItemFault) → IsMisfit (wanted k t body) l kind → IsTokenReason t sign body l kind place → Refused ts n place kind
+  refused_here (Number fault) unfit m =
+      at_number (Number fault) tt unfit m.1.0 m.0 (so_here h (number_stands sign body more l place (reasons.IsRefusedNumber fault) ends m.0 m.1))
+  refused_here DiscountRange unfit m =
+      at_number DiscountRange tt unfit m.2.1.kind m.1 (so_here h (m.0, number_stands sign body more l place reasons.IsNoFraction ends m.1 m.2))
+  refused_here ProbabilityRange unfit m =
+      at_number ProbabilityRange tt unfit m.1.1.1.kind m.1.0 (so_here h (m.0, number_stands sign body more l place reasons.IsNoFraction ends m.1.0 m.1.1))
+  refused_here Reset unfit m = at_lexeme Reset unfit m.0 (so_here h (stands body more l place _ m.0 m.1))
+  refused_here DuplicateName unfit m =
+      at_lexeme DuplicateName unfit m.0 (so_here h (m.1, subst (λ b. IsRepeated b place) (sym (append_assoc body (l ∷ []) more)) (m.2 more)))
+  refused_here UnknownName unfit m = at_lexeme UnknownName unfit m.0 (so_here h (stands body more l place _ m.0 m.1))
+  refused_here IndexOutOfRange unfit m = at_lexeme IndexOutOfRange unfit m.0 (so_here h (stands body more l place _ m.0 m.1))
+  refused_here BadCount unfit m = at_lexeme BadCount unfit m.0 (so_here h m.1)
+  refused_here BadShape unfit m = at_lexeme BadShape unfit m tt
+  refused_here WrongNumberCount unfit m = at_lexeme WrongNumberCount unfit m tt
+  refused_here _ unfit m = absurd m
 
 -- the item doesn't go on with the lexeme
 stuck : (seen : List Lexeme) (r : TextReader) (w : IsItemRead seen r) (l : Lexeme) → CannotTake (ItemGoes r.known) w.item l
@@ -289,59 +286,35 @@ number_further body more place Is (reasons.plus before s l after e kind p so) =
 number_further body more place Is (reasons.minus before s l after e kind p so) =
     reasons.minus before s l (after ++ more) (ap (λ (b : List Lexeme). b ++ more) e ∙ append_assoc before (s ∷ l ∷ after) more) kind p so
 
--- a refusal in a start item, at some lexeme of its body
-start_lies : (ts : TextTokens) (n place : ℕ) (k : Known) (t : Topic) (body : List Lexeme) → Here ts n k t body → Rises 0 ts.lexemes ts.end → StandsIn body place (λ l. Unit {0}) → LiesIn ts n place
-start_lies ts n place k t body h rises s = lies_here ts n place k t body s.before (s.lexeme ∷ s.after) h rises s.whole s.place_is
-
-start_reason : (ts : TextTokens) (n place : ℕ) (k : Known) (t : Topic) (body more : List Lexeme) (kind : ItemFault) → Here ts n k t (body ++ more) → t ≡ Start → IsReasonIn body kind place
-    → IsReason ts n place kind
-start_reason ts n place k t body more (Number fault) h e m = so_here ts n k t _ _ h (number_further body more place _ m)
-start_reason ts n place k t body more ProbabilityRange h e m =
-    so_here ts n k t _ _ h (subst reasons.IsOfProbabilities (sym e) tt, number_further body more place _ m)
-start_reason ts n place k t body more Reset h e m = so_here ts n k t _ _ h (stands_further body more place _ m)
-start_reason ts n place k t body more UnknownName h e m = so_here ts n k t _ _ h (stands_further body more place _ m)
-start_reason ts n place k t body more IndexOutOfRange h e m = so_here ts n k t _ _ h (stands_further body more place _ m)
-start_reason ts n place k t body more WrongNumberCount h e m = tt
-start_reason ts n place k t body more BadShape h e m = tt
-start_reason ts n place k t body more _ h e m = absurd m
+-- why a start item is refused at some lexeme of its body
+module _ {ts : TextTokens} {n : ℕ} (place : ℕ) {k : Known} {t : Topic} (body more : List Lexeme) (h : Here ts n k t (body ++ more)) (e : t ≡ Start) where
+  start_reason : (kind : ItemFault) → IsReasonIn body kind place → IsReason ts n place kind
+  start_reason (Number fault) m = so_here h (number_further body more place _ m)
+  start_reason ProbabilityRange m = so_here h (subst reasons.IsOfProbabilities (sym e) tt, number_further body more place _ m)
+  start_reason Reset m = so_here h (stands_further body more place _ m)
+  start_reason UnknownName m = so_here h (stands_further body more place _ m)
+  start_reason IndexOutOfRange m = so_here h (stands_further body more place _ m)
+  start_reason WrongNumberCount m = tt
+  start_reason BadShape m = tt
+  start_reason _ m = absurd m
 
 -- ---- the first number of a start item
-
--- the refusal of it that is due in the item here
-late_in : (ts : TextTokens) (n : ℕ) (k : Known) (t : Topic) (body : List Lexeme) (kind : ItemFault) (place : ℕ) (h : Here ts n k t body) → t ≡ Start → word_fault k t ≡ None
-    → IsLate (states_known k) body (ends_cleanly h.after ts.ending) kind place → IsLateIn ts n kind place
-late_in ts n k t body kind place h start free late = record {
-  before = h.before;
-  item = item_here h;
-  after = h.after;
-  divided = h.divided;
-  number_is = h.number_is;
-  k = k;
-  known = h.taken;
-  topic_is = h.topic_is ∙ ap Some start;
-  may_stand = sym (ap (word_fault k) start) ∙ free;
-  late = late;
-}
-
-late_of : (ts : TextTokens) (n : ℕ) (k : Known) (t : Topic) (body : List Lexeme) (kind : ItemFault) (place : ℕ) (h : Here ts n k t body) → IsLateIn ts n kind place
-    → (t ≡ Start) × IsLate (states_known k) body (ends_cleanly h.after ts.ending) kind place
-late_of ts n k t body kind place h w = late_here ts n kind place h.before (item_here h) h.after k t h.divided h.taken h.topic_is h.number_is w
 
 -- what is due of the first number is this refusal
 abbrev IsWhatIsDue : TextTokens → ℕ → ItemFault → ℕ → Type 0
 IsWhatIsDue ts n kind place = (fault : ItemFault) (at : ℕ) → IsLateIn ts n fault at → (kind ≡ fault) × (place ≡ at)
 
-start_refused : (text : List ℕ) (ts : TextTokens) (n place : ℕ) (k : Known) (t : Topic) (body more : List Lexeme) (kind : ItemFault) → AreTokensOf text ts → (h : Here ts n k t (body ++ more)) → word_fault k t ≡ None
-    → IsFirstWrong ts n → t ≡ Start → IsStartReason body kind place → IsLate (states_known k) (body ++ more) (ends_cleanly h.after ts.ending) kind place → IsWhatIsDue ts n kind place
-    → Refuses ts (model_faults.Item kind n place)
-start_refused text ts n place k t body more kind tokens h free wrong e r late due = record {
+start_refused : {text : List ℕ} {ts : TextTokens} {n : ℕ} (place : ℕ) {k : Known} {t : Topic} (body more : List Lexeme) (kind : ItemFault) → AreTokensOf text ts
+    → (h : Here ts n k t (body ++ more)) → word_fault k t ≡ None → IsFirstWrong ts n → t ≡ Start → IsStartReason body kind place
+    → IsLate (states_known k) (body ++ more) (ends_cleanly h.after ts.ending) kind place → IsWhatIsDue ts n kind place → Refuses ts (model_faults.Item kind n place)
+start_refused {text} {ts} place body more kind tokens h free wrong e r late due = record {
   refusal = record {
     first_wrong = wrong;
-    lies = start_lies ts n place k t (body ++ more) h (tokens_rise text ts tokens) (stands_further body more place _ r.stands);
-    reason = start_reason ts n place k t body more kind h e r.reason;
-    decided = λ fault at x. absurd (free_here ts n k t (body ++ more) h free fault at x);
+    lies = start_lies h place (tokens_rise text ts tokens) (stands_further body more place _ r.stands);
+    reason = start_reason place body more h e kind r.reason;
+    decided = λ fault at x. absurd (free_here h free fault at x);
   };
-  placed = record { stands = of_first_number (late_in ts n k t (body ++ more) kind place h e free late); late = due };
+  placed = record { stands = of_first_number (late_in h kind place e free late); late = due };
 }
 
 -- an item that ends in a fault of the tokens doesn't end cleanly
@@ -352,7 +325,7 @@ fault_ends ending f e = ap (ends_cleanly []) e
 pub due_at_fault : (ts : TextTokens) (n : ℕ) (k : Known) (t : Topic) (body : List Lexeme) (item : ItemReader) (f : TokenFault) (kind : ItemFault) (place : ℕ) (h : Here ts n k t (body ++ [])) → h.after ≡ [] → ts.ending ≡ Some f
     → topic_in item ≡ t → IsSeen (states_known k) body item → IsLateIn ts n kind place → pending_in item ≡ Some (record { kind = kind; place = place })
 due_at_fault ts n k t body item f kind place h last ending topics seen w =
-    let found = late_of ts n k t (body ++ []) kind place h w in
+    let found = late_of h kind place w in
     let clean : ends_cleanly h.after ts.ending ≡ false = ap (λ items. ends_cleanly items ts.ending) last ∙ fault_ends ts.ending f ending in
     let late : IsLate (states_known k) body false kind place =
     subst (λ b. IsLate (states_known k) body b kind place) clean (subst (λ (b : List Lexeme). IsLate (states_known k) b (ends_cleanly h.after ts.ending) kind place) (append-nil body) found.1) in
@@ -360,12 +333,7 @@ due_at_fault ts n k t body item f kind place h last ending topics seen w =
   where
     of : (i : ItemReader) → topic_in i ≡ Start → IsSeen (states_known k) body i → IsLate (states_known k) body false kind place → pending_in i ≡ Some (record { kind = kind; place = place })
     of (items.Start r) e s late = late_at_fault (states_known k) body r kind place s late
-    of (items.Discount r) e s late = absurd (discount_no_start e)
-    of (items.Values r) e s late = absurd (values_no_start e)
-    of (items.States r) e s late = absurd (states_no_start e)
-    of (items.Actions r) e s late = absurd (actions_no_start e)
-    of (items.Observations r) e s late = absurd (observations_no_start e)
-    of (items.Entry r) e s late = absurd (cells_no_start r.table e)
+    of _ e s late = absurd (cc)
 
 -- a start item in which the tokens end in a fault behind a number without a value
 pub pending_refused : (seen : List Lexeme) (r : TextReader) (f : TokenFault) (x : Refusal) → (w : IsItemRead seen r) → pending_in w.item ≡ Some x
@@ -376,7 +344,7 @@ pending_refused seen r f x w e text ts tokens same ending =
     let late : IsLate (states_known r.known) (w.body ++ []) (ends_cleanly [] ts.ending) x.kind x.place =
     subst (λ b. IsLate (states_known r.known) (w.body ++ []) b x.kind x.place) (sym (fault_ends ts.ending f ending))
     (subst (λ (b : List Lexeme). IsLate (states_known r.known) b false x.kind x.place) (sym (append-nil w.body)) why.2) in
-    start_refused text ts r.number x.place r.known w.t w.body [] x.kind tokens h w.read.may_stand (wrong_last h.before (item_here h) r.known f h.divided h.taken ending h.number_is) (sym w.read.topic_is ∙ why.0) why.1 late
+    start_refused x.place w.body [] x.kind tokens h w.read.may_stand (wrong_last h.before (item_here h) r.known f h.divided h.taken ending h.number_is) (sym w.read.topic_is ∙ why.0) why.1 late
     (λ fault at is. same_refusal x fault at (sym e ∙ due_at_fault ts r.number r.known w.t w.body w.item f fault at h refl ending w.read.topic_is w.read.seen is))
   where
     same_refusal : (x : Refusal) (fault : ItemFault) (at : ℕ) → Some x ≡ Some (record { kind = fault; place = at }) → (x.kind ≡ fault) × (x.place ≡ at)
@@ -385,32 +353,20 @@ pending_refused seen r f x w e text ts tokens same ending =
     pending_why : (count : ℕ) (body : List Lexeme) (item : ItemReader) (x : Refusal) → IsSeen count body item → pending_in item ≡ Some x
         → (topic_in item ≡ Start) × IsStartReason body x.kind x.place × IsLate count body false x.kind x.place
     pending_why count body (items.Start s) x seen e = (refl, pending_reason count body s x seen e, pending_is_late count body s x seen e)
-    pending_why count body (items.Discount s) x seen e = absurd (none≢some e)
-    pending_why count body (items.Values s) x seen e = absurd (none≢some e)
-    pending_why count body (items.States s) x seen e = absurd (none≢some e)
-    pending_why count body (items.Actions s) x seen e = absurd (none≢some e)
-    pending_why count body (items.Observations s) x seen e = absurd (none≢some e)
-    pending_why count body (items.Entry s) x seen e = absurd (none≢some e)
+    pending_why count body _ x seen e = absurd (none≢some e)
 
 -- the sign that waits for its numeral ends the body
 pub seen_sign : (count : ℕ) (body : List Lexeme) (item : ItemReader) → (topic_in item ≡ Start → ⊥) → IsSeen count body item → SignEnds (sign_in item) body
 seen_sign count body (items.Discount r) other s = s
 seen_sign count body (items.Values r) other s = s
-seen_sign count body (items.States r) other s = s.0
-seen_sign count body (items.Actions r) other s = s.0
-seen_sign count body (items.Observations r) other s = s.0
 seen_sign count body (items.Start r) other s = absurd (other refl)
 seen_sign count body (items.Entry r) other s = s
+seen_sign count body _ other s = s.0
 
 -- what is said of items that are no start item
 not_start : (t : Topic) (P : Type 0) → (t ≡ Start → ⊥) → IfNotStart t P → P
 not_start Start P other p = absurd (other refl)
-not_start Discount P other p = p
-not_start Values P other p = p
-not_start States P other p = p
-not_start Actions P other p = p
-not_start Observations P other p = p
-not_start (Cells table) P other p = p
+not_start _ P other p = p
 
 wants_here : (k : Known) (t : Topic) (body : List Lexeme) (item : ItemReader) → ((ls : List Lexeme) → wanted k t (body ++ ls) ≡ item_wants k item ls) → item_wants k item [] ≡ wanted k t body
 wants_here k t body item wants = sym (ap (wanted k t) (sym (append-nil body)) ∙ wants [])
@@ -443,17 +399,17 @@ feed_refused seen r l kind place w inner none reason unfit stops formless due te
     -- what is due of a start item's first number is this
     is_due : (more : List Lexeme) (h : Here ts r.number r.known w.t ((w.body ++ l ∷ []) ++ more)) → IsWhatIsDue ts r.number kind place
     is_due more h fault at is =
-        let found = late_of ts r.number r.known w.t ((w.body ++ l ∷ []) ++ more) fault at h is in
+        let found = late_of h fault at is in
         due more (ends_cleanly h.after ts.ending) (record { kind = fault; place = at }) (w.read.topic_is ∙ found.0)
         (subst (λ (b : List Lexeme). IsLate (states_known r.known) b (ends_cleanly h.after ts.ending) fault at) (append_assoc w.body (l ∷ []) more) found.1)
 
     refused_so : (more : List Lexeme) (h : Here ts r.number r.known w.t ((w.body ++ l ∷ []) ++ more)) → Refused ts r.number place kind → Refuses ts (model_faults.Item kind r.number place)
     refused_so more h refused = record {
       refusal = record {
-        first_wrong = first_here ts r.number r.known w.t ((w.body ++ l ∷ []) ++ more) h (stuck seen r w l none more);
+        first_wrong = first_here h (stuck seen r w l none more);
         lies = refused.lies;
         reason = refused.reason;
-        decided = λ fault at x. absurd (free_here ts r.number r.known w.t ((w.body ++ l ∷ []) ++ more) h w.read.may_stand fault at x);
+        decided = λ fault at x. absurd (free_here h w.read.may_stand fault at x);
       };
       placed = record { stands = in_body refused.stops; late = is_due more h };
     }
@@ -462,21 +418,21 @@ feed_refused seen r l kind place w inner none reason unfit stops formless due te
         → Refuses ts (model_faults.Item kind r.number place)
     of_one more h other m =
         refused_so more h
-        (refused_here ts r.number place r.known w.t (sign_in w.item) w.body more l kind h (tokens_rise text ts tokens) (seen_sign (states_known r.known) w.body w.item other w.read.seen)
-        (w.read.possible (nothing_pending w.item other)) (without_form seen r w l none formless)
+        (refused_here place (sign_in w.item) w.body more l h (tokens_rise text ts tokens) (seen_sign (states_known r.known) w.body w.item other w.read.seen)
+        (w.read.possible (nothing_pending w.item other)) (without_form seen r w l none formless) kind
         (here_unfit r.known w.t w.body w.item (λ s. other (w.read.topic_is ∙ s)) w.read.wants l kind (subst (λ u. IfNotStart u (IsMisfit (item_wants r.known w.item []) l kind)) w.read.topic_is unfit))
         (subst (λ t. IsTokenReason t (sign_in w.item) w.body l kind place) w.read.topic_is m))
 
     of_start : (more : List Lexeme) (h : Here ts r.number r.known w.t ((w.body ++ l ∷ []) ++ more)) → w.t ≡ Start → IsStartReason (w.body ++ l ∷ []) kind place
         → StopsStart (pending_in w.item) (states_known r.known) w.body (wanted r.known w.t w.body) l kind place → Refuses ts (model_faults.Item kind r.number place)
     of_start more h start m (first_number late) =
-        start_refused text ts r.number place r.known w.t (w.body ++ l ∷ []) more kind tokens h w.read.may_stand
-        (first_here ts r.number r.known w.t ((w.body ++ l ∷ []) ++ more) h (stuck seen r w l none more)) start m
+        start_refused place (w.body ++ l ∷ []) more kind tokens h w.read.may_stand
+        (first_here h (stuck seen r w l none more)) start m
         (subst (λ (b : List Lexeme). IsLate (states_known r.known) b (ends_cleanly h.after ts.ending) kind place) (sym (append_assoc w.body (l ∷ []) more)) (late more (ends_cleanly h.after ts.ending)))
         (is_due more h)
     of_start more h start m (token sign unheld ends misfits why) =
         refused_so more h
-        (refused_here ts r.number place r.known w.t sign w.body more l kind h (tokens_rise text ts tokens) ends (w.read.possible unheld) (without_form seen r w l none formless) misfits
+        (refused_here place sign w.body more l h (tokens_rise text ts tokens) ends (w.read.possible unheld) (without_form seen r w l none formless) kind misfits
         (subst (λ t. IsTokenReason t sign w.body l kind place) (sym start) (start_token sign w.body l kind place why)))
 
     at : IsItemReason w.item w.body l kind place → (more : List Lexeme) → Here ts r.number r.known w.t ((w.body ++ l ∷ []) ++ more) → Refuses ts (model_faults.Item kind r.number place)
@@ -508,14 +464,6 @@ ends_here ts n place seen body k t w number (texts.at_word next further e begins
 ends_here ts n place seen body k t w number (texts.at_end e clean p) =
     record { here_is = here ts n seen body [] [] k t [] w (e ∙ sym (append-nil seen)) number empty_division; place_is = p; clean = λ none. clean }
 
-end_reason : (ts : TextTokens) (n place : ℕ) (k : Known) (t : Topic) (body : List Lexeme) (kind : ItemFault) → Here ts n k t body → IsEndReason t kind → IsReason ts n place kind
-end_reason ts n place k t body BadCount h m = so_here ts n k t body _ h m
-end_reason ts n place k t body StartSum h m = so_here ts n k t body _ h m
-end_reason ts n place k t body StartEmpty h m = so_here ts n k t body _ h m
-end_reason ts n place k t body BadShape h m = tt
-end_reason ts n place k t body WrongNumberCount h m = tt
-end_reason ts n place k t body _ h m = absurd m
-
 -- an item that ends
 clean_ends : (items : List Item) (ending : Option TokenFault) → (items ≡ [] → ending ≡ None) → ends_cleanly items ending ≡ true
 clean_ends [] None clean = refl
@@ -526,7 +474,7 @@ clean_ends (x ∷ xs) ending clean = refl
 due_at_end : (ts : TextTokens) (n place : ℕ) (k : Known) (t : Topic) (body : List Lexeme) (fault : ItemFault) (at : ℕ) (x : EndsHere ts n place k t body) → IsLateIn ts n fault at
     → (t ≡ Start) × IsLate (states_known k) body true fault at
 due_at_end ts n place k t body fault at x w =
-    let found = late_of ts n k t (body ++ []) fault at x.here_is w in (
+    let found = late_of x.here_is fault at w in (
       found.0,
       subst (λ b. IsLate (states_known k) body b fault at) (clean_ends x.here_is.after ts.ending x.clean)
           (subst (λ (b : List Lexeme). IsLate (states_known k) b (ends_cleanly x.here_is.after ts.ending) fault at) (append-nil body) found.1),
@@ -539,13 +487,13 @@ end_refused seen r kind place w none reason kinds unheld undue text ts tokens en
     let x = ends_here ts r.number place seen w.body r.known w.t w.within w.number_is ends in
     record {
       refusal = record {
-        first_wrong = first_here ts r.number r.known w.t (w.body ++ []) x.here_is (λ after taken. none after (w.read.on [] after (right_shaped r.known w.t _ after taken)));
-        lies = lies_here ts r.number place r.known w.t (w.body ++ []) w.body [] x.here_is (tokens_rise text ts tokens) refl x.place_is;
-        reason = end_reason ts r.number place r.known w.t (w.body ++ []) kind x.here_is (subst (λ t. IsEndReason t kind) w.read.topic_is reason);
-        decided = λ fault at y. absurd (free_here ts r.number r.known w.t (w.body ++ []) x.here_is w.read.may_stand fault at y);
+        first_wrong = first_here x.here_is (λ after taken. none after (w.read.on [] after (right_shaped r.known w.t _ after taken)));
+        lies = lies_here x.here_is place w.body [] (tokens_rise text ts tokens) refl x.place_is;
+        reason = end_reason x.here_is place kind (subst (λ t. IsEndReason t kind) w.read.topic_is reason);
+        decided = λ fault at y. absurd (free_here x.here_is w.read.may_stand fault at y);
       };
       placed = record {
-        stands = in_body (stops_here ts kind r.number place r.known w.t (w.body ++ []) w.body [] x.here_is refl (w.read.possible unheld) stops x.place_is (λ nothing. x.clean));
+        stands = in_body (stops_here x.here_is kind place w.body [] refl (w.read.possible unheld) stops x.place_is (λ nothing. x.clean));
         late = λ fault at y.
             let found = due_at_end ts r.number place r.known w.t w.body fault at x y in
             absurd (undue (record { kind = fault; place = at }) (w.read.topic_is ∙ found.0) found.1);
@@ -568,8 +516,8 @@ end_refused_before seen r kind at place w none start reason late due text ts tok
     let here_late : IsLate (states_known r.known) (w.body ++ []) (ends_cleanly x.here_is.after ts.ending) kind at =
     subst (λ b. IsLate (states_known r.known) (w.body ++ []) b kind at) (sym (clean_ends x.here_is.after ts.ending x.clean))
     (subst (λ (b : List Lexeme). IsLate (states_known r.known) b true kind at) (sym (append-nil w.body)) late) in
-    start_refused text ts r.number at r.known w.t w.body [] kind tokens x.here_is w.read.may_stand
-    (first_here ts r.number r.known w.t (w.body ++ []) x.here_is (λ after taken. none after (w.read.on [] after (right_shaped r.known w.t _ after taken)))) (sym w.read.topic_is ∙ start) reason here_late
+    start_refused at w.body [] kind tokens x.here_is w.read.may_stand
+    (first_here x.here_is (λ after taken. none after (w.read.on [] after (right_shaped r.known w.t _ after taken)))) (sym w.read.topic_is ∙ start) reason here_late
     (λ fault p y.
     let found = due_at_end ts r.number place r.known w.t w.body fault p x y in
     due (record { kind = fault; place = p }) (w.read.topic_is ∙ found.0) found.1)
@@ -596,15 +544,15 @@ too_much_refused seen r place w much text ts tokens ends =
     } in
     record {
       refusal = record {
-        first_wrong = first_here ts r.number r.known w.t (w.body ++ []) x.here_is (too_much_wrong r.known w.t (w.body ++ []) here_much);
-        lies = lies_here ts r.number place r.known w.t (w.body ++ []) w.body [] x.here_is (tokens_rise text ts tokens) refl x.place_is;
+        first_wrong = first_here x.here_is (too_much_wrong r.known w.t (w.body ++ []) here_much);
+        lies = lies_here x.here_is place w.body [] (tokens_rise text ts tokens) refl x.place_is;
         reason = inr passes;
-        decided = λ fault at y. absurd (free_here ts r.number r.known w.t (w.body ++ []) x.here_is w.read.may_stand fault at y);
+        decided = λ fault at y. absurd (free_here x.here_is w.read.may_stand fault at y);
       };
       placed = record {
         stands = behind_body refl passes;
         late = λ fault at y.
             let found = due_at_end ts r.number place r.known w.t w.body fault at x y in
-            absurd (cells_no_start much.table (sym much.topic_is ∙ found.0));
+            (let e = sym much.topic_is ∙ found.0 in absurd (cc));
       };
     }

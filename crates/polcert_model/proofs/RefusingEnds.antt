@@ -33,7 +33,8 @@ use Rattle.polcert_format.proofs.OrderLaws.{wrong_at_word, not_complete, are_too
 use Rattle.polcert_format.proofs.PlaceLaws.{tokens_rise, fault_rises, lies_at_word, lies_before_items, lies_at_end, lies_at_fault, lies_at_once}
 use Rattle.polcert_format.proofs.DecidedLaws.{one_decided}
 use Rattle.polcert_format.proofs.BegunItems.{item_begins}
-use Rattle.polcert_model.proofs.Refusing.{Here, item_here, here, first_here, free_here, due_at_fault, pending_refused}
+use Rattle.polcert_model.proofs.Refusing.{Here, item_here, here, first_here, free_here, due_at_fault, pending_refused, none≢some}
+use Rattle.polcert_format.proofs.ReadLaws.{no_empty}
 
 -- ---- before the first item
 
@@ -79,9 +80,6 @@ order_reason ts n place _ o d = absurd o
 some_once : {A : Type 0} {x y : A} → Some x ≡ Some y → x ≡ y
 some_once e = cc
 
-none≢some : {A : Type 0} {x : A} → None ≡ Some x → ⊥
-none≢some e = cc
-
 -- the reason for an incomplete preamble, of whether all lines came and whether there are too many pairs
 abbrev lacking : Bool → Bool → Option ItemFault
 lacking lines many = cond lines (cond many (Some TooManyCells) None) (Some MissingLine)
@@ -122,7 +120,7 @@ word_refused seen r word t kind w is wrong text ts further tokens e =
     let decided : IsDecided ts (r.number + 1) kind word.place = at_word h.before (item_here h) h.after r.known t h.divided h.taken h.topic_is wrong h.number_is refl in
     record {
       refusal = record {
-        first_wrong = first_here ts (r.number + 1) r.known t more h (wrong_at_word r.known t kind more wrong);
+        first_wrong = first_here h (wrong_at_word r.known t kind more wrong);
         lies = subst (λ n. LiesIn ts n word.place) (sym h.number_is) (lies_at_word ts h.before (item_here h) h.after (tokens_rise text ts tokens) h.divided);
         reason = order_reason ts (r.number + 1) word.place kind (word_order r.known t kind wrong) decided;
         decided = λ fault at x. one_decided ts (r.number + 1) kind fault word.place at decided x;
@@ -151,19 +149,11 @@ text_end_refused seen r kind w wrong text ts tokens e clean =
 
 fault_reason : (ts : TextTokens) (n : ℕ) (f : TokenFault) → ts.ending ≡ Some f → IsReason ts n (fault_place f) (fault_kind f)
 fault_reason ts n (token_faults.TextTooLong at) e = e
-fault_reason ts n (token_faults.BadByte at) e = (e, refl, tt)
-fault_reason ts n (token_faults.TokenTooLong at) e = (e, refl, tt)
-fault_reason ts n (token_faults.Glued at) e = (e, refl, tt)
+fault_reason ts n _ e = (e, refl, tt)
 
 fault_of_tokens : (f : TokenFault) → IsOfTokens (fault_kind f)
 fault_of_tokens (token_faults.TextTooLong at) = tt
-fault_of_tokens (token_faults.BadByte at) = tt
-fault_of_tokens (token_faults.TokenTooLong at) = tt
-fault_of_tokens (token_faults.Glued at) = tt
-
-no_empty : (xs : List Item) (x : Item) (ys : List Item) → xs ++ x ∷ ys ≡ [] → ⊥
-no_empty [] x ys e = cons≢nil e
-no_empty (z ∷ xs) x ys e = cons≢nil e
+fault_of_tokens _ = tt
 
 -- nothing is decided where no lexeme came before the fault
 none_decided : (ts : TextTokens) (n place : ℕ) (fault : ItemFault) (f : TokenFault) → ts.lexemes ≡ [] → ts.ending ≡ Some f → IsDecided ts n fault place → ⊥
@@ -197,7 +187,7 @@ in_item seen r f w text ts tokens e ending =
       first_wrong = wrong_last h.before (item_here h) r.known f h.divided h.taken ending h.number_is;
       lies = subst (λ n. LiesIn ts n (fault_place f)) (sym h.number_is) (lies_at_fault ts h.before (item_here h) (fault_place f) rises.0 rises.1 h.divided);
       reason = fault_reason ts r.number f ending;
-      decided = λ fault at x. absurd (free_here ts r.number r.known w.t (w.body ++ []) h w.read.may_stand fault at x);
+      decided = λ fault at x. absurd (free_here h w.read.may_stand fault at x);
     }
 
 last_taken : (seen : List Lexeme) (r : TextReader) (w : IsItemRead seen r) (ts : TextTokens) → ts.lexemes ≡ seen → pending_in w.item ≡ None → IsLastTaken ts r.number

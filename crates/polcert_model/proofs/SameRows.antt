@@ -16,9 +16,6 @@ module _ (m n : Meaning) (same : IsSame m n) where
   states : states_of m ≡ states_of n
   states = ap (λ (p : Preamble). count_of p.states) same.preamble
 
-  actions : actions_of m ≡ actions_of n
-  actions = ap (λ (p : Preamble). count_of p.actions) same.preamble
-
   observations : observations_of m ≡ observations_of n
   observations = ap (λ (p : Preamble). count_of (observed p)) same.preamble
 

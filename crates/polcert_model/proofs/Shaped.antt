@@ -4,7 +4,7 @@ use Rattle.polcert_text.specs.Cut.{Lexeme}
 use Rattle.polcert_cells.specs.declared.entry.Entry.{Entry}
 use Rattle.polcert_cells.specs.declared.entry.Table.{Table}
 use Rattle.polcert_cells.specs.declared.words.Topic.{Topic}
-use Rattle.polcert_cells.specs.declared.words.Topic.TheVariants.{Discount, Values, States, Actions, Observations, Start, Cells}
+use Rattle.polcert_cells.specs.declared.words.Topic.TheVariants.{States, Actions, Observations, Cells}
 use Rattle.polcert_cells.specs.Preamble.{Preamble}
 use Rattle.polcert_cells.specs.Steps.Sound.{IsSoundEntry}
 use Rattle.polcert_cells.proofs.Basics.{same_tail}
@@ -38,23 +38,13 @@ cells_of : (k : Known) (table : Table) (body : List Lexeme) (next : Known) (s : 
 cells_of k table body next s = λ i. HasFewCells (same_preamble k s.p s.complete.lines i) (s.next_is i).entries
 
 pub shaped_right : (k : Known) (t : Topic) (body : List Lexeme) (next : Known) → IsShaped k t body next → HasFewCells (preamble_in k) next.entries → IsRight k t body next
-shaped_right k Discount body next s few = s
-shaped_right k Values body next s few = s
-shaped_right k States body next s few = s
-shaped_right k Actions body next s few = s
-shaped_right k Observations body next s few = s
-shaped_right k Start body next s few = s
 shaped_right k (Cells table) body next s few =
     subst (IsRight k (Cells table) body) (sym s.next_is) (texts.entry s.complete s.may_be_given s.entry (subst (λ (F : Type 0). F) (cells_of k table body next s) few))
+shaped_right k _ body next s few = s
 
 pub shaped_form : (k : Known) (t : Topic) (body : List Lexeme) (next : Known) → IsShaped k t body next → HasForm k t body
-shaped_form k Discount body next s = shapes.right s
-shaped_form k Values body next s = shapes.right s
-shaped_form k States body next s = shapes.right s
-shaped_form k Actions body next s = shapes.right s
-shaped_form k Observations body next s = shapes.right s
-shaped_form k Start body next s = shapes.right s
 shaped_form k (Cells table) body next s = shapes.entry refl s.complete s.may_be_given s.entry
+shaped_form k _ body next s = shapes.right s
 
 -- an entry that gives too much is so shaped
 pub too_much_shaped : (k : Known) (t : Topic) (body : List Lexeme) → IsTooMuch k t body → (next : Known) × IsShaped k t body next
@@ -80,12 +70,6 @@ few_behind k t body next other (texts.start i c a) = nothing_much _ _ i.no_entry
 few_behind k t body next other (texts.entry {table = table} c g a few) = absurd (other table refl)
 
 pub shaped_too_much : (k : Known) (t : Topic) (body : List Lexeme) (next : Known) → IsShaped k t body next → (HasFewCells (preamble_in k) next.entries → ⊥) → IsTooMuch k t body
-shaped_too_much k Discount body next s many = absurd (many (few_behind k Discount body next (λ table e. cc) s))
-shaped_too_much k Values body next s many = absurd (many (few_behind k Values body next (λ table e. cc) s))
-shaped_too_much k States body next s many = absurd (many (few_behind k States body next (λ table e. cc) s))
-shaped_too_much k Actions body next s many = absurd (many (few_behind k Actions body next (λ table e. cc) s))
-shaped_too_much k Observations body next s many = absurd (many (few_behind k Observations body next (λ table e. cc) s))
-shaped_too_much k Start body next s many = absurd (many (few_behind k Start body next (λ table e. cc) s))
 shaped_too_much k (Cells table) body next s many = record {
   p = s.p;
   table = table;
@@ -96,14 +80,13 @@ shaped_too_much k (Cells table) body next s many = record {
   entry = s.entry;
   too_many = λ few. many (subst (λ (F : Type 0). F) (sym (cells_of k table body next s)) few);
 }
+shaped_too_much k t body next s many = absurd (many (few_behind k t body next (λ table e. cc) s))
 
 -- ---- what it says may be learned
 
 same_last : (xs ys : List Entry) (x y : Entry) → xs ≡ ys → xs ++ x ∷ [] ≡ ys ++ y ∷ [] → x ≡ y
-same_last [] [] x y same e = cc
-same_last [] (z ∷ ys) x y same e = cc
-same_last (w ∷ xs) [] x y same e = cc
 same_last (w ∷ xs) (z ∷ ys) x y same e = same_last xs ys x y (same_tail same) (same_tail e)
+same_last _ _ x y same e = cc
 
 pub may_be_learned : (k : Known) (t : Topic) (body : List Lexeme) (said : ItemContents) → word_fault k t ≡ None → AreContentsOf t said → IsShaped k t body (learned k said) → MayBeLearned k said
 may_be_learned k t body (says.Discount g) free about s = tt
@@ -118,6 +101,4 @@ may_be_learned k (Cells table) body (says.Entry e) free about s = (
       (subst (IsSoundEntry s.p) (sym (same_last k.entries k.entries e s.e refl (ap (λ (n : Known). n.entries) s.next_is))) (right_entry_sound s.p table body s.e s.entry)),
 )
 may_be_learned k _ body (says.States e) free about s = absurd about
-may_be_learned k _ body (says.Actions e) free about s = absurd about
-may_be_learned k _ body (says.Observations e) free about s = absurd about
-may_be_learned k _ body (says.Entry e) free about s = absurd about
+may_be_learned k _ body _ free about s = absurd about

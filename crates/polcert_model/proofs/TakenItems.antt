@@ -68,13 +68,8 @@ right_goes k t body next (texts.start {p = p} {shares = found} i c a) = (found, 
 right_goes k t body next (texts.entry {p = p} {table = table} {e = entry} complete given a few) = (entry, (entry_goes k p table body entry complete a, refl))
 
 pub taken_goes : (k : Known) (t : Topic) (body : List Lexeme) (next : Known) → IsShaped k t body next → ItemGoes k (new_item t) body next
-taken_goes k Discount body next s = right_goes k Discount body next s
-taken_goes k Values body next s = right_goes k Values body next s
-taken_goes k States body next s = right_goes k States body next s
-taken_goes k Actions body next s = right_goes k Actions body next s
-taken_goes k Observations body next s = right_goes k Observations body next s
-taken_goes k Start body next s = right_goes k Start body next s
 taken_goes k (Cells table) body next s = (s.e, (entry_goes k s.p table body s.e s.complete s.entry, s.next_is))
+taken_goes k t body next s = right_goes k t body next s
 
 -- ---- what goes on is right
 
@@ -142,24 +137,15 @@ goes_taken k (Cells table) body next free goes = entry_taken k table body next f
 
 new_topic : (t : Topic) → topic_in (new_item t) ≡ t
 new_topic Discount = refl
-new_topic Values = refl
-new_topic States = refl
-new_topic Actions = refl
-new_topic Observations = refl
-new_topic Start = refl
-new_topic (Cells table) = refl
+new_topic _ = refl
 
 -- what goes on to the form of an item has it
 forms_formed : (k : Known) (t : Topic) (body : List Lexeme) → word_fault k t ≡ None → ItemForms k (new_item t) body tt → HasForm k t body
-forms_formed k Discount body free g = shapes.right (goes_taken k Discount body g.0 free g.1)
-forms_formed k Values body free g = shapes.right (goes_taken k Values body g.0 free g.1)
-forms_formed k States body free g = shapes.right (goes_taken k States body g.0 free g.1)
-forms_formed k Actions body free g = shapes.right (goes_taken k Actions body g.0 free g.1)
-forms_formed k Observations body free g = shapes.right (goes_taken k Observations body g.0 free g.1)
 forms_formed k Start body free g =
     let stands = start_may_stand k free in
     shapes.start refl stands.0 stands.1.1 (subst (λ s. IsStartForm s body) (same_states k stands.1.0 stands.1.1) g)
 forms_formed k (Cells table) body free g = shaped_form k (Cells table) body g.0 (goes_taken k (Cells table) body g.0 free g.1)
+forms_formed k t body free g = shapes.right (goes_taken k t body g.0 free g.1)
 
 start_no_cells : {table : Table} → Start ≡ Cells table → ⊥
 start_no_cells e = cc
@@ -175,12 +161,7 @@ formed_forms k t body f = of (is_start t)
     of_start Start e (shapes.right {after} r) = let g = right_goes k Start body after r in states_form g.0 g.1.0
     of_start Start e (shapes.entry c complete given a) = absurd (start_no_cells c)
     of_start Start e (shapes.start {p} s i c form) = subst (λ s. IsStartForm s body) (sym (same_states k p c)) form
-    of_start Discount e h = cc
-    of_start Values e h = cc
-    of_start States e h = cc
-    of_start Actions e h = cc
-    of_start Observations e h = cc
-    of_start (Cells table) e h = cc
+    of_start _ e h = cc
 
     of : (t ≡ Start) ⊎ (t ≡ Start → ⊥) → ItemForms k (new_item t) body tt
     of (inl e) = of_start t e f
@@ -194,31 +175,20 @@ formed_forms k t body f = of (is_start t)
 -- ---- an item as it is read
 
 pub new_within : (k : Known) (t : Topic) → word_fault k t ≡ None → IsItemWithin k (new_item t)
-new_within k Discount free = tt
-new_within k Values free = tt
-new_within k States free = tt
-new_within k Actions free = tt
-new_within k Observations free = tt
 new_within k Start free = let stands = start_may_stand k free in (stands.1.0.states, (stands.1.1.lines.states, new_start_within stands.1.0.states))
 new_within k (Cells table) free = refl
+new_within k _ free = tt
 
 new_seen : (count : ℕ) (t : Topic) → IsSeen count [] (new_item t)
 new_seen count Discount = refl
 new_seen count Values = refl
-new_seen count States = (refl, refl)
-new_seen count Actions = (refl, refl)
-new_seen count Observations = (refl, refl)
 new_seen count Start = new_start_seen count
 new_seen count (Cells table) = refl
+new_seen count _ = (refl, refl)
 
 new_wants : (k : Known) (t : Topic) (ls : List Lexeme) → wanted k t ls ≡ item_wants k (new_item t) ls
 new_wants k Discount ls = refl
-new_wants k Values ls = refl
-new_wants k States ls = refl
-new_wants k Actions ls = refl
-new_wants k Observations ls = refl
-new_wants k Start ls = refl
-new_wants k (Cells table) ls = refl
+new_wants k _ ls = refl
 
 -- an item whose word may stand, before its first lexeme
 pub item_begun : (k : Known) (t : Topic) → word_fault k t ≡ None → IsBodyRead k t [] (new_item t)
@@ -287,12 +257,6 @@ all_some p table s a o r =
     at Reward x y z = z
 
 pub has_elements : (xs : List Item) (k : Known) (t : Topic) → AreRight nothing_known xs k → word_fault k t ≡ None → HasElements k t
-has_elements xs k Discount right free = tt
-has_elements xs k Values right free = tt
-has_elements xs k States right free = tt
-has_elements xs k Actions right free = tt
-has_elements xs k Observations right free = tt
-has_elements xs k Start right free = tt
 has_elements xs k (Cells table) right free =
     let stands = entry_may_stand k table free in
     let lines = stands.1.lines in
@@ -301,3 +265,4 @@ has_elements xs k (Cells table) right free =
     let observations = subst (CountWithin most_observations) lines.observations w.1.1 in
     subst AreSome (sym (same_indices k stands.0 table stands.1))
     (all_some stands.0 table states (some_count most_actions _ _ w.1.0 lines.actions) (some_line most_observations stands.0.observations stands.0.states observations states) (some_line most_observations stands.0.observations (Count 1) observations (omega arith)))
+has_elements xs k _ right free = tt

@@ -1,5 +1,5 @@
 -- A text's reader, step by step: what it holds behind one more lexeme, and behind an item.
-use Rattle.std.proofs.Common.{◌≡◌, ◌∙◌, ℕ, ◌+◌, Bool, true, false, Option, Some, None, List, [], ◌∷◌, ◌++◌, refl, sym, ap, subst, append_assoc, length-append}
+use Rattle.std.proofs.Common.{◌≡◌, ◌∙◌, ℕ, ◌+◌, true, false, Option, Some, None, List, [], ◌∷◌, ◌++◌, refl, sym, ap, subst, append_assoc, length-append}
 use Rattle.std.proofs.lemmas.List.{append-nil}
 use Rattle.polcert_text.specs.Cut.{Lexeme}
 use Rattle.polcert_format.specs.declared.fault.ItemFault.{ItemFault}
@@ -18,12 +18,12 @@ use Rattle.polcert_format.specs.Text as texts
 use Rattle.polcert_format.specs.KnownPreamble.{preamble_in}
 use Rattle.polcert_format.specs.Limits.{HasFewCells}
 use Rattle.polcert_format.specs.Order.{word_fault, preamble_fault}
-use Rattle.polcert_items.specs.Steps.Lines.{Takes, CannotTake, CannotEnd}
-use Rattle.polcert_items.specs.Steps.Start.{IsStartReason, StopsStart}
-use Rattle.polcert_items.specs.Steps.Items.{ItemGoes, IsItemFed, RefusesInItem, IsItemWithin, IsItemReason, IsEndReason, IsSeen, topic_in, pending_in, new_item, HasElements}
+use Rattle.polcert_items.specs.Steps.Lines.{CannotEnd}
+use Rattle.polcert_items.specs.Steps.Start.{IsStartReason}
+use Rattle.polcert_items.specs.Steps.Items.{ItemGoes, IsItemFed, RefusesInItem, IsItemWithin, IsEndReason, IsSeen, topic_in, pending_in, new_item, HasElements}
 use Rattle.polcert_items.specs.Steps.Known.{learned, AreContentsOf, MayBeLearned}
-use Rattle.polcert_format.specs.Misfits.{misfit, IsMisfit}
-use Rattle.polcert_items.specs.Steps.Wants.{Leads, item_wants, IfNotStart, IfStart}
+use Rattle.polcert_format.specs.Misfits.{misfit}
+use Rattle.polcert_items.specs.Steps.Wants.{item_wants}
 use Rattle.polcert_items.specs.declared.signed_number.Refusal.{Refusal}
 use Rattle.polcert_format.specs.FirstNumber.{IsLate, states_known}
 use Rattle.polcert_model.specs.Steps.Texts.{Refuses, IsShaped, IsTextRead, IsItemRead, IsBodyRead, AreItemsRead, IsRefusedBehind, IsRefusedAt, IsRefusedWhole, at_word, at_end, nothing, item}

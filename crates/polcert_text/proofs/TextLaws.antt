@@ -117,24 +117,10 @@ one_number_fault bs f TooFine a b = absurd b
 
 pub exact_not_refused : (negative : Bool) (bs : List ℕ) (f : NumberFault) (h : ℤ) → IsReadable bs → IsExact negative bs h → IsRefusedExactly negative bs f → ⊥
 exact_not_refused negative bs TooFine h r e f = f.1 h e
-exact_not_refused negative bs NotANumeral h r e f = readable_not_refused bs NotANumeral r f
-exact_not_refused negative bs TooLong h r e f = readable_not_refused bs TooLong r f
-exact_not_refused negative bs TooLarge h r e f = readable_not_refused bs TooLarge r f
+exact_not_refused negative bs f h r e g = readable_not_refused bs f r g
 
 pub one_exact_fault : (negative : Bool) (bs : List ℕ) (f g : NumberFault) → IsRefusedExactly negative bs f → IsRefusedExactly negative bs g → f ≡ g
 one_exact_fault negative bs TooFine TooFine a b = refl
-one_exact_fault negative bs TooFine NotANumeral a b = absurd (readable_not_refused bs NotANumeral a.0 b)
-one_exact_fault negative bs TooFine TooLong a b = absurd (readable_not_refused bs TooLong a.0 b)
-one_exact_fault negative bs TooFine TooLarge a b = absurd (readable_not_refused bs TooLarge a.0 b)
-one_exact_fault negative bs NotANumeral TooFine a b = absurd (readable_not_refused bs NotANumeral b.0 a)
-one_exact_fault negative bs TooLong TooFine a b = absurd (readable_not_refused bs TooLong b.0 a)
-one_exact_fault negative bs TooLarge TooFine a b = absurd (readable_not_refused bs TooLarge b.0 a)
-one_exact_fault negative bs NotANumeral NotANumeral a b = refl
-one_exact_fault negative bs NotANumeral TooLong a b = one_number_fault bs NotANumeral TooLong a b
-one_exact_fault negative bs NotANumeral TooLarge a b = one_number_fault bs NotANumeral TooLarge a b
-one_exact_fault negative bs TooLong NotANumeral a b = one_number_fault bs TooLong NotANumeral a b
-one_exact_fault negative bs TooLong TooLong a b = refl
-one_exact_fault negative bs TooLong TooLarge a b = one_number_fault bs TooLong TooLarge a b
-one_exact_fault negative bs TooLarge NotANumeral a b = one_number_fault bs TooLarge NotANumeral a b
-one_exact_fault negative bs TooLarge TooLong a b = one_number_fault bs TooLarge TooLong a b
-one_exact_fault negative bs TooLarge TooLarge a b = refl
+one_exact_fault negative bs TooFine g a b = absurd (readable_not_refused bs g a.0 b)
+one_exact_fault negative bs f TooFine a b = absurd (readable_not_refused bs f b.0 a)
+one_exact_fault negative bs f g a b = one_number_fault bs f g a b

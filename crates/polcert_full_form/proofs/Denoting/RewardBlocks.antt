@@ -1,11 +1,12 @@
 -- A row of rewards that is read block by block.
-use Rattle.std.proofs.Common.{◌≡◌, ◌∙◌, ℕ, zero, suc, ◌+◌, ◌-◌, ◌<◌, ◌≤◌, ◌⊎◌, ⊎_elim, Bool, true, false, Option, Some, None, List, [], ◌∷◌, ◌++◌, length, min, take, get_or, ℤ, pos, negsuc, unsigned_abs, refl, sym, ap, subst, arith, append_assoc, codes}
+use Rattle.std.proofs.Common.{◌≡◌, ◌∙◌, ℕ, zero, suc, ◌+◌, ◌-◌, ◌<◌, ◌≤◌, ◌⊎◌, ⊎_elim, Bool, true, false, Option, Some, None, List, [], ◌∷◌, ◌++◌, length, min, take, get_or, ℤ, pos, unsigned_abs, refl, sym, ap, subst, arith, append_assoc, codes}
 use Rattle.std.specs.List.{list_all}
 use Rattle.std.proofs.lemmas.List.{length-take-le, get_or-take}
 use Rattle.polcert_text.specs.Numbers.{largest}
 use Rattle.polcert_cells.specs.declared.entry.Table.TheVariants.{Reward}
 use Rattle.polcert_cells.specs.Meaning.{Meaning, HasLimitedNumbers, states_of, actions_of, observations_of}
 use Rattle.polcert_cells.specs.Elements.{most_elements}
+use Rattle.polcert_tables.specs.Contents.{meaning}
 use Rattle.std.specs.Option.{ForSome}
 use Rattle.polcert_cells.proofs.Basics.{is_true_or_false, true≢false}
 use Rattle.polcert_format.specs.FullForm.{for_each, all_below, written, is_zero, row_words, reward_words}
@@ -13,19 +14,24 @@ use Rattle.polcert_full_form.specs.Steps.Printing.{number_text, zeros_text, rewa
 use Rattle.polcert_full_form.proofs.Printing.PrintedParts as texts
 use Rattle.polcert_full_form.proofs.Denoting.RowEntries.{test_below}
 use Rattle.polcert_full_form.proofs.Denoting.SameForms.{same_for_each, same_test}
-use Rattle.polcert_full_form.proofs.Printing.Runs.{run_behind}
-
-zero_is : (h : ℤ) → is_zero h ≡ true → h ≡ pos 0
-zero_is (pos zero) e = refl
-zero_is (pos (suc n)) e = absurd (cc)
-zero_is (negsuc n) e = absurd (cc)
+use Rattle.polcert_full_form.specs.declared.reward_row.RewardRow.{RewardRow}
+use Rattle.polcert_full_form.specs.Steps.PrintedRows.{row_width, row_rewards, rewarded_text, paid_row_text}
+use Rattle.polcert_full_form.proofs.Printing.Runs.{run_behind, run_more}
+use Rattle.polcert_full_form.proofs.Denoting.RewardEntries.{zero_is}
 
 written_zero : (costs : Bool) → written costs (pos 0) ≡ pos 0
 written_zero true = refl
 written_zero false = refl
 
 -- ---- a block of a row of n columns, from `first` on
-module _ (r : ℕ → ℤ) (n first size : ℕ) (block : List ℤ) (filled : IsFilled r n first block) (room : size ≤ length block) (within : first + size ≤ n) where
+module _ (r : ℕ → ℤ) (n first size : ℕ) (block : List ℤ) (filled : IsFilled r n first block) (size_room : size ≡ min (n - first) (length block))
+    (before_end : first ≤ n) where
+  room : size ≤ length block
+  room = omega (arith, size_room)
+
+  pub within : first + size ≤ n
+  within = omega (arith, size_room, before_end)
+
   pub size_is : length (take size block) ≡ size
   size_is = length-take-le size block room
 
@@ -70,10 +76,18 @@ module _ (r : ℕ → ℤ) (n first size : ℕ) (block : List ℤ) (filled : IsF
       let below : i < size = omega (arith, l, size_is) in
       subst (λ h. unsigned_abs h ≤ largest) (sym (each_is i below)) (small (first + i) (omega (arith, below, within)))
 
-  pub block_is : (costs : Bool) → for_each (length (take size block)) (block_text costs first (take size block)) ≡ for_each size (λ i. reward_text costs r (first + i))
+  block_is : (costs : Bool) → for_each (length (take size block)) (block_text costs first (take size block)) ≡ for_each size (λ i. reward_text costs r (first + i))
   block_is costs =
       ap (λ k. for_each k (block_text costs first (take size block))) size_is
       ∙ same_for_each size (block_text costs first (take size block)) (λ i. reward_text costs r (first + i)) (λ i l. ap (λ h. number_text (first + i) (written costs h)) (each_is i l))
+
+  -- behind those from `start` on
+  pub block_more : (costs : Bool) (start : ℕ) → start ≤ first
+      → for_each (first - start) (λ i. reward_text costs r (start + i)) ++ for_each (length (take size block)) (block_text costs first (take size block))
+      ≡ for_each (first + size - start) (λ i. reward_text costs r (start + i))
+  block_more costs start l =
+      ap (λ xs. for_each (first - start) (λ i. reward_text costs r (start + i)) ++ xs) (block_is costs)
+      ∙ run_more start first size (reward_text costs r) l
 
 -- ---- the whole row
 pub row_unpaid : (m : Meaning) (a s : ℕ) (end : Option ℕ) → all_below (reward_columns m end) (λ c. is_zero (reward_in m a s end c)) ≡ true → [] ≡ reward_row_text m a s end
@@ -85,29 +99,28 @@ paid_is : (m : Meaning) (a s : ℕ) (end : Option ℕ) → 0 < reward_columns m 
 paid_is m a s (Some e) some paid = texts.paid_is m.preamble.costs (a ∷ s ∷ e ∷ []) (reward_words a s e) (observations_of m) (m.r a s e) (texts.cell_head a s e) some paid
 paid_is m a s None some paid = texts.paid_is m.preamble.costs (a ∷ s ∷ []) (row_words Reward a s) (states_of m) (λ e. m.r a s e 0) (texts.row_head a s) some paid
 
-pub row_paid : (m : Meaning) (a s : ℕ) (end : Option ℕ) (first : ℕ) → IsPaidFrom (reward_in m a s end) (reward_columns m end) first
-    → reward_head a s end ++ zeros_text 0 first ++ for_each (reward_columns m end - first) (λ i. reward_text m.preamble.costs (reward_in m a s end) (first + i)) ++ codes "\n"
-    ≡ reward_row_text m a s end
-row_paid m a s end first p =
-    let n = reward_columns m end in
-    let part : ℕ → List ℕ = reward_text m.preamble.costs (reward_in m a s end) in
+pub row_paid : (row : RewardRow) (first : ℕ) → IsPaidFrom (row_rewards row) (row_width row) first
+    → reward_head row.action row.start row.end ++ zeros_text 0 first ++ for_each (row_width row - first) (λ i. rewarded_text row (first + i)) ++ codes "\n"
+    ≡ paid_row_text row
+row_paid row first p =
+    let m = meaning row.model.now in
+    let head = reward_head row.action row.start row.end in
     let within = p.within in
     ap (λ xs. xs ++ codes "\n")
-    (append_assoc (reward_head a s end) (zeros_text 0 first) (for_each (n - first) (λ i. part (first + i)))
-    ∙ ap (λ xs. reward_head a s end ++ xs) (run_behind first n (λ i. number_text i (pos 0)) part (omega (arith, within))
+    (append_assoc head (zeros_text 0 first) (for_each (row_width row - first) (λ i. rewarded_text row (first + i)))
+    ∙ ap (λ xs. head ++ xs) (run_behind first (row_width row) (λ i. number_text i (pos 0)) (rewarded_text row) (omega (arith, within))
     (λ i l. ap (number_text i) (sym (written_zero m.preamble.costs) ∙ ap (written m.preamble.costs) (sym (p.before i l))))))
-    ∙ paid_is m a s end (omega (arith, within)) p.paid
+    ∙ paid_is m row.action row.start row.end (omega (arith, within)) p.paid
 
 -- ---- limits of a row
 pub few_columns : (m : Meaning) → HasLimitedNumbers m → (end : Option ℕ) → reward_columns m end ≤ most_elements
 few_columns m limits (Some e) = limits.observations.1
 few_columns m limits None = limits.states.1
 
-pub small_rewards : (m : Meaning) → HasLimitedNumbers m → (a s : ℕ) (end : Option ℕ) → a < actions_of m → s < states_of m → ForSome end (λ e. e < states_of m)
+small_at : (m : Meaning) → HasLimitedNumbers m → (a s : ℕ) (end : Option ℕ) → a < actions_of m → s < states_of m → ForSome end (λ e. e < states_of m)
     → (c : ℕ) → c < reward_columns m end → unsigned_abs (reward_in m a s end c) ≤ largest
-small_rewards m limits a s (Some e) x y z c l = limits.r a s e c x y (z e refl) l
-small_rewards m limits a s None x y z c l = limits.r a s c 0 x y l limits.observations.0
+small_at m limits a s (Some e) x y z c l = limits.r a s e c x y (z e refl) l
+small_at m limits a s None x y z c l = limits.r a s c 0 x y l limits.observations.0
 
--- so many are in the block, and left of the row
-pub size_room : (size left room : ℕ) → size ≡ min left room → (size ≤ left) × (size ≤ room)
-size_room size left room e = (omega (arith, e), omega (arith, e))
+pub small_rewards : (row : RewardRow) (c : ℕ) → c < row_width row → unsigned_abs (row_rewards row c) ≤ largest
+small_rewards row = small_at (meaning row.model.now) row.model.now.limits row.action row.start row.end row.at_action row.at_start row.at_end

@@ -34,10 +34,8 @@ entries_from mdp costs a s k n r = cond mdp (end_entries costs a s k (λ e. r e 
 
 -- what is written of what is written is the reward
 pub twice_written : (costs : Bool) (h : ℤ) → written costs (written costs h) ≡ h
-twice_written false h = refl
-twice_written true (pos zero) = refl
 twice_written true (pos (suc n)) = refl
-twice_written true (negsuc n) = refl
+twice_written _ _ = refl
 
 pub zero_is : (h : ℤ) → is_zero h ≡ true → h ≡ pos 0
 zero_is (pos zero) e = refl
@@ -50,10 +48,7 @@ IsElsewhere a s e asked i j k = (is_table Reward asked && ((a == i) && ((s == j)
 
 cell_away : (t x y z : Bool) → (t && (x && (y && z))) ≡ false → (t && (x && (y && (z && true)))) ≡ false
 cell_away true true true true e = absurd (cc)
-cell_away true true true false e = refl
-cell_away true true false z e = refl
-cell_away true false y z e = refl
-cell_away false x y z e = refl
+cell_away _ _ _ _ e = refl
 
 pub rewards_elsewhere : (costs : Bool) (a s e n : ℕ) (r : ℕ → ℤ) (asked : Table) (i j k : ℕ) (more : List ℕ) → IsElsewhere a s e asked i j k
     → none_of (covers asked (i ∷ j ∷ k ∷ more)) (reward_entries costs a s e n r) ≡ false

@@ -108,15 +108,11 @@ cell_covers table a s c p = here _ _ _ _ (table_itself table) (test_itself a) (t
 
 pub away : (t x y z : Bool) → (t && (x && y)) ≡ false → (t && (x && (y && z))) ≡ false
 away true true true z e = absurd (cc)
-away true true false z e = refl
-away true false y z e = refl
-away false x y z e = refl
+away _ _ _ z e = refl
 
 other_column : (t x y z : Bool) → z ≡ false → (t && (x && (y && (z && true)))) ≡ false
 other_column true true true z e = λ i. e i && true
-other_column true true false z e = refl
-other_column true false y z e = refl
-other_column false x y z e = refl
+other_column _ _ _ z e = refl
 
 -- the row of another place or table
 abbrev pub IsOtherRow : Table → ℕ → ℕ → Table → ℕ → ℕ → Type 0

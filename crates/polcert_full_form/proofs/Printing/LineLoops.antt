@@ -36,9 +36,6 @@ pub values_line : (n : ℕ) (f : ℕ → List ℕ) → line (values (suc n) f) �
 values_line n f = line_is (f 0) (map f (range_with_len 1 n)) ∙ ap (λ bs. f 0 ++ bs ++ codes "\n") (further_words n f)
 
 -- ---- the lines that begin an entry, part behind part
-pub row_line_is : (table : Table) (a s : ℕ) → line (row_words table a s) ≡ table_word table ++ codes " " ++ decimal a ++ codes " : " ++ decimal s ++ codes "\n"
-row_line_is table a s = simp append_assoc
-
 pub cell_line_is : (table : Table) (a s c q : ℕ) → line (row_words table a s ++ codes ":" ∷ decimal c ∷ millionths_text q ∷ [])
     ≡ table_word table ++ codes " " ++ decimal a ++ codes " : " ++ decimal s ++ codes " : " ++ decimal c ++ codes " " ++ millionths_text q ++ codes "\n"
 cell_line_is table a s c q = simp append_assoc

@@ -13,9 +13,9 @@ use Rattle.polcert_text.proofs.Printing.PrintLaws.{written_exact, decimal_digits
 use Rattle.polcert_cells.specs.Words.{begins_item}
 use Rattle.polcert_cells.specs.Numbers.{IsWhole, IsMillionths, AreNumbers}
 use Rattle.polcert_cells.specs.Numbers as numbers
-use Rattle.polcert_text.proofs.Printing.Numerals.{IsPlain, plain_decimal}
+use Rattle.polcert_text.proofs.Printing.Numerals.{plain_decimal}
 use Rattle.polcert_text.proofs.Printing.PrintedCut.{Printed, lexemes_at}
-use Rattle.polcert_text.proofs.Printing.PrintedWords.{Word, plain, minus, word_text, spelled, spelled_line, IsPiece, IsSpelling, AreSpellings}
+use Rattle.polcert_text.proofs.Printing.PrintedWords.{Word, plain, minus, word_text, spelled, spelled_line, IsPiece, IsSpelling, AreSpellings, numeral_piece}
 
 abbrev pub numeral_at : ℕ → List ℕ → Lexeme
 numeral_at place bytes = record { kind = Numeral; place = place; bytes = bytes }
@@ -44,9 +44,6 @@ text_numbers (h ∷ hs) = λ i. text_number h i ∷ text_numbers hs i
 abbrev pub AreSmall : List ℤ → Type 0
 AreSmall [] = Unit {0}
 AreSmall (h ∷ hs) = (unsigned_abs h ≤ largest) × AreSmall hs
-
-pub numeral_piece : (bs : List ℕ) → IsPlain bs → IsPiece Numeral bs
-numeral_piece bs p = record { kind_is = p.kind; short = omega (arith, p.short) }
 
 pub spells_number : (h : ℤ) → unsigned_abs h ≤ largest → IsSpelling (number_word h)
 spells_number (pos n) l = numeral_piece (unsigned_text n) (plain_size n l)

@@ -192,7 +192,7 @@ mapped : {A : Type 0} (f : A → List ℕ) (xs : List A) → flat_map (λ x. beh
 mapped f [] = refl
 mapped f (x ∷ xs) = ap (λ bs. behind_blank (f x) ++ bs) (mapped f xs)
 
-sum_ones : (ws : List ℕ) → list_all (λ w. w == 1) ws ≡ true → sum ws ≡ length ws
+pub sum_ones : (ws : List ℕ) → list_all (λ w. w == 1) ws ≡ true → sum ws ≡ length ws
 sum_ones [] e = refl
 sum_ones (w ∷ ws) e =
     let both = and_true (w == 1) (list_all (λ v. v == 1) ws) e in

@@ -12,7 +12,7 @@ use Rattle.polcert_text.specs.declared.lexeme.TokenKind.TheVariants.{Name, Numer
 use Rattle.polcert_cells.specs.declared.elements.Elements.{Elements}
 use Rattle.polcert_cells.specs.declared.elements.Elements.TheVariants.{Count, Names}
 use Rattle.polcert_cells.specs.declared.words.Topic.{Topic}
-use Rattle.polcert_cells.specs.declared.words.Topic.TheVariants.{Discount, Values, States, Actions, Observations}
+use Rattle.polcert_cells.specs.declared.words.Topic.TheVariants.{Discount, Values, States, Actions, Observations, Start}
 use Rattle.polcert_cells.specs.Words.{topic_of, is_reserved, inner_words, begins_item, IsName}
 use Rattle.polcert_cells.specs.Numbers.{one}
 use Rattle.polcert_cells.specs.Numbers as numbers
@@ -26,9 +26,9 @@ use Rattle.polcert_text.specs.Lines.{line}
 use Rattle.polcert_format.specs.Writable.{IsWritableName}
 use Rattle.polcert_format.specs.FullForm.{millionths_text, values_word, element_words, observations_line, preamble_text}
 use Rattle.polcert_text.proofs.Printing.PrintedCut.{Printed, text_of, lexemes_at, ArePrinted}
-use Rattle.polcert_text.proofs.Printing.PrintedWords.{Word, plain, key, word_text, spelled_line, IsPiece, AreSpellings, text_line, line_printed}
+use Rattle.polcert_text.proofs.Printing.PrintedWords.{Word, plain, key, word_text, spelled_line, IsPiece, AreSpellings, text_line, line_printed, numeral_piece}
 use Rattle.polcert_text.proofs.Printing.WrittenNumbers.{plain_size}
-use Rattle.polcert_full_form.proofs.Printing.PrintedNumbers.{whole_at, whole_piece, numeral_piece, millionths_at}
+use Rattle.polcert_full_form.proofs.Printing.PrintedNumbers.{whole_at, whole_piece, millionths_at}
 use Rattle.polcert_full_form.proofs.Printing.PrintedItems.{Prints, prints_nothing, prints_then, one_item}
 
 -- ---- elements
@@ -109,37 +109,41 @@ elements_line most few word (Names (x ∷ xs)) piece w = record {
 }
 
 -- ---- words
-record IsItemWord (word : List ℕ) (t : Topic) : Type 0 where
-  piece : IsPiece Name word
-  topic_is : topic_of word ≡ Some t
+pub record IsItemWord (word : List ℕ) (t : Topic) : Type 0 where
+  pub piece : IsPiece Name word
+  pub topic_is : topic_of word ≡ Some t
 
-discount_word : IsItemWord (codes "discount") Discount
+-- a word that begins no item
+pub record IsInnerWord (word : List ℕ) : Type 0 where
+  pub piece : IsPiece Name word
+  pub begins_none : (place : ℕ) → begins_item (record { kind = Name; place = place; bytes = word }) ≡ false
+
+pub record Words : Type 0 where
+  pub discount : IsItemWord (codes "discount") Discount
+  pub values : IsItemWord (codes "values") Values
+  pub states : IsItemWord (codes "states") States
+  pub actions : IsItemWord (codes "actions") Actions
+  pub observations : IsItemWord (codes "observations") Observations
+  pub start : IsItemWord (codes "start") Start
+  pub cost : IsInnerWord (codes "cost")
+  pub reward : IsInnerWord (codes "reward")
+  pub include : IsInnerWord (codes "include")
+  pub uniform : IsInnerWord (codes "uniform")
+
+pub words : Words
 unfolding class_of topic_of
-discount_word = record { piece = record { kind_is = refl; short = omega arith }; topic_is = refl }
-
-values_is_word : IsItemWord (codes "values") Values
-unfolding class_of topic_of
-values_is_word = record { piece = record { kind_is = refl; short = omega arith }; topic_is = refl }
-
-states_word : IsItemWord (codes "states") States
-unfolding class_of topic_of
-states_word = record { piece = record { kind_is = refl; short = omega arith }; topic_is = refl }
-
-actions_word : IsItemWord (codes "actions") Actions
-unfolding class_of topic_of
-actions_word = record { piece = record { kind_is = refl; short = omega arith }; topic_is = refl }
-
-observations_word : IsItemWord (codes "observations") Observations
-unfolding class_of topic_of
-observations_word = record { piece = record { kind_is = refl; short = omega arith }; topic_is = refl }
-
-cost_piece : IsPiece Name (codes "cost")
-unfolding class_of
-cost_piece = record { kind_is = refl; short = omega arith }
-
-reward_piece : IsPiece Name (codes "reward")
-unfolding class_of
-reward_piece = record { kind_is = refl; short = omega arith }
+words = record {
+  discount = record { piece = record { kind_is = refl; short = omega arith }; topic_is = refl };
+  values = record { piece = record { kind_is = refl; short = omega arith }; topic_is = refl };
+  states = record { piece = record { kind_is = refl; short = omega arith }; topic_is = refl };
+  actions = record { piece = record { kind_is = refl; short = omega arith }; topic_is = refl };
+  observations = record { piece = record { kind_is = refl; short = omega arith }; topic_is = refl };
+  start = record { piece = record { kind_is = refl; short = omega arith }; topic_is = refl };
+  cost = record { piece = record { kind_is = refl; short = omega arith }; begins_none = λ place. refl };
+  reward = record { piece = record { kind_is = refl; short = omega arith }; begins_none = λ place. refl };
+  include = record { piece = record { kind_is = refl; short = omega arith }; begins_none = λ place. refl };
+  uniform = record { piece = record { kind_is = refl; short = omega arith }; begins_none = λ place. refl };
+}
 
 -- ---- the lines
 discount_prints : (k : Known) (g : ℕ) → texts.IsInPreamble k → k.discount ≡ None → g ≤ one → Prints (line (codes "discount:" ∷ millionths_text g ∷ [])) k (record k { discount = Some g })
@@ -148,31 +152,23 @@ discount_prints k g fresh new small =
     record {
       lexemes = spelled_line (key (codes "discount")) (plain Numeral (unsigned_text g) ∷ []);
       text_is = text_line (key (codes "discount")) (plain Numeral (unsigned_text g) ∷ []);
-      printed = line_printed (key (codes "discount")) (plain Numeral (unsigned_text g) ∷ []) discount_word.piece (numeral_piece (unsigned_text g) (plain_size g within), tt);
-      items = λ place. one_item _ _ Discount k (record k { discount = Some g }) discount_word.topic_is refl
+      printed = line_printed (key (codes "discount")) (plain Numeral (unsigned_text g) ∷ []) words.discount.piece (numeral_piece (unsigned_text g) (plain_size g within), tt);
+      items = λ place. one_item _ _ Discount k (record k { discount = Some g }) words.discount.topic_is refl
           (texts.discount fresh new refl (numbers.unsigned (millionths_at false _ g within) numbers.none) small);
     }
-
-reward_begins_none : (place : ℕ) → begins_item (record { kind = Name; place = place; bytes = codes "reward" }) ≡ false
-unfolding topic_of
-reward_begins_none place = refl
-
-cost_begins_none : (place : ℕ) → begins_item (record { kind = Name; place = place; bytes = codes "cost" }) ≡ false
-unfolding topic_of
-cost_begins_none place = refl
 
 values_prints : (k : Known) (costs : Bool) → texts.IsInPreamble k → k.costs ≡ None → Prints (line (codes "values:" ∷ values_word costs ∷ [])) k (record k { costs = Some costs })
 values_prints k true fresh new = record {
   lexemes = spelled_line (key (codes "values")) (plain Name (codes "cost") ∷ []);
   text_is = text_line (key (codes "values")) (plain Name (codes "cost") ∷ []);
-  printed = line_printed (key (codes "values")) (plain Name (codes "cost") ∷ []) values_is_word.piece (cost_piece, tt);
-  items = λ place. one_item _ _ Values k (record k { costs = Some true }) values_is_word.topic_is (or_false_from _ _ (cost_begins_none place) refl) (texts.costs fresh new refl (record { kind = refl; bytes = refl }));
+  printed = line_printed (key (codes "values")) (plain Name (codes "cost") ∷ []) words.values.piece (words.cost.piece, tt);
+  items = λ place. one_item _ _ Values k (record k { costs = Some true }) words.values.topic_is (or_false_from _ _ (words.cost.begins_none place) refl) (texts.costs fresh new refl (record { kind = refl; bytes = refl }));
 }
 values_prints k false fresh new = record {
   lexemes = spelled_line (key (codes "values")) (plain Name (codes "reward") ∷ []);
   text_is = text_line (key (codes "values")) (plain Name (codes "reward") ∷ []);
-  printed = line_printed (key (codes "values")) (plain Name (codes "reward") ∷ []) values_is_word.piece (reward_piece, tt);
-  items = λ place. one_item _ _ Values k (record k { costs = Some false }) values_is_word.topic_is (or_false_from _ _ (reward_begins_none place) refl) (texts.rewards fresh new refl (record { kind = refl; bytes = refl }));
+  printed = line_printed (key (codes "values")) (plain Name (codes "reward") ∷ []) words.values.piece (words.reward.piece, tt);
+  items = λ place. one_item _ _ Values k (record k { costs = Some false }) words.values.topic_is (or_false_from _ _ (words.reward.begins_none place) refl) (texts.rewards fresh new refl (record { kind = refl; bytes = refl }));
 }
 
 elements_print : (most : ℕ) → most ≤ most_elements → (word : List ℕ) (t : Topic) (elements : Elements) (k next : Known) → IsItemWord word t → AreWritable most elements
@@ -202,7 +198,7 @@ lines_known p = record nothing_known {
 observations_print : (k : Known) (o : Option Elements) → texts.IsInPreamble k → k.observations ≡ None → ForSome o (AreWritable most_observations) → Prints (observations_line o) k (record k { observations = o })
 observations_print k None fresh new w = subst (λ o. Prints [] k (record k { observations = o })) new (prints_nothing k)
 observations_print k (Some elements) fresh new w =
-    elements_print most_observations (omega arith) (codes "observations") Observations elements k (record k { observations = Some elements }) observations_word (w elements refl) (λ colon ls c a. texts.observations fresh new c a)
+    elements_print most_observations (omega arith) (codes "observations") Observations elements k (record k { observations = Some elements }) words.observations (w elements refl) (λ colon ls c a. texts.observations fresh new c a)
 
 pub preamble_prints : (m : Meaning) → m.preamble.discount ≤ one → AreWritable most_states m.preamble.states → AreWritable most_actions m.preamble.actions → ForSome m.preamble.observations (AreWritable most_observations)
     → Prints (preamble_text m) nothing_known (lines_known m.preamble)
@@ -220,6 +216,6 @@ preamble_prints m small states actions observations =
     (prints_then _ _ nothing_known k1 k2
     (discount_prints nothing_known p.discount (fresh nothing_known refl refl) refl small)
     (values_prints k1 p.costs (fresh k1 refl refl) refl))
-    (elements_print most_states (omega arith) (codes "states") States p.states k2 k3 states_word states (λ colon ls c a. texts.states (fresh k2 refl refl) refl c a)))
-    (elements_print most_actions (omega arith) (codes "actions") Actions p.actions k3 k4 actions_word actions (λ colon ls c a. texts.actions (fresh k3 refl refl) refl c a)))
+    (elements_print most_states (omega arith) (codes "states") States p.states k2 k3 words.states states (λ colon ls c a. texts.states (fresh k2 refl refl) refl c a)))
+    (elements_print most_actions (omega arith) (codes "actions") Actions p.actions k3 k4 words.actions actions (λ colon ls c a. texts.actions (fresh k3 refl refl) refl c a)))
     (observations_print k4 p.observations (fresh k4 refl refl) refl observations)

@@ -23,10 +23,10 @@ use Rattle.polcert_cells.specs.Entry as entries
 use Rattle.polcert_text.specs.Lines.{line}
 use Rattle.polcert_format.specs.FullForm.{for_each, values, all_below, millionths_text, table_word, row_words, is_uniform, is_decimal, cell_text, row_text, written, is_zero, reward_words, rewards_row}
 use Rattle.polcert_text.proofs.Printing.PrintedCut.{Printed, text_of, lexemes_at, ArePrinted, text-append, printed-append}
-use Rattle.polcert_text.proofs.Printing.PrintedWords.{Word, plain, key, word_text, spelled_line, IsPiece, text_line, line_printed}
+use Rattle.polcert_text.proofs.Printing.PrintedWords.{Word, plain, key, word_text, spelled_line, IsPiece, text_line, line_printed, numeral_piece}
 use Rattle.polcert_text.proofs.Printing.WrittenNumbers.{plain_size}
 use Rattle.polcert_full_form.proofs.Writable.Printable.{HasRoom}
-use Rattle.polcert_full_form.proofs.Printing.PrintedNumbers.{whole_piece, numeral_piece, millionths_at}
+use Rattle.polcert_full_form.proofs.Printing.PrintedNumbers.{whole_piece, millionths_at}
 use Rattle.polcert_full_form.proofs.Printing.NumberLines.{inside, length_values, all_values, share_line, reward_line}
 use Rattle.polcert_full_form.proofs.Printing.PrintedEntries.{letter, letter_piece, text_letter, PrintsEntries, no_entries, entries_then, entries_each, two_places, three_places}
 use Rattle.polcert_full_form.proofs.Denoting.RowEntries.{whole_row, one_cell, cell_entries, single_cells, decimal_row, uniform_row, row_entries, HasRows}

@@ -1,9 +1,8 @@
 -- The printed start item is read as the start.
-use Rattle.std.proofs.Common.{◌≡◌, ◌∙◌, ℕ, zero, suc, ◌+◌, ◌<◌, ◌≤◌, ◌==◌, ◌||◌, ◌⊎◌, ⊎_elim, Bool, true, false, cond, Some, List, [], ◌∷◌, length, get_or, map, filter, sum, codes, decimal, pos, refl, sym, ap, subst, arith}
+use Rattle.std.proofs.Common.{◌≡◌, ◌∙◌, ℕ, zero, suc, ◌+◌, ◌<◌, ◌≤◌, ◌==◌, ◌||◌, ◌⊎◌, ⊎_elim, Bool, true, false, cond, List, [], ◌∷◌, length, get_or, map, filter, sum, codes, decimal, pos, refl, sym, ap, subst, arith}
 use Rattle.std.specs.List.{list_any, list_all, range_with_len, AllZip}
 use Rattle.std.proofs.lemmas.List.FromFn.{fill_by_all}
 use Rattle.std.proofs.lemmas.List.Sums.{sum-map, sum_by-cons}
-use Rattle.polcert_text.specs.Bytes.{class_of}
 use Rattle.polcert_text.specs.Millionths.{scaled_text}
 use Rattle.polcert_text.specs.Cut.{Lexeme}
 use Rattle.polcert_text.specs.declared.lexeme.TokenKind.TheVariants.{Name, Numeral}
@@ -23,14 +22,15 @@ use Rattle.polcert_text.specs.Lines.{line}
 use Rattle.polcert_format.specs.Writable.{IsMillionthsStart}
 use Rattle.polcert_format.specs.FullForm.{millionths_text, chosen, is_whole, is_choice, start_text}
 use Rattle.polcert_text.proofs.Printing.PrintedCut.{Printed, text_of, lexemes_at, ArePrinted}
-use Rattle.polcert_text.proofs.Printing.PrintedWords.{Word, plain, key, word_text, spelled_line, IsPiece, AreSpellings, text_line, line_printed}
+use Rattle.polcert_text.proofs.Printing.PrintedWords.{Word, plain, key, word_text, spelled_line, AreSpellings, text_line, line_printed}
 use Rattle.polcert_full_form.proofs.Writable.Printable.{HasRoom}
 use Rattle.polcert_full_form.proofs.Printing.PrintedNumbers.{whole_at, whole_piece, number_word, text_numbers, AreSmall, spells_numbers, numbers_at, numbers_inside}
 use Rattle.polcert_full_form.proofs.Printing.NumberLines.{map_twice}
 use Rattle.polcert_full_form.proofs.Printing.PrintedItems.{AreItems, Prints, one_item}
 use Rattle.polcert_full_form.proofs.Printing.PrintedEntries.{known_of}
-use Rattle.polcert_full_form.proofs.Printing.PrintedPreamble.{lines_known}
+use Rattle.polcert_full_form.proofs.Printing.PrintedPreamble.{lines_known, words}
 use Rattle.polcert_full_form.proofs.Denoting.RowEntries.{test_same, test_itself, test_apart}
+use Rattle.polcert_full_form.proofs.Printing.PrintedParts.{sum_ones}
 
 -- ---- the states that are chosen
 abbrev listed : List ℕ → ℕ → Bool
@@ -108,46 +108,12 @@ chosen_start start n e count =
     ∙ ap (λ b. cond b 1 0) (sym (listed_is (λ s. get_or start.weights s 0 == 1) 0 (length start.weights) s (omega arith) (omega (arith, inside)))))
     (test_same start.total (sum start.weights) both.1)
 
-sum_of_ones : (ws : List ℕ) → list_all (λ w. w == 1) ws ≡ true → sum ws ≡ length ws
-sum_of_ones [] e = refl
-sum_of_ones (w ∷ ws) e =
-    let both = and_true (w == 1) (list_all (λ w. w == 1) ws) e in
-    let here = test_same w 1 both.0 in
-    let rest = sum_of_ones ws both.1 in
-    let sums = sum_by-cons (λ y. y) w ws in
-    omega (arith, here, rest, sums)
-
 whole_start : (start : Shares) (states : Elements) → is_whole start ≡ true → length start.weights ≡ count_of states → start ≡ all_states states
 whole_start start states e count =
     let both = and_true (list_all (λ w. w == 1) start.weights) (start.total == length start.weights) e in
     shares_are start (count_of states) (λ s. true) count
     (λ s l. test_same _ 1 (all_at (λ w. w == 1) start.weights s both.0 (omega (arith, l, count))))
-    (test_same start.total (length start.weights) both.1 ∙ sym (sum_of_ones start.weights both.0))
-
--- ---- words
-start_piece : IsPiece Name (codes "start")
-unfolding class_of
-start_piece = record { kind_is = refl; short = omega arith }
-
-start_topic : topic_of (codes "start") ≡ Some Start
-unfolding topic_of
-start_topic = refl
-
-include_piece : IsPiece Name (codes "include")
-unfolding class_of
-include_piece = record { kind_is = refl; short = omega arith }
-
-uniform_piece : IsPiece Name (codes "uniform")
-unfolding class_of
-uniform_piece = record { kind_is = refl; short = omega arith }
-
-uniform_begins_none : (place : ℕ) → begins_item (record { kind = Name; place = place; bytes = codes "uniform" }) ≡ false
-unfolding topic_of
-uniform_begins_none place = refl
-
-include_begins_none : (place : ℕ) → begins_item (record { kind = Name; place = place; bytes = codes "include" }) ≡ false
-unfolding topic_of
-include_begins_none place = refl
+    (test_same start.total (length start.weights) both.1 ∙ sym (sum_ones start.weights both.0))
 
 -- ---- a list of states
 abbrev state_word : ℕ → Word
@@ -183,15 +149,15 @@ module _ (p : Preamble) (start : Shares) (room : HasRoom p) (few : count_of p.st
   right_start : (word : Lexeme) (body : List Lexeme) → word.kind ≡ Name → word.bytes ≡ codes "start" → list_any begins_item body ≡ false → IsStart p.states body start
       → AreItems (word ∷ body) (lines_known p) (known_of p start [])
   right_start word body k b none s =
-      one_item word body Start (lines_known p) (known_of p start []) (simp k (ap topic_of b ∙ start_topic)) none
+      one_item word body Start (lines_known p) (known_of p start []) (simp k (ap topic_of b ∙ words.start.topic_is)) none
       (texts.start (record { no_start = refl; no_entry = refl })
       (record { lines = record { discount = refl; costs = refl; states = refl; actions = refl; observations = refl }; pairs = room.pairs }) s)
 
   uniform_prints : is_whole start ≡ true → Prints (line (codes "start:" ∷ codes "uniform" ∷ [])) (lines_known p) (known_of p start [])
   uniform_prints e = prints_start (spelled_line (key (codes "start")) (plain Name (codes "uniform") ∷ [])) _
       (text_line (key (codes "start")) (plain Name (codes "uniform") ∷ []))
-      (line_printed (key (codes "start")) (plain Name (codes "uniform") ∷ []) start_piece (uniform_piece, tt))
-      (λ place. right_start _ _ refl refl (or_false_from _ _ (uniform_begins_none place) refl)
+      (line_printed (key (codes "start")) (plain Name (codes "uniform") ∷ []) words.start.piece (words.uniform.piece, tt))
+      (λ place. right_start _ _ refl refl (or_false_from _ _ (words.uniform.begins_none place) refl)
       (starts.plain refl (subst (IsStartBody p.states _) (sym (whole_start start p.states e count)) (starts.uniform (record { kind = refl; bytes = refl })))))
 
   include_prints : is_choice start ≡ true → 0 < start.total → Prints (line (codes "start" ∷ codes "include:" ∷ map decimal (chosen start))) (lines_known p) (known_of p start [])
@@ -204,13 +170,13 @@ module _ (p : Preamble) (start : Shares) (room : HasRoom p) (few : count_of p.st
           → Prints (line (codes "start" ∷ codes "include:" ∷ map decimal ss)) (lines_known p) (known_of p start [])
       at [] is below = prints_start (spelled_line (plain Name (codes "start")) (key (codes "include") ∷ [])) _
           (text_line (plain Name (codes "start")) (key (codes "include") ∷ []))
-          (line_printed (plain Name (codes "start")) (key (codes "include") ∷ []) start_piece (include_piece, tt))
-          (λ place. right_start _ _ refl refl (or_false_from _ _ (include_begins_none place) refl)
+          (line_printed (plain Name (codes "start")) (key (codes "include") ∷ []) words.start.piece (words.include.piece, tt))
+          (λ place. right_start _ _ refl refl (or_false_from _ _ (words.include.begins_none place) refl)
           (subst (IsStart p.states _) (sym is) (starts.include [] (record { kind = refl; bytes = refl }) refl tt (subst (λ n. 0 < n) (ap (λ x. x.total) is) some))))
       at (s ∷ ss) is below = prints_start (spelled_line (plain Name (codes "start")) (key (codes "include") ∷ map state_word (s ∷ ss))) _
           (text_line (plain Name (codes "start")) (key (codes "include") ∷ map state_word (s ∷ ss)) ∙ ap (λ ws. line (codes "start" ∷ codes "include:" ∷ ws)) (text_states (s ∷ ss)))
-          (line_printed (plain Name (codes "start")) (key (codes "include") ∷ map state_word (s ∷ ss)) start_piece (include_piece, spells_states (s ∷ ss) (below_more (count_of p.states) most_states (s ∷ ss) few below)))
-          (λ place. right_start _ _ refl refl (or_false_from _ _ (include_begins_none place) (states_begin_none s ss _))
+          (line_printed (plain Name (codes "start")) (key (codes "include") ∷ map state_word (s ∷ ss)) words.start.piece (words.include.piece, spells_states (s ∷ ss) (below_more (count_of p.states) most_states (s ∷ ss) few below)))
+          (λ place. right_start _ _ refl refl (or_false_from _ _ (words.include.begins_none place) (states_begin_none s ss _))
           (subst (IsStart p.states _) (sym is) (starts.include (s ∷ ss) (record { kind = refl; bytes = refl }) refl (states_at p.states s ss few below _) (subst (λ n. 0 < n) (ap (λ x. x.total) is) some))))
 
   small_shares : (ws : List ℕ) → sum ws ≤ one → AreSmall (map pos ws)
@@ -230,7 +196,7 @@ module _ (p : Preamble) (start : Shares) (room : HasRoom p) (few : count_of p.st
           let numbers : map scaled_text (map pos (w ∷ ws)) ≡ map millionths_text (w ∷ ws) = map_twice pos scaled_text (w ∷ ws) in
           prints_start (spelled_line (key (codes "start")) (map number_word (map pos (w ∷ ws)))) _
           (text_line (key (codes "start")) (map number_word (map pos (w ∷ ws))) ∙ ap (λ ts. line (codes "start:" ∷ ts)) (text_numbers (map pos (w ∷ ws)) ∙ numbers))
-          (line_printed (key (codes "start")) (map number_word (map pos (w ∷ ws))) start_piece (spells_numbers (map pos (w ∷ ws)) small))
+          (line_printed (key (codes "start")) (map number_word (map pos (w ∷ ws))) words.start.piece (spells_numbers (map pos (w ∷ ws)) small))
           (λ place. right_start _ _ refl refl (numbers_inside (numbers_at (pos w) (map pos ws) small _))
           (starts.plain refl (subst (IsStartBody p.states _) (shares_back (w ∷ ws) (ap is_level (sym is) ∙ m.uneven) is m.total_is)
           (starts.probabilities (w ∷ ws) m.several (numbers_at (pos w) (map pos ws) small _) (sym (ap length is) ∙ count) (sym (ap sum is) ∙ adds ∙ m.total_is)))))

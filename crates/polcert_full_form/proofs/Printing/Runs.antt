@@ -1,8 +1,7 @@
 -- Parts of a line or of lines, some of which are written in a run: those of zeros up to the next column that has a weight.
-use Rattle.std.proofs.Common.{◌≡◌, ◌∙◌, ℕ, zero, suc, ◌+◌, ◌-◌, ◌<◌, ◌≤◌, Some, None, Option, Result, IsErr, List, ◌++◌, sym, ap, arith, append_assoc, append-nil, zero-add}
-use Rattle.polcert_text.specs.Device.{HasFailed}
-use Rattle.polcert_text.specs.Sink.{Takes, TakesFront, WritesText}
-use Rattle.polcert_text.proofs.Printing.Written.{wrote, fails_at, fails_before, as_text}
+use Rattle.std.proofs.Common.{◌≡◌, ◌∙◌, ℕ, zero, suc, ◌+◌, ◌-◌, ◌<◌, ◌≤◌, Some, None, Option, Result, Ok, Err, IsErr, List, ◌++◌, sym, ap, subst, arith, append_assoc, append-nil, zero-add}
+use Rattle.polcert_text.specs.Sink.{WritesText}
+use Rattle.polcert_text.proofs.Printing.Written.{HasWritten, next_written, fails_at, fails_before, as_text}
 use Rattle.polcert_cells.specs.Cursors.{IsNext}
 use Rattle.polcert_format.specs.FullForm.{for_each}
 use Rattle.polcert_full_form.proofs.Denoting.SameForms.{same_for_each}
@@ -28,29 +27,30 @@ module _ (f : ℕ → ℕ) (n : ℕ) (part none : ℕ → List ℕ) (nothing_the
       ∙ sym (each_from from to part l)
 
   -- up to the next column with a weight
-  pub step_is : (from column weight : ℕ) (last : List ℕ) → IsNext f n from (Some (column, weight)) → last ≡ part column
-      → for_each from part ++ (for_each (column - from) (λ i. none (from + i)) ++ last) ≡ for_each (column + 1) part
-  step_is from column weight last next e =
+  pub step_is : (from column weight : ℕ) → IsNext f n from (Some (column, weight))
+      → for_each from part ++ (for_each (column - from) (λ i. none (from + i)) ++ part column) ≡ for_each (column + 1) part
+  step_is from column weight next =
       let more : suc column ≡ column + 1 = omega arith in
       let low = next.0 in
       let high = next.1 in
-      sym (append_assoc (for_each from part) (for_each (column - from) (λ i. none (from + i))) last)
-      ∙ ap (λ xs. xs ++ last) (zeros_are from column low (omega (arith, high)) next.4)
-      ∙ ap (λ xs. for_each column part ++ xs) e
+      sym (append_assoc (for_each from part) (for_each (column - from) (λ i. none (from + i))) (part column))
+      ∙ ap (λ xs. xs ++ part column) (zeros_are from column low (omega (arith, high)) next.4)
       ∙ ap (λ k. for_each k part) more
 
   -- up to the end
   pub rest_is : (from : ℕ) → from ≤ n → IsNext f n from None → for_each from part ++ for_each (n - from) (λ i. none (from + i)) ≡ for_each n part
   rest_is from l h = zeros_are from n l (omega arith) h
 
--- the parts up to a column failed, and so did all
-pub run_fails : {S T E : Type 0} {writes : S → Option (List ℕ) → S → Type 0} {failures : S → ℕ} {from s t : S} (part : ℕ → List ℕ) (k m n : ℕ) (piece : List ℕ)
-    → for_each k part ++ piece ≡ for_each m part → m ≤ n → (r : Result T E) → IsErr r → Takes writes from (for_each k part) s → failures s ≡ failures from
-    → TakesFront writes s piece t → HasFailed (failures s) (failures t) → WritesText writes failures from (for_each n part) r t
-run_fails part k m n piece e l r is_err took same front count =
-    as_text (sym (each_from m n part l))
-    (fails_before (for_each m part) (for_each (n - m) (λ i. part (m + i))) r is_err
-    (as_text e (fails_at (for_each k part) piece r is_err (wrote took same) front count)))
+-- the parts up to a column are written, or failed, and so did all
+module _ {S T E : Type 0} {writes : S → Option (List ℕ) → S → Type 0} {failures : S → ℕ} {from s t : S} (part : ℕ → List ℕ) (k m : ℕ) {piece : List ℕ}
+    (whole : for_each k part ++ piece ≡ for_each m part) (so_far : HasWritten writes failures from (for_each k part) s) where
+  pub run_written : {v : T} → WritesText {E = E} writes failures s piece (Ok v) t → HasWritten writes failures from (for_each m part) t
+  run_written run = subst (λ text. HasWritten writes failures from text t) whole (next_written so_far run)
+
+  pub run_failed : {U F : Type 0} {e : E} {r : Result U F} (n : ℕ) → m ≤ n → WritesText {T = T} writes failures s piece (Err e) t → IsErr r
+      → WritesText writes failures from (for_each n part) r t
+  run_failed {r = r} n l run is_err =
+      as_text (sym (each_from m n part l)) (fails_before _ _ r is_err (as_text whole (fails_at _ _ r is_err so_far run.err run.count)))
 
 -- ---- runs from one part on
 -- a run goes on

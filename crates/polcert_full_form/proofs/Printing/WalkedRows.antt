@@ -2,30 +2,17 @@
 use Rattle.std.proofs.Common.{◌≡◌, ◌≢◌, ◌∙◌, ℕ, zero, suc, ◌+◌, ◌-◌, ◌/◌, ◌%◌, ◌<◌, ◌≤◌, ◌==◌, ⊎_elim, Bool, true, false, Some, None, [], ◌∷◌, ◌++◌, pos, refl, sym, ap, subst, arith, codes, decimal}
 use Rattle.std.proofs.Math.Nat.{zero-div, zero-mod}
 use Rattle.polcert_cells.specs.declared.entry.Table.{Table}
-use Rattle.polcert_cells.specs.declared.entry.Table.TheVariants.{Transition, Observation, Reward}
 use Rattle.polcert_cells.specs.Cursors.{IsNext}
 use Rattle.polcert_cells.specs.LentRows.{reached}
 use Rattle.polcert_cells.specs.declared.row.Row.{Row}
 use Rattle.polcert_cells.specs.declared.row.Row.TheVariants.{Sparse, Filled, Single}
 use Rattle.polcert_cells.specs.Numbers.{one}
-use Rattle.polcert_cells.specs.Preamble.{columns}
-use Rattle.polcert_cells.specs.Rows.{IsWeighted}
-use Rattle.polcert_cells.specs.Meaning.{HasLimitedNumbers, states_of, actions_of}
-use Rattle.polcert_tables.specs.Kept.{Kept, meaning}
-use Rattle.polcert_tables.specs.Steps.RowSums.{row_of}
 use Rattle.polcert_text.specs.Lines.{line}
 use Rattle.polcert_format.specs.FullForm.{all_below, is_uniform, is_decimal, millionths_text, row_words, cell_text}
-use Rattle.polcert_full_form.specs.Steps.Printing.{AreSmallWeights, number_text, decimal_text, cell_line}
+use Rattle.polcert_full_form.specs.Steps.Printing.{number_text, decimal_text, cell_line}
 use Rattle.polcert_cells.proofs.Basics.{true≢false}
 use Rattle.polcert_full_form.proofs.Printing.PrintedParts as texts
 use Rattle.polcert_full_form.proofs.Denoting.RowEntries.{same_or_other, test_apart, test_itself}
-
--- ---- the weights of a model
-pub row_small : (d : Kept) → HasLimitedNumbers (meaning d) → (table : Table) → IsWeighted table → (a s : ℕ) → a < actions_of (meaning d) → s < states_of (meaning d)
-    → AreSmallWeights (columns d.preamble table) (row_of d table a s)
-row_small d l Transition w a s x y c z = l.t a s c x y z
-row_small d l Observation w a s x y c z = l.o a s c x y z
-row_small d l Reward w a s x y c z = absurd w
 
 -- ---- the walk
 -- it begins at the first column
@@ -101,15 +88,9 @@ module _ (n : ℕ) (w : ℕ → ℕ) where
   pub zero_decimal : (c : ℕ) → c < n → w c ≡ 0 → number_text c (pos 0) ≡ decimal_text n w c
   zero_decimal c l e = ap (λ q. number_text c (pos q)) (sym (ap (λ x. x / n) e ∙ zero-div n))
 
-  pub step_decimal : (c weight : ℕ) → weight ≡ w c → number_text c (pos (weight / n)) ≡ decimal_text n w c
-  step_decimal c weight e = ap (λ x. number_text c (pos (x / n))) e
-
   module _ (table : Table) (a s : ℕ) where
     pub zero_cell : (c : ℕ) → c < n → w c ≡ 0 → cell_line table a s c (pos 0) ≡ cell_text table a s n w c
     zero_cell c l e =
         texts.cell_is table a s c 0
         ∙ ap (λ q. line (row_words table a s ++ codes ":" ∷ decimal c ∷ millionths_text q ∷ [])) (sym (ap (λ x. x / n) e ∙ zero-div n))
         ∙ texts.cell_single table a s n w c (is_other c e)
-
-    pub step_cell : (c weight : ℕ) → weight ≡ w c → cell_text table a s n (λ i. weight) c ≡ cell_text table a s n w c
-    step_cell c weight e = ap (λ x. cell_text table a s n (λ i. x) c) e

@@ -217,31 +217,27 @@ cells_bound a s n k l = subst (λ x. x ≤ most_cells * k) (sym (grouped a s n k
 
 module _ (m : Meaning) (limits : HasLimitedNumbers m) (printable : IsPrintable m.preamble) (states : AreWritable most_states m.preamble.states) (actions : AreWritable most_actions m.preamble.actions) (observations : ForSome m.preamble.observations (AreWritable most_observations))
     (small : (a s e z : ℕ) → a < actions_of m → s < states_of m → e < states_of m → z < observations_of m → unsigned_abs (written m.preamble.costs (m.r a s e z)) ≤ largest) where
-  transitions_length : length (transitions_text m) ≤ most_cells * 80
-  transitions_length =
+  -- the rows of a table, by action and state
+  rows_length : (table : Table) (n : ℕ) (w : ℕ → ℕ → ℕ → ℕ) → 0 < n → n ≤ most_elements
+      → ((a s c : ℕ) → a < actions_of m → s < states_of m → c < n → w a s c ≤ one * n) → actions_of m * states_of m * n ≤ most_cells
+      → length (for_each (actions_of m) (λ a. for_each (states_of m) (λ s. row_text table a s n (w a s)))) ≤ most_cells * 80
+  rows_length table n w some few within cells =
       let A = actions_of m in
       let S = states_of m in
-      let all : length (transitions_text m) ≤ A * (S * (S * 80)) =
-      each_length A (S * (S * 80)) (λ a. for_each S (λ s. row_text Transition a s S (m.t a s))) (λ a l. each_length S (S * 80) (λ s. row_text Transition a s S (m.t a s)) (λ s k.
-      row_length Transition a s S (m.t a s) (omega (arith, l, limits.actions.1)) (omega (arith, k, limits.states.1)) (omega (arith, k)) limits.states.1 (λ c d. limits.t a s c l k d))) in
-      omega (arith, all, cells_bound A S S 80 printable.transitions)
+      let all : length (for_each A (λ a. for_each S (λ s. row_text table a s n (w a s)))) ≤ A * (S * (n * 80)) =
+      each_length A (S * (n * 80)) (λ a. for_each S (λ s. row_text table a s n (w a s))) (λ a l. each_length S (n * 80) (λ s. row_text table a s n (w a s)) (λ s k.
+      row_length table a s n (w a s) (omega (arith, l, limits.actions.1)) (omega (arith, k, limits.states.1)) some few (λ c d. within a s c l k d))) in
+      omega (arith, all, cells_bound A S n 80 cells)
 
-  seen_length : length (for_each (actions_of m) (λ a. for_each (states_of m) (λ e. row_text Observation a e (observations_of m) (m.o a e)))) ≤ most_cells * 80
-  seen_length =
-      let A = actions_of m in
-      let S = states_of m in
-      let Z = observations_of m in
-      let all : length (for_each A (λ a. for_each S (λ e. row_text Observation a e Z (m.o a e)))) ≤ A * (S * (Z * 80)) =
-      each_length A (S * (Z * 80)) (λ a. for_each S (λ e. row_text Observation a e Z (m.o a e))) (λ a l. each_length S (Z * 80) (λ e. row_text Observation a e Z (m.o a e)) (λ s k.
-      row_length Observation a s Z (m.o a s) (omega (arith, l, limits.actions.1)) (omega (arith, k, limits.states.1)) limits.observations.0 limits.observations.1 (λ c d. limits.o a s c l k d))) in
-      omega (arith, all, cells_bound A S Z 80 printable.observations)
+  transitions_length : length (transitions_text m) ≤ most_cells * 80
+  transitions_length = rows_length Transition (states_of m) m.t limits.states.0 limits.states.1 limits.t printable.transitions
 
   observations_length : length (observations_text m) ≤ most_cells * 80
   observations_length = at (is_mdp m.preamble)
     where
       at : (b : Bool) → length (cond b [] (for_each (actions_of m) (λ a. for_each (states_of m) (λ e. row_text Observation a e (observations_of m) (m.o a e))))) ≤ most_cells * 80
       at true = omega arith
-      at false = seen_length
+      at false = rows_length Observation (observations_of m) m.o limits.observations.0 limits.observations.1 limits.o printable.observations
 
   -- the rewards of an action in a state: a number for each end state and each thing that a reward depends on
   from_length : (a s : ℕ) → a < actions_of m → s < states_of m → length (rewards_from m a s) ≤ states_of m * (count_of (rewarded m.preamble) * 56)

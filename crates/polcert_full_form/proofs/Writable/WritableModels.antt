@@ -1,5 +1,5 @@
 -- The full form of a model that is not too large to print is a text of that model.
-use Rattle.std.proofs.Common.{◌≡◌, ◌∙◌, ℕ, zero, suc, ◌*◌, ◌/◌, ◌%◌, ◌<◌, ◌≤◌, ◌⊎◌, ⊎_elim, inl, inr, ◌==◌, Bool, true, false, cond, Some, unwrap_or, List, [], ◌∷◌, ◌++◌, ◌≢◌, All, AllPairs, ℤ, pos, negsuc, neg_ℤ, refl, sym, ap, subst, unsigned_abs, length, arith}
+use Rattle.std.proofs.Common.{◌≡◌, ◌∙◌, ℕ, ◌*◌, ◌/◌, ◌%◌, ◌<◌, ◌≤◌, ◌⊎◌, ⊎_elim, inl, inr, ◌==◌, Bool, true, false, cond, Some, unwrap_or, List, [], ◌∷◌, ◌++◌, ◌≢◌, All, AllPairs, ℤ, refl, sym, ap, subst, unsigned_abs, length, arith}
 use Rattle.std.proofs.Math.Nat.{mul-mod_left, mod-add-div'}
 use Rattle.polcert_text.specs.Cut.{text_limit}
 use Rattle.polcert_text.specs.Numbers.{largest}
@@ -14,6 +14,7 @@ use Rattle.polcert_format.specs.Printable.{IsPrintable}
 use Rattle.polcert_format.specs.FullForm.{for_each, row_text, written, is_choice, transitions_text, observations_text, rewards_text, full_form}
 use Rattle.polcert_cells.specs.Numbers.{one}
 use Rattle.polcert_format.specs.Writable.{IsWritableName, HasProperNames, IsMillionthsStart, IsWritableWeight, IsEndObserved, IsWritable}
+use Rattle.polcert_tables.specs.Contents.{Contents}
 use Rattle.polcert_tables.specs.Kept.{Kept, meaning}
 use Rattle.polcert_cells.specs.declared.elements.Elements.{Elements}
 use Rattle.polcert_cells.specs.declared.elements.Elements.TheVariants.{Count, Names}
@@ -27,6 +28,7 @@ use Rattle.polcert_full_form.proofs.Denoting.RowEntries.{Fits, same_or_other, tr
 use Rattle.polcert_full_form.proofs.Printing.PrintedRows.{row_prints, from_prints}
 use Rattle.polcert_full_form.proofs.Denoting.ModelEntries.{transition_entries, seen_entries, observation_entries, rewards_entries, all_entries, transition_back, observation_back, reward_again}
 use Rattle.polcert_full_form.proofs.Writable.FormLength.{form_short}
+use Rattle.polcert_format.proofs.LimitLaws.{abs-neg as abs_neg}
 
 -- What has to be known of a model, beside that it is not too large, for its full form to be a text.
 pub record CanBeWritten (m : Meaning) : Type 0 where
@@ -39,11 +41,6 @@ pub record CanBeWritten (m : Meaning) : Type 0 where
   pub t : (a s e : ℕ) → a < actions_of m → s < states_of m → e < states_of m → Fits (states_of m) (m.t a s e)
   pub o : (a e z : ℕ) → a < actions_of m → e < states_of m → z < observations_of m → Fits (observations_of m) (m.o a e z)
   pub mdp : is_mdp m.preamble ≡ true → IsEndObserved m
-
-abs_neg : (h : ℤ) → unsigned_abs (neg_ℤ h) ≡ unsigned_abs h
-abs_neg (pos zero) = refl
-abs_neg (pos (suc n)) = refl
-abs_neg (negsuc n) = refl
 
 abs_written : (costs : Bool) (h : ℤ) → unsigned_abs (written costs h) ≡ unsigned_abs h
 abs_written true h = abs_neg h
@@ -143,11 +140,11 @@ kept_writes d rows limits w = record {
   mdp = w.mdp;
 }
 
-pub kept_reads_back : (d : Kept) → HasProperRows (meaning d) → HasLimitedNumbers (meaning d) → IsWritable (meaning d) → IsPrintable d.preamble → IsModelText (full_form (meaning d)) (meaning d)
-kept_reads_back d rows limits w = written_reads_back (meaning d) (kept_writes d rows limits w)
+pub kept_reads_back : (c : Contents) → IsPrintable c.draft.preamble → IsModelText (full_form (meaning c.draft)) (meaning c.draft)
+kept_reads_back c = written_reads_back (meaning c.draft) (kept_writes c.draft c.rows c.limits c.writable)
 
-pub kept_short : (d : Kept) → HasProperRows (meaning d) → HasLimitedNumbers (meaning d) → IsWritable (meaning d) → IsPrintable d.preamble → length (full_form (meaning d)) < text_limit
-kept_short d rows limits w = printed_short (meaning d) (kept_writes d rows limits w)
+pub kept_short : (c : Contents) → IsPrintable c.draft.preamble → length (full_form (meaning c.draft)) < text_limit
+kept_short c = printed_short (meaning c.draft) (kept_writes c.draft c.rows c.limits c.writable)
 
 named : (most : ℕ) (e : Elements) → AreWritable most e → HasProperNames e
 named most (Count n) w = λ names e. absurd (cc)

@@ -90,14 +90,12 @@ record KnownWritable (k : Known) : Type 0 where
   start : StartHasShape k.states k.start
 
 right_writable : (k : Known) (t : Topic) (ls : List Lexeme) (next : Known) → AreOfText ls → KnownWritable k → IsRight k t ls next → KnownWritable next
-right_writable k t ls next a w (texts.discount p e c n l) = record { states = w.states; actions = w.actions; observations = w.observations; start = w.start }
-right_writable k t ls next a w (texts.rewards p e c v) = record { states = w.states; actions = w.actions; observations = w.observations; start = w.start }
-right_writable k t ls next a w (texts.costs p e c v) = record { states = w.states; actions = w.actions; observations = w.observations; start = w.start }
 right_writable k t ls next a w (texts.states {elements = found} p e c b) = record { states = elements_writable most_states _ found a.1 b; actions = w.actions; observations = w.observations; start = subst (StartHasShape (Some found)) (sym p.no_start) tt }
 right_writable k t ls next a w (texts.actions {elements = found} p e c b) = record { states = w.states; actions = elements_writable most_actions _ found a.1 b; observations = w.observations; start = w.start }
 right_writable k t ls next a w (texts.observations {elements = found} p e c b) = record { states = w.states; actions = w.actions; observations = elements_writable most_observations _ found a.1 b; start = w.start }
 right_writable k t ls next a w (texts.start {p = q} {shares = shares} p c b) = record { states = w.states; actions = w.actions; observations = w.observations; start = subst (λ o. StartHasShape o (Some shares)) (sym c.lines.states) (start_shape q.states _ shares b) }
 right_writable k t ls next a w (texts.entry c given b few) = record { states = w.states; actions = w.actions; observations = w.observations; start = w.start }
+right_writable k t ls next a w _ = record { states = w.states; actions = w.actions; observations = w.observations; start = w.start }
 
 all_writable : (k : Known) (items : List Item) (end : Known) → AreOfText (flat_map lexemes_of items) → KnownWritable k → AreRight k items end → KnownWritable end
 all_writable k items end a w texts.none = w

@@ -14,7 +14,7 @@ use Rattle.polcert_text.specs.Bytes.{is_digit}
 use Rattle.polcert_text.specs.Steps.Scaling.{is_nonzero}
 use Rattle.polcert_text.proofs.Numbers.NumberLaws.{true≢false, digit_from, digit_to, digit_is}
 
-order : (m n : ℕ) → (m ≤ n) ⊎ (n < m)
+pub order : (m n : ℕ) → (m ≤ n) ⊎ (n < m)
 order m n = grind arith
 
 pub ten_pos : (k : ℕ) → 0 < 10 ^ k

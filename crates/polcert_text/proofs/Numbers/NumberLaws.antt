@@ -27,19 +27,9 @@ true≢false e f = cc
 
 -- among the tests of `class_of`, in their order, the one for a digit passed
 chain : (blank line hash mark letter digit low point colon star plus minus : Bool) → digit_class (cond blank classes.Blank (cond line classes.LineEnd (cond hash classes.Hash (cond mark classes.ExponentMark (cond letter classes.Letter (cond digit classes.Digit (cond low classes.Underscore (cond point classes.Point (cond colon classes.Colon (cond star classes.Star (cond plus classes.Plus (cond minus classes.Minus classes.Other)))))))))))) ≡ true → digit ≡ true
-chain true _ _ _ _ _ _ _ _ _ _ _ h = cc
-chain false true _ _ _ _ _ _ _ _ _ _ h = cc
-chain false false true _ _ _ _ _ _ _ _ _ h = cc
-chain false false false true _ _ _ _ _ _ _ _ h = cc
-chain false false false false true _ _ _ _ _ _ _ h = cc
 chain false false false false false true _ _ _ _ _ _ h = refl
-chain false false false false false false true _ _ _ _ _ h = cc
-chain false false false false false false false true _ _ _ _ h = cc
-chain false false false false false false false false true _ _ _ h = cc
-chain false false false false false false false false false true _ _ h = cc
-chain false false false false false false false false false false true _ h = cc
-chain false false false false false false false false false false false true h = cc
 chain false false false false false false false false false false false false h = cc
+chain _ _ _ _ _ _ _ _ _ _ _ _ h = cc
 
 pub ascii_digit : (b : ℕ) → is_digit b ≡ true → is_ascii_digit b ≡ true
 unfolding class_of
@@ -87,9 +77,6 @@ after_all p (b ∷ bs) none =
 -- a list is a numeral exactly where its kind is
 mark_no_numeral : (c : ByteClass) → mark_kind c ≡ Some kinds.Numeral → ⊥
 mark_no_numeral classes.Colon h = cc
-mark_no_numeral classes.Star h = cc
-mark_no_numeral classes.Plus h = cc
-mark_no_numeral classes.Minus h = cc
 mark_no_numeral _ h = cc
 
 chosen_numeral : (name numeral empty : Bool) (c : ByteClass) → cond name (Some kinds.Name) (cond numeral (Some kinds.Numeral) (cond empty (mark_kind c) None)) ≡ Some kinds.Numeral → numeral ≡ true

@@ -1,5 +1,5 @@
 -- The size of a numeral, from its digits.
-use Rattle.std.proofs.Common.{◌≡◌, ◌∙◌, ℕ, suc, ◌+◌, ◌-◌, ◌*◌, ◌^◌, ◌<◌, ◌≤◌, min, Bool, true, false, not, cond, ◌&&◌, ◌||◌, ◌⊎◌, inl, inr, ⊎_elim, List, [], ◌∷◌, ◌++◌, length, take, drop, refl, sym, ap, subst, arith, length-append}
+use Rattle.std.proofs.Common.{◌≡◌, ◌∙◌, ℕ, suc, ◌+◌, ◌-◌, ◌*◌, ◌^◌, ◌<◌, ◌≤◌, min, Bool, true, false, not, cond, ◌&&◌, ◌||◌, inl, inr, ⊎_elim, List, [], ◌∷◌, ◌++◌, length, take, drop, refl, sym, ap, subst, arith, length-append}
 use Rattle.std.specs.Prelude.{if◌then◌else◌}
 use Rattle.std.specs.List.{list_all, list_any}
 use Rattle.std.specs.Str.Parse.{digits_value}
@@ -10,7 +10,7 @@ use Rattle.polcert_text.specs.Bytes.{is_digit, is_exponent_mark, is_point, is_si
 use Rattle.polcert_text.specs.Lexemes.{before, after, is_mantissa, is_exponent, are_digits, is_empty, is_numeral}
 use Rattle.polcert_text.specs.Numbers.{whole_of, fraction_of, exponent_of, without_sign, is_lowering, number_of, exponent_size, power_of, size_of, millionth, largest}
 use Rattle.polcert_text.specs.Steps.Scaling.{cap, is_nonzero, IsScaled, ceiling, Measures}
-use Rattle.polcert_text.proofs.Numbers.MeasureLaws.{and-true_left, and-true_right, Fits, measure}
+use Rattle.polcert_text.proofs.Numbers.MeasureLaws.{and-true_left, and-true_right, Fits, measure, order}
 
 length-before : (p : ℕ → Bool) (bs : List ℕ) → length (before p bs) ≤ length bs
 length-before p [] = omega arith
@@ -80,9 +80,6 @@ kept_of bs = if is_lowering (exponent_of bs) then length (whole_of bs) + 6 - exp
 
 abbrev pub digits_of : List ℕ → List ℕ
 digits_of bs = whole_of bs ++ fraction_of bs
-
-order : (m n : ℕ) → (m ≤ n) ⊎ (n < m)
-order m n = grind arith
 
 lowering_fits : (w f x len : ℕ) → len ≡ w + f → f ≤ 400 → x ≤ 400 → Fits 994 (w + 6 - x) len (1000 - x - f)
 lowering_fits w f x len is a b =

@@ -8,7 +8,6 @@ use Rattle.polcert_text.specs.Bytes.{class_of, is_digit, is_exponent_mark, digit
 use Rattle.polcert_text.specs.Lexemes.{kind_of}
 use Rattle.polcert_text.specs.Millionths.{decimals, fraction_text, unsigned_text}
 use Rattle.polcert_text.specs.Steps.Scan.{state_after, state_through, kind_at}
-use Rattle.polcert_text.specs.declared.bytes.ByteClass.{ByteClass}
 use Rattle.polcert_text.specs.declared.bytes.ByteClass.TheVariants as classes
 use Rattle.polcert_text.specs.declared.lexeme.State.{State}
 use Rattle.polcert_text.specs.declared.lexeme.State.TheVariants.{Start, Whole, Fraction}
@@ -16,6 +15,7 @@ use Rattle.polcert_text.specs.declared.lexeme.TokenKind.TheVariants.{Numeral}
 use Rattle.polcert_text.proofs.Scanning.LexemeLaws.{kind_of-through, state_through-append}
 use Rattle.polcert_text.proofs.Numbers.MeasureLaws.{and-true_left, and-true_right}
 use Rattle.polcert_text.proofs.Printing.PrintLaws.{decimal_digits, decimals_digits}
+use Rattle.polcert_text.proofs.Scanning.Classes.{is_digit_class as digit_is, point_at_46 as point_class_is}
 
 decimals_short : (k r : ℕ) → length (decimals k r) ≤ k
 unfolding decimals
@@ -25,10 +25,6 @@ decimals_short (suc k) r = at (r == 0) (decimals_short k (r % 10 ^ k))
     at : (z : Bool) → length (decimals k (r % 10 ^ k)) ≤ k → length (cond z [] ((48 + r / 10 ^ k) ∷ decimals k (r % 10 ^ k))) ≤ suc k
     at true h = omega arith
     at false h = omega (arith, h)
-
-digit_is : (c : ByteClass) → digit_class c ≡ true → c ≡ classes.Digit
-digit_is classes.Digit h = refl
-digit_is _ h = cc
 
 digits_stay : (state : State) → state_after state classes.Digit ≡ state → (ds : List ℕ) → list_all is_digit ds ≡ true → state_through state ds ≡ state
 digits_stay state stays [] h = refl
@@ -68,10 +64,6 @@ plain_whole (d ∷ ds) h some few = record {
   unmarked = digits_unmarked (d ∷ ds) h;
   short = omega (arith, few);
 }
-
-point_class_is : class_of 46 ≡ classes.Point
-unfolding class_of
-point_class_is = refl
 
 plain_point : (ds fs : List ℕ) → list_all is_digit ds ≡ true → 0 < length ds → length ds ≤ 20 → list_all is_digit fs ≡ true → length fs ≤ 6 → IsPlain (ds ++ 46 ∷ fs)
 plain_point [] fs h some few f small = absurd (omega (arith, some))

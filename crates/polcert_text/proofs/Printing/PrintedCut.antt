@@ -3,7 +3,7 @@ use Rattle.std.proofs.Common.{◌≡◌, ◌∙◌, ℕ, ◌+◌, ◌<◌, ◌�
 use Rattle.std.specs.List.{list_all}
 use Rattle.std.proofs.Math.Seq.{drop-append_seam, get_or-append_seam}
 use Rattle.std.proofs.lemmas.List.{take_at, drop_all}
-use Rattle.polcert_text.specs.Bytes.{class_of, is_blank, blank_class, digit_class, glue_class}
+use Rattle.polcert_text.specs.Bytes.{class_of, is_blank, blank_class, glue_class}
 use Rattle.polcert_text.specs.Gaps.{is_gap}
 use Rattle.polcert_text.specs.Lexemes.{kind_of}
 use Rattle.polcert_text.specs.Fronts.{IsLongestGap, IsLongestLexeme}
@@ -78,33 +78,14 @@ longest_before w kind b more is stuck =
 
 pub blank_stops : (state : State) (c : ByteClass) → blank_class c ≡ true → state_after state c ≡ states.Stuck
 blank_stops states.Start classes.Blank h = refl
-blank_stops states.Start classes.LineEnd h = refl
-blank_stops states.Name classes.Blank h = refl
-blank_stops states.Name classes.LineEnd h = refl
-blank_stops states.Whole classes.Blank h = refl
-blank_stops states.Whole classes.LineEnd h = refl
-blank_stops states.Point classes.Blank h = refl
-blank_stops states.Point classes.LineEnd h = refl
-blank_stops states.Fraction classes.Blank h = refl
-blank_stops states.Fraction classes.LineEnd h = refl
-blank_stops states.Mark classes.Blank h = refl
-blank_stops states.Mark classes.LineEnd h = refl
-blank_stops states.Sign classes.Blank h = refl
-blank_stops states.Sign classes.LineEnd h = refl
-blank_stops states.Exponent classes.Blank h = refl
-blank_stops states.Exponent classes.LineEnd h = refl
-blank_stops (states.Single kind) c h = refl
-blank_stops states.Stuck c h = refl
+blank_stops _ classes.Blank h = refl
+blank_stops _ classes.LineEnd h = refl
 blank_stops _ _ h = cc
 
 pub blank_no_glue : (c : ByteClass) → blank_class c ≡ true → glue_class c ≡ false
 blank_no_glue classes.Blank h = refl
 blank_no_glue classes.LineEnd h = refl
 blank_no_glue _ h = cc
-
-pub digit_ends : (c : ByteClass) → digit_class c ≡ true → gap_after Between c ≡ Ended
-digit_ends classes.Digit h = refl
-digit_ends _ h = cc
 
 -- the next token behind blanks
 takes_next : (place : ℕ) (gap w : List ℕ) (kind : TokenKind) (x : ℕ) (xs : List ℕ) (b : ℕ) (more after : List ℕ) → list_all is_blank gap ≡ true → w ≡ x ∷ xs → gap_after Between (class_of x) ≡ Ended

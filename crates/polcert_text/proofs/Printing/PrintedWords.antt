@@ -15,6 +15,7 @@ use Rattle.polcert_text.proofs.Scanning.LexemeLaws.{kind_of-through}
 use Rattle.polcert_text.proofs.Numbers.MeasureLaws.{and-true_left}
 use Rattle.polcert_text.proofs.Printing.Numerals.{IsPlain}
 use Rattle.polcert_text.proofs.Printing.PrintedCut.{Printed, text_of, Stops, IsPrinted, ArePrinted, blank_stops, blank_no_glue, text-append, printed-append}
+use Rattle.polcert_text.proofs.Scanning.Classes.{colon_at_58 as colon_class}
 
 -- What stands between blanks: one lexeme, a name and a colon, or a minus and a numeral.
 pub data Word : Type 0 where
@@ -103,10 +104,6 @@ colon_piece = record { kind_is = refl; short = omega arith }
 minus_piece : IsPiece Minus (45 ∷ [])
 unfolding class_of
 minus_piece = record { kind_is = refl; short = omega arith }
-
-colon_class : class_of 58 ≡ classes.Colon
-unfolding class_of
-colon_class = refl
 
 -- no name goes on with a colon
 name_state : (s : State) → kind_at s ≡ Some Name → state_after s classes.Colon ≡ states.Stuck

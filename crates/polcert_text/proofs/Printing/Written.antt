@@ -1,7 +1,7 @@
 -- A text that is written part by part.
-use Rattle.std.proofs.Common.{◌≡◌, ◌∙◌, ◌<◌, ◌⊎◌, ⊎_elim, ◌++◌, ℕ, zero, suc, List, [], Option, Result, Ok, Err, IsErr, sym, ap, subst, arith, append_assoc, append-nil}
+use Rattle.std.proofs.Common.{◌≡◌, ◌∙◌, ◌<◌, ◌⊎◌, ⊎_elim, ◌++◌, ℕ, zero, suc, List, [], Option, Result, Ok, Err, IsErr, refl, sym, ap, subst, arith, append_assoc, append-nil}
 use Rattle.polcert_text.specs.Device.{HasFailed}
-use Rattle.polcert_text.specs.Sink.{Takes, TakesFront, WritesText}
+use Rattle.polcert_text.specs.Sink.{Takes, TakesFront, WritesText, nothing}
 use Rattle.polcert_text.proofs.Printing.Taking.{took_then, front_then, front_after, wrote_front, wrote_next}
 
 -- the sink took the text so far, and no write failed
@@ -35,6 +35,31 @@ module _ {S : Type 0} {writes : S → Option (List ℕ) → S → Type 0} {failu
   pub ends_with : {T E : Type 0} {s t : S} (first second : List ℕ) (r : Result T E) → HasWritten writes failures from first s
       → WritesText writes failures s second r t → WritesText writes failures from (first ++ second) r t
   ends_with first second r h w = wrote_next first second r h.took h.same w
+
+-- ---- a call of several writes, one behind another
+module _ {S : Type 0} {writes : S → Option (List ℕ) → S → Type 0} {failures : S → ℕ} {from : S} where
+  -- one went well, and another is behind it
+  pub and_then : {T U E F : Type 0} {s t : S} {first second : List ℕ} {u : U} {r : Result T E} → WritesText {E = F} writes failures from first (Ok u) s
+      → WritesText writes failures s second r t → WritesText writes failures from (first ++ second) r t
+  and_then {first = first} {second = second} {r = r} w v = wrote_next first second r w.ok w.same_count v
+
+  -- one failed, and what would come behind it isn't written
+  pub unwritten : {T E : Type 0} {t : S} {first : List ℕ} (second : List ℕ) {e : E} → WritesText {T = T} writes failures from first (Err e) t
+      → WritesText {T = T} writes failures from (first ++ second) (Err e) t
+  unwritten second w = record { ok = tt; same_count = tt; err = front_then second w.err; count = w.count }
+
+  -- and so did the call
+  pub stopped : {T U E F : Type 0} {t : S} {text : List ℕ} {e : F} {r : Result T E} → IsErr r → WritesText {T = U} writes failures from text (Err e) t
+      → WritesText writes failures from text r t
+  stopped {text = text} {r = r} is_err w = wrote_front text r is_err w.err w.count
+
+  -- ---- a loop of them
+  pub nothing_yet : HasWritten writes failures from [] from
+  nothing_yet = record { took = nothing; same = refl }
+
+  pub next_written : {T E : Type 0} {s t : S} {first second : List ℕ} {v : T} → HasWritten writes failures from first s
+      → WritesText {E = E} writes failures s second (Ok v) t → HasWritten writes failures from (first ++ second) t
+  next_written h w = record { took = took_then h.took w.ok; same = w.same_count ∙ h.same }
 
 -- the same text, however its parts are put together
 pub as_text : {S T E : Type 0} {writes : S → Option (List ℕ) → S → Type 0} {failures : S → ℕ} {from to : S} {first second : List ℕ} {r : Result T E} → first ≡ second

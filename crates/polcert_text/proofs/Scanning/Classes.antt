@@ -93,16 +93,8 @@ abbrev EndsGap : ByteClass → Type 0
 EndsGap c = (blank_class c ≡ false) × (hash_class c ≡ false)
 
 ends_behind : (mark letter digit low point colon star plus minus : Bool) → EndsGap (class_behind mark letter digit low point colon star plus minus)
-ends_behind true _ _ _ _ _ _ _ _ = (refl, refl)
-ends_behind false true _ _ _ _ _ _ _ = (refl, refl)
-ends_behind false false true _ _ _ _ _ _ = (refl, refl)
-ends_behind false false false true _ _ _ _ _ = (refl, refl)
-ends_behind false false false false true _ _ _ _ = (refl, refl)
-ends_behind false false false false false true _ _ _ = (refl, refl)
-ends_behind false false false false false false true _ _ = (refl, refl)
-ends_behind false false false false false false false true _ = (refl, refl)
-ends_behind false false false false false false false false true = (refl, refl)
 ends_behind false false false false false false false false false = (refl, refl)
+ends_behind _ _ _ _ _ _ _ _ _ = (refl, refl)
 
 not_equal : (b n : ℕ) → n < b → (b == n) ≡ false
 not_equal b n h = grind (arith, nat_tests)

@@ -91,8 +91,3 @@ longest_gap_at bs i h gap ended = record {
   gap = gap;
   longest = λ k more _. no_gap_past bs (i + 1) k (omega arith) ended;
 }
-
--- a step of the loop
-pub gap_step : (bs : List ℕ) (i : ℕ) (gap : Gap) (c : ByteClass) (next : Gap) → i < length bs → gap_through Between (take i bs) ≡ gap → c ≡ class_of (get_or bs i 0) → next ≡ gap_after gap c → gap_through Between (take (i + 1) bs) ≡ next
-gap_step bs i gap c next h read class_is next_is =
-    gap_through_more bs i h ∙ (λ j. gap_after (read j) (sym class_is j)) ∙ sym next_is

@@ -9,32 +9,18 @@ use Rattle.polcert_text.specs.declared.bytes.ByteClass.{ByteClass}
 use Rattle.polcert_text.specs.declared.bytes.ByteClass.TheVariants as classes
 use Rattle.polcert_text.specs.declared.lexeme.TokenKind.{TokenKind}
 use Rattle.polcert_text.specs.declared.lexeme.State.{State}
-use Rattle.polcert_text.specs.declared.lexeme.State.TheVariants.{Start, Name, Whole, Point, Fraction, Mark, Sign, Exponent, Single, Stuck}
+use Rattle.polcert_text.specs.declared.lexeme.State.TheVariants.{Start, Whole, Point, Fraction, Mark, Sign, Stuck}
 
 pub few_pending : (state : State) → pending state ≤ 2
 few_pending Start = omega arith
-few_pending Name = omega arith
-few_pending Whole = omega arith
-few_pending Point = omega arith
-few_pending Fraction = omega arith
-few_pending Mark = omega arith
-few_pending Sign = omega arith
-few_pending Exponent = omega arith
-few_pending (Single kind) = omega arith
-few_pending Stuck = omega arith
+few_pending _ = omega arith
 
 -- a state that has read a lexeme waits for nothing
 pub none_pending : (state : State) (kind : TokenKind) → kind_at state ≡ Some kind → pending state ≡ 0
-none_pending Name kind e = refl
-none_pending Whole kind e = refl
-none_pending Fraction kind e = refl
-none_pending Exponent kind e = refl
-none_pending (Single k) kind e = refl
-none_pending Start kind e = refl
-none_pending Stuck kind e = refl
 none_pending Point kind e = absurd (cc)
 none_pending Mark kind e = absurd (cc)
 none_pending Sign kind e = absurd (cc)
+none_pending _ kind e = refl
 
 -- a byte more is one more that waits, where it ends no lexeme and one may go on
 pub one_pending : (state : State) (c : ByteClass) → kind_at (state_after state c) ≡ None → is_stuck (state_after state c) ≡ false → pending (state_after state c) ≡ pending state + 1
@@ -43,33 +29,13 @@ one_pending Whole classes.ExponentMark k s = refl
 one_pending Fraction classes.ExponentMark k s = refl
 one_pending Mark classes.Plus k s = refl
 one_pending Mark classes.Minus k s = refl
-one_pending Start c k s = absurd (cc)
-one_pending Whole c k s = absurd (cc)
-one_pending Fraction c k s = absurd (cc)
-one_pending Mark c k s = absurd (cc)
-one_pending Name classes.Letter k s = absurd (cc)
-one_pending Name c k s = absurd (cc)
-one_pending Point classes.Digit k s = absurd (cc)
-one_pending Point c k s = absurd (cc)
-one_pending Sign classes.Digit k s = absurd (cc)
-one_pending Sign c k s = absurd (cc)
-one_pending Exponent classes.Digit k s = absurd (cc)
-one_pending Exponent c k s = absurd (cc)
-one_pending (Single kind) c k s = absurd (cc)
-one_pending Stuck c k s = absurd (cc)
+one_pending _ classes.Digit k s = absurd (cc)
+one_pending _ _ k s = absurd (cc)
 
 -- a scan that may go on was no dead end before
 pub was_open : (state : State) (c : ByteClass) → is_stuck (state_after state c) ≡ false → is_stuck state ≡ false
 was_open Stuck c s = s
-was_open Start c s = refl
-was_open Name c s = refl
-was_open Whole c s = refl
-was_open Point c s = refl
-was_open Fraction c s = refl
-was_open Mark c s = refl
-was_open Sign c s = refl
-was_open Exponent c s = refl
-was_open (Single kind) c s = refl
+was_open _ c s = refl
 
 pub behind_some : (state : State) (kind : TokenKind) (len : ℕ) → kind_at state ≡ Some kind → len ≡ len + pending state
 behind_some state kind len e = let none = none_pending state kind e in omega arith

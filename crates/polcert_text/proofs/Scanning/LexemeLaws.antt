@@ -91,46 +91,16 @@ module _ (b : ℕ) (bs : List ℕ) where
   start_at classes.Minus e = no_numeral_at classes.Minus e refl refl
   start_at c e = no_numeral_at c e refl refl ∙ cond-same (is_empty bs) None
 
-  name_at : (c : ByteClass) → class_of b ≡ c → completed Name (b ∷ bs) ≡ completed (state_after Name c) bs
-  name_at classes.Letter e = simp e
-  name_at _ e = simp e
-
-  whole_at : (c : ByteClass) → class_of b ≡ c → completed Whole (b ∷ bs) ≡ completed (state_after Whole c) bs
-  whole_at classes.Digit e = simp e
-  whole_at _ e = simp e
-
-  point_at : (c : ByteClass) → class_of b ≡ c → completed Point (b ∷ bs) ≡ completed (state_after Point c) bs
-  point_at classes.Digit e = simp (e, and-true)
-  point_at _ e = simp e
-
-  fraction_at : (c : ByteClass) → class_of b ≡ c → completed Fraction (b ∷ bs) ≡ completed (state_after Fraction c) bs
-  fraction_at classes.Digit e = simp e
-  fraction_at _ e = simp e
-
-  mark_at : (c : ByteClass) → class_of b ≡ c → completed Mark (b ∷ bs) ≡ completed (state_after Mark c) bs
-  mark_at classes.Digit e = simp (e, and-true)
-  mark_at _ e = simp e
-
-  sign_at : (c : ByteClass) → class_of b ≡ c → completed Sign (b ∷ bs) ≡ completed (state_after Sign c) bs
-  sign_at classes.Digit e = simp (e, and-true)
-  sign_at _ e = simp e
-
-  exponent_at : (c : ByteClass) → class_of b ≡ c → completed Exponent (b ∷ bs) ≡ completed (state_after Exponent c) bs
-  exponent_at classes.Digit e = simp e
-  exponent_at _ e = simp e
-
   -- one more byte: what the bytes complete from before it, they complete from behind it
   completed_at : (state : State) (c : ByteClass) → class_of b ≡ c → completed state (b ∷ bs) ≡ completed (state_after state c) bs
   completed_at Start c e = start_at c e
-  completed_at Name c e = name_at c e
-  completed_at Whole c e = whole_at c e
-  completed_at Point c e = point_at c e
-  completed_at Fraction c e = fraction_at c e
-  completed_at Mark c e = mark_at c e
-  completed_at Sign c e = sign_at c e
-  completed_at Exponent c e = exponent_at c e
   completed_at (Single kind) c e = refl
   completed_at Stuck c e = refl
+  completed_at Point classes.Digit e = simp (e, and-true)
+  completed_at Mark classes.Digit e = simp (e, and-true)
+  completed_at Sign classes.Digit e = simp (e, and-true)
+  completed_at _ classes.Digit e = simp e
+  completed_at _ _ e = simp e
 
 -- the same for several bytes
 pub completed_through : (state : State) (front rest : List ℕ) → completed state (front ++ rest) ≡ completed (state_through state front) rest
@@ -144,15 +114,7 @@ state_through-append state (b ∷ bs) rest = state_through-append (state_after s
 -- what a state has read is what nothing more completes
 completed-none : (state : State) → completed state [] ≡ kind_at state
 completed-none Start = refl
-completed-none Name = refl
-completed-none Whole = refl
-completed-none Point = refl
-completed-none Fraction = refl
-completed-none Mark = refl
-completed-none Sign = refl
-completed-none Exponent = refl
-completed-none (Single kind) = refl
-completed-none Stuck = refl
+completed-none _ = refl
 
 -- the kind of a list is the kind of the state behind it
 pub kind_of-through : (bs : List ℕ) → kind_of bs ≡ kind_at (state_through Start bs)

@@ -4,7 +4,7 @@ use Rattle.std.proofs.Math.Seq.{take-add}
 use Rattle.std.proofs.lemmas.Bool.{eqb-true}
 use Rattle.std.proofs.lemmas.List.{length-take-le, take_more, take-append-drop}
 use Rattle.std.specs.Char.{is_ascii_digit, is_ascii_alphabetic}
-use Rattle.polcert_text.specs.Bytes.{class_of, blank_class, hash_class}
+use Rattle.polcert_text.specs.Bytes.{class_of}
 use Rattle.polcert_text.specs.Fronts.{IsLongestGap, IsLongestLexeme}
 use Rattle.polcert_text.specs.Gaps.{is_gap}
 use Rattle.polcert_text.specs.Lexemes.{kind_of}
@@ -22,6 +22,7 @@ use Rattle.polcert_text.specs.declared.lexeme.State.TheVariants.{Start, Name, Wh
 use Rattle.polcert_text.proofs.Scanning.GapLaws.{longest_gap_at, gap_until_open, gap_through-append}
 use Rattle.polcert_text.proofs.Scanning.LexemeLaws.{kind_of-through, front_keeps, front_whatever_follows, state_step}
 use Rattle.polcert_text.proofs.Streams.StreamLaws.{skipped_step}
+use Rattle.polcert_text.proofs.Scanning.Classes.{line_end_at_10}
 
 comment_stays : (c : ByteClass) → (c ≡ classes.LineEnd → ⊥) → gap_after Comment c ≡ Comment
 comment_stays classes.LineEnd h = absurd (h refl)
@@ -29,28 +30,14 @@ comment_stays _ h = refl
 
 -- among the tests of `class_of`, in their order, the one for a line end passed
 line_chain : (blank line hash mark letter digit low point colon star plus minus : Bool) → cond blank classes.Blank (cond line classes.LineEnd (cond hash classes.Hash (cond mark classes.ExponentMark (cond letter classes.Letter (cond digit classes.Digit (cond low classes.Underscore (cond point classes.Point (cond colon classes.Colon (cond star classes.Star (cond plus classes.Plus (cond minus classes.Minus classes.Other))))))))))) ≡ classes.LineEnd → line ≡ true
-line_chain true _ _ _ _ _ _ _ _ _ _ _ h = cc
 line_chain false true _ _ _ _ _ _ _ _ _ _ h = refl
-line_chain false false true _ _ _ _ _ _ _ _ _ h = cc
-line_chain false false false true _ _ _ _ _ _ _ _ h = cc
-line_chain false false false false true _ _ _ _ _ _ _ h = cc
-line_chain false false false false false true _ _ _ _ _ _ h = cc
-line_chain false false false false false false true _ _ _ _ _ h = cc
-line_chain false false false false false false false true _ _ _ _ h = cc
-line_chain false false false false false false false false true _ _ _ h = cc
-line_chain false false false false false false false false false true _ _ h = cc
-line_chain false false false false false false false false false false true _ h = cc
-line_chain false false false false false false false false false false false true h = cc
 line_chain false false false false false false false false false false false false h = cc
+line_chain _ _ _ _ _ _ _ _ _ _ _ _ h = cc
 
 pub line_end_is : (b : ℕ) → class_of b ≡ classes.LineEnd → (b == 10) ≡ true
 unfolding class_of
 line_end_is b h =
     line_chain (b == 9 || b == 13 || b == 32) (b == 10) (b == 35) (b == 101 || b == 69) (is_ascii_alphabetic b) (is_ascii_digit b) (b == 95) (b == 46) (b == 58) (b == 42) (b == 43) (b == 45) h
-
-line_end_at_10 : class_of 10 ≡ classes.LineEnd
-unfolding class_of
-line_end_at_10 = refl
 
 -- a comment goes on over bytes that are no line end
 comment_through : (bs : List ℕ) (n : ℕ) → n ≤ length bs → ((k : ℕ) → k < n → (get_or bs k 0 == 10) ≡ true → ⊥) → gap_through Comment (take n bs) ≡ Comment
@@ -82,13 +69,6 @@ pub in_between : (gap : Gap) → (gap ≡ Comment → ⊥) → (gap ≡ Ended �
 in_between Between c e = refl
 in_between Comment c e = absurd (c refl)
 in_between Ended c e = absurd (e refl)
-
--- such a gap ends at a byte that is neither blank nor a `#`
-pub ends_between : (c : ByteClass) → blank_class c ≡ false → hash_class c ≡ false → gap_after Between c ≡ Ended
-ends_between classes.Blank b h = cc
-ends_between classes.LineEnd b h = cc
-ends_between classes.Hash b h = cc
-ends_between _ b h = refl
 
 below_or_all : (n m : ℕ) → n ≤ m → (n < m) ⊎ (n ≡ m)
 below_or_all n m h = grind arith

@@ -8,7 +8,7 @@ use Rattle.polcert_text.specs.Steps.Streaming.{IsFrontOrLong, IsSeen}
 use Rattle.polcert_text.specs.declared.lexeme.Front.{Front}
 use Rattle.polcert_text.specs.declared.lexeme.LexemeScan.{LexemeScan}
 use Rattle.polcert_text.specs.declared.lexeme.State.TheVariants.{Start, Stuck}
-use Rattle.polcert_text.proofs.Scanning.LexemeEnds.{scanned, few_pending}
+use Rattle.polcert_text.proofs.Scanning.LexemeEnds.{scanned}
 use Rattle.polcert_text.proofs.Scanning.LexemeLaws.{front_whatever_follows, stuck_state, kind_of-through}
 
 pub front_or_long : (bs : List ℕ) (front : Option Front) → IsFrontOf bs front → IsFrontOrLong bs front
@@ -76,7 +76,3 @@ seen_all bs tail scan was all none = subst (λ xs. IsSeen bs xs scan.longest) (s
 
 pub seen_within : (bs : List ℕ) (scan : LexemeScan) → IsScanOf (take scan.len bs) scan → front_len scan.longest ≤ length bs
 seen_within bs scan was = omega (arith, front_within (take scan.len bs) scan.longest was.longest, length-take scan.len bs)
-
--- so few bytes were read where a lexeme may go on and none is too long
-pub few_read : (read : List ℕ) (scan : LexemeScan) → IsScanOf read scan → is_stuck scan.state ≡ false → front_len scan.longest ≤ 400 → scan.len ≤ 402
-few_read read scan was not_stuck short = omega (arith, was.behind not_stuck, few_pending scan.state)

@@ -6,7 +6,7 @@ use Rattle.polcert_text.specs.Gaps.{is_gap}
 use Rattle.polcert_text.specs.Fronts.{IsLongestGap, IsLongestLexeme}
 use Rattle.polcert_text.specs.Cut.{Lexeme, Rest, is_glued, IsTokenAt, IsFaultAt, TakesToken, EndsAt, Ends, HasCut}
 use Rattle.polcert_text.specs.declared.lexeme.TokenKind.{TokenKind}
-use Rattle.polcert_text.specs.declared.lexeme.TokenKind.TheVariants.{Name, Numeral, Colon, Star, Plus, Minus}
+use Rattle.polcert_text.specs.declared.lexeme.TokenKind.TheVariants.{Numeral}
 use Rattle.polcert_text.specs.declared.tokens.TokenFault.{TokenFault}
 use Rattle.polcert_text.specs.declared.tokens.TokenFault.TheVariants.{BadByte, TokenTooLong, Glued}
 
@@ -71,11 +71,7 @@ at_most n = grind arith
 -- only a numeral is glued
 glued_kind : (k : TokenKind) (bs : List ℕ) → is_glued k bs ≡ true → k ≡ Numeral
 glued_kind Numeral bs e = refl
-glued_kind Name bs e = absurd (true≢false e refl)
-glued_kind Colon bs e = absurd (true≢false e refl)
-glued_kind Star bs e = absurd (true≢false e refl)
-glued_kind Plus bs e = absurd (true≢false e refl)
-glued_kind Minus bs e = absurd (true≢false e refl)
+glued_kind _ bs e = absurd (true≢false e refl)
 
 short_front : (place : ℕ) (bs : List ℕ) (kind : TokenKind) (m : ℕ) → IsLongestLexeme bs kind m → m ≤ 400 → (b : Bool) → is_glued kind (drop m bs) ≡ b → Front place bs
 short_front place bs kind m is short true e =

@@ -45,10 +45,6 @@ pub no_tail : (a : Ahead) (rest : List ℕ) → CanFollow a rest → IsComplete 
 no_tail a rest can (inl whole) = take_nil (a.limit - a.place - length a.kept) rest (can whole)
 no_tail a rest can (inr far) = let none : a.limit - a.place - length a.kept ≡ 0 = omega arith in ap (λ n. take n rest) none
 
-empty_is : (b : Bool) (xs : List ℕ) → is_empty xs ≡ b → (b ≡ true → xs ≡ []) × (b ≡ false → 0 < length xs)
-empty_is b [] e = (λ _. refl, λ f. absurd (cc))
-empty_is b (x ∷ xs) e = (λ t. absurd (cc), λ _. omega arith)
-
 module _ {S : Type 0} (reads : S → ℕ → Option (List ℕ) → S → Type 0) (failures : S → ℕ) where
   pub from_nothing : (b : Bool) (s : S) → ReadsFrom reads b s [] b s
   from_nothing true s = (refl, refl, refl)

@@ -13,7 +13,7 @@ use Rattle.polcert_text.specs.declared.beginning.FrontNumber.{FrontNumber}
 use Rattle.polcert_text.specs.declared.bytes.ByteClass.TheVariants as classes
 use Rattle.polcert_text.specs.declared.lexeme.Gap.TheVariants.{Between, Ended}
 use Rattle.polcert_text.specs.declared.lexeme.TokenKind.{TokenKind}
-use Rattle.polcert_text.specs.declared.lexeme.TokenKind.TheVariants.{Name, Numeral, Colon, Star, Plus, Minus}
+use Rattle.polcert_text.specs.declared.lexeme.TokenKind.TheVariants.{Name, Numeral, Colon}
 use Rattle.polcert_text.specs.declared.tokens.TokenFault.{TokenFault}
 use Rattle.polcert_text.proofs.Scanning.Runs.{longest_seen, ended_colon}
 
@@ -50,11 +50,7 @@ begin_then place bytes m n us vs first second = record {
 glue_stays : (kind : TokenKind) (bs tail : List ℕ) → 0 < length bs → is_glued kind (bs ++ tail) ≡ is_glued kind bs
 glue_stays kind [] tail some = absurd (omega arith)
 glue_stays Name (b ∷ bs) tail some = refl
-glue_stays Numeral (b ∷ bs) tail some = refl
-glue_stays Colon (b ∷ bs) tail some = refl
-glue_stays Star (b ∷ bs) tail some = refl
-glue_stays Plus (b ∷ bs) tail some = refl
-glue_stays Minus (b ∷ bs) tail some = refl
+glue_stays _ (b ∷ bs) tail some = refl
 
 -- the lexeme at the front of the bytes behind a gap
 abbrev pub front_lexeme : ℕ → List ℕ → ℕ → TokenKind → ℕ → Lexeme

@@ -3,4 +3,4 @@ use Rattle.polcert_full_form.proofs.Writable.WritableTexts.{reads_back}
 use Rattle.polcert_full_form.proofs.laws.full_form_reads_back.Goals as goal
 
 pub returns : goal.returns
-returns c = record { short = λ c. kept_short c.draft c.rows c.limits c.writable; contents = λ c. kept_reads_back c.draft c.rows c.limits c.writable; text = reads_back }
+returns c = record { short = kept_short; contents = kept_reads_back; text = reads_back }

@@ -1,5 +1,5 @@
-use Rattle.std.proofs.Common.{◌≡◌, ◌+◌, ◌-◌, ◌≤◌}
-use Rattle.polcert_text.specs.Sink.{Takes}
+use Rattle.std.proofs.Common.{◌+◌, ◌-◌, ◌≤◌}
+use Rattle.polcert_text.proofs.Printing.Written.{HasWritten}
 use Rattle.polcert_format.specs.FullForm.{for_each}
 use Rattle.polcert_full_form.specs.Steps.Printing.{IsFilled}
 use Rattle.polcert_full_form.specs.Steps.PrintedRows.{row_width, row_rewards, rewarded_text}
@@ -7,9 +7,7 @@ use Rattle.polcert_full_form.proofs.print_rewards.write_blocks.Given as goal
 
 abbrev pub invariant-loop-column : goal.invariant-loop-column
 invariant-loop-column g l = record {
-  took : Takes g.W.Sink.writes l.fn.out
-      (for_each (l.column - l.fn.first) (λ i. rewarded_text l.row (l.fn.first + i))) l.out;
-  same_count : g.W.Sink.failures l.out ≡ g.W.Sink.failures l.fn.out;
+  written : HasWritten g.W.Sink.writes g.W.Sink.failures l.fn.out (for_each (l.column - l.fn.first) (λ i. rewarded_text l.row (l.fn.first + i))) l.out;
   from : l.fn.first ≤ l.column;
   within : l.column ≤ row_width l.row;
   filled : IsFilled (row_rewards l.row) (row_width l.row) l.column l.block;

@@ -1,12 +1,7 @@
-use Rattle.std.proofs.Common.{◌≡◌}
-use Rattle.polcert_text.specs.Sink.{Takes}
 use Rattle.polcert_tables.specs.Contents.{meaning}
-use Rattle.polcert_format.specs.FullForm.{for_each}
 use Rattle.polcert_full_form.specs.Steps.Printing.{rewards_at}
+use Rattle.polcert_full_form.proofs.Printing.WrittenParts.{AreWritten}
 use Rattle.polcert_full_form.proofs.print_rewards.write_rewards.Given as goal
 
 abbrev pub invariant-loop-action : goal.invariant-loop-action
-invariant-loop-action g l = record {
-  took : Takes g.W.Sink.writes l.fn.out (for_each l.action (rewards_at (meaning l.model))) l.out;
-  same_count : g.W.Sink.failures l.out ≡ g.W.Sink.failures l.fn.out;
-}
+invariant-loop-action g l = AreWritten g.W.Sink.writes g.W.Sink.failures l.fn.out (rewards_at (meaning l.model)) l.action l.out

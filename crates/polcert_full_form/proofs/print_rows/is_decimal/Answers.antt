@@ -9,33 +9,28 @@ loop-step-init c = rw (at_start c.weights-weights.result) (record { within = ome
 
 pub returns-then-step-columns-ne0 : goal.returns-then-step-columns-ne0
 returns-then-step-columns-ne0 c =
-    let n = c.args.row.now.columns in
-    let w = row_weights c.args.row.now in
-    let next = (c.in-Some.ensures w n c.weights-weights.ensures).0 in
-    decimal_other n w (reached (Some c.weights-weights.result) c.loop-step.at) c.in-Some.step.column c.in-Some.step.weight next c.if-step-columns-ne0.true
+    let next = (c.in-Some.ensures _ _ c.weights-weights.ensures).0 in
+    decimal_other c.args.row.now.columns (row_weights c.args.row.now) (reached (Some c.weights-weights.result) c.loop-step.at) c.in-Some.step.column
+    c.in-Some.step.weight next c.if-step-columns-ne0.true
 
 pub loop-step-smaller : goal.loop-step-smaller
 loop-step-smaller c =
-    let n = c.args.row.now.columns in
-    let w = row_weights c.args.row.now in
-    let next = (c.in-Some.ensures w n c.weights-weights.ensures).0 in
-    let behind = (c.in-Some.ensures w n c.weights-weights.ensures).1 in
+    let next = (c.in-Some.ensures _ _ c.weights-weights.ensures).0 in
+    let behind = (c.in-Some.ensures _ _ c.weights-weights.ensures).1 in
     omega (arith, next.0, next.1, behind)
 
 pub loop-step-preserved : goal.loop-step-preserved
 loop-step-preserved c =
-    let n = c.args.row.now.columns in
-    let w = row_weights c.args.row.now in
-    let next = (c.in-Some.ensures w n c.weights-weights.ensures).0 in
-    let behind = (c.in-Some.ensures w n c.weights-weights.ensures).1 in
+    let next = (c.in-Some.ensures _ _ c.weights-weights.ensures).0 in
+    let behind = (c.in-Some.ensures _ _ c.weights-weights.ensures).1 in
     rw behind (record {
       within = omega (arith, next.1);
-      multiples = decimal_more n w (reached (Some c.weights-weights.result) c.loop-step.at) c.in-Some.step.column c.in-Some.step.weight next c.if-step-columns-ne0.false c.loop-step.invariant.multiples;
+      multiples = decimal_more c.args.row.now.columns (row_weights c.args.row.now) (reached (Some c.weights-weights.result) c.loop-step.at)
+          c.in-Some.step.column c.in-Some.step.weight next c.if-step-columns-ne0.false c.loop-step.invariant.multiples;
     })
 
 pub returns : goal.returns
 returns c =
-    let n = c.args.row.now.columns in
-    let w = row_weights c.args.row.now in
-    let end = c.in_default.ensures w n c.weights-weights.ensures in
-    decimal_end n w (reached (Some c.weights-weights.result) c.loop-step.at) c.loop-step.invariant.within end c.loop-step.invariant.multiples
+    let end = c.in_default.ensures _ _ c.weights-weights.ensures in
+    decimal_end c.args.row.now.columns (row_weights c.args.row.now) (reached (Some c.weights-weights.result) c.loop-step.at) c.loop-step.invariant.within end
+    c.loop-step.invariant.multiples

@@ -1,25 +1,15 @@
-use Rattle.std.proofs.Common.{◌∙◌, ℕ, List, refl, rules}
-use Rattle.polcert_text.specs.Sink.{nothing}
+use Rattle.std.proofs.Common.{rules}
 use Rattle.polcert_tables.specs.Contents.{meaning}
 use Rattle.polcert_cells.specs.Meaning.{states_of}
-use Rattle.polcert_full_form.specs.Steps.Printing.{row_at}
-use Rattle.polcert_full_form.proofs.Printing.WrittenParts.{parts_fail, one_more_part}
+use Rattle.polcert_full_form.proofs.Printing.WrittenParts.{no_turn, turn_written, turn_failed}
 use Rattle.polcert_full_form.proofs.print_rows.write_rows_at.Goals as goal
 
 pub loop-state-init : goal.loop-state-init
-loop-state-init g c = record { took = nothing; same_count = refl }
+loop-state-init g c = no_turn
 
 pub returns-in_err-write_row : goal.returns-in_err-write_row
 returns-in_err-write_row g c =
-    let part : ℕ → List ℕ = row_at c.args.model.now.draft c.args.table c.args.action in
-    let now = c.in_err-write_row.ensures in
-    parts_fail part c.loop-state.state (states_of (meaning c.args.model.now)) (search rules) _ (search rules) c.loop-state.invariant.took c.loop-state.invariant.same_count now.err now.count
+    turn_failed (states_of (meaning c.args.model.now)) c.loop-state.invariant c.in_err-write_row.ensures (search rules) (search rules)
 
 pub loop-state-preserved : goal.loop-state-preserved
-loop-state-preserved g c =
-    let part : ℕ → List ℕ = row_at c.args.model.now.draft c.args.table c.args.action in
-    let now = c.in_ok-write_row.ensures in
-    record {
-      took = one_more_part part c.loop-state.state c.loop-state.invariant.took now.ok;
-      same_count = now.same_count ∙ c.loop-state.invariant.same_count;
-    }
+loop-state-preserved g c = turn_written c.loop-state.invariant c.in_ok-write_row.ensures

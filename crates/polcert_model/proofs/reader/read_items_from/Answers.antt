@@ -19,17 +19,13 @@ loop-token-init g c =
 
 pub take-requires-clause-few : goal.take-requires-clause-few
 take-requires-clause-few g c =
-    let was = c.loop-token.invariant.seen in
-    let few = c.loop-token.invariant.few in
-    let within : c.loop-token.tokens.ahead.place ≤ text_limit = place_within _ _ _ _ _ c.loop-token.tokens c.loop-token.source was.1 in
-    omega (arith, few, within)
+    let within = place_within _ _ _ _ _ c.loop-token.tokens c.loop-token.source c.loop-token.invariant.seen.1 in
+    omega (arith, c.loop-token.invariant.few, within)
 
 pub finish-requires-clause-few : goal.finish-requires-clause-few
 finish-requires-clause-few g c =
-    let was = c.loop-token.invariant.seen in
-    let few = c.loop-token.invariant.few in
-    let within : c.loop-token.tokens.ahead.place ≤ text_limit = place_within _ _ _ _ _ c.loop-token.tokens c.loop-token.source was.1 in
-    omega (arith, few, within)
+    let within = place_within _ _ _ _ _ c.loop-token.tokens c.loop-token.source c.loop-token.invariant.seen.1 in
+    omega (arith, c.loop-token.invariant.few, within)
 
 pub take-requires-clause-text : goal.take-requires-clause-text
 take-requires-clause-text g c =

@@ -1,29 +1,15 @@
 use Rattle.std.proofs.lemmas.Result.{err_from_is_err_and}
 use Rattle.polcert_tables.specs.Contents.{meaning}
 use Rattle.polcert_format.specs.Text.{IsModelText}
-use Rattle.polcert_model.proofs.ModelStreams.{said_exactly, said_accepted, said_refused, said_placed}
+use Rattle.polcert_model.proofs.ModelStreams.{said_of}
 use Rattle.polcert_format.proofs.RefusalLaws.{no_model}
 use Rattle.polcert_model.proofs.reader.read_model.Goals as goal
 
-pub returns-clause-exactly : goal.returns-clause-exactly
-returns-clause-exactly c =
+pub returns : goal.returns
+returns c =
     let text = c.args.text.now in
-    said_exactly text (λ m. IsModelText text (meaning m)) c.model_of.result (c.model_of.ensures text c.in_ok-known.ensures.read)
-
-pub returns-clause-accepted : goal.returns-clause-accepted
-returns-clause-accepted c =
-    let text = c.args.text.now in
-    said_accepted text (λ m. IsModelText text (meaning m)) c.model_of.result (c.model_of.ensures text c.in_ok-known.ensures.read)
-
-pub returns-clause-refused : goal.returns-clause-refused
-returns-clause-refused c =
-    let text = c.args.text.now in
-    said_refused text (λ m. IsModelText text (meaning m)) c.model_of.result (c.model_of.ensures text c.in_ok-known.ensures.read)
-
-pub returns-clause-placed : goal.returns-clause-placed
-returns-clause-placed c =
-    let text = c.args.text.now in
-    said_placed text (λ m. IsModelText text (meaning m)) c.model_of.result (c.model_of.ensures text c.in_ok-known.ensures.read)
+    let said = said_of text (λ m. IsModelText text (meaning m)) c.model_of.result (c.model_of.ensures text c.in_ok-known.ensures.read) in
+    record { exactly = said.0; accepted = said.1; refused = said.2; placed = said.3 }
 
 pub returns-in_err-known-clause-refused : goal.returns-in_err-known-clause-refused
 returns-in_err-known-clause-refused c =
