@@ -1,8 +1,7 @@
 -- Entries as they are kept: what stands in lists that go on stays, and an entry that is put behind them stands there.
-use Rattle.std.proofs.Common.{◌≡◌, ◌∙◌, ◌+◌, ◌-◌, List, [], ◌∷◌, ◌++◌, length, take, drop, map, All, refl, sym, ap, subst, arith, length-append}
-use Rattle.std.proofs.lemmas.List.{append-nil, drop-append-le, take-append-le, length-drop, take_all, map-append}
+use Rattle.std.proofs.Common.{◌≡◌, ◌∙◌, ◌+◌, ◌-◌, List, [], ◌∷◌, ◌++◌, length, take, drop, map, All, refl, ap, arith, length-append}
+use Rattle.std.proofs.lemmas.List.{drop-append-le, take-append-le, length-drop, map-append}
 use Rattle.std.proofs.lemmas.List.Elements.{All-head, All-tail, All-cons, All-nil, All-append, All-weaker}
-use Rattle.std.proofs.Math.Seq.{drop-append_seam}
 use Rattle.polcert_cells.specs.declared.entries.Filling.{Filling}
 use Rattle.polcert_cells.specs.declared.entries.Filling.TheVariants.{Probabilities, Rewards, Uniform, Identity}
 use Rattle.polcert_cells.specs.declared.entries.Head.{Head}
@@ -13,12 +12,6 @@ use Rattle.polcert_cells.specs.declared.entry.Entry.{Entry}
 use Rattle.polcert_cells.specs.Steps.EntryLists.{part, places_of, body_in, entry_in, LiesIn, HasNumbers, IsWithin, GoesOn, GoOn}
 
 -- ---- a part of a list
-pub goes_nowhere : {X : Type 0} (xs : List X) → GoesOn xs xs
-goes_nowhere xs = record { more = []; whole = sym (append-nil xs) }
-
-pub goes_along : {X : Type 0} (xs ys : List X) → xs ≡ ys → GoesOn xs ys
-goes_along xs ys e = record { more = []; whole = sym e ∙ sym (append-nil xs) }
-
 lies_stays : {X : Type 0} (xs ys : List X) (span : Span) → GoesOn xs ys → LiesIn (length xs) span → LiesIn (length ys) span
 lies_stays xs ys span g l =
     let long : length ys ≡ length xs + length g.more = ap length g.whole ∙ length-append xs g.more in
@@ -33,19 +26,6 @@ part_stays xs ys span g l =
     ap (part span) g.whole
     ∙ ap (take (span.end - span.start)) (drop-append-le span.start xs g.more (omega (arith, order, room)))
     ∙ take-append-le (span.end - span.start) (drop span.start xs) g.more (omega (arith, order, room, size))
-
-pub part_put : {X : Type 0} (xs more ys : List X) (span : Span) → ys ≡ xs ++ more → span.start ≡ length xs → span.end ≡ length xs + length more → part span ys ≡ more
-part_put xs more ys span whole start end =
-    let size : span.end - span.start ≡ length more = omega (arith, start, end) in
-    ap (part span) whole
-    ∙ ap (λ n. take (span.end - span.start) (drop n (xs ++ more))) start
-    ∙ ap (take (span.end - span.start)) (drop-append_seam xs more)
-    ∙ take_all (span.end - span.start) more (omega (arith, size))
-
-pub lies_put : {X : Type 0} (xs more ys : List X) (span : Span) → ys ≡ xs ++ more → span.start ≡ length xs → span.end ≡ length xs + length more → LiesIn (length ys) span
-lies_put xs more ys span whole start end =
-    let long : length ys ≡ length xs + length more = ap length whole ∙ length-append xs more in
-    record { order = omega (arith, start, end); room = omega (arith, long, end) }
 
 -- ---- an entry
 numbers_stay : (p q : Pools) (f : Filling) (n : Span) → GoOn p q → HasNumbers p f n → HasNumbers q f n
@@ -71,10 +51,6 @@ entry_stays p q g h w =
     let places = part_stays p.places.items q.places.items (places_of h) g.places w.has_places in
     let body = body_stays p q h.filling h.numbers g w.has_numbers in
     λ i. record { table = h.table; places = places i; body = body i }
-
--- what is put behind the places, and then behind the numbers
-pub put_within : (p q r : Pools) (h : Head) → LiesIn (length q.places.items) (places_of h) → r.places ≡ q.places → HasNumbers r h.filling h.numbers → IsWithin r h
-put_within p q r h places same numbers = record { has_places = subst (λ v. LiesIn (length v.items) (places_of h)) (sym same) places; has_numbers = numbers }
 
 -- ---- all entries
 pub all_stay : (p q : Pools) (hs : List Head) → GoOn p q → All (IsWithin p) hs → All (IsWithin q) hs

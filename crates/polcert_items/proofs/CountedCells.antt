@@ -173,21 +173,15 @@ is_identity Uniform = inr (λ e. cc)
 is_identity Identity = inl refl
 
 -- it leaves a square open, of T
-not_twice : (mdp : Bool) (table : Table) (body : Body) → list_any (λ n. n == 2) (forms mdp table body) ≡ true → body ≡ Identity → ⊥
-not_twice mdp table body e i = none table (subst (λ b. list_any (λ n. n == 2) (forms mdp table b) ≡ true) i e)
+no_square : (mdp : Bool) (n : ℕ) (table : Table) (body : Body) → (n ≡ 2) ⊎ (n ≡ 3) → list_any (λ k. k == n) (forms mdp table body) ≡ true → body ≡ Identity → ⊥
+no_square mdp n table body places e i = none table places (subst (λ b. list_any (λ k. k == n) (forms mdp table b) ≡ true) i e)
   where
-    none : (t : Table) → list_any (λ n. n == 2) (forms mdp t Identity) ≡ true → ⊥
-    none Transition f = cc
-    none Observation f = cc
-    none Reward f = cc
+    other : (n ≡ 2) ⊎ (n ≡ 3) → list_any (λ k. k == n) (1 ∷ []) ≡ true → ⊥
+    other p f = grind (arith, nat_tests)
 
-not_thrice : (mdp : Bool) (table : Table) (body : Body) → list_any (λ n. n == 3) (forms mdp table body) ≡ true → body ≡ Identity → ⊥
-not_thrice mdp table body e i = none table (subst (λ b. list_any (λ n. n == 3) (forms mdp table b) ≡ true) i e)
-  where
-    none : (t : Table) → list_any (λ n. n == 3) (forms mdp t Identity) ≡ true → ⊥
-    none Transition f = cc
-    none Observation f = cc
-    none Reward f = cc
+    none : (t : Table) → (n ≡ 2) ⊎ (n ≡ 3) → list_any (λ k. k == n) (forms mdp t Identity) ≡ true → ⊥
+    none Transition p f = other p f
+    none _ p f = cc
 
 not_observed : (mdp : Bool) (body : Body) → list_any (λ n. n == 1) (forms mdp Observation body) ≡ true → body ≡ Identity → ⊥
 not_observed mdp body e i = none (subst (λ b. list_any (λ n. n == 1) (forms mdp Observation b) ≡ true) i e)
@@ -196,19 +190,10 @@ not_observed mdp body e i = none (subst (λ b. list_any (λ n. n == 1) (forms md
     none f = cc
 
 pub nothing_written : (mdp : Bool) (table : Table) (body : Body) → list_any (λ n. n == 0) (forms mdp table body) ≡ true → ⊥
-nothing_written mdp Transition (Probabilities ps) e = cc
-nothing_written mdp Transition (Rewards hs) e = cc
-nothing_written mdp Transition Uniform e = cc
-nothing_written mdp Transition Identity e = cc
-nothing_written mdp Observation (Probabilities ps) e = cc
-nothing_written mdp Observation (Rewards hs) e = cc
-nothing_written mdp Observation Uniform e = cc
-nothing_written mdp Observation Identity e = cc
-nothing_written mdp Reward (Probabilities ps) e = cc
 nothing_written true Reward (Rewards hs) e = cc
 nothing_written false Reward (Rewards hs) e = cc
-nothing_written mdp Reward Uniform e = cc
-nothing_written mdp Reward Identity e = cc
+nothing_written mdp _ (Rewards hs) e = cc
+nothing_written mdp _ _ e = cc
 
 -- the three indices of a table of rows
 module _ (a s c : Elements) (n : ℕ) (above : 0 < n) (body : Body) where
@@ -259,9 +244,9 @@ in_rows mdp table a s c n (p ∷ []) body l square other form i fills = one_plac
         (λ j. count_cells (s ∷ of_transitions table refl is j ∷ []) (is_above n (is j) (s ∷ of_transitions table refl is j ∷ [])))
         ∙ on_the_diagonal s n l ∙ sym (ap (λ b. weighty b (count_of s) (count_of s * count_of c)) is)
 in_rows mdp table a s c n (p ∷ q ∷ []) body l square other form i fills =
-    two_places a s c n l body p q i (by_body n body (c ∷ []) (count_of c) l (not_twice mdp table body form) (sym (mul-one (count_of c))) fills (count_of s))
+    two_places a s c n l body p q i (by_body n body (c ∷ []) (count_of c) l (no_square mdp 2 table body (inl refl) form) (sym (mul-one (count_of c))) fills (count_of s))
 in_rows mdp table a s c n (p ∷ q ∷ r ∷ []) body l square other form i fills =
-    three_places a s c n l body p q r i (by_body n body [] 1 l (not_thrice mdp table body form) refl fills (count_of s))
+    three_places a s c n l body p q r i (by_body n body [] 1 l (no_square mdp 3 table body (inr refl) form) refl fills (count_of s))
 in_rows mdp table a s c n (p ∷ q ∷ r ∷ x ∷ ps) body l square other form i fills = absurd i.1.1.1
 
 pub covered_transitions : (p : Preamble) (e : Entry) → e.table ≡ Transition → IsSoundEntry p e → 1 ≤ count_of p.states

@@ -95,17 +95,6 @@ in_table mdp table a s c places body ls lc form i fills =
     weighty_few body (count_of s) (count_of c) _ _ (open_few (count_of s) (count_of c) (length places) ls lc) (some_cells (count_of s) (count_of c) ls lc).1
     (numbers_open a s c places i (some_written mdp table body places form)) fills
 
-pub transitions_few : (p : Preamble) (es : List Entry) (c : Covering) (s : Sizes) (e : Entry) → IsNext p es c s e → e.table ≡ Transition
-    → weighty e.body s.states (open_cells s.states s.states (length e.places)) ≤ s.states * s.states
-transitions_few p es c s e next is =
-    let sizes = next.0 in
-    let sound = next.2 in
-    let some : 1 ≤ count_of p.states = subst (λ n. 1 ≤ n) sizes.states sizes.few_states.0 in
-    subst (λ n. weighty e.body n (open_cells n n (length e.places)) ≤ n * n) (sym sizes.states)
-    (in_table (is_mdp p) Transition p.actions p.states p.states e.places e.body some some
-    (subst (λ t. list_any (λ m. m == length e.places) (forms (is_mdp p) t e.body) ≡ true) is sound.form) (subst (λ t. ArePlacesIn (dimensions p t) e.places) is sound.places)
-    (subst (λ t. Fills (cells_in (drop (length e.places) (dimensions p t))) e.body) is sound.body))
-
 pub observations_few : (p : Preamble) (es : List Entry) (c : Covering) (s : Sizes) (e : Entry) → IsNext p es c s e → e.table ≡ Observation
     → weighty e.body s.states (open_cells s.states s.observed (length e.places)) ≤ s.states * s.observed
 observations_few p es c s e next is =
@@ -139,9 +128,9 @@ no_push [] e same = cc
 no_push (x ∷ es) e same = cc
 
 -- by the tests: whether the table is large, and whether there are too many
-outcome : (P : Option ℕ → Type 0) (cells most count more : ℕ) → (most_cells < cells → most < count + more → P None)
-    → (most_cells < cells → count + more ≤ most → P (Some (count + more))) → ((most_cells < cells → ⊥) → P (Some count)) → P (counted cells most count more)
-outcome P cells most count more over room small = at (nat_lt most_cells cells) (nat_lt most (count + more)) refl refl
+outcome : (P : Option ℕ → Type 0) (cells most count more : ℕ) → count ≤ most → (most_cells < cells → most < count + more → P None)
+    → ((n : ℕ) → (most_cells < cells → n ≡ count + more) → n ≤ most → P (Some n)) → P (counted cells most count more)
+outcome P cells most count more few over room = at (nat_lt most_cells cells) (nat_lt most (count + more)) refl refl
   where
     less : (m n : ℕ) → nat_lt m n ≡ true → m < n
     less m n e = grind (arith, nat_tests)
@@ -151,8 +140,8 @@ outcome P cells most count more over room small = at (nat_lt most_cells cells) (
 
     at : (large many : Bool) → nat_lt most_cells cells ≡ large → nat_lt most (count + more) ≡ many → P (cond large (cond many None (Some (count + more))) (Some count))
     at true true e f = over (less _ _ e) (less _ _ f)
-    at true false e f = room (less _ _ e) (not_less _ _ f)
-    at false many e f = small (λ l. let le = not_less _ _ e in omega (arith, l, le))
+    at true false e f = room (count + more) (λ l. refl) (not_less _ _ f)
+    at false many e f = room count (λ l. let le = not_less _ _ e in absurd (omega (arith, l, le))) few
 
 -- one of the three counts with the entry
 abbrev pub IsWith : (p : Preamble) (es : List Entry) (e : Entry) → (ℕ → Covering) → Option ℕ → Type 0
@@ -168,22 +157,13 @@ large_cells a s e z = mul_assoc (a * s) e z ∙ mul_assoc a s (e * z) ∙ ap (λ
 pub transitions_with : (p : Preamble) (es : List Entry) (c : Covering) (s : Sizes) (e : Entry) → IsNext p es c s e → e.table ≡ Transition
     → IsWith p es e (λ n. record c { transitions = n }) (counted (s.actions * s.states * s.states) most_cells c.transitions (covered_by s.actions s.states s.states e.places e.body))
 transitions_with p es c s e next is =
-    outcome (IsWith p es e (λ n. record c { transitions = n })) _ most_cells c.transitions _
+    outcome (IsWith p es e (λ n. record c { transitions = n })) _ most_cells c.transitions _ old.few_transitions
     (λ large over few. let most = few.transitions (is_large large) in let whole = all large in omega (arith, over, most, whole))
-    (λ large room. record {
-      transitions = λ l. sym (all large);
+    (λ n is_counted few. record {
+      transitions = λ l. let large = subst (λ m. most_cells < m) (sym cells_are) l in is_counted large ∙ sym (all large);
       observations = λ l. old.observations l ∙ sym (unlike p Observation es e (ap (λ t. is_table t Observation) is));
       rewards = λ l. old.rewards l ∙ sym (not_paid es e (ap (λ t. is_table t Reward) is));
-      few_transitions = room;
-      few_observations = old.few_observations;
-      few_rewards = old.few_rewards;
-      nothing = λ none. absurd (no_push es e none);
-    })
-    (λ small. record {
-      transitions = λ l. absurd (small (subst (λ n. most_cells < n) (sym cells_are) l));
-      observations = λ l. old.observations l ∙ sym (unlike p Observation es e (ap (λ t. is_table t Observation) is));
-      rewards = λ l. old.rewards l ∙ sym (not_paid es e (ap (λ t. is_table t Reward) is));
-      few_transitions = old.few_transitions;
+      few_transitions = few;
       few_observations = old.few_observations;
       few_rewards = old.few_rewards;
       nothing = λ none. absurd (no_push es e none);
@@ -209,23 +189,14 @@ transitions_with p es c s e next is =
 pub observations_with : (p : Preamble) (es : List Entry) (c : Covering) (s : Sizes) (e : Entry) → IsNext p es c s e → e.table ≡ Observation
     → IsWith p es e (λ n. record c { observations = n }) (counted (s.actions * s.states * s.observed) most_cells c.observations (covered_by s.actions s.states s.observed e.places e.body))
 observations_with p es c s e next is =
-    outcome (IsWith p es e (λ n. record c { observations = n })) _ most_cells c.observations _
+    outcome (IsWith p es e (λ n. record c { observations = n })) _ most_cells c.observations _ old.few_observations
     (λ large over few. let most = few.observations (is_large large) in let whole = all large in omega (arith, over, most, whole))
-    (λ large room. record {
+    (λ n is_counted few. record {
       transitions = λ l. old.transitions l ∙ sym (unlike p Transition es e (ap (λ t. is_table t Transition) is));
-      observations = λ l. sym (all large);
+      observations = λ l. let large = subst (λ m. most_cells < m) (sym cells_are) l in is_counted large ∙ sym (all large);
       rewards = λ l. old.rewards l ∙ sym (not_paid es e (ap (λ t. is_table t Reward) is));
       few_transitions = old.few_transitions;
-      few_observations = room;
-      few_rewards = old.few_rewards;
-      nothing = λ none. absurd (no_push es e none);
-    })
-    (λ small. record {
-      transitions = λ l. old.transitions l ∙ sym (unlike p Transition es e (ap (λ t. is_table t Transition) is));
-      observations = λ l. absurd (small (subst (λ n. most_cells < n) (sym cells_are) l));
-      rewards = λ l. old.rewards l ∙ sym (not_paid es e (ap (λ t. is_table t Reward) is));
-      few_transitions = old.few_transitions;
-      few_observations = old.few_observations;
+      few_observations = few;
       few_rewards = old.few_rewards;
       nothing = λ none. absurd (no_push es e none);
     })
@@ -250,24 +221,15 @@ observations_with p es c s e next is =
 pub rewards_with : (p : Preamble) (es : List Entry) (c : Covering) (s : Sizes) (e : Entry) → IsNext p es c s e → e.table ≡ Reward
     → IsWith p es e (λ n. record c { rewards = n }) (counted (s.actions * s.states * s.states * s.rewarded) most_reward_entries c.rewards 1)
 rewards_with p es c s e next is =
-    outcome (IsWith p es e (λ n. record c { rewards = n })) _ most_reward_entries c.rewards 1
+    outcome (IsWith p es e (λ n. record c { rewards = n })) _ most_reward_entries c.rewards 1 old.few_rewards
     (λ large over few. let most = few.rewards (is_large large) in let whole = all large in omega (arith, over, most, whole))
-    (λ large room. record {
+    (λ n is_counted few. record {
       transitions = λ l. old.transitions l ∙ sym (unlike p Transition es e (ap (λ t. is_table t Transition) is));
       observations = λ l. old.observations l ∙ sym (unlike p Observation es e (ap (λ t. is_table t Observation) is));
-      rewards = λ l. sym (all large);
+      rewards = λ l. let large = subst (λ m. most_cells < m) (sym cells_are) l in is_counted large ∙ sym (all large);
       few_transitions = old.few_transitions;
       few_observations = old.few_observations;
-      few_rewards = room;
-      nothing = λ none. absurd (no_push es e none);
-    })
-    (λ small. record {
-      transitions = λ l. old.transitions l ∙ sym (unlike p Transition es e (ap (λ t. is_table t Transition) is));
-      observations = λ l. old.observations l ∙ sym (unlike p Observation es e (ap (λ t. is_table t Observation) is));
-      rewards = λ l. absurd (small (subst (λ n. most_cells < n) (sym cells_are) l));
-      few_transitions = old.few_transitions;
-      few_observations = old.few_observations;
-      few_rewards = old.few_rewards;
+      few_rewards = few;
       nothing = λ none. absurd (no_push es e none);
     })
   where

@@ -1,5 +1,5 @@
 -- The first number of a start item: what is due of it behind the body that was taken is just what its reader has kept.
-use Rattle.std.proofs.Common.{◌≡◌, ◌∙◌, ℕ, ◌+◌, ◌<◌, ◌++◌, ◌⊎◌, inl, inr, Bool, false, true, Option, Some, None, Result, Ok, Err, List, [], ◌∷◌, length, ℤ, refl, sym, ap, subst, arith}
+use Rattle.std.proofs.Common.{◌≡◌, ◌∙◌, ℕ, ◌++◌, ◌⊎◌, inl, inr, Bool, false, true, Option, Some, None, Result, Ok, Err, List, [], ◌∷◌, ℤ, refl, sym, ap, subst}
 use Rattle.std.proofs.lemmas.List.{append-nil}
 use Rattle.polcert_text.specs.Cut.{Lexeme}
 use Rattle.polcert_text.specs.declared.lexeme.TokenKind.{TokenKind}
@@ -57,21 +57,9 @@ due_is_late : (count : ℕ) (body more : List Lexeme) (l : Lexeme) (ends : Bool)
     → IsLate count (body ++ l ∷ more) ends kind place
 due_is_late count body more l ends (reader.Number f) kind place s d = out_of count body more l ends f.value kind place f.place s.body_is.number d
 due_is_late count body more l ends (reader.Digits x) kind place s d = due_value count body more l ends x kind place s.body_is x.value refl d
-due_is_late count body more l ends reader.Form kind place s d = absurd d
-due_is_late count body more l ends (reader.Colon c) kind place s d = absurd d
-due_is_late count body more l ends (reader.List c) kind place s d = absurd d
-due_is_late count body more l ends reader.Body kind place s d = absurd d
-due_is_late count body more l ends reader.Every kind place s d = absurd d
-due_is_late count body more l ends (reader.Only n) kind place s d = absurd d
-due_is_late count body more l ends (reader.Sign x) kind place s d = absurd d
-due_is_late count body more l ends (reader.Probabilities n) kind place s d = absurd d
+due_is_late count body more l ends _ kind place s d = absurd d
 
 -- ---- why a token is refused
-
-begun_length : (body : List Lexeme) (place : ℕ) (Is : Bool → Lexeme → Type 0) (ls : List Lexeme) → BeginsWithNumber body place Is ls → 1 + length ls < length body
-begun_length body place Is ls (begins.unsigned c l whole kind p so) = subst (λ (b : List Lexeme). 1 + length ls < length b) (sym whole) (omega (arith))
-begun_length body place Is ls (begins.plus c s l whole kind is p so) = subst (λ (b : List Lexeme). 1 + length ls < length b) (sym whole) (omega (arith))
-begun_length body place Is ls (begins.minus c s l whole kind is p so) = subst (λ (b : List Lexeme). 1 + length ls < length b) (sym whole) (omega (arith))
 
 none≢some : {A : Type 0} {x : A} → None ≡ Some x → ⊥
 none≢some e = cc
@@ -83,15 +71,7 @@ held_due (reader.Digits d) l x e = of d.value e
     of : (v : Result ℤ NumberFault) → pending_of v d.place ≡ Some x → IsDueValue v d.place l x.kind x.place
     of (Ok h) e = absurd (none≢some e)
     of (Err f) e = subst (λ (r : Refusal). (r.kind ≡ Number f) × (r.place ≡ d.place)) (one_some refl e) (refl, refl)
-held_due reader.Form l x e = absurd (none≢some e)
-held_due (reader.Colon c) l x e = absurd (none≢some e)
-held_due (reader.List c) l x e = absurd (none≢some e)
-held_due reader.Body l x e = absurd (none≢some e)
-held_due reader.Every l x e = absurd (none≢some e)
-held_due (reader.Only s) l x e = absurd (none≢some e)
-held_due (reader.Sign s) l x e = absurd (none≢some e)
-held_due (reader.Number f) l x e = absurd (none≢some e)
-held_due (reader.Probabilities n) l x e = absurd (none≢some e)
+held_due _ l x e = absurd (none≢some e)
 
 pub stops_start : (count : ℕ) (body : List Lexeme) (r : StartReader) (w : Wanted) (l : Lexeme) (x : Refusal) → IsStartSeen count body r → ((y : Refusal) → IsDue r l y.kind y.place → x ≡ y)
     → IsStop (IsDue r l) (start_sign r) w l x.kind x.place → StopsStart (pending r) count body w l x.kind x.place
@@ -387,10 +367,6 @@ late_at_end count body r e late s is ends = of r e (late_whole count body true r
     of (reader.Digits d) (ends_of.At x) w told = at d x w told
     of (reader.Digits d) (ends_of.AtEnd kind) w told = absurd told
     of (reader.Digits d) ends_of.Memory w told = tt
-    of (reader.Number f) e w told = absurd w
-    of reader.Form e w told = absurd w
-    of reader.Body e w told = absurd w
-    of (reader.Sign x) e w told = absurd w
     of _ e w told = absurd w
 
 -- and so is the refusal of a start item before its end
@@ -399,15 +375,7 @@ end_is_late count body (reader.Digits d) x s told =
     let kept : BeginsWithDigits count (body ++ []) d.place (IsNoState count) [] =
     digits_more count body d.place (IsDigitsKept count d) (IsNoState count) [] [] (λ l k. subst (λ o. IsState count o l) told.0 k.state) s.body_is in
     no_state (subst (λ p. BeginsWithDigits count body p (IsNoState count) []) (sym told.2) (subst (λ (b : List Lexeme). BeginsWithDigits count b d.place (IsNoState count) []) (append-nil body) kept)) refl told.1
-end_is_late count body reader.Form x s told = absurd told
-end_is_late count body (reader.Colon c) x s told = absurd told
-end_is_late count body (reader.List c) x s told = absurd told
-end_is_late count body reader.Body x s told = absurd told
-end_is_late count body reader.Every x s told = absurd told
-end_is_late count body (reader.Only n) x s told = absurd told
-end_is_late count body (reader.Sign n) x s told = absurd told
-end_is_late count body (reader.Number n) x s told = absurd told
-end_is_late count body (reader.Probabilities n) x s told = absurd told
+end_is_late count body _ x s told = absurd told
 
 -- what is due where the tokens end in a fault is the number without a value
 pub late_at_fault : (count : ℕ) (body : List Lexeme) (r : StartReader) (kind : ItemFault) (place : ℕ) → IsStartSeen count body r → IsLate count body false kind place
@@ -420,14 +388,7 @@ late_at_fault count body r kind place s is = of r (late_whole count body false r
 
     of : (x : StartReader) → DueBehind count x [] false kind place → pending x ≡ Some (record { kind = kind; place = place })
     of (reader.Digits d) w = at d w
-    of (reader.Number f) w = absurd w
-    of reader.Form w = absurd w
-    of reader.Body w = absurd w
-    of (reader.Sign x) w = absurd w
     of _ w = absurd w
-
-nothing_pending : (x : Refusal) → None ≡ Some x → ⊥
-nothing_pending x e = cc
 
 pub pending_is_late : (count : ℕ) (body : List Lexeme) (r : StartReader) (x : Refusal) → IsStartSeen count body r → pending r ≡ Some x → IsLate count body false x.kind x.place
 pending_is_late count body (reader.Digits d) x s e = of d.value refl e
@@ -436,17 +397,9 @@ pending_is_late count body (reader.Digits d) x s e = of d.value refl e
     some_once q = cc
 
     of : (v : Result ℤ NumberFault) → d.value ≡ v → pending_of v d.place ≡ Some x → IsLate count body false x.kind x.place
-    of (Ok h) is q = absurd (nothing_pending x q)
+    of (Ok h) is q = absurd (none≢some q)
     of (Err fault) is q =
         let same = some_once q in
         subst (λ (b : List Lexeme). IsLate count b false x.kind x.place) (append-nil body)
         (without_value count body [] false d fault x.kind x.place s.body_is is (λ none. refl) (sym (ap (λ (y : Refusal). y.kind) same)) (sym (ap (λ (y : Refusal). y.place) same)))
-pending_is_late count body reader.Form x s e = absurd (nothing_pending x e)
-pending_is_late count body (reader.Colon c) x s e = absurd (nothing_pending x e)
-pending_is_late count body (reader.List c) x s e = absurd (nothing_pending x e)
-pending_is_late count body reader.Body x s e = absurd (nothing_pending x e)
-pending_is_late count body reader.Every x s e = absurd (nothing_pending x e)
-pending_is_late count body (reader.Only n) x s e = absurd (nothing_pending x e)
-pending_is_late count body (reader.Sign n) x s e = absurd (nothing_pending x e)
-pending_is_late count body (reader.Number n) x s e = absurd (nothing_pending x e)
-pending_is_late count body (reader.Probabilities n) x s e = absurd (nothing_pending x e)
+pending_is_late count body _ x s e = absurd (none≢some e)

@@ -4,7 +4,7 @@ use Rattle.polcert_text.specs.Cut.{Lexeme}
 use Rattle.polcert_cells.specs.declared.elements.Elements.{Elements}
 use Rattle.polcert_cells.specs.declared.shares.Shares.{Shares}
 use Rattle.polcert_cells.specs.declared.words.Topic.{Topic}
-use Rattle.polcert_cells.specs.declared.words.Topic.TheVariants.{Discount, Values, States, Actions, Observations, Start, Cells}
+use Rattle.polcert_cells.specs.declared.words.Topic.TheVariants.{Start}
 use Rattle.polcert_cells.specs.Numbers.{one}
 use Rattle.polcert_cells.specs.Start.{IsStartBody, IsStart, plain, include, exclude}
 use Rattle.polcert_cells.specs.Start as starts
@@ -20,12 +20,7 @@ use Rattle.polcert_items.proofs.StartNumbers.{small_ones}
 
 pub is_start : (t : Topic) → (t ≡ Start) ⊎ (t ≡ Start → ⊥)
 is_start Start = inl refl
-is_start Discount = inr (λ e. cc)
-is_start Values = inr (λ e. cc)
-is_start States = inr (λ e. cc)
-is_start Actions = inr (λ e. cc)
-is_start Observations = inr (λ e. cc)
-is_start (Cells table) = inr (λ e. cc)
+is_start _ = inr (λ e. cc)
 
 -- ---- what is right has the form
 
@@ -44,32 +39,17 @@ start_form states ls v (exclude ms w d z p) = shapes.listed ms (inr w) d z
 -- ---- of an item that is no start item
 
 pub right_forms : (k : Known) (item : ItemReader) (ls : List Lexeme) (next : Known) → (topic_in item ≡ Start → ⊥) → ItemGoes k item ls next → ItemForms k item ls tt
-right_forms k (items.Discount r) ls next other g = (next, g)
-right_forms k (items.Values r) ls next other g = (next, g)
-right_forms k (items.States r) ls next other g = (next, g)
-right_forms k (items.Actions r) ls next other g = (next, g)
-right_forms k (items.Observations r) ls next other g = (next, g)
 right_forms k (items.Start r) ls next other g = absurd (other refl)
-right_forms k (items.Entry r) ls next other g = (next, g)
+right_forms k _ ls next other g = (next, g)
 
 pub forms_right : (k : Known) (item : ItemReader) (ls : List Lexeme) → (topic_in item ≡ Start → ⊥) → ItemForms k item ls tt → (next : Known) × ItemGoes k item ls next
-forms_right k (items.Discount r) ls other g = g
-forms_right k (items.Values r) ls other g = g
-forms_right k (items.States r) ls other g = g
-forms_right k (items.Actions r) ls other g = g
-forms_right k (items.Observations r) ls other g = g
 forms_right k (items.Start r) ls other g = absurd (other refl)
-forms_right k (items.Entry r) ls other g = g
+forms_right k _ ls other g = g
 
 -- no refusal is held back
 pub nothing_pending : (item : ItemReader) → (topic_in item ≡ Start → ⊥) → pending_in item ≡ None
-nothing_pending (items.Discount r) other = refl
-nothing_pending (items.Values r) other = refl
-nothing_pending (items.States r) other = refl
-nothing_pending (items.Actions r) other = refl
-nothing_pending (items.Observations r) other = refl
 nothing_pending (items.Start r) other = absurd (other refl)
-nothing_pending (items.Entry r) other = refl
+nothing_pending _ other = refl
 
 if_start : (t : Topic) (P : Type 0) → t ≡ Start → IfStart t P → P
 if_start t P e h = subst (λ u. IfStart u P) e h

@@ -1,12 +1,11 @@
 -- An item's reader, token by token: what it keeps of the body, and why a token is refused.
-use Rattle.std.proofs.Common.{◌≡◌, ◌∙◌, ℕ, ◌⊎◌, inl, inr, Bool, true, false, Option, Some, None, List, [], ◌∷◌, ◌++◌, Result, Ok, Err, OnOk, IfErr, unwrap_or, refl, sym, ap, subst}
+use Rattle.std.proofs.Common.{◌≡◌, ◌∙◌, ℕ, ◌⊎◌, inl, inr, Bool, true, false, Some, None, List, [], ◌∷◌, ◌++◌, Result, Ok, Err, OnOk, IfErr, unwrap_or, refl, sym, ap, subst}
 use Rattle.polcert_text.specs.Cut.{Lexeme}
 use Rattle.polcert_items.specs.declared.elements_reader.ElementsReader.{ElementsReader}
 use Rattle.polcert_format.specs.declared.fault.ItemFault.{ItemFault}
 use Rattle.polcert_format.specs.declared.fault.ItemFault.TheVariants.{BadShape, BadCount, DuplicateName, Reset, WrongNumberCount, StartSum, StartEmpty}
 use Rattle.polcert_items.specs.declared.item.ItemReader.{ItemReader}
 use Rattle.polcert_items.specs.declared.item.ItemReader.TheVariants as items
-use Rattle.polcert_items.specs.declared.signed_number.Sign.{Sign}
 use Rattle.polcert_items.specs.declared.stop.ItemEnd.{ItemEnd}
 use Rattle.polcert_items.specs.declared.stop.ItemEnd.TheVariants as ends
 use Rattle.polcert_items.specs.declared.start_reader.StartReader.{StartReader}
@@ -28,22 +27,15 @@ use Rattle.polcert_items.specs.Steps.Lines.{Takes, CannotTake, CannotEnd}
 use Rattle.polcert_format.specs.KnownPreamble.{preamble_in}
 use Rattle.polcert_items.specs.Steps.Entries.{IfRefused}
 use Rattle.polcert_format.specs.Reasons.{is_sign, ends_in_sign, IsOfElements}
-use Rattle.polcert_items.specs.Steps.Numbers.{SignIs, SignEnds}
 use Rattle.polcert_items.specs.Steps.Elements.{ElementsReason, AreElementsSeen}
 use Rattle.polcert_items.specs.Steps.Start.{StartGoes, StartGives, IfNotMemory, start_sign, pending, IsStartSeen, IsStartReason, IsStartEndReason, IsStop, IsDue, IsHeld, IsEndDue, IsLateEnd, StopsStart}
 use Rattle.polcert_items.specs.Steps.Items.{ItemGoes, ItemForms, IsItemWithin, IsItemFed, RefusesInItem, IsSeen, topic_in, pending_in, IsItemReason, of_token, of_start, IsItemEndReason}
 use Rattle.polcert_items.proofs.ElementLaws.{repeated_name}
+use Rattle.polcert_items.proofs.StartSeen.{last_sign}
+pub use Rattle.polcert_items.proofs.StartSeen.{sign_ends}
+use Rattle.polcert_items.specs.Steps.Feeding.{IsStartFed, RefusesInStart}
 
 -- ---- what is seen of the body
-
-last_sign : (body : List Lexeme) (l : Lexeme) → ends_in_sign (body ++ l ∷ []) ≡ is_sign l.kind
-last_sign [] l = refl
-last_sign (x ∷ []) l = refl
-last_sign (x ∷ y ∷ ys) l = last_sign (y ∷ ys) l
-
-pub sign_ends : (sign : Option Sign) (body : List Lexeme) (l : Lexeme) → SignIs sign l → SignEnds sign (body ++ l ∷ [])
-sign_ends None body l s = last_sign body l ∙ s
-sign_ends (Some sign) body l s = (body, (l, (refl, s)))
 
 pub elements_seen : {T E : Type 0} (result : Result T E) (body : List Lexeme) (l : Lexeme) (new : ElementsReader) → OnOk result (is_sign l.kind ≡ false)
     → OnOk result (AreElementsSeen (body ++ l ∷ []) new) → OnOk result ((ends_in_sign (body ++ l ∷ []) ≡ false) × AreElementsSeen (body ++ l ∷ []) new)
@@ -79,21 +71,18 @@ start_reason item r body l kind place e m = subst (λ i. IsItemReason i body l k
 known_states : (k : Known) (states : Elements) → k.states ≡ Some states → (preamble_in k).states ≡ states
 known_states k states e = ap (λ o. unwrap_or o (Count 0)) e
 
-pub start_takes : (k : Known) (states : Elements) (item : ItemReader) (old new : StartReader) (l : Lexeme) → k.states ≡ Some states → item ≡ items.Start old → Takes (StartGoes states) old l new
-    → Takes (ItemGoes k) item l (items.Start new)
-start_takes k states item old new l known is takes =
-    let t : Takes (StartGoes (preamble_in k).states) old l new = subst (λ s. Takes (StartGoes s) old l new) (sym (known_states k states known)) takes in
-    let go : Takes (ItemGoes k) (items.Start old) l (items.Start new) =
-    record { back = λ ls next g. (g.0, (t.back ls (Some g.0) g.1.0, g.1.1)); on = λ ls next g. (g.0, (t.on ls (Some g.0) g.1.0, g.1.1)) } in
-    subst (λ i. Takes (ItemGoes k) i l (items.Start new)) (sym is) go
-
--- and of its form
-pub start_forms : (k : Known) (states : Elements) (item : ItemReader) (old new : StartReader) (l : Lexeme) → k.states ≡ Some states → item ≡ items.Start old → Takes (StartGoes states) old l new
-    → IfStart (topic_in item) (Takes (ItemForms k) item l (items.Start new))
-start_forms k states item old new l known is takes =
-    let t : Takes (StartGoes (preamble_in k).states) old l new = subst (λ s. Takes (StartGoes s) old l new) (sym (known_states k states known)) takes in
-    let go : Takes (ItemForms k) (items.Start old) l (items.Start new) = record { back = λ ls none g. t.back ls None g; on = λ ls none g. t.on ls None g } in
-    subst (λ i. IfStart (topic_in i) (Takes (ItemForms k) i l (items.Start new))) (sym is) go
+pub start_fed : (k : Known) (states : Elements) (item : ItemReader) (old new : StartReader) (l : Lexeme) → k.states ≡ Some states → item ≡ items.Start old → IsStartFed states old l new
+    → IsItemFed k item l (items.Start new)
+start_fed k states item old new l known is fed =
+    let f : IsStartFed (preamble_in k).states old l new = subst (λ s. IsStartFed s old l new) (sym (known_states k states known)) fed in
+    let go : IsItemFed k (items.Start old) l (items.Start new) = record {
+      within = (states, (known, fed.within));
+      takes = record { back = λ ls next g. (g.0, (f.takes.back ls (Some g.0) g.1.0, g.1.1)); on = λ ls next g. (g.0, (f.takes.on ls (Some g.0) g.1.0, g.1.1)) };
+      formed = record { back = λ ls any g. f.takes.back ls None g; on = λ ls any g. f.takes.on ls None g };
+      seen = f.seen;
+      leads = f.leads;
+    } in
+    subst (λ i. IsItemFed k i l (items.Start new)) (sym is) go
 
 pub start_formless : (k : Known) (states : Elements) (item : ItemReader) (old : StartReader) (l : Lexeme) → k.states ≡ Some states → item ≡ items.Start old → CannotTake (StartGoes states) old l
     → IfStart (topic_in item) (CannotTake (ItemForms k) item l)
@@ -109,46 +98,20 @@ start_stuck k states item old l known is stuck =
     let go : CannotTake (ItemGoes k) (items.Start old) l = λ ls next g. none ls (Some g.0) g.1.0 in
     subst (λ i. CannotTake (ItemGoes k) i l) (sym is) go
 
-pub start_leads : (k : Known) (states : Elements) (item : ItemReader) (old new : StartReader) (l : Lexeme) → k.states ≡ Some states → item ≡ items.Start old
-    → Leads (start_wants (count_of states) old) l (start_wants (count_of states) new) → Leads (item_wants k item) l (item_wants k (items.Start new))
-start_leads k states item old new l known is leads =
-    let go : Leads (item_wants k (items.Start old)) l (item_wants k (items.Start new)) =
-    subst (λ s. Leads (start_wants (count_of s) old) l (start_wants (count_of s) new)) (sym (known_states k states known)) leads in
-    subst (λ i. Leads (item_wants k i) l (item_wants k (items.Start new))) (sym is) go
-
 pub start_seen : (k : Known) (states : Elements) (item : ItemReader) (old : StartReader) (body : List Lexeme) → k.states ≡ Some states → item ≡ items.Start old → IsSeen (states_known k) body item
     → IsStartSeen (count_of states) body old
 start_seen k states item old body known is s = subst (λ e. IsStartSeen (count_of e) body old) (known_states k states known) (subst (IsSeen (states_known k) body) is s)
 
-pub start_keeps : (k : Known) (states : Elements) (new : StartReader) (body : List Lexeme) → k.states ≡ Some states → IsStartSeen (count_of states) body new → IsSeen (states_known k) body (items.Start new)
-start_keeps k states new body known s = subst (λ e. IsStartSeen (count_of e) body new) (sym (known_states k states known)) s
-
 -- why it cannot go on
-pub start_stops : (k : Known) (states : Elements) (item : ItemReader) (old : StartReader) (body : List Lexeme) (l : Lexeme) (stop : Stop) → k.states ≡ Some states → item ≡ items.Start old
-    → IsSeen (states_known k) body item → ((x : Refusal) → IsDue old l x.kind x.place → stop ≡ stops.Refused x)
-    → IfRefused stop (λ r. IsStop (IsDue old l) (start_sign old) (start_wants (count_of states) old []) l r.kind r.place)
-    → IfRefused stop (λ r. IfStart (topic_in item) (StopsStart (pending_in item) (states_known k) body (item_wants k item []) l r.kind r.place))
-start_stops k states item old body l (stops.Refused r) known is s late named =
+start_stops : (k : Known) (states : Elements) (item : ItemReader) (old : StartReader) (body : List Lexeme) (l : Lexeme) (r : Refusal) → k.states ≡ Some states → item ≡ items.Start old
+    → IsSeen (states_known k) body item → ((x : Refusal) → IsDue old l x.kind x.place → r ≡ x) → IsStop (IsDue old l) (start_sign old) (start_wants (count_of states) old []) l r.kind r.place
+    → IfStart (topic_in item) (StopsStart (pending_in item) (states_known k) body (item_wants k item []) l r.kind r.place)
+start_stops k states item old body l r known is s late named =
     let go : StopsStart (pending old) (count_of states) body (start_wants (count_of states) old []) l r.kind r.place =
-    laws.stops_start (count_of states) body old (start_wants (count_of states) old []) l r (start_seen k states item old body known is s) (λ x d. same_refusal r x (late x d)) named in
+    laws.stops_start (count_of states) body old (start_wants (count_of states) old []) l r (start_seen k states item old body known is s) late named in
     let here : StopsStart (pending old) (states_known k) body (item_wants k (items.Start old) []) l r.kind r.place =
     subst (λ e. StopsStart (pending old) (count_of e) body (start_wants (count_of e) old []) l r.kind r.place) (sym (known_states k states known)) go in
     subst (λ i. IfStart (topic_in i) (StopsStart (pending_in i) (states_known k) body (item_wants k i []) l r.kind r.place)) (sym is) here
-  where
-    same_refusal : (a b : Refusal) → stops.Refused a ≡ stops.Refused b → a ≡ b
-    same_refusal a b e = cc
-start_stops k states item old body l stops.Memory known is s late named = tt
-
--- the same of the result
-pub start_stops_in : (k : Known) (states : Elements) (item : ItemReader) (old : StartReader) (body : List Lexeme) (l : Lexeme) (result : Result Unit Stop) → k.states ≡ Some states → item ≡ items.Start old
-    → IsSeen (states_known k) body item → ((x : Refusal) → IsDue old l x.kind x.place → result ≡ Err (stops.Refused x))
-    → IfErr result (λ stop. IfRefused stop (λ r. IsStop (IsDue old l) (start_sign old) (start_wants (count_of states) old []) l r.kind r.place))
-    → IfErr result (λ stop. IfRefused stop (λ r. IfStart (topic_in item) (StopsStart (pending_in item) (states_known k) body (item_wants k item []) l r.kind r.place)))
-start_stops_in k states item old body l (Ok x) known is s late named = tt
-start_stops_in k states item old body l (Err stop) known is s late named = start_stops k states item old body l stop known is s (λ x d. same_stop (Err stop) (Err (stops.Refused x)) stop (stops.Refused x) refl refl (late x d)) named
-  where
-    same_stop : (x y : Result Unit Stop) (a b : Stop) → x ≡ Err a → y ≡ Err b → x ≡ y → a ≡ b
-    same_stop x y a b e f same = cc
 
 -- what is due of its first number is what is answered
 pub start_late : (k : Known) (states : Elements) (item : ItemReader) (old : StartReader) (body more : List Lexeme) (l : Lexeme) (ends : Bool) (late : Refusal) (result : Result Unit Stop)
@@ -163,6 +126,24 @@ start_late k states item old body more l ends late result known is s due answere
     of : IsDue old l late.kind late.place ⊎ IsHeld (count_of states) old l → IfErr result (λ stop. IfRefused stop (λ r. (r.kind ≡ late.kind) × (r.place ≡ late.place)))
     of (inl d) = subst (λ (x : Result Unit Stop). IfErr x (λ stop. IfRefused stop (λ r. (r.kind ≡ late.kind) × (r.place ≡ late.place)))) (sym (answered late d)) (refl, refl)
     of (inr h) = if_err_map result _ _ (λ stop x. each_refused_map stop (λ r none. absurd none) x) (held h)
+
+same_refusal : (a b : Refusal) → ◌≡◌ {A = Result Unit Stop} (Err (stops.Refused a)) (Err (stops.Refused b)) → a ≡ b
+same_refusal a b e = cc
+
+-- all that is said of its refusal
+pub start_refused : (k : Known) (states : Elements) (item : ItemReader) (old : StartReader) (l : Lexeme) (result : Result Unit Stop) → k.states ≡ Some states → item ≡ items.Start old
+    → ((r : Refusal) → IsDue old l r.kind r.place → result ≡ Err (stops.Refused r)) → (IsHeld (count_of states) old l → IfErr result (λ stop. IfRefused stop (λ r. ⊥)))
+    → IfErr result (λ stop. IfRefused stop (RefusesInStart states old l)) → IfErr result (λ stop. IfRefused stop (RefusesInItem k item l))
+start_refused k states item old l (Ok v) known is due held r = tt
+start_refused k states item old l (Err (stops.Refused x)) known is due held r = record {
+  stuck = start_stuck k states item old l known is r.stuck;
+  formless = start_formless k states item old l known is r.stuck;
+  reason = λ body s. start_reason item old body l x.kind x.place is (r.reason body (start_seen k states item old body known is s));
+  kind = subst (λ i. IfNotStart (topic_in i) (IsMisfit (item_wants k i []) l x.kind)) (sym is) tt;
+  start = λ body s. start_stops k states item old body l x known is s (λ y d. same_refusal x y (due y d)) r.stops;
+  late = λ body more ends late s start late_is. start_late k states item old body more l ends late (Err (stops.Refused x)) known is s late_is due held;
+}
+start_refused k states item old l (Err stops.Memory) known is due held r = tt
 
 pub start_ends : (k : Known) (states : Elements) (item : ItemReader) (r : StartReader) (e : ItemEnd) → k.states ≡ Some states → item ≡ items.Start r
     → IfAtEnd e (λ kind. kind ≡ misfit (start_wants (count_of states) r []) None) → IfAtEnd e (λ kind. kind ≡ misfit (item_wants k item []) None)
@@ -202,15 +183,7 @@ start_unheld item r e is due = subst (λ i. IfAtEnd e (λ kind. pending_in i ≡
   where
     free : (kind : ItemFault) (r : StartReader) → IsEndDue r (ends.AtEnd kind) → pending r ≡ None
     free kind (reader.Digits d) due = absurd due
-    free kind reader.Form due = refl
-    free kind (reader.Colon c) due = refl
-    free kind (reader.List c) due = refl
-    free kind reader.Body due = refl
-    free kind reader.Every due = refl
-    free kind (reader.Only s) due = refl
-    free kind (reader.Sign s) due = refl
-    free kind (reader.Number f) due = refl
-    free kind (reader.Probabilities n) due = refl
+    free kind _ due = refl
 
     of : (e : ItemEnd) (r : StartReader) → IsEndDue r e → IfAtEnd e (λ kind. pending r ≡ None)
     of (ends.AtEnd kind) r due = free kind r due

@@ -3,7 +3,7 @@ use Rattle.std.proofs.Common.{◌≡◌, ◌≢◌, ℕ, ◌≤◌, Bool, true, 
 use Rattle.std.proofs.lemmas.Grind.{common_steps}
 use Rattle.polcert_text.specs.Cut.{Lexeme}
 use Rattle.polcert_text.specs.declared.lexeme.TokenKind.{TokenKind}
-use Rattle.polcert_text.specs.declared.lexeme.TokenKind.TheVariants.{Name, Numeral, Colon, Star, Plus, Minus}
+use Rattle.polcert_text.specs.declared.lexeme.TokenKind.TheVariants.{Name, Numeral}
 use Rattle.polcert_format.specs.declared.fault.ItemFault.{ItemFault}
 use Rattle.polcert_format.specs.declared.fault.ItemFault.TheVariants.{BadShape, BadCount, DuplicateName, UnknownName, Reset}
 use Rattle.polcert_cells.specs.Words.{topic_of, is_reserved, IsName}
@@ -71,10 +71,7 @@ no_first most bytes Name kind some other new e = at (bytes_eq bytes (codes "rese
         true≢false e = cc
     at false false false w e = absurd (new e)
 no_first most bytes Numeral kind some other new e = absurd (other refl)
-no_first most bytes Colon kind some other new e = e
-no_first most bytes Star kind some other new e = e
-no_first most bytes Plus kind some other new e = e
-no_first most bytes Minus kind some other new e = e
+no_first most bytes _ kind some other new e = e
 
 pub first_misfit : (most : ℕ) (l : Lexeme) (kind : ItemFault) (place : ℕ) → 1 ≤ most → (l.kind ≡ Numeral → ⊥) → ElementsReason (Named []) l kind place
     → kind ≡ misfit (FurtherName most []) (Some l) → IsMisfit CountOrName l kind

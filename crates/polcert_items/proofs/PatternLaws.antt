@@ -234,21 +234,7 @@ numbers_begin k Observation before l (states.Probabilities n) needed no_colon no
 numbers_begin k Reward before l (states.Rewards n) needed no_colon no_name cells low high t =
     list_begins (preamble_in k) Reward before l no_colon needed cells of_rewards states.Rewards reward_state reward_body (λ hs. rewards_may_stand (is_mdp (preamble_in k)) (length before) hs low high)
     (λ ls b is form. rewards_of (is_mdp (preamble_in k)) needed (length before) l ls b is form) n t
-numbers_begin k Transition before l states.Colon needed no_colon no_name cells low high t = absurd t
-numbers_begin k Transition before l states.Place needed no_colon no_name cells low high t = absurd t
-numbers_begin k Transition before l states.Body needed no_colon no_name cells low high t = absurd t
-numbers_begin k Transition before l (states.Rewards n) needed no_colon no_name cells low high t = absurd t
-numbers_begin k Transition before l (states.Word w) needed no_colon no_name cells low high t = absurd t
-numbers_begin k Observation before l states.Colon needed no_colon no_name cells low high t = absurd t
-numbers_begin k Observation before l states.Place needed no_colon no_name cells low high t = absurd t
-numbers_begin k Observation before l states.Body needed no_colon no_name cells low high t = absurd t
-numbers_begin k Observation before l (states.Rewards n) needed no_colon no_name cells low high t = absurd t
-numbers_begin k Observation before l (states.Word w) needed no_colon no_name cells low high t = absurd t
-numbers_begin k Reward before l states.Colon needed no_colon no_name cells low high t = absurd t
-numbers_begin k Reward before l states.Place needed no_colon no_name cells low high t = absurd t
-numbers_begin k Reward before l states.Body needed no_colon no_name cells low high t = absurd t
-numbers_begin k Reward before l (states.Probabilities n) needed no_colon no_name cells low high t = absurd t
-numbers_begin k Reward before l (states.Word w) needed no_colon no_name cells low high t = absurd t
+numbers_begin k _ before l _ needed no_colon no_name cells low high t = absurd t
 
 -- numbers that cannot begin with a lexeme
 pub numbers_stuck : (k : Known) (table : Table) (before : List Place) (l : Lexeme) (needed : ℕ) → (l.kind ≡ Colon → ⊥) → (l.kind ≡ Name → ⊥)
@@ -263,15 +249,6 @@ numbers_stuck k Reward before l needed no_colon no_name cells stuck = λ ls e b.
     let h = here (preamble_in k) Reward before l ls e no_colon b in
     stuck ls e.body (rewards_of (is_mdp (preamble_in k)) needed (length before) l ls e.body (subst (λ c. IsBody c (l ∷ ls) e.body) (sym cells) h.body) h.form)
 
-name_not_numeral : (l : Lexeme) → l.kind ≡ Name → l.kind ≡ Numeral → ⊥
-name_not_numeral l a b = cc
-
-name_not_plus : (l : Lexeme) → l.kind ≡ Name → l.kind ≡ Plus → ⊥
-name_not_plus l a b = cc
-
-name_not_minus : (l : Lexeme) → l.kind ≡ Name → l.kind ≡ Minus → ⊥
-name_not_minus l a b = cc
-
 pub name_not_colon : (l : Lexeme) → l.kind ≡ Name → l.kind ≡ Colon → ⊥
 name_not_colon l a b = cc
 
@@ -283,7 +260,7 @@ record WordHere (l : Lexeme) (ls : List Lexeme) (b : Body) : Type 0 where
   none_left : ls ≡ []
 
 no_numbers_at : (l : Lexeme) (ls : List Lexeme) (hs : List ℤ) → l.kind ≡ Name → AreNumbers (l ∷ ls) hs → ⊥
-no_numbers_at l ls hs name a = begins_no_number (name_not_numeral l name) (name_not_plus l name) (name_not_minus l name) a
+no_numbers_at l ls hs name a = begins_no_number (λ e. cc) (λ e. cc) (λ e. cc) a
 
 word_here : (cells : ℕ) (l : Lexeme) (ls : List Lexeme) (b : Body) → ((hs : List ℤ) → AreNumbers (l ∷ ls) hs → ⊥) → IsBody cells (l ∷ ls) b → WordHere l ls b
 word_here cells l ls b none (entries.probabilities {ps} a count all) = absurd (none (map pos ps) a)
@@ -363,20 +340,16 @@ colon_stuck preamble table before l colon full = λ ls e b. at ls e (colon_on pr
     at [] e r = r
     at (m ∷ ls) e r = subst (λ es. IsFirstPlace es m r.0) none r.1.0
 
+-- numbers stand behind a place at least
+some_places : (n : ℕ) → list_any (λ k. k == n) (1 ∷ 2 ∷ 3 ∷ []) ≡ true → 1 ≤ n
+some_places n e = grind (arith, nat_tests)
+
 few_probabilities : (mdp : Bool) (table : Table) (ps : List ℕ) (n : ℕ) → (least_written mdp table ≤ n → ⊥) → MayStand mdp table (bodies.Probabilities ps) n → ⊥
-few_probabilities mdp Transition ps n few form = few (at_least n form)
-  where
-    at_least : (n : ℕ) → list_any (λ k. k == n) (1 ∷ 2 ∷ 3 ∷ []) ≡ true → 1 ≤ n
-    at_least n e = grind (arith, nat_tests)
-few_probabilities mdp Observation ps n few form = few (at_least n form)
-  where
-    at_least : (n : ℕ) → list_any (λ k. k == n) (1 ∷ 2 ∷ 3 ∷ []) ≡ true → 1 ≤ n
-    at_least n e = grind (arith, nat_tests)
+few_probabilities mdp Transition ps n few form = few (some_places n form)
+few_probabilities mdp Observation ps n few form = few (some_places n form)
 few_probabilities mdp Reward ps n few form = no_form _ refl form
 
 few_rewards : (mdp : Bool) (table : Table) (hs : List ℤ) (n : ℕ) → (least_written mdp table ≤ n → ⊥) → MayStand mdp table (bodies.Rewards hs) n → ⊥
-few_rewards mdp Transition hs n few form = no_form _ refl form
-few_rewards mdp Observation hs n few form = no_form _ refl form
 few_rewards true Reward hs n few form = few (at_least n form)
   where
     at_least : (n : ℕ) → list_any (λ k. k == n) (1 ∷ 2 ∷ 3 ∷ 4 ∷ []) ≡ true → 1 ≤ n
@@ -385,6 +358,7 @@ few_rewards false Reward hs n few form = few (at_least n form)
   where
     at_least : (n : ℕ) → list_any (λ k. k == n) (2 ∷ 3 ∷ 4 ∷ []) ≡ true → 2 ≤ n
     at_least n e = grind (arith, nat_tests)
+few_rewards mdp _ hs n few form = no_form _ refl form
 
 few_stuck_at : (mdp : Bool) (cells n : ℕ) (l : Lexeme) (ls : List Lexeme) (table : Table) (b : Body) → (least_written mdp table ≤ n → ⊥) → (l.kind ≡ Name → ⊥) → IsBody cells (l ∷ ls) b → MayStand mdp table b n → ⊥
 few_stuck_at mdp cells n l ls table b few no_name (entries.probabilities {ps} a count all) form = few_probabilities mdp table ps n few form

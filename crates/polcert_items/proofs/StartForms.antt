@@ -7,7 +7,6 @@ use Rattle.std.proofs.lemmas.Bool.Decides.{nat_tests}
 use Rattle.std.specs.List.{AllZip}
 use Rattle.polcert_text.specs.Cut.{Lexeme}
 use Rattle.polcert_text.specs.Lexemes.{are_digits}
-use Rattle.polcert_text.specs.declared.lexeme.TokenKind.{TokenKind}
 use Rattle.polcert_text.specs.declared.lexeme.TokenKind.TheVariants.{Name, Numeral, Colon, Plus, Minus}
 use Rattle.polcert_items.specs.declared.chosen.Choice.{Choice}
 use Rattle.polcert_items.specs.declared.chosen.Choice.TheVariants.{Include, Exclude}
@@ -64,55 +63,51 @@ colon_begins states l colon = record { back = λ ls asked g. back ls asked g; on
     on ls None g = of_form ls g
     on ls (Some v) g = of_start ls v g
 
--- a list of states behind its word has the form of one
-list_formed : (states : Elements) (choice : Choice) (l : Lexeme) → IsWord (codes "include") l ⊎ IsWord (codes "exclude") l → (ls : List Lexeme)
-    → BehindColon (ListGoes states choice (λ s. false)) ls None → IsStartForm states (l ∷ ls)
-list_formed states choice l word [] g = absurd g
-list_formed states choice l word (c ∷ ls) g = shapes.listed g.1.further word g.0 g.1.stand
+-- the word of a list of states
+abbrev IsWordOf : Choice → Lexeme → Type 0
+IsWordOf Include l = IsWord (codes "include") l
+IsWordOf Exclude l = IsWord (codes "exclude") l
 
-form_listed : (states : Elements) (choice : Choice) (l : Lexeme) → (l.kind ≡ Colon → ⊥) → (ls : List Lexeme) → IsStartForm states (l ∷ ls) → BehindColon (ListGoes states choice (λ s. false)) ls None
-form_listed states choice l other ls (shapes.plain c a) = absurd (other c)
-form_listed states choice l other ls (shapes.listed ms w d z) = (d, record { further = ms; stand = z; said = tt })
+either_word : (choice : Choice) (l : Lexeme) → IsWordOf choice l → IsWord (codes "include") l ⊎ IsWord (codes "exclude") l
+either_word Include l word = inl word
+either_word Exclude l word = inr word
 
-pub include_begins : (states : Elements) (l : Lexeme) → IsWord (codes "include") l → Takes (StartGoes states) reader.Form l (reader.Colon Include)
-include_begins states l word = record { back = λ ls asked g. back ls asked g; on = λ ls asked g. on ls asked g }
-  where
-    to_start : (ls : List Lexeme) (v : Shares) → BehindColon (ListGoes states Include (λ s. false)) ls (Some v) → IsStart states (l ∷ ls) v
-    to_start [] v g = absurd g
-    to_start (c ∷ ls) v g = subst (IsStart states (l ∷ c ∷ ls)) (sym g.1.said.0) (include g.1.further word g.0 g.1.stand g.1.said.1)
+-- behind it the states are listed
+module _ (states : Elements) (l : Lexeme) where
+  list_formed : (choice : Choice) → IsWordOf choice l → (ls : List Lexeme) → BehindColon (ListGoes states choice (λ s. false)) ls None → IsStartForm states (l ∷ ls)
+  list_formed choice word [] g = absurd g
+  list_formed choice word (c ∷ ls) g = shapes.listed g.1.further (either_word choice l word) g.0 g.1.stand
 
-    back : (ls : List Lexeme) (asked : Option Shares) → BehindColon (ListGoes states Include (λ s. false)) ls asked → FormGoes states (l ∷ ls) asked
-    back ls None g = list_formed states Include l (inl word) ls g
-    back ls (Some v) g = to_start ls v g
+  word_no_colon : (choice : Choice) → IsWordOf choice l → l.kind ≡ Colon → ⊥
+  word_no_colon Include word c = name_not_colon _ word.kind c
+  word_no_colon Exclude word c = name_not_colon _ word.kind c
 
-    of_start : (ls : List Lexeme) (v : Shares) → IsStart states (l ∷ ls) v → BehindColon (ListGoes states Include (λ s. false)) ls (Some v)
-    of_start ls v (plain c a) = absurd (name_not_colon _ word.kind c)
-    of_start ls v (include ms w d z p) = (d, record { further = ms; stand = z; said = (refl, p) })
-    of_start ls v (exclude ms w d z p) = absurd (include_not_exclude _ word w)
+  form_listed : (choice : Choice) → IsWordOf choice l → (ls : List Lexeme) → IsStartForm states (l ∷ ls) → BehindColon (ListGoes states choice (λ s. false)) ls None
+  form_listed choice word ls (shapes.plain c a) = absurd (word_no_colon choice word c)
+  form_listed choice word ls (shapes.listed ms w d z) = (d, record { further = ms; stand = z; said = tt })
 
-    on : (ls : List Lexeme) (asked : Option Shares) → FormGoes states (l ∷ ls) asked → BehindColon (ListGoes states Include (λ s. false)) ls asked
-    on ls None g = form_listed states Include l (λ c. name_not_colon _ word.kind c) ls g
-    on ls (Some v) g = of_start ls v g
+  list_back : (choice : Choice) → IsWordOf choice l → (ls : List Lexeme) (v : Shares) → BehindColon (ListGoes states choice (λ s. false)) ls (Some v) → IsStart states (l ∷ ls) v
+  list_back choice word [] v g = absurd g
+  list_back Include word (c ∷ ls) v g = subst (IsStart states (l ∷ c ∷ ls)) (sym g.1.said.0) (include g.1.further word g.0 g.1.stand g.1.said.1)
+  list_back Exclude word (c ∷ ls) v g = subst (IsStart states (l ∷ c ∷ ls)) (sym g.1.said.0) (exclude g.1.further word g.0 g.1.stand g.1.said.1)
 
-pub exclude_begins : (states : Elements) (l : Lexeme) → IsWord (codes "exclude") l → Takes (StartGoes states) reader.Form l (reader.Colon Exclude)
-exclude_begins states l word = record { back = λ ls asked g. back ls asked g; on = λ ls asked g. on ls asked g }
-  where
-    to_start : (ls : List Lexeme) (v : Shares) → BehindColon (ListGoes states Exclude (λ s. false)) ls (Some v) → IsStart states (l ∷ ls) v
-    to_start [] v g = absurd g
-    to_start (c ∷ ls) v g = subst (IsStart states (l ∷ c ∷ ls)) (sym g.1.said.0) (exclude g.1.further word g.0 g.1.stand g.1.said.1)
+  list_on : (choice : Choice) → IsWordOf choice l → (ls : List Lexeme) (v : Shares) → IsStart states (l ∷ ls) v → BehindColon (ListGoes states choice (λ s. false)) ls (Some v)
+  list_on choice word ls v (plain c a) = absurd (word_no_colon choice word c)
+  list_on Include word ls v (include ms w d z p) = (d, record { further = ms; stand = z; said = (refl, p) })
+  list_on Include word ls v (exclude ms w d z p) = absurd (include_not_exclude _ word w)
+  list_on Exclude word ls v (include ms w d z p) = absurd (include_not_exclude _ w word)
+  list_on Exclude word ls v (exclude ms w d z p) = (d, record { further = ms; stand = z; said = (refl, p) })
 
-    back : (ls : List Lexeme) (asked : Option Shares) → BehindColon (ListGoes states Exclude (λ s. false)) ls asked → FormGoes states (l ∷ ls) asked
-    back ls None g = list_formed states Exclude l (inr word) ls g
-    back ls (Some v) g = to_start ls v g
+  pub list_begins : (choice : Choice) → IsWordOf choice l → Takes (StartGoes states) reader.Form l (reader.Colon choice)
+  list_begins choice word = record { back = λ ls asked g. back ls asked g; on = λ ls asked g. on ls asked g }
+    where
+      back : (ls : List Lexeme) (asked : Option Shares) → BehindColon (ListGoes states choice (λ s. false)) ls asked → FormGoes states (l ∷ ls) asked
+      back ls None g = list_formed choice word ls g
+      back ls (Some v) g = list_back choice word ls v g
 
-    of_start : (ls : List Lexeme) (v : Shares) → IsStart states (l ∷ ls) v → BehindColon (ListGoes states Exclude (λ s. false)) ls (Some v)
-    of_start ls v (plain c a) = absurd (name_not_colon _ word.kind c)
-    of_start ls v (include ms w d z p) = absurd (include_not_exclude _ w word)
-    of_start ls v (exclude ms w d z p) = (d, record { further = ms; stand = z; said = (refl, p) })
-
-    on : (ls : List Lexeme) (asked : Option Shares) → FormGoes states (l ∷ ls) asked → BehindColon (ListGoes states Exclude (λ s. false)) ls asked
-    on ls None g = form_listed states Exclude l (λ c. name_not_colon _ word.kind c) ls g
-    on ls (Some v) g = of_start ls v g
+      on : (ls : List Lexeme) (asked : Option Shares) → FormGoes states (l ∷ ls) asked → BehindColon (ListGoes states choice (λ s. false)) ls asked
+      on ls None g = form_listed choice word ls g
+      on ls (Some v) g = list_on choice word ls v g
 
 -- ---- lists of states
 
@@ -205,10 +200,7 @@ below_count : (s count n : ℕ) → count ≡ n → s < n → s < count
 below_count s count n e low = omega arith
 
 named_low : (states : Elements) (name : List ℕ) (s : ℕ) → number_of states name ≡ Some s → s < count_of states
-named_low (Count n) name s e = absurd (none_some e)
-  where
-    none_some : {n : ℕ} → None ≡ Some n → ⊥
-    none_some e = cc
+named_low (Count n) name s e = cc
 named_low (Names names) name s e = (position-Some (bytes_eq name) names s [] e).0
 
 -- the number of a state is below their count
@@ -220,19 +212,10 @@ stands_low states l s count e (by_name n f) = below_count s count (count_of stat
 
 module _ (states : Elements) (l : Lexeme) (name : l.kind ≡ Name) where
   no_numeral : l.kind ≡ Numeral → ⊥
-  no_numeral e = kinds l.kind name e
-    where
-      kinds : (k : TokenKind) → k ≡ Name → k ≡ Numeral → ⊥
-      kinds k a b = cc
+  no_numeral e = cc
 
   no_numbers : {ls : List Lexeme} {hs : List ℤ} → AreNumbers (l ∷ ls) hs → ⊥
-  no_numbers a = begins_no_number no_numeral (λ e. plus l.kind name e) (λ e. minus l.kind name e) a
-    where
-      plus : (k : TokenKind) → k ≡ Name → k ≡ Plus → ⊥
-      plus k a b = cc
-
-      minus : (k : TokenKind) → k ≡ Name → k ≡ Minus → ⊥
-      minus k a b = cc
+  no_numbers a = begins_no_number (λ e. cc) (λ e. cc) (λ e. cc) a
 
   -- nothing stands behind a name
   name_alone : (ls : List Lexeme) → IsStartBodyForm states (l ∷ ls) → ls ≡ []
@@ -364,16 +347,10 @@ module _ (states : Elements) (l : Lexeme) (no_name : l.kind ≡ Name → ⊥) wh
 
 module _ (states : Elements) (l : Lexeme) (digits : Digits) (are : AreDigits (count_of states) l digits) where
   digits_no_name : l.kind ≡ Name → ⊥
-  digits_no_name name = kinds l.kind are.digits_are.0 name
-    where
-      kinds : (k : TokenKind) → k ≡ Numeral → k ≡ Name → ⊥
-      kinds k a b = cc
+  digits_no_name name = let numeral = are.digits_are.0 in cc
 
   state_of : (s : ℕ) (o : Option ℕ) → o ≡ Some s → IsState (count_of states) o l → IsWhole l s × (s < count_of states)
-  state_of s None e is = absurd (none_some e)
-    where
-      none_some : {n : ℕ} → None ≡ Some n → ⊥
-      none_some e = cc
+  state_of s None e is = cc
   state_of s (Some n) e is =
       let same : n ≡ s = cc in
       subst (λ k. IsWhole l k × (k < count_of states)) same is
@@ -386,10 +363,7 @@ module _ (states : Elements) (l : Lexeme) (digits : Digits) (are : AreDigits (co
   value_of h (Ok k) e is =
       let same : k ≡ h = cc in
       subst (IsMillionths false l) same is
-  value_of h (Err f) e is = absurd (err_ok e)
-    where
-      err_ok : {f : NumberFault} {k : ℤ} → Err f ≡ Ok k → ⊥
-      err_ok e = cc
+  value_of h (Err f) e is = cc
 
   of_value : (h : ℤ) (r : Result ℤ NumberFault) → IsValue r false l → IsMillionths false l h → r ≡ Ok h
   of_value h (Ok k) is v = ap Ok (one_millionths false l k h is v)

@@ -128,12 +128,6 @@ outside_stuck states f l out = λ ls asked g.
     let parts = more_fractions states f.value g.further l ls asked g.numbers g.given in
     out parts.first parts.first_is (All-head (λ p. p ≤ one) parts.first parts.rest parts.small)
 
--- nor behind the number of a single state
-pub single_stuck : (states : Elements) (f : FirstNumber) (l : Lexeme) → count_of states ≡ 1 → CannotTake (StartGoes states) (reader.Number f) l
-single_stuck states f l single = λ ls asked g.
-    let more : 1 < count_of states = more_given states f.value g.further l ls asked g.numbers g.given in
-    omega (arith, more, single)
-
 -- ---- a list of probabilities
 
 -- one number was read, of so many

@@ -1,10 +1,20 @@
 -- A start item as its reader goes on with it.
-use Rattle.std.proofs.Common.{ℕ, List, [], refl}
+use Rattle.std.proofs.Common.{◌≡◌, ◌∙◌, ℕ, List, [], Result, Ok, Err, OnOk, refl}
 use Rattle.polcert_text.specs.Cut.{Lexeme}
 use Rattle.polcert_cells.specs.declared.elements.Elements.{Elements}
 use Rattle.polcert_cells.specs.declared.shares.Shares.{Shares}
 use Rattle.polcert_cells.specs.Start.{IsStart}
-use Rattle.polcert_items.specs.Steps.Start.{StartGives, new_start, IsStartWithin, IsStartSeen}
+use Rattle.polcert_cells.specs.Elements.{count_of}
+use Rattle.polcert_items.specs.declared.entry_reader.Numbers.{Numbers}
+use Rattle.polcert_items.specs.declared.start_reader.StartReader.TheVariants as reader
+use Rattle.polcert_items.specs.Steps.Entries.{ProbabilitiesGo, HasRoom}
+use Rattle.polcert_items.specs.Steps.Feeding.{IsStartFed}
+use Rattle.polcert_items.specs.Steps.Lines.{Takes}
+use Rattle.polcert_items.specs.Steps.Numbers.{SignIs}
+use Rattle.polcert_items.specs.Steps.Start.{StartGives, new_start, IsStartWithin, IsStartSeen, AreWithin}
+use Rattle.polcert_items.specs.Steps.Wants.{Leads, list_wants}
+use Rattle.polcert_items.proofs.StartNumbers.{shares_take}
+use Rattle.polcert_items.proofs.StartSeen.{further_seen}
 
 pub new_start_on : (states : Elements) (ls : List Lexeme) (found : Shares) → IsStart states ls found → StartGives states new_start ls found
 new_start_on states ls found a = a
@@ -17,3 +27,15 @@ new_start_within states = tt
 
 pub new_start_seen : (count : ℕ) → IsStartSeen count [] new_start
 new_start_seen count = record { sign = refl; body_is = refl }
+
+-- more probabilities
+pub shares_fed : {E : Type 0} (result : Result Unit E) (states : Elements) (old new : Numbers ℕ) (l : Lexeme) → AreWithin states old → new.needed ≡ old.needed → OnOk result (HasRoom new)
+    → OnOk result (Takes ProbabilitiesGo old l new) → OnOk result (Leads (list_wants old) l (list_wants new)) → OnOk result (SignIs new.sign l)
+    → OnOk result (IsStartFed states (reader.Probabilities old) l (reader.Probabilities new))
+shares_fed (Ok v) states old new l within needed room takes leads sign = record {
+  within = record { more = within.more; needed = needed ∙ within.needed; room = room };
+  takes = shares_take states old new l takes;
+  seen = λ body seen. further_seen (count_of states) body l old new seen sign;
+  leads = record { same = leads.same };
+}
+shares_fed (Err e) states old new l within needed room takes leads sign = tt

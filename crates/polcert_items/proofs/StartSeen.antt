@@ -1,6 +1,6 @@
 -- What the body of a start item so far has to do with its reader's state, and where its refusals stand.
 use Rattle.std.specs.Prelude.{if◌then◌else◌, ◌==◌}
-use Rattle.std.proofs.Common.{◌≡◌, ◌∙◌, ℕ, ◌<◌, ◌++◌, Bool, false, true, Option, Some, None, Result, Ok, Err, List, [], ◌∷◌, codes, ℤ, refl, sym, ap, subst, append_assoc, arith}
+use Rattle.std.proofs.Common.{◌≡◌, ◌∙◌, ℕ, ◌-◌, ◌<◌, ◌++◌, Bool, false, true, Option, Some, None, Result, Ok, Err, IfErr, List, [], ◌∷◌, codes, ℤ, refl, sym, ap, subst, append_assoc, arith}
 use Rattle.polcert_text.specs.Cut.{Lexeme}
 use Rattle.polcert_text.specs.declared.lexeme.TokenKind.{TokenKind}
 use Rattle.polcert_text.specs.declared.lexeme.TokenKind.TheVariants.{Numeral, Name}
@@ -16,26 +16,31 @@ use Rattle.polcert_items.specs.declared.start_numbers.Digits.{Digits}
 use Rattle.polcert_items.specs.declared.start_reader.StartReader.{StartReader}
 use Rattle.polcert_items.specs.declared.start_reader.StartReader.TheVariants as reader
 use Rattle.polcert_items.specs.declared.stop.ItemEnd.{ItemEnd}
+use Rattle.polcert_items.specs.declared.stop.Stop.{Stop}
+use Rattle.polcert_items.specs.declared.stop.Stop.TheVariants as stops
 use Rattle.polcert_cells.specs.Numbers.{IsMillionths}
 use Rattle.polcert_cells.specs.declared.elements.Elements.{Elements}
-use Rattle.polcert_items.specs.Steps.Lines.{CannotEnd}
+use Rattle.polcert_items.specs.Steps.Lines.{Takes, CannotTake, CannotEnd}
+use Rattle.polcert_items.specs.Steps.Feeding.{IsStartFed, RefusesInStart}
+use Rattle.polcert_items.specs.Steps.Wants.{Leads, start_wants}
+use Rattle.polcert_cells.specs.Elements.{count_of}
 use Rattle.polcert_cells.specs.declared.words.Topic.TheVariants.{Start}
 use Rattle.polcert_cells.specs.Words.{IsWord, IsName}
 use Rattle.polcert_items.specs.Steps.Items.{IsEndReason}
 use Rattle.polcert_format.specs.Reasons.{StandsIn, NumberStandsIn, unsigned, plus, minus, IsRefusedNumber, IsNoFraction, IsDigits, is_sign, ends_in_sign}
 use Rattle.polcert_items.specs.Steps.Numbers.{is_negative, number_place, IsSignAt, SignIs, SignEnds}
 use Rattle.polcert_items.specs.Steps.Numbers as steps
-use Rattle.polcert_format.specs.Misfits.{Wanted}
+use Rattle.polcert_format.specs.Misfits.{Wanted, NumberOrEnd, IsMisfit}
 use Rattle.polcert_format.specs.FirstNumber.{BeginsWithNumber, BeginsWithDigits}
 use Rattle.polcert_format.specs.FirstNumber as begins
-use Rattle.polcert_format.specs.Wants.{may_be_state}
+use Rattle.polcert_format.specs.Wants.{may_be_state, number_end}
 use Rattle.polcert_text.specs.Lexemes.{are_digits}
 use Rattle.polcert_cells.proofs.Basics.{cons≢nil, same_head, same_tail, true≢false}
 use Rattle.polcert_items.specs.declared.chosen.Chosen.{Chosen}
 use Rattle.polcert_items.specs.declared.entry_reader.Numbers.{Numbers}
 use Rattle.polcert_items.proofs.StartForms.{test_different}
-use Rattle.polcert_items.specs.Steps.Entries.{IsListReason, no_number, no_further}
-use Rattle.polcert_items.specs.Steps.Start.{start_sign, pending_of, pending, IsValue, AreDigits, IsFormed, IsKept, IsNumberKept, IsBehindColon, IsListBegun, IsWordBody, IsFraction, IsStartSeen, IsReasonAt, IsInside, IsOutside, IsDueNumber, IsDueValue, IsStop, due, at_once, IsReasonIn, IsStartReason, IsStartEndKind, IfNotMemory, StartGives}
+use Rattle.polcert_items.specs.Steps.Entries.{IfRefused, IsListReason, no_number, no_further}
+use Rattle.polcert_items.specs.Steps.Start.{start_sign, pending_of, pending, IsValue, AreDigits, IsFormed, IsKept, IsNumberKept, IsBehindColon, IsListBegun, IsWordBody, IsFraction, IsStartSeen, IsReasonAt, IsInside, IsOutside, IsDueNumber, IsDueValue, IsStop, due, at_once, IsReasonIn, IsStartReason, IsStartEndKind, IfNotMemory, StartGoes, StartGives, IsStartWithin}
 
 none≢some : {A : Type 0} {x : A} → None ≡ Some x → ⊥
 none≢some e = cc
@@ -45,12 +50,12 @@ some_once e = cc
 
 -- ---- one lexeme more
 
-last_sign : (body : List Lexeme) (l : Lexeme) → ends_in_sign (body ++ l ∷ []) ≡ is_sign l.kind
+pub last_sign : (body : List Lexeme) (l : Lexeme) → ends_in_sign (body ++ l ∷ []) ≡ is_sign l.kind
 last_sign [] l = refl
 last_sign (x ∷ []) l = refl
 last_sign (x ∷ y ∷ ys) l = last_sign (y ∷ ys) l
 
-sign_ends : (sign : Option Sign) (body : List Lexeme) (l : Lexeme) → SignIs sign l → SignEnds sign (body ++ l ∷ [])
+pub sign_ends : (sign : Option Sign) (body : List Lexeme) (l : Lexeme) → SignIs sign l → SignEnds sign (body ++ l ∷ [])
 sign_ends None body l s = last_sign body l ∙ s
 sign_ends (Some sign) body l s = (body, (l, (refl, s)))
 
@@ -204,37 +209,19 @@ body_seen count body l (reader.Only s) b k = record { sign = sign_ends None body
 body_seen count body l (reader.Digits d) b k = digits_seen count body l d b k
 body_seen count body l (reader.Sign s) b k = sign_seen count body l s b k.1.1
 body_seen count body l (reader.Number first) b k = first_seen count None body l first b k.1 (no_number_digits count body l b k.0)
-body_seen count body l reader.Form b k = absurd k.1
-body_seen count body l (reader.Colon c) b k = absurd k.1
-body_seen count body l (reader.List c) b k = absurd k.1
-body_seen count body l reader.Body b k = absurd k.1
-body_seen count body l (reader.Probabilities n) b k = absurd k.1
+body_seen count body l _ b k = absurd k.1
 
 -- behind the first number's sign
 pub numeral_seen : (count : ℕ) (sign : Sign) (body : List Lexeme) (l : Lexeme) (r : StartReader) → IsBehindColon (Some sign) body → IsNumberKept (Some sign) l r → IsStartSeen count (body ++ l ∷ []) r
 numeral_seen count sign body l (reader.Number first) b k = first_seen count (Some sign) body l first b k (no_signed_digits count sign body l b)
 numeral_seen count sign body l (reader.Sign s) b k = absurd (none≢some (sym k.0))
-numeral_seen count sign body l reader.Form b k = absurd k
-numeral_seen count sign body l (reader.Colon c) b k = absurd k
-numeral_seen count sign body l (reader.List c) b k = absurd k
-numeral_seen count sign body l reader.Body b k = absurd k
-numeral_seen count sign body l reader.Every b k = absurd k
-numeral_seen count sign body l (reader.Only s) b k = absurd k
-numeral_seen count sign body l (reader.Digits d) b k = absurd k
-numeral_seen count sign body l (reader.Probabilities n) b k = absurd k
+numeral_seen count sign body l _ b k = absurd k
 
 -- the first lexeme
 pub form_seen : (count : ℕ) (body : List Lexeme) (l : Lexeme) (r : StartReader) → body ≡ [] → IsFormed l r → IsStartSeen count (body ++ l ∷ []) r
 form_seen count body l (reader.Colon c) b k = record { sign = sign_ends None body l (ap is_sign k); body_is = (l, [], ap (λ (x : List Lexeme). x ++ l ∷ []) b, k) }
 form_seen count body l reader.Body b k = record { sign = sign_ends None body l (ap is_sign k); body_is = (l, ap (λ (x : List Lexeme). x ++ l ∷ []) b, k) }
-form_seen count body l reader.Form b k = absurd k
-form_seen count body l (reader.List c) b k = absurd k
-form_seen count body l reader.Every b k = absurd k
-form_seen count body l (reader.Only s) b k = absurd k
-form_seen count body l (reader.Sign s) b k = absurd k
-form_seen count body l (reader.Number f) b k = absurd k
-form_seen count body l (reader.Digits d) b k = absurd k
-form_seen count body l (reader.Probabilities n) b k = absurd k
+form_seen count body l _ b k = absurd k
 
 -- a list of states
 pub list_seen : (count : ℕ) (body : List Lexeme) (l : Lexeme) (c : Chosen) → IsListBegun body → is_sign l.kind ≡ false → IsStartSeen count (body ++ l ∷ []) (reader.List c)
@@ -247,17 +234,15 @@ fraction_of : (h : ℤ) → (IsOutside h → ⊥) → (negative : Bool) (l : Lex
 fraction_of h inside negative l v = (h, v, inside)
 
 -- more numbers
+first_further : (count : ℕ) (body : List Lexeme) (l : Lexeme) (place : ℕ) (n : Numbers ℕ) → BeginsWithNumber body place IsFraction [] → SignIs n.sign l → IsStartSeen count (body ++ l ∷ []) (reader.Probabilities n)
+first_further count body l place n number sign = record {
+  sign = sign_ends n.sign body l sign;
+  body_is = record { place = place; next = l; behind = []; number = begins_more body place IsFraction [] (l ∷ []) number };
+}
+
 pub number_seen : (count : ℕ) (body : List Lexeme) (l : Lexeme) (f : FirstNumber) (n : Numbers ℕ) → IsStartSeen count body (reader.Number f) → (IsOutside f.value → ⊥) → SignIs n.sign l
     → IsStartSeen count (body ++ l ∷ []) (reader.Probabilities n)
-number_seen count body l f n s inside sign = record {
-  sign = sign_ends n.sign body l sign;
-  body_is = record {
-    place = f.place;
-    next = l;
-    behind = [];
-    number = begins_more body f.place IsFraction [] (l ∷ []) (begins_map body f.place _ IsFraction [] (fraction_of f.value inside) s.body_is.number);
-  };
-}
+number_seen count body l f n s inside sign = first_further count body l f.place n (begins_map body f.place _ IsFraction [] (fraction_of f.value inside) s.body_is.number) sign
 
 inside_value : (v : Result ℤ NumberFault) (l : Lexeme) → IsInside v → IsValue v false l → IsFraction false l
 inside_value (Ok h) l inside is = (h, is, inside)
@@ -265,15 +250,8 @@ inside_value (Err f) l inside is = absurd inside
 
 pub digits_go_on : (count : ℕ) (body : List Lexeme) (l : Lexeme) (d : Digits) (n : Numbers ℕ) → IsStartSeen count body (reader.Digits d) → IsInside d.value → SignIs n.sign l
     → IsStartSeen count (body ++ l ∷ []) (reader.Probabilities n)
-digits_go_on count body l d n s inside sign = record {
-  sign = sign_ends n.sign body l sign;
-  body_is = record {
-    place = d.place;
-    next = l;
-    behind = [];
-    number = begins_more body d.place IsFraction [] (l ∷ []) (digits_begin count body d.place _ IsFraction [] (λ x k. inside_value d.value x inside k.value) s.body_is);
-  };
-}
+digits_go_on count body l d n s inside sign =
+    first_further count body l d.place n (digits_begin count body d.place _ IsFraction [] (λ x k. inside_value d.value x inside k.value) s.body_is) sign
 
 pub further_seen : (count : ℕ) (body : List Lexeme) (l : Lexeme) (m n : Numbers ℕ) → IsStartSeen count body (reader.Probabilities m) → SignIs n.sign l
     → IsStartSeen count (body ++ l ∷ []) (reader.Probabilities n)
@@ -338,15 +316,7 @@ pending_reason count body (reader.Digits d) f s e = of_value d.value refl e
         subst (λ (x : Refusal). IsStartReason body x.kind x.place) same
         (fault_reason body g (Number g) d.place d.place refl refl
         (begins_stands body d.place (IsRefusedNumber g) [] (digits_begin count body d.place _ (IsRefusedNumber g) [] (λ x k. subst (λ v. IsValue v false x) is k.value) s.body_is)))
-pending_reason count body reader.Form f s e = absurd (none≢some e)
-pending_reason count body (reader.Colon c) f s e = absurd (none≢some e)
-pending_reason count body (reader.List c) f s e = absurd (none≢some e)
-pending_reason count body reader.Body f s e = absurd (none≢some e)
-pending_reason count body reader.Every f s e = absurd (none≢some e)
-pending_reason count body (reader.Only n) f s e = absurd (none≢some e)
-pending_reason count body (reader.Sign x) f s e = absurd (none≢some e)
-pending_reason count body (reader.Number x) f s e = absurd (none≢some e)
-pending_reason count body (reader.Probabilities n) f s e = absurd (none≢some e)
+pending_reason count body _ f s e = absurd (none≢some e)
 
 -- why a token is refused in a list of probabilities
 from_number : (sign : Option Sign) (l : Lexeme) (kind : ItemFault) (place : ℕ) → steps.IsNumberReason ranges.Probability sign l kind place → IsReasonAt sign l kind place
@@ -372,12 +342,40 @@ list_reason sign l kind place (no_further r) = from_behind sign l kind place r
 
 -- ---- from a known state
 
-pub seen_as : (count : ℕ) (body : List Lexeme) (old r : StartReader) → old ≡ r → IsStartSeen count body old → IsStartSeen count body r
-seen_as count body old r is s = subst (IsStartSeen count body) is s
+pub fed_as : (states : Elements) (old r new : StartReader) (l : Lexeme) → old ≡ r → IsStartWithin states new → Takes (StartGoes states) r l new
+    → Leads (start_wants (count_of states) r) l (start_wants (count_of states) new)
+    → ((body : List Lexeme) → IsStartSeen (count_of states) body r → IsStartSeen (count_of states) (body ++ l ∷ []) new) → IsStartFed states old l new
+fed_as states old r new l is within takes leads seen = subst (λ s. IsStartFed states s l new) (sym is) (record { within = within; takes = takes; seen = seen; leads = leads })
 
-pub reason_in : (count : ℕ) (body : List Lexeme) (l : Lexeme) (old r : StartReader) (kind : ItemFault) (place : ℕ) → old ≡ r → IsStartSeen count body old → IsReasonAt (start_sign r) l kind place
-    → IsStartReason (body ++ l ∷ []) kind place
-reason_in count body l old r kind place is s t = token_reason body (start_sign r) l kind place (subst (λ x. SignEnds (start_sign x) body) is s.sign) t
+-- what is so of a refusal, if the result is one
+abbrev On : {T : Type 0} → Result T Stop → (Refusal → Type 0) → Type 0
+On result P = IfErr result (λ stop. IfRefused stop P)
+
+pub refused_as : {T : Type 0} (result : Result T Stop) (states : Elements) (old r : StartReader) (l : Lexeme) → old ≡ r → On result (RefusesInStart states r l) → On result (RefusesInStart states old l)
+refused_as result states old r l is refused = subst (λ s. On result (RefusesInStart states s l)) (sym is) refused
+
+-- the token is refused for itself
+pub token_refused : {T : Type 0} (result : Result T Stop) (states : Elements) (r : StartReader) (l : Lexeme) → On result (λ x. CannotTake (StartGoes states) r l)
+    → On result (λ x. IsReasonAt (start_sign r) l x.kind x.place) → On result (λ x. IsMisfit (start_wants (count_of states) r []) l x.kind) → On result (RefusesInStart states r l)
+token_refused (Ok v) states r l stuck reason kind = tt
+token_refused (Err (stops.Refused x)) states r l stuck reason kind =
+    record { stuck = stuck; reason = λ body seen. token_reason body (start_sign r) l x.kind x.place seen.sign reason; stops = at_once kind reason }
+token_refused (Err stops.Memory) states r l stuck reason kind = tt
+
+-- or perhaps for the first number
+pub number_refused : {T : Type 0} (result : Result T Stop) (states : Elements) (f : FirstNumber) (l : Lexeme) → On result (λ x. CannotTake (StartGoes states) (reader.Number f) l)
+    → On result (λ x. IsStop (IsDueNumber f.value f.place l) None (number_end false (count_of states - 1)) l x.kind x.place) → On result (RefusesInStart states (reader.Number f) l)
+number_refused (Ok v) states f l stuck stop = tt
+number_refused (Err (stops.Refused x)) states f l stuck stop =
+    record { stuck = stuck; reason = λ body seen. number_reason (count_of states) body f _ l x.kind x.place seen stop; stops = stop }
+number_refused (Err stops.Memory) states f l stuck stop = tt
+
+pub digits_refused : {T : Type 0} (result : Result T Stop) (states : Elements) (d : Digits) (l : Lexeme) → On result (λ x. CannotTake (StartGoes states) (reader.Digits d) l)
+    → On result (λ x. IsStop (IsDueValue d.value d.place l) None NumberOrEnd l x.kind x.place) → On result (RefusesInStart states (reader.Digits d) l)
+digits_refused (Ok v) states d l stuck stop = tt
+digits_refused (Err (stops.Refused x)) states d l stuck stop =
+    record { stuck = stuck; reason = λ body seen. digits_reason (count_of states) body d _ l x.kind x.place seen stop; stops = stop }
+digits_refused (Err stops.Memory) states d l stuck stop = tt
 
 -- why a list of numbers cannot end
 pub end_kind : (kind : ItemFault) → IsEndReason Start kind → IsStartEndKind kind
@@ -410,9 +408,3 @@ digits_end_reason count body d s =
       stands = record { before = b.colon ∷ []; lexeme = b.digits; after = []; whole = b.whole; place_is = b.place_is; holds = tt };
       reason = record { before = b.colon ∷ []; lexeme = b.digits; after = []; whole = b.whole; place_is = b.place_is; holds = may_be_digits count b.digits b.are_digits };
     }
-
--- a token that has no place
-pub misplaced_at : (sign : Option Sign) (l : Lexeme) (kind : ItemFault) (place : ℕ) → steps.IsMisplaced l kind place → IsReasonAt sign l kind place
-misplaced_at sign l Reset place r = r
-misplaced_at sign l BadShape place r = r
-misplaced_at sign l _ place r = absurd r

@@ -1,13 +1,10 @@
 -- What the places of numbers and entries are for, step by step.
-use Rattle.std.proofs.Common.{◌≡◌, ◌≢◌, ◌∙◌, ℕ, zero, suc, ◌+◌, ◌-◌, ◌≤◌, Bool, true, false, nat_lt, ◌==◌, ◌⊎◌, Option, Some, None, is_some, inl, inr, List, [], ◌∷◌, ◌++◌, length, drop, refl, sym, ap, subst, arith, length-append, if◌then◌else◌}
+use Rattle.std.proofs.Common.{◌≡◌, ◌≢◌, ◌∙◌, ℕ, zero, suc, ◌+◌, ◌-◌, ◌≤◌, Bool, true, false, nat_lt, ◌==◌, ◌⊎◌, None, is_some, inl, inr, List, [], ◌∷◌, ◌++◌, length, drop, refl, sym, ap, subst, arith, length-append, if◌then◌else◌}
 use Rattle.std.proofs.lemmas.Grind.{common_steps}
 use Rattle.polcert_text.specs.Cut.{Lexeme}
 use Rattle.polcert_text.specs.declared.lexeme.TokenKind.{TokenKind}
 use Rattle.polcert_text.specs.declared.lexeme.TokenKind.TheVariants as kinds
-use Rattle.polcert_format.specs.declared.fault.ItemFault.{ItemFault}
-use Rattle.polcert_format.specs.declared.fault.ItemFault.TheVariants.{BadShape, WrongNumberCount, Reset, StartSum}
-use Rattle.polcert_items.specs.declared.stop.ItemEnd.{ItemEnd}
-use Rattle.polcert_items.specs.declared.stop.ItemEnd.TheVariants as ends
+use Rattle.polcert_format.specs.declared.fault.ItemFault.TheVariants.{WrongNumberCount}
 use Rattle.polcert_text.specs.Lexemes.{are_digits}
 use Rattle.polcert_cells.specs.declared.entry.Table.{Table}
 use Rattle.polcert_items.specs.declared.entry_reader.Numbers.{Numbers}
@@ -21,17 +18,14 @@ use Rattle.polcert_format.specs.Reasons.{is_sign}
 use Rattle.polcert_items.specs.Steps.Numbers.{IsSignAt}
 use Rattle.polcert_items.specs.Steps.Numbers as steps
 use Rattle.polcert_items.specs.Steps.Entries.{awaited, HasRoom, IsFull, no_numbers}
-use Rattle.polcert_format.specs.Misfits.{Wanted, Mark, NumberOrEnd, Number, EndOfNumbers, EndOfWord, misfit, is_reset, begins_number, tests_value, IsMisfit, of_place}
+use Rattle.polcert_format.specs.Misfits.{Wanted, Mark, NumberOrEnd, EndOfWord, misfit, begins_number}
 use Rattle.polcert_items.proofs.PatternLaws.{BeginsNumber}
-use Rattle.polcert_items.specs.Steps.Wants.{Leads, number_wants, list_wants, state_wants, IfAtEnd, entry_wants as reader_wants}
+use Rattle.polcert_items.specs.Steps.Wants.{Leads, list_wants, state_wants, entry_wants as reader_wants}
 
 true≢false : true ≡ false → ⊥
 true≢false e = cc
 
 -- ---- numbers
-
-pub sign_leads : (signed : Bool) (left : ℕ) (l : Lexeme) → is_sign l.kind ≡ true → Leads (numbers_want signed left) l (numbers_want true left)
-sign_leads signed left l e = record { same = λ ls i. numbers_want (e i) (if e i then left else left - 1) ls }
 
 pub numeral_leads : (signed : Bool) (left after : ℕ) (l : Lexeme) → l.kind ≡ kinds.Numeral → after ≡ left - 1 → Leads (numbers_want signed left) l (numbers_want false after)
 numeral_leads signed left after l e less =
@@ -42,57 +36,26 @@ sign_is : (s : Sign) (l : Lexeme) → IsSignAt s l → is_sign l.kind ≡ true
 sign_is s l (steps.plus kind negative place) = ap is_sign kind
 sign_is s l (steps.minus kind negative place) = ap is_sign kind
 
-pub list_sign_leads : {T : Type 0} (n : Numbers T) (l : Lexeme) (s : Sign) → IsSignAt s l → Leads (list_wants n) l (list_wants (record n { sign = Some s }))
-list_sign_leads n l s is = sign_leads (is_some n.sign) (n.needed - length n.read) l (sign_is s l is)
-
 pub list_numeral_leads : {T : Type 0} (n : Numbers T) (l : Lexeme) (read : List T) (v : T) → l.kind ≡ kinds.Numeral → read ≡ n.read ++ v ∷ [] → Leads (list_wants n) l (list_wants (record n { read = read; sign = None }))
 list_numeral_leads n l read v e more =
     let one = ap length more in
     let further = length-append n.read (v ∷ []) in
     numeral_leads (is_some n.sign) (n.needed - length n.read) (n.needed - length read) l e (omega (arith, one, further))
 
--- all numbers are there
-pub full_wants : {T : Type 0} (n : Numbers T) → IsFull n → EndOfNumbers ≡ list_wants n []
-full_wants n full =
-    let none : n.needed - length n.read ≡ 0 = let e = full.count in omega (arith, e) in
-    sym (λ i. number_end (is_some (full.sign i)) (none i))
-
--- a number may stand
-open_wants : (sign : Option Sign) (left : ℕ) → (sign ≡ None → left ≡ 0 → ⊥) → number_wants sign ≡ number_end (is_some sign) left
-open_wants (Some s) left f = refl
-open_wants None zero f = absurd (f refl refl)
-open_wants None (suc left) f = refl
-
 awaits : {T : Type 0} (n : Numbers T) → HasRoom n → n.sign ≡ None → n.needed - length n.read ≡ 0 → n.sign ≡ None → IsFull n
 awaits n room none left e =
     let r : length n.read + 0 ≤ n.needed = subst (λ s. length n.read + awaited s ≤ n.needed) none room in
     record { sign = none; count = omega (arith, r, left) }
-
-pub more_wants : {T : Type 0} (n : Numbers T) → HasRoom n → (IsFull n → ⊥) → number_wants n.sign ≡ list_wants n []
-more_wants n room not_full = open_wants n.sign (n.needed - length n.read) (λ none left. not_full (awaits n room none left none))
-
--- a token behind the last number
-pub behind_misfit : {T : Type 0} (n : Numbers T) (l : Lexeme) (kind : ItemFault) → IsFull n → kind ≡ misfit EndOfNumbers (Some l) → IsMisfit (list_wants n []) l kind
-behind_misfit n l kind full e = subst (λ w. IsMisfit w l kind) (full_wants n full) (of_place refl e)
-
-pub number_misfit : {T : Type 0} (n : Numbers T) (l : Lexeme) (kind : ItemFault) → HasRoom n → (IsFull n → ⊥) → IsMisfit (number_wants n.sign) l kind → IsMisfit (list_wants n []) l kind
-number_misfit n l kind room not_full m = subst (λ w. IsMisfit w l kind) (more_wants n room not_full) m
 
 -- ---- entries
 
 pub colon_leads : (preamble : Preamble) (table : Table) (written : ℕ) (l : Lexeme) → l.kind ≡ kinds.Colon → Leads (entry_wants preamble table false written) l (entry_wants preamble table true written)
 colon_leads preamble table written l e = record { same = λ ls i. by_kind (e i) (entry_wants preamble table true written ls) (numbers_want false (cells_in (drop written (dimensions preamble table))) (l ∷ ls)) }
 
-pub name_leads : (preamble : Preamble) (table : Table) (written : ℕ) (l : Lexeme) → l.kind ≡ kinds.Name → Leads (entry_wants preamble table false written) l (λ ls. EndOfWord)
-name_leads preamble table written l e = record { same = λ ls i. by_kind (e i) (entry_wants preamble table true written ls) (numbers_want false (cells_in (drop written (dimensions preamble table))) (l ∷ ls)) }
-
 number_kind : (k : TokenKind) (a b : Wanted) → begins_number k ≡ true → by_kind k a b ≡ b
-number_kind kinds.Numeral a b e = refl
-number_kind kinds.Plus a b e = refl
-number_kind kinds.Minus a b e = refl
-number_kind kinds.Star a b e = refl
 number_kind kinds.Colon a b e = absurd (true≢false (sym e))
 number_kind kinds.Name a b e = absurd (true≢false (sym e))
+number_kind _ a b e = refl
 
 pub numbers_lead : (preamble : Preamble) (table : Table) (written : ℕ) (l : Lexeme) (new : List Lexeme → Wanted) → begins_number l.kind ≡ true
     → Leads (numbers_want false (cells_in (drop written (dimensions preamble table)))) l new → Leads (entry_wants preamble table false written) l new
@@ -106,42 +69,11 @@ enough written least l = grind (arith, common_steps)
 pub too_few : (written least : ℕ) → (least ≤ written → ⊥) → nat_lt written least ≡ true
 too_few written least l = grind (arith, common_steps)
 
-pub numbers_misfit : (preamble : Preamble) (table : Table) (written : ℕ) (l : Lexeme) (kind : ItemFault) → least_written (is_mdp preamble) table ≤ written
-    → IsMisfit (numbers_want false (cells_in (drop written (dimensions preamble table))) []) l kind → IsMisfit (entry_wants preamble table false written []) l kind
-numbers_misfit preamble table written l kind low m =
-    subst (λ b. IsMisfit (if b then Mark else numbers_want false (cells_in (drop written (dimensions preamble table))) []) l kind) (sym (enough written (least_written (is_mdp preamble) table) low)) m
-
--- what begins no number
-number_no_value : (k : TokenKind) → begins_number k ≡ false → tests_value Number k ≡ false
-number_no_value kinds.Numeral e = absurd (true≢false e)
-number_no_value kinds.Plus e = refl
-number_no_value kinds.Minus e = refl
-number_no_value kinds.Star e = refl
-number_no_value kinds.Colon e = refl
-number_no_value kinds.Name e = refl
-
-body_misfit_at : (b : Bool) (cells : ℕ) (l : Lexeme) (kind : ItemFault) → begins_number l.kind ≡ false → kind ≡ misfit EndOfWord (Some l)
-    → IsMisfit (if b then Mark else number_end false cells) l kind
-body_misfit_at true cells l kind none e = of_place refl e
-body_misfit_at false zero l kind none e = of_place refl (e ∙ sym (λ i. if is_reset l.kind l.bytes then Reset else (if none i then WrongNumberCount else BadShape)))
-body_misfit_at false (suc cells) l kind none e = of_place (number_no_value l.kind none) e
-
-pub body_misfit : (preamble : Preamble) (table : Table) (written : ℕ) (l : Lexeme) (kind : ItemFault) → begins_number l.kind ≡ false → kind ≡ misfit EndOfWord (Some l)
-    → IsMisfit (entry_wants preamble table false written []) l kind
-body_misfit preamble table written l kind none e = body_misfit_at (nat_lt written (least_written (is_mdp preamble) table)) (cells_in (drop written (dimensions preamble table))) l kind none e
-
-pub few_misfit : (preamble : Preamble) (table : Table) (written : ℕ) (l : Lexeme) (kind : ItemFault) → (least_written (is_mdp preamble) table ≤ written → ⊥) → kind ≡ misfit EndOfWord (Some l)
-    → IsMisfit (entry_wants preamble table false written []) l kind
-few_misfit preamble table written l kind few e =
-    subst (λ b. IsMisfit (if b then Mark else numbers_want false (cells_in (drop written (dimensions preamble table))) []) l kind) (sym (too_few written (least_written (is_mdp preamble) table) few)) (of_place refl e)
-
 pub no_number : (k : TokenKind) → k ≢ kinds.Numeral → k ≢ kinds.Plus → k ≢ kinds.Minus → begins_number k ≡ false
 no_number kinds.Numeral a b c = absurd (a refl)
 no_number kinds.Plus a b c = absurd (b refl)
 no_number kinds.Minus a b c = absurd (c refl)
-no_number kinds.Star a b c = refl
-no_number kinds.Colon a b c = refl
-no_number kinds.Name a b c = refl
+no_number _ a b c = refl
 
 -- ---- where an entry ends
 
@@ -153,10 +85,6 @@ body_ends preamble table written low some =
     at : (cells : ℕ) → 1 ≤ cells → WrongNumberCount ≡ misfit (number_end false cells) None
     at zero l = absurd (omega (arith, l))
     at (suc cells) l = refl
-
-pub few_end : (preamble : Preamble) (table : Table) (written : ℕ) → (least_written (is_mdp preamble) table ≤ written → ⊥) → BadShape ≡ misfit (entry_wants preamble table false written []) None
-few_end preamble table written few =
-    subst (λ b. BadShape ≡ misfit (if b then Mark else number_end false (cells_in (drop written (dimensions preamble table)))) None) (sym (too_few written (least_written (is_mdp preamble) table) few)) refl
 
 -- ---- from a known state
 
@@ -204,22 +132,3 @@ body_lead count l new none begins leads = record { same = at }
     at [] =
         (λ i. if none i then NumberOrEnd else by_kind l.kind EndOfWord (numbers_want false count (l ∷ []))) ∙ number_kind l.kind EndOfWord (numbers_want false count (l ∷ [])) begins ∙ leads.same []
     at (m ∷ ls) = number_kind l.kind EndOfWord (numbers_want false count (l ∷ m ∷ ls)) begins ∙ leads.same (m ∷ ls)
-
--- one number is not enough, or all there may be
-pub number_lacks : (count : ℕ) → 1 ≤ count → count ≢ 1 → WrongNumberCount ≡ misfit (number_end false (count - 1)) None
-number_lacks count some more = at (count - 1) (omega (arith, some, more))
-  where
-    at : (left : ℕ) → 1 ≤ left → WrongNumberCount ≡ misfit (number_end false left) None
-    at zero l = absurd (omega (arith, l))
-    at (suc left) l = refl
-
-pub number_is_all : (count : ℕ) → count ≡ 1 → StartSum ≡ misfit (number_end false (count - 1)) None
-number_is_all count one = let none : count - 1 ≡ 0 = omega (arith, one) in sym (ap (λ n. misfit (number_end false n) None) none)
-
-pub sum_of_all : {T : Type 0} (n : Numbers T) → IsFull n → StartSum ≡ misfit (list_wants n []) None
-sum_of_all n full = ap (λ w. misfit w None) (full_wants n full)
-
-pub no_end_kind : (e : ItemEnd) (P : ItemFault → Type 0) → IfAtEnd e (λ kind. ⊥) → IfAtEnd e P
-no_end_kind (ends.AtEnd kind) P none = absurd none
-no_end_kind (ends.At r) P none = tt
-no_end_kind ends.Memory P none = tt

@@ -3,6 +3,7 @@ pub mod Ahead
 pub mod Covering
 pub mod Elements
 pub mod Entries
+pub mod Feeding
 pub mod Items
 pub mod Known
 pub mod Lines

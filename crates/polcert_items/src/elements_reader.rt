@@ -10,6 +10,7 @@ ghost use Rattle.polcert_items.specs.Steps.Lines.{Takes, CannotTake, CannotEnd};
 ghost use Rattle.polcert_cells.specs.Meaning.{IsCount};
 ghost use Rattle.polcert_format.specs.Reasons.{is_sign};
 ghost use Rattle.polcert_format.specs.Misfits.{misfit, IsMisfit, CountOrName, FurtherName};
+ghost use Rattle.polcert_items.specs.Steps.Feeding.{Feeds};
 ghost use Rattle.polcert_items.specs.Steps.Wants.{Leads, elements_want};
 ghost use Rattle.polcert_cells.specs.Words.{IsName};
 
@@ -42,18 +43,11 @@ impl ElementsReader {
         requires some { 1 ≤ most }
         requires small { most < 2 ^ 32 }
         ensures within { OnOk result (IsElementsRead most self.new) }
-        ensures takes { OnOk result (Takes (ElementsGo most) self.old (lexeme_of token.entry) self.new) }
-        ensures refused { IfErr result
-            (λ stop. IfRefused stop (λ r. CannotTake (ElementsGo most) self.old (lexeme_of token.entry))) }
-        ensures reason { IfErr result (λ stop. IfRefused stop (λ r.
-            ElementsReason self.old (lexeme_of token.entry) r.kind r.place)) }
+        ensures fed { Feeds IfRefused (ElementsGo most) (elements_want most) (ElementsReason self.old)
+            self.old (lexeme_of token.entry) self.new result }
         ensures seen { (body : List Lexeme) → AreElementsSeen body self.old
             → OnOk result (AreElementsSeen (body ++ lexeme_of token.entry ∷ []) self.new) }
         ensures sign { OnOk result (is_sign (lexeme_of token.entry).kind ≡ false) }
-        ensures leads { OnOk result
-            (Leads (elements_want most self.old) (lexeme_of token.entry) (elements_want most self.new)) }
-        ensures kind { IfErr result (λ stop. IfRefused stop (λ r.
-            IsMisfit (elements_want most self.old []) (lexeme_of token.entry) r.kind)) }
     {
         match self {
             ElementsReader::Colon => {

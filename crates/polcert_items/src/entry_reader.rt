@@ -15,6 +15,7 @@ ghost use Rattle.polcert_format.specs.Misfits.{misfit, IsMisfit, Index, Mark};
 ghost use Rattle.polcert_items.specs.Steps.Numbers.{SignIs};
 ghost use Rattle.polcert_items.specs.Steps.Items.{IsEndReason};
 ghost use Rattle.polcert_format.specs.Text.{Known};
+ghost use Rattle.polcert_items.specs.Steps.Feeding.{Feeds, FeedsEntry};
 ghost use Rattle.polcert_items.specs.Steps.Wants.{Leads, list_wants, state_wants, entry_wants};
 ghost use Rattle.polcert_cells.specs.declared.words.Topic.{Topic};
 ghost use Rattle.polcert_cells.specs.declared.entry.Place.{Place};
@@ -88,17 +89,9 @@ impl<T: ListNumber> Numbers<T> {
         requires { HasRoom self.old }
         ensures needed { self.new.needed ≡ self.old.needed }
         ensures room { OnOk result (HasRoom self.new) }
-        ensures takes { OnOk result
-            (Takes (NumberListGoes T.kind) self.old (lexeme_of token.entry) self.new) }
-        ensures refused { IfErr result (λ stop. IfRefused stop (λ r.
-            CannotTake (NumberListGoes T.kind) self.old (lexeme_of token.entry))) }
-        ensures reason { IfErr result (λ stop. IfRefused stop (λ r.
-            IsListReason T.kind.range self.old.sign (lexeme_of token.entry) r.kind r.place)) }
+        ensures fed { Feeds IfRefused (NumberListGoes T.kind) list_wants
+            (IsListReason T.kind.range self.old.sign) self.old (lexeme_of token.entry) self.new result }
         ensures sign { OnOk result (SignIs self.new.sign (lexeme_of token.entry)) }
-        ensures leads { OnOk result
-            (Leads (list_wants self.old) (lexeme_of token.entry) (list_wants self.new)) }
-        ensures kind { IfErr result (λ stop. IfRefused stop (λ r.
-            IsMisfit (list_wants self.old []) (lexeme_of token.entry) r.kind)) }
     {
         if self.is_full() {
             return Err(Stop::Refused(behind_numbers(token)));
@@ -162,17 +155,9 @@ impl EntryReader {
         requires text { IsText (lexeme_of token) }
         ensures table { self.new.table ≡ self.old.table }
         ensures within { OnOk result (IsWithinIndices (indices_in known.now self.old.table) self.new) }
-        ensures takes { OnOk result (Takes (EntryGoes (preamble_in known.now))
-            self.old (lexeme_of token.entry) self.new) }
-        ensures refused { IfErr result (λ stop. IfRefused stop (λ r.
-            CannotTake (EntryGoes (preamble_in known.now)) self.old (lexeme_of token.entry))) }
-        ensures reason { IfErr result (λ stop. IfRefused stop (λ r.
-            IsEntryReason self.old (lexeme_of token.entry) r.kind r.place)) }
+        ensures fed { FeedsEntry known.now (IsEntryReason self.old)
+            self.old (lexeme_of token.entry) self.new result }
         ensures sign { OnOk result (SignIs (entry_sign self.new.state) (lexeme_of token.entry)) }
-        ensures leads { OnOk result (Leads (entry_wants (preamble_in known.now) self.old)
-            (lexeme_of token.entry) (entry_wants (preamble_in known.now) self.new)) }
-        ensures kind { IfErr result (λ stop. IfRefused stop (λ r.
-            IsMisfit (entry_wants (preamble_in known.now) self.old []) (lexeme_of token.entry) r.kind)) }
     {
         match &mut self.state {
             EntryState::Colon => {
@@ -196,17 +181,9 @@ impl EntryReader {
         requires text { IsText (lexeme_of token) }
         ensures table { self.new.table ≡ self.old.table }
         ensures within { OnOk result (IsWithinIndices (indices_in known.now self.old.table) self.new) }
-        ensures takes { OnOk result (Takes (EntryGoes (preamble_in known.now))
-            self.old (lexeme_of token.entry) self.new) }
-        ensures refused { IfErr result (λ stop. IfRefused stop (λ r.
-            CannotTake (EntryGoes (preamble_in known.now)) self.old (lexeme_of token.entry))) }
-        ensures reason { IfErr result (λ stop. IfRefused stop (λ r.
-            IsPlaceReason (lexeme_of token.entry) r.kind r.place)) }
+        ensures fed { FeedsEntry known.now IsPlaceReason
+            self.old (lexeme_of token.entry) self.new result }
         ensures sign { OnOk result (SignIs (entry_sign self.new.state) (lexeme_of token.entry)) }
-        ensures leads { OnOk result (Leads (entry_wants (preamble_in known.now) self.old)
-            (lexeme_of token.entry) (entry_wants (preamble_in known.now) self.new)) }
-        ensures kind { IfErr result (λ stop. IfRefused stop (λ r.
-            IsMisfit (entry_wants (preamble_in known.now) self.old []) (lexeme_of token.entry) r.kind)) }
     {
         let place = self.next_place(known, token)?;
         self.places.push(place)?;
@@ -243,17 +220,9 @@ impl EntryReader {
         requires within { length self.old.places ≤ length (indices_in known.now self.old.table) }
         ensures table { self.new.table ≡ self.old.table }
         ensures within { OnOk result (IsWithinIndices (indices_in known.now self.old.table) self.new) }
-        ensures takes { OnOk result (Takes (EntryGoes (preamble_in known.now))
-            self.old (lexeme_of token.entry) self.new) }
-        ensures refused { IfErr result (λ stop. IfRefused stop (λ r.
-            CannotTake (EntryGoes (preamble_in known.now)) self.old (lexeme_of token.entry))) }
-        ensures reason { IfErr result (λ stop. IfRefused stop (λ r.
-            IsEntryReason self.old (lexeme_of token.entry) r.kind r.place)) }
+        ensures fed { FeedsEntry known.now (IsEntryReason self.old)
+            self.old (lexeme_of token.entry) self.new result }
         ensures sign { OnOk result (SignIs (entry_sign self.new.state) (lexeme_of token.entry)) }
-        ensures leads { OnOk result (Leads (entry_wants (preamble_in known.now) self.old)
-            (lexeme_of token.entry) (entry_wants (preamble_in known.now) self.new)) }
-        ensures kind { IfErr result (λ stop. IfRefused stop (λ r.
-            IsMisfit (entry_wants (preamble_in known.now) self.old []) (lexeme_of token.entry) r.kind)) }
     {
         let written = self.places.len();
         match token.kind {

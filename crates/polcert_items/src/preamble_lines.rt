@@ -6,7 +6,8 @@ ghost use Rattle.polcert_items.specs.Steps.Lines.{Takes, CannotTake, CannotEnd, 
 ghost use Rattle.polcert_items.specs.Steps.Items.{IsEndReason};
 ghost use Rattle.polcert_format.specs.Reasons.{is_sign};
 ghost use Rattle.polcert_format.specs.Misfits.{misfit, IsMisfit, Mark};
-ghost use Rattle.polcert_items.specs.Steps.Wants.{Leads, discount_wants, values_want};
+ghost use Rattle.polcert_items.specs.Steps.Feeding.{Feeds, IfRefusal, EndsLine};
+ghost use Rattle.polcert_items.specs.Steps.Wants.{discount_wants, values_want};
 
 use crate::signed_number::{Range, Refusal, Sign, Step, behind_numbers, misplaced, number_step};
 use polcert_cells::{Topic, is_word};
@@ -24,14 +25,9 @@ pub enum DiscountReader {
 impl DiscountReader {
     /// Goes on with a token of the line.
     pub fn feed(&mut self, token: Token<'_>) -> Result<(), Refusal>
-        ensures takes { OnOk result (Takes DiscountGoes self.old (lexeme_of token.entry) self.new) }
-        ensures refused { OnErr result (CannotTake DiscountGoes self.old (lexeme_of token.entry)) }
-        ensures reason { IfErr result (λ r. DiscountReason self.old (lexeme_of token.entry) r.kind r.place) }
+        ensures fed { Feeds IfRefusal DiscountGoes discount_wants (DiscountReason self.old)
+            self.old (lexeme_of token.entry) self.new result }
         ensures sign { OnOk result (SignIs (discount_sign self.new) (lexeme_of token.entry)) }
-        ensures leads { OnOk result
-            (Leads (discount_wants self.old) (lexeme_of token.entry) (discount_wants self.new)) }
-        ensures kind { IfErr result
-            (λ r. IsMisfit (discount_wants self.old []) (lexeme_of token.entry) r.kind) }
     {
         match *self {
             DiscountReader::Colon => {
@@ -52,10 +48,7 @@ impl DiscountReader {
 
     /// What the line says, or why it cannot end here.
     pub fn end(self) -> Result<u32, ItemFault>
-        ensures said { IfOk result (DiscountGoes self []) }
-        ensures reason { IfErr result (IsEndReason Topic.Discount) }
-        ensures refused { OnErr result (CannotEnd DiscountGoes self) }
-        ensures kind { IfErr result (λ kind. kind ≡ misfit (discount_wants self []) None) }
+        ensures { EndsLine DiscountGoes discount_wants Topic.Discount self result }
     {
         match self {
             DiscountReader::Number(None) => Err(ItemFault::WrongNumberCount),
@@ -76,13 +69,9 @@ pub enum ValuesReader {
 impl ValuesReader {
     /// Goes on with a token of the line.
     pub fn feed(&mut self, token: Token<'_>) -> Result<(), Refusal>
-        ensures takes { OnOk result (Takes ValuesGoes self.old (lexeme_of token.entry) self.new) }
-        ensures refused { OnErr result (CannotTake ValuesGoes self.old (lexeme_of token.entry)) }
-        ensures reason { IfErr result (λ r. IsMisplaced (lexeme_of token.entry) r.kind r.place) }
+        ensures fed { Feeds IfRefusal ValuesGoes values_want IsMisplaced
+            self.old (lexeme_of token.entry) self.new result }
         ensures sign { OnOk result (is_sign (lexeme_of token.entry).kind ≡ false) }
-        ensures leads { OnOk result
-            (Leads (values_want self.old) (lexeme_of token.entry) (values_want self.new)) }
-        ensures kind { IfErr result (λ r. IsMisfit (values_want self.old []) (lexeme_of token.entry) r.kind) }
     {
         match *self {
             ValuesReader::Colon => {
@@ -100,10 +89,7 @@ impl ValuesReader {
 
     /// What the line says, or why it cannot end here.
     pub fn end(self) -> Result<bool, ItemFault>
-        ensures said { IfOk result (ValuesGoes self []) }
-        ensures reason { IfErr result (IsEndReason Topic.Values) }
-        ensures refused { OnErr result (CannotEnd ValuesGoes self) }
-        ensures kind { IfErr result (λ kind. kind ≡ misfit (values_want self []) None) }
+        ensures { EndsLine ValuesGoes values_want Topic.Values self result }
     {
         match self {
             ValuesReader::Said(costs) => Ok(costs),

@@ -11,6 +11,7 @@ ghost use Rattle.polcert_format.specs.Misfits.{misfit, IsMisfit, IsOfValue, Mark
 ghost use Rattle.polcert_format.specs.Wants.{numbers_want, start_body_wants};
 ghost use Rattle.polcert_items.specs.Steps.Elements.{IsText};
 ghost use Rattle.polcert_items.specs.Steps.Entries.{IfRefused};
+ghost use Rattle.polcert_items.specs.Steps.Feeding.{IsStartFed, RefusesInStart};
 ghost use Rattle.polcert_items.specs.Steps.Lines.{Takes, CannotTake, CannotEnd};
 ghost use Rattle.polcert_items.specs.Steps.Numbers.{IsMisplaced};
 ghost use Rattle.polcert_items.specs.Steps.Start.{StartGoes, StartGives, IsStartWithin, IsStartSeen};
@@ -71,20 +72,9 @@ impl StartReader {
         requires count { IsCount most_states (count_of states.now) }
         requires text { IsText (lexeme_of token) }
         requires within { IsStartWithin states.now self.old }
-        ensures within { OnOk result (IsStartWithin states.now self.new) }
-        ensures takes { OnOk result (Takes (StartGoes states.now) self.old (lexeme_of token.entry) self.new) }
-        ensures refused { IfErr result (λ stop. IfRefused stop (λ r.
-            CannotTake (StartGoes states.now) self.old (lexeme_of token.entry))) }
-        ensures seen { (body : List Lexeme) → IsStartSeen (count_of states.now) body self.old →
-            OnOk result (IsStartSeen (count_of states.now) (body ++ lexeme_of token.entry ∷ []) self.new) }
-        ensures reason { (body : List Lexeme) → IsStartSeen (count_of states.now) body self.old →
-            IfErr result (λ stop. IfRefused stop (λ r.
-            IsStartReason (body ++ lexeme_of token.entry ∷ []) r.kind r.place)) }
-        ensures leads { OnOk result (Leads (start_wants (count_of states.now) self.old)
-            (lexeme_of token.entry) (start_wants (count_of states.now) self.new)) }
-        ensures stops { IfErr result (λ stop. IfRefused stop (λ r.
-            IsStop (IsDue self.old (lexeme_of token.entry)) (start_sign self.old)
-            (start_wants (count_of states.now) self.old []) (lexeme_of token.entry) r.kind r.place)) }
+        ensures fed { OnOk result (IsStartFed states.now self.old (lexeme_of token.entry) self.new) }
+        ensures refused { IfErr result (λ stop. IfRefused stop
+            (RefusesInStart states.now self.old (lexeme_of token.entry))) }
         ensures held { IsHeld (count_of states.now) self.old (lexeme_of token.entry) →
             IfErr result (λ stop. IfRefused stop (λ r. ⊥)) }
         ensures late { (r : Refusal) → IsDue self.old (lexeme_of token.entry) r.kind r.place →

@@ -7,5 +7,4 @@ pub mod RewardKeys
 pub mod RewardLists
 pub mod RewardPaid
 pub mod RewardRules
-pub mod RewardSound
 pub mod RewardValues

@@ -54,15 +54,6 @@ filled_next xs f place x d size before here =
     (λ k l. get_or_append_left xs (x ∷ []) d k (omega (arith, l, size)) ∙ before k l)
     (get_or_push xs x d place size ∙ here)
 
--- no cell more, and one more
-pub adds_none : (f : ℕ → ℤ) (cells : List ℤ) → AddsCells f 0 cells cells
-adds_none f cells =
-    record {
-      size = omega arith;
-      kept = λ k l. refl;
-      cells = λ k l. absurd (omega (arith, l));
-    }
-
 pub adds_next : (f : ℕ → ℤ) (count : ℕ) (old new : List ℤ) (x : ℤ) → AddsCells f count old new → x ≡ f count → AddsCells f (count + 1) old (new ++ x ∷ [])
 adds_next f count old new x adds is =
     record {

@@ -1,9 +1,10 @@
 -- Rows as they are built, action by action and state by state.
-use Rattle.std.proofs.Common.{◌≡◌, ◌∙◌, ℕ, zero, suc, ◌+◌, ◌*◌, ◌<◌, ⊎_elim, Some, List, [], ◌∷◌, ◌++◌, length, get_or, map, All, refl, sym, ap, subst, arith}
+use Rattle.std.proofs.Common.{◌≡◌, ◌∙◌, ℕ, ◌+◌, ◌*◌, ◌<◌, ⊎_elim, Some, List, [], ◌∷◌, ◌++◌, length, get_or, map, All, sym, ap, subst, arith}
 use Rattle.std.specs.List.{slice_get}
 use Rattle.std.specs.Option.{option_map}
 use Rattle.std.proofs.lemmas.Bool.{cases_lt}
-use Rattle.std.proofs.lemmas.List.{length-append}
+use Rattle.std.proofs.lemmas.List.{length-append, get_or_append_left}
+use Rattle.std.proofs.Math.Seq.{get_or-append_seam}
 use Rattle.std.proofs.lemmas.List.Elements.{All-nil, All-push}
 use Rattle.std.proofs.lemmas.Option.{slice_get-get_or, slice_get_within, get_or_from_slice_get, slice_get-map}
 use Rattle.polcert_cells.specs.declared.entry.Table.{Table}
@@ -25,19 +26,6 @@ one_place n a s b t l m e = ⊎_elim
     (λ le. let same : a ≡ b = omega arith in (same, let rows : a * n ≡ b * n = ap (λ k. k * n) same in omega arith))
     (cases_lt b a))
     (cases_lt a b)
-
-get_or_front : (xs : List ℕ) (x k : ℕ) → k < length xs → get_or (xs ++ x ∷ []) k 0 ≡ get_or xs k 0
-get_or_front xs x k l =
-    get_or_from_slice_get (xs ++ x ∷ []) k (get_or xs k 0) 0 (front xs k (get_or xs k 0) (slice_get-get_or xs k 0 l))
-  where
-    front : (ys : List ℕ) (i y : ℕ) → slice_get ys i ≡ Some y → slice_get (ys ++ x ∷ []) i ≡ Some y
-    front [] i y e = cc
-    front (z ∷ ys) zero y e = e
-    front (z ∷ ys) (suc i) y e = front ys i y e
-
-get_or_end : (xs : List ℕ) (x : ℕ) → get_or (xs ++ x ∷ []) (length xs) 0 ≡ x
-get_or_end [] x = refl
-get_or_end (y ∷ xs) x = get_or_end xs x
 
 module _ (columns states : ℕ) (entries : List Entry) (table : Table) where
   pub built_none : (count : ℕ) (numbers : List ℕ) (kept : List Kept) → count ≡ 0 → numbers ≡ [] → kept ≡ [] → AreBuilt columns states entries table count numbers kept
@@ -71,7 +59,7 @@ module _ (columns states : ℕ) (entries : List Entry) (table : Table) where
       old_row b t m less =
           let size = h.size in
           let same : get_or numbers (b * states + t) 0 ≡ get_or longer (b * states + t) 0 =
-          sym (ap (λ (xs : List ℕ). get_or xs (b * states + t) 0) e ∙ get_or_front numbers n (b * states + t) (omega arith)) in
+          sym (ap (λ (xs : List ℕ). get_or xs (b * states + t) 0) e ∙ get_or_append_left numbers (n ∷ []) 0 (b * states + t) (omega arith)) in
           subst (IsKeptRow columns (weight_in columns entries table b t) new) same
           (kept_stays (weight_in columns entries table b t) old new _ stays (h.each b t m less))
 
@@ -79,7 +67,7 @@ module _ (columns states : ℕ) (entries : List Entry) (table : Table) where
       new_row b t m at =
           let same = one_place states a s b t l m (sym at) in
           let number : n ≡ get_or longer (b * states + t) 0 =
-          sym (ap (λ (xs : List ℕ). get_or xs (b * states + t) 0) e ∙ ap (λ k. get_or (numbers ++ n ∷ []) k 0) (at ∙ sym h.size) ∙ get_or_end numbers n) in
+          sym (ap (λ (xs : List ℕ). get_or xs (b * states + t) 0) e ∙ ap (λ k. get_or (numbers ++ n ∷ []) k 0) (at ∙ sym h.size) ∙ get_or-append_seam numbers n [] 0) in
           subst (IsKeptRow columns (weight_in columns entries table b t) new) number
           (subst (λ k. IsKeptRow columns (weight_in columns entries table k t) new n) same.0 (subst (λ k. IsKeptRow columns (weight_in columns entries table a k) new n) same.1 here))
 

@@ -1,5 +1,5 @@
 -- The newest of rules that pass some test.
-use Rattle.std.proofs.Common.{◌≡◌, ℕ, ◌≤◌, ◌⊎◌, inl, inr, ⊎_elim, Bool, true, false, cond, leb, Option, Some, None, List, Contains, refl, arith}
+use Rattle.std.proofs.Common.{◌≡◌, ℕ, ◌≤◌, ◌⊎◌, inl, inr, ⊎_elim, Bool, true, false, cond, leb, Option, Some, None, List, Contains, refl, ap, arith}
 use Rattle.std.proofs.lemmas.Bool.Decides.{nat_tests}
 use Rattle.polcert_rules.specs.declared.rule.Rule.{Rule}
 use Rattle.polcert_rules.specs.Steps.Newest.{IsNewest}
@@ -35,3 +35,7 @@ greatest_of_two S T (Some m) (Some n) x y = at (leb m n) refl
     at false e =
         let more : n ≤ m = grind (arith, nat_tests) in
         ((x.0.0, inl x.0.1, x.0.2), λ r f. ⊎_elim (x.1 r) (λ q. let s = y.1 r q in omega arith) f)
+
+-- a rule alone
+pub greatest_itself : (r : Rule) → IsGreatest (λ q. r ≡ q) (Some r.number)
+greatest_itself r = ((r, refl, refl), λ q e. let same = ap (λ (x : Rule). x.number) e in omega arith)

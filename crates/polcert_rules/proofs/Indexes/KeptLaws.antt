@@ -27,7 +27,7 @@ use Rattle.polcert_rules.specs.Steps.Sources.{source_in, source_of, IsFrom, IsWh
 pub at_number : {X : Type 0} (P : X → Type 0) (xs : List X) (n : ℕ) (x : X) → All P xs → slice_get xs n ≡ Some x → P x
 at_number P xs n x all is = subst P (get_or_from_slice_get xs n x x is) (all n x (slice_get_within xs n x is))
 
-get_front : {X : Type 0} (xs ys : List X) (n : ℕ) (x : X) → slice_get xs n ≡ Some x → slice_get (xs ++ ys) n ≡ Some x
+pub get_front : {X : Type 0} (xs ys : List X) (n : ℕ) (x : X) → slice_get xs n ≡ Some x → slice_get (xs ++ ys) n ≡ Some x
 get_front [] ys n x e = cc
 get_front (y ∷ xs) ys zero x e = e
 get_front (y ∷ xs) ys (suc n) x e = get_front xs ys n x e
@@ -141,9 +141,6 @@ number_stays (x ∷ xs) new n stays l = let k = get_or (x ∷ xs) n x in slice_g
 
 pub numbers_stay : (numbers : List ℕ) (old new : List Kept) → Stays old new → All (λ n. n < length old) numbers → All (λ n. n < length new) numbers
 numbers_stay numbers old new stays all k d l = number_stays old new (get_or numbers k d) stays (all k d l)
-
-pub stays_then : (old mid new : List Kept) → Stays old mid → Stays mid new → Stays old new
-stays_then old mid new first second n k e = second n k (first n k e)
 
 -- ---- how large weights are
 number_small : (ps : List ℕ) (k : ℕ) → All (λ p. p ≤ one) ps → slice_index ps k ≤ one

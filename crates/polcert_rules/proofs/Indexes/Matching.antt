@@ -1,13 +1,13 @@
 -- The newest rule is the one that the function of the rules gives.
-use Rattle.std.proofs.Common.{◌≡◌, ◌∙◌, ℕ, zero, suc, ◌+◌, ◌*◌, ◌^◌, ◌≤◌, Bool, true, false, cond, leb, ◌⊎◌, inl, inr, ⊎_elim, Option, Some, None, List, [], ◌∷◌, Contains, refl, sym, ap, subst, arith}
+use Rattle.std.proofs.Common.{◌≡◌, ◌∙◌, ℕ, zero, suc, ◌+◌, ◌*◌, ◌^◌, ◌≤◌, Bool, true, false, cond, ◌⊎◌, inl, inr, ⊎_elim, Option, Some, None, List, [], ◌∷◌, Contains, refl, sym, ap, subst, arith}
 use Rattle.std.specs.Prelude.{◌||◌, ◌==◌}
-use Rattle.std.proofs.lemmas.Bool.Decides.{nat_tests}
 use Rattle.polcert_cells.specs.declared.entry.Place.{Place}
 use Rattle.polcert_rules.specs.declared.rule.Rule.{Rule}
 use Rattle.polcert_rules.specs.Keys.{key_base, key_in, Fits}
 use Rattle.polcert_rules.specs.Steps.Newest.{IsNewest}
 use Rattle.polcert_rules.specs.Matching.{later, fits_key, newest_by, newest_in}
 use Rattle.polcert_rules.proofs.Keyed.Fitting.{same_number, equal_numbers, fits_end, fits_here, fits_next, fits_every, fits_only}
+use Rattle.polcert_rules.proofs.Indexes.Greatest.{greatest_as, greatest_of, newest_of, greatest_of_two, greatest_itself}
 use Rattle.polcert_rules.proofs.Indexes.Newer.{newest_of_part}
 use Rattle.polcert_rules.proofs.Indexes.Building.{among_from, contains_from}
 
@@ -66,28 +66,13 @@ in_front r rs = contains_from (r ∷ rs) r (inl refl)
 front_or_behind : (r q : Rule) (rs : List Rule) → Contains (r ∷ rs) q → (r ≡ q) ⊎ Contains rs q
 front_or_behind r q rs c = ⊎_elim inl (λ a. inr (contains_from rs q a)) (among_from (r ∷ rs) q c)
 
-number_of : (r q : Rule) → r ≡ q → r.number ≡ q.number
-number_of r q e = ap (λ (x : Rule). x.number) e
-
 -- the first rule passes
 with_first : (r : Rule) (rs : List Rule) (P : ℕ → Type 0) (x : Option ℕ) → P r.key → IsNewest rs P x → IsNewest (r ∷ rs) P (later (Some r.number) x)
-with_first r rs P None p n = (
-  record { rule = r; among = in_front r rs; passes = p; is = refl },
-  λ q c own. ⊎_elim (λ same. let e = number_of r q same in omega arith) (λ b. absurd (n q b own)) (front_or_behind r q rs c),
-)
-with_first r rs P (Some m) p n = at (leb r.number m) refl
-  where
-    at : (b : Bool) → leb r.number m ≡ b → IsNewest (r ∷ rs) P (cond b (Some m) (Some r.number))
-    at true e =
-        let less : r.number ≤ m = grind (arith, nat_tests) in (
-          record { rule = n.0.rule; among = behind r n.0.rule rs n.0.among; passes = n.0.passes; is = n.0.is },
-          λ q c own. ⊎_elim (λ same. let f = number_of r q same in omega arith) (λ b. n.1 q b own) (front_or_behind r q rs c),
-        )
-    at false e =
-        let more : m ≤ r.number = grind (arith, nat_tests) in (
-          record { rule = r; among = in_front r rs; passes = p; is = refl },
-          λ q c own. ⊎_elim (λ same. let f = number_of r q same in omega arith) (λ b. let s = n.1 q b own in omega arith) (front_or_behind r q rs c),
-        )
+with_first r rs P x p n =
+    newest_of (r ∷ rs) P (later (Some r.number) x) (greatest_as (λ q. (r ≡ q) ⊎ (Contains rs q × P q.key)) _ (later (Some r.number) x)
+    (λ q e. ⊎_elim (λ same. subst (λ (y : Rule). Contains (r ∷ rs) y × P y.key) same (in_front r rs, p)) (λ c. (behind r q rs c.0, c.1)) e)
+    (λ q f. ⊎_elim inl (λ c. inr (c, f.1)) (front_or_behind r q rs f.0))
+    (greatest_of_two _ _ (Some r.number) x (greatest_itself r) (greatest_of rs P x n)))
 
 -- the first rule does not pass
 without_first : (r : Rule) (rs : List Rule) (P : ℕ → Type 0) (x : Option ℕ) → (P r.key → ⊥) → IsNewest rs P x → IsNewest (r ∷ rs) P x
@@ -121,6 +106,3 @@ one_newest rules P (Some m) (Some n) x y =
 -- ---- the newest rule, computed
 pub newest_is : (levels low : ℕ) (rules : List Rule) (indices : List ℕ) → IsNewest rules (Fits levels low indices) (newest_in levels low rules indices)
 newest_is levels low rules indices = newest_by_is rules (fits_key levels low indices) (Fits levels low indices) (fits_is levels low indices) (is_fits levels low indices)
-
-pub newest_computes : (levels low : ℕ) (rules : List Rule) (indices : List ℕ) (found : Option ℕ) → IsNewest rules (Fits levels low indices) found → found ≡ newest_in levels low rules indices
-newest_computes levels low rules indices found n = one_newest rules (Fits levels low indices) found (newest_in levels low rules indices) n (newest_is levels low rules indices)

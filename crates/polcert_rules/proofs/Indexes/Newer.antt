@@ -1,12 +1,12 @@
 -- The newest of several.
-use Rattle.std.proofs.Common.{◌≡◌, ◌∙◌, ℕ, zero, suc, ◌+◌, ◌-◌, ◌*◌, ◌^◌, ◌<◌, ◌≤◌, ◌↔◌, Bool, true, false, cond, leb, ◌⊎◌, inl, inr, ⊎_elim, Option, Some, None, List, [], ◌∷◌, Contains, get_or, length, refl, sym, ap, subst, arith}
+use Rattle.std.proofs.Common.{◌≡◌, ◌∙◌, ℕ, zero, suc, ◌+◌, ◌-◌, ◌*◌, ◌^◌, ◌<◌, ◌≤◌, ◌↔◌, ◌⊎◌, inl, inr, ⊎_elim, Option, Some, None, List, [], ◌∷◌, Contains, get_or, length, refl, sym, ap, subst, arith}
 use Rattle.std.specs.List.{slice_get}
-use Rattle.std.proofs.lemmas.Bool.Decides.{nat_tests}
 use Rattle.std.proofs.lemmas.Option.{slice_get_within, get_or_from_slice_get}
 use Rattle.polcert_rules.specs.declared.rule.Rule.{Rule}
 use Rattle.polcert_rules.specs.Steps.Newest.{IsRising, IsNewest}
 use Rattle.polcert_rules.specs.Matching.{later}
 use Rattle.polcert_rules.specs.Keys.{key_base, AreIndices, Fits}
+use Rattle.polcert_rules.proofs.Indexes.Greatest.{greatest_as, greatest_of, newest_of, greatest_of_two}
 use Rattle.polcert_rules.proofs.Keyed.Fitting.{fits_low, fits_high, fits_next, fits_here, fits_end, fits_every, fits_only, digit_below, power_next, power_some}
 
 pub newest_as : (rules : List Rule) (P Q : ℕ → Type 0) (x : Option ℕ) → ((k : ℕ) → P k → Q k) → ((k : ℕ) → Q k → P k) → IsNewest rules P x → IsNewest rules Q x
@@ -22,24 +22,10 @@ newest_of_part rules part P (Some m) out in_part n =
     (record { rule = n.0.rule; among = out n.0.rule n.0.among; passes = n.0.passes; is = n.0.is }, λ r c p. n.1 r (in_part r c p) p)
 
 pub newest_of_two : (rules : List Rule) (P Q : ℕ → Type 0) (a b : Option ℕ) → IsNewest rules P a → IsNewest rules Q b → IsNewest rules (λ k. P k ⊎ Q k) (later a b)
-newest_of_two rules P Q None None x y = λ r c e. ⊎_elim (x r c) (y r c) e
-newest_of_two rules P Q None (Some n) x y =
-    (record { rule = y.0.rule; among = y.0.among; passes = inr y.0.passes; is = y.0.is }, λ r c e. ⊎_elim (λ p. absurd (x r c p)) (y.1 r c) e)
-newest_of_two rules P Q (Some m) None x y =
-    (record { rule = x.0.rule; among = x.0.among; passes = inl x.0.passes; is = x.0.is }, λ r c e. ⊎_elim (x.1 r c) (λ q. absurd (y r c q)) e)
-newest_of_two rules P Q (Some m) (Some n) x y = at (leb m n) refl
-  where
-    at : (b : Bool) → leb m n ≡ b → IsNewest rules (λ k. P k ⊎ Q k) (cond b (Some n) (Some m))
-    at true e =
-        let less : m ≤ n = grind (arith, nat_tests) in (
-          record { rule = y.0.rule; among = y.0.among; passes = inr y.0.passes; is = y.0.is },
-          λ r c e. ⊎_elim (λ p. let s = x.1 r c p in omega arith) (y.1 r c) e,
-        )
-    at false e =
-        let more : n ≤ m = grind (arith, nat_tests) in (
-          record { rule = x.0.rule; among = x.0.among; passes = inl x.0.passes; is = x.0.is },
-          λ r c e. ⊎_elim (x.1 r c) (λ q. let s = y.1 r c q in omega arith) e,
-        )
+newest_of_two rules P Q a b x y =
+    newest_of rules (λ k. P k ⊎ Q k) (later a b) (greatest_as _ _ (later a b)
+    (λ r e. ⊎_elim (λ p. (p.0, inl p.1)) (λ q. (q.0, inr q.1)) e) (λ r f. ⊎_elim (λ p. inl (f.0, p)) (λ q. inr (f.0, q)) f.1)
+    (greatest_of_two _ _ a b (greatest_of rules P a x) (greatest_of rules Q b y)))
 
 -- the rules from a key on, below so many further keys
 abbrev pub IsSpan : List Rule → List Rule → ℕ → ℕ → Type 0

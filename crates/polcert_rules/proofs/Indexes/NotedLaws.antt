@@ -1,6 +1,5 @@
 -- The newest rules of cells that have all indices but the last in common, step by step.
 use Rattle.std.proofs.Common.{◌≡◌, ◌∙◌, ℕ, zero, suc, ◌+◌, ◌-◌, ◌*◌, ◌^◌, ◌<◌, ◌≤◌, ◌↔◌, Bool, true, false, cond, leb, ◌⊎◌, inl, inr, ⊎_elim, Option, Some, None, List, [], ◌∷◌, ◌++◌, Contains, length, refl, sym, ap, subst, arith}
-use Rattle.std.proofs.lemmas.Bool.{cases_lt}
 use Rattle.std.proofs.lemmas.Bool.Decides.{nat_tests}
 use Rattle.std.proofs.lemmas.List.Elements.{Contains-append_left, Contains-append_right, Contains-append_cases}
 use Rattle.polcert_rules.specs.declared.rule.Rule.{Rule}
@@ -9,6 +8,7 @@ use Rattle.polcert_rules.specs.Steps.Newest.{IsNewest}
 use Rattle.polcert_rules.specs.Matching.{later}
 use Rattle.polcert_rules.specs.Steps.Noting.{IsNoted, IsLastPlace}
 use Rattle.polcert_rules.proofs.Keyed.Fitting.{fits_next, fits_here, fits_end, fits_every, fits_only}
+use Rattle.polcert_rules.proofs.Indexes.Greatest.{greatest_as, greatest_of, newest_of, greatest_of_two, greatest_itself}
 use Rattle.polcert_rules.proofs.Indexes.Newer.{newest_as, newest_of_part, newest_of_two, newest_of_three, newest_deeper, is_deeper, IsSpan}
 
 -- ---- the later of two numbers
@@ -32,11 +32,7 @@ later_right m n l = at (leb m n) refl
     at false e = absurd (grind (arith, nat_tests))
 
 by_order : (m n : ℕ) → (m ≤ n) ⊎ (n ≤ m)
-by_order m n = at (leb m n) refl
-  where
-    at : (b : Bool) → leb m n ≡ b → (m ≤ n) ⊎ (n ≤ m)
-    at true e = inl (grind (arith, nat_tests))
-    at false e = inr (grind (arith, nat_tests))
+by_order m n = grind arith
 
 pub later_of_later : (x y z : Option ℕ) → later (later x y) z ≡ later x (later y z)
 later_of_later None y z = refl
@@ -56,33 +52,16 @@ only_one r y (zero, l, e) = e
 only_one r y (suc k, l, e) = absurd (omega arith)
 
 newest_skip : (xs : List Rule) (r : Rule) (P : ℕ → Type 0) (x : Option ℕ) → IsNewest xs P x → (P r.key → ⊥) → IsNewest (xs ++ r ∷ []) P x
-newest_skip xs r P None n d = λ y c p. ⊎_elim (λ old. n y old p) (λ new. d (subst (λ (z : Rule). P z.key) (sym (only_one r y new)) p)) (Contains-append_cases xs (r ∷ []) y c)
-newest_skip xs r P (Some m) n d = (
-  record { rule = n.0.rule; among = Contains-append_left xs (r ∷ []) n.0.rule n.0.among; passes = n.0.passes; is = n.0.is },
-  λ y c p. ⊎_elim (λ old. n.1 y old p) (λ new. absurd (d (subst (λ (z : Rule). P z.key) (sym (only_one r y new)) p))) (Contains-append_cases xs (r ∷ []) y c),
-)
-
-number_le : (r y : Rule) (n : ℕ) → r ≡ y → r.number ≤ n → y.number ≤ n
-number_le r y n e l = subst (λ (z : Rule). z.number ≤ n) e l
+newest_skip xs r P x n d = newest_of_part (xs ++ r ∷ []) xs P x (λ y c. Contains-append_left xs (r ∷ []) y c)
+    (λ y c p. ⊎_elim (λ old. old) (λ new. absurd (d (subst (λ (z : Rule). P z.key) (sym (only_one r y new)) p))) (Contains-append_cases xs (r ∷ []) y c)) n
 
 newest_hit : (xs : List Rule) (r : Rule) (P : ℕ → Type 0) (x : Option ℕ) → IsNewest xs P x → P r.key → IsNewest (xs ++ r ∷ []) P (later x (Some r.number))
-newest_hit xs r P None n h = (
-  record { rule = r; among = Contains-append_right xs (r ∷ []) r (0, omega arith, refl); passes = h; is = refl },
-  λ y c p. ⊎_elim (λ old. absurd (n y old p)) (λ new. number_le r y r.number (only_one r y new) (omega arith)) (Contains-append_cases xs (r ∷ []) y c),
-)
-newest_hit xs r P (Some m) n h = at (by_order m r.number)
-  where
-    at : (m ≤ r.number) ⊎ (r.number ≤ m) → IsNewest (xs ++ r ∷ []) P (later (Some m) (Some r.number))
-    at (inl l) =
-        subst (IsNewest (xs ++ r ∷ []) P) (sym (later_right m r.number l)) (
-          record { rule = r; among = Contains-append_right xs (r ∷ []) r (0, omega arith, refl); passes = h; is = refl },
-          λ y c p. ⊎_elim (λ old. let low = n.1 y old p in omega arith) (λ new. number_le r y r.number (only_one r y new) (omega arith)) (Contains-append_cases xs (r ∷ []) y c),
-        )
-    at (inr l) =
-        subst (IsNewest (xs ++ r ∷ []) P) (sym (later_left m r.number l)) (
-          record { rule = n.0.rule; among = Contains-append_left xs (r ∷ []) n.0.rule n.0.among; passes = n.0.passes; is = n.0.is },
-          λ y c p. ⊎_elim (λ old. n.1 y old p) (λ new. number_le r y m (only_one r y new) l) (Contains-append_cases xs (r ∷ []) y c),
-        )
+newest_hit xs r P x n h =
+    newest_of (xs ++ r ∷ []) P (later x (Some r.number)) (greatest_as (λ y. (Contains xs y × P y.key) ⊎ (r ≡ y)) _ (later x (Some r.number))
+    (λ y e. ⊎_elim (λ old. (Contains-append_left xs (r ∷ []) y old.0, old.1))
+    (λ same. subst (λ (z : Rule). Contains (xs ++ r ∷ []) z × P z.key) same (Contains-append_right xs (r ∷ []) r (0, omega arith, refl), h)) e)
+    (λ y f. ⊎_elim (λ old. inl (old, f.1)) (λ new. inr (only_one r y new)) (Contains-append_cases xs (r ∷ []) y f.0))
+    (greatest_of_two _ _ x (Some r.number) (greatest_of xs P x n) (greatest_itself r)))
 
 pub noted_skip : (xs : List Rule) (r : Rule) (P : ℕ → Type 0) (before old new : Option ℕ) → IsNoted xs P before old → (P r.key → ⊥) → new ≡ old → IsNoted (xs ++ r ∷ []) P before new
 noted_skip xs r P before old new n d e = record { found = n.found; newest = newest_skip xs r P n.found n.newest d; is = e ∙ n.is }
@@ -96,7 +75,7 @@ noted_hit xs r P before old new n h e = record {
 
 -- whether two numbers are the same
 pub same_or_not : (a b : ℕ) → (a ≡ b) ⊎ (a ≡ b → ⊥)
-same_or_not a b = ⊎_elim (λ l. inr (λ e. omega arith)) (λ g. ⊎_elim (λ l. inr (λ e. omega arith)) (λ h. inl (omega arith)) (cases_lt b a)) (cases_lt a b)
+same_or_not a b = grind arith
 
 -- ---- place after place
 pub one_more_index : (m : ℕ) (indices : List ℕ) (z : ℕ) → AreIndices m indices → m ≡ length indices + 1 → z + 2 < key_base → AreIndices m (indices ++ z ∷ [])

@@ -17,14 +17,9 @@ use Rattle.polcert_rules.proofs.Indexes.Newer.{IsSpan, newest_of_span}
 
 pub same_table : (t u : Table) → is_table t u ≡ true → t ≡ u
 same_table Transition Transition e = refl
-same_table Transition Observation e = cc
-same_table Transition Reward e = cc
-same_table Observation Transition e = cc
 same_table Observation Observation e = refl
-same_table Observation Reward e = cc
-same_table Reward Transition e = cc
-same_table Reward Observation e = cc
 same_table Reward Reward e = refl
+same_table _ _ e = cc
 
 equal_table : (t : Table) → is_table t t ≡ true
 equal_table Transition = refl
@@ -33,14 +28,9 @@ equal_table Reward = refl
 
 table_of_digit : (t u : Table) → table_digit t ≡ table_digit u → t ≡ u
 table_of_digit Transition Transition e = refl
-table_of_digit Transition Observation e = absurd (omega arith)
-table_of_digit Transition Reward e = absurd (omega arith)
-table_of_digit Observation Transition e = absurd (omega arith)
 table_of_digit Observation Observation e = refl
-table_of_digit Observation Reward e = absurd (omega arith)
-table_of_digit Reward Transition e = absurd (omega arith)
-table_of_digit Reward Observation e = absurd (omega arith)
 table_of_digit Reward Reward e = refl
+table_of_digit _ _ e = absurd (omega arith)
 
 -- the one fact: what covers fits, and what fits covers
 pub covered_fits : (table : Table) (indices : List ℕ) (e : Entry) → covers table indices e ≡ true → Fits most_places (table_key table) indices (key_of e)

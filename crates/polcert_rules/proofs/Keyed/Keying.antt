@@ -8,11 +8,11 @@ use Rattle.polcert_cells.specs.declared.entry.Place.TheVariants.{Every, Only}
 use Rattle.polcert_rules.specs.Keys.{key_base, digit, key_in, AreDigits, most_places}
 use Rattle.polcert_rules.proofs.Keyed.Fitting.{digit_below, power_next, power_some, key_low, key_high}
 
-digit_some : (p : Place) → 1 ≤ digit p
+pub digit_some : (p : Place) → 1 ≤ digit p
 digit_some Every = omega arith
 digit_some (Only n) = omega arith
 
-same_place : (p q : Place) → digit p ≡ digit q → p ≡ q
+pub same_place : (p q : Place) → digit p ≡ digit q → p ≡ q
 same_place Every Every e = refl
 same_place Every (Only n) e = absurd (omega arith)
 same_place (Only n) Every e = absurd (omega arith)
@@ -28,12 +28,14 @@ beyond m low p ps e =
     omega arith
 
 -- a lower digit is a lower key
+pub next_digit : (c d s : ℕ) → c < d → c * s + s ≤ d * s
+next_digit c d s l = let more : suc c * s ≤ d * s = mul-le-mul_right s l in let one : suc c * s ≡ c * s + s = suc-mul c s in omega arith
+
 lower_digit : (m low c d : ℕ) (ps qs : List Place) → AreDigits m ps → c < d → key_in m (low + c * key_base ^ m) ps < key_in m (low + d * key_base ^ m) qs
 lower_digit m low c d ps qs a l =
     let high = key_high m (low + c * key_base ^ m) ps a in
     let from_here = key_low m (low + d * key_base ^ m) qs in
-    let more : suc c * key_base ^ m ≤ d * key_base ^ m = mul-le-mul_right (key_base ^ m) l in
-    let one : suc c * key_base ^ m ≡ c * key_base ^ m + key_base ^ m = suc-mul c (key_base ^ m) in
+    let more = next_digit c d (key_base ^ m) l in
     omega arith
 
 pub same_digit : (m low c d : ℕ) (ps qs : List Place) → AreDigits m ps → AreDigits m qs → key_in m (low + c * key_base ^ m) ps ≡ key_in m (low + d * key_base ^ m) qs → c ≡ d

@@ -1,14 +1,13 @@
 -- Where no entry names an observation.
 use Rattle.std.proofs.Common.{◌≡◌, ◌∙◌, ℕ, true, ◌&&◌, Option, Some, None, List, [], ◌∷◌, Contains, refl, sym, ap, subst, arith}
 use Rattle.std.specs.List.{slice_get}
-use Rattle.polcert_cells.specs.declared.entry.Table.{Table}
-use Rattle.polcert_cells.specs.declared.entry.Table.TheVariants.{Transition, Observation, Reward}
+use Rattle.polcert_cells.specs.declared.entry.Table.TheVariants.{Reward}
 use Rattle.polcert_cells.specs.declared.entry.Place.{Place}
 use Rattle.polcert_cells.specs.declared.entry.Place.TheVariants.{Every, Only}
 use Rattle.polcert_cells.specs.declared.entry.Entry.{Entry}
 use Rattle.polcert_cells.specs.Preamble.{Preamble}
 use Rattle.polcert_cells.specs.Steps.Sound.{IsSoundEntry}
-use Rattle.polcert_cells.specs.Cells.{fits_place, fit_places, is_table, covers}
+use Rattle.polcert_cells.specs.Cells.{fit_places, is_table, covers}
 use Rattle.polcert_rules.specs.declared.rule.Rule.{Rule}
 use Rattle.polcert_rules.specs.declared.reward_parts.RewardBody.{RewardBody}
 use Rattle.polcert_rules.specs.Keys.{key_in, table_key, AreDigits, most_places}
@@ -17,14 +16,10 @@ use Rattle.polcert_rules.specs.Steps.Rewards.{AreRewardsOf}
 use Rattle.polcert_rules.specs.RewardAt.{RewardRules}
 use Rattle.polcert_rules.specs.Steps.RewardSearch.{Begins, IsLastBody}
 use Rattle.polcert_rules.proofs.Keyed.Fitting.{and_true, key_low, key_high}
-use Rattle.polcert_rules.proofs.Keyed.Covering.{keyed_at}
+use Rattle.polcert_rules.proofs.Keyed.Covering.{keyed_at, same_table}
+use Rattle.polcert_rules.proofs.RewardLaws.RewardKeys.{begins_behind}
 
 -- ---- the rule of an entry of R
-same_table : (t : Table) → is_table t Reward ≡ true → t ≡ Reward
-same_table Transition e = cc
-same_table Observation e = cc
-same_table Reward e = refl
-
 -- what is known of an entry of R that covers a cell
 pub record IsCovering (p : Preamble) (rewards : RewardRules) (indices : List ℕ) (x : Entry) : Type 0 where
   pub table : x.table ≡ Reward
@@ -39,7 +34,7 @@ pub covering : (p : Preamble) (entries : List Entry) (rewards : RewardRules) (in
     → covers Reward indices x ≡ true → IsCovering p rewards indices x
 covering p entries rewards indices k x a is c =
     let both = and_true (is_table x.table Reward) (fit_places x.places indices) c in
-    let t = same_table x.table both.0 in
+    let t = same_table x.table Reward both.0 in
     let digits : AreDigits most_places x.places = keyed_at (λ (e : Entry). AreDigits most_places e.places) entries k x a.keyed is in
     let r = a.index_is.complete k x is in
     let key : r.0.key ≡ key_in most_places (table_key Reward) x.places = r.2 ∙ ap (λ u. key_in most_places (table_key u) x.places) t in
@@ -63,17 +58,8 @@ named_begins : (low a s e z : ℕ) (p q r : Place) (n : ℕ) (rest : List Place)
     → AreDigits most_places (p ∷ q ∷ r ∷ Only n ∷ rest) → key ≡ key_in most_places low (p ∷ q ∷ r ∷ Only n ∷ rest) → Begins most_places low (a ∷ s ∷ e ∷ []) 2 key
 named_begins low a s e z p q r n (x ∷ xs) key fits digits is = absurd digits.1.1.1.1
 named_begins low a s e z p q r n [] key fits digits is =
-    let one = and_true (fits_place p a) _ fits in
-    let two = and_true (fits_place q s) _ one.1 in
-    let three = and_true (fits_place r e) _ two.1 in
     let small = digits.1.1.1.0 in
-    record {
-      places = p ∷ q ∷ r ∷ [];
-      fits = ap (λ b. b && (fits_place q s && (fits_place r e && true))) one.0 ∙ ap (λ b. b && (fits_place r e && true)) two.0 ∙ ap (λ b. b && true) three.0;
-      all = refl;
-      from = omega arith;
-      to = omega arith;
-    }
+    begins_behind most_places low (p ∷ q ∷ r ∷ []) (Only n ∷ []) (a ∷ s ∷ e ∷ []) (z ∷ []) _ key refl fits (omega arith) (omega arith)
 
 fits_moved : (a s e y z : ℕ) (ps : List Place) → ((p q r : Place) (n : ℕ) (rest : List Place) → ps ≡ p ∷ q ∷ r ∷ Only n ∷ rest → ⊥)
     → fit_places ps (a ∷ s ∷ e ∷ y ∷ []) ≡ fit_places ps (a ∷ s ∷ e ∷ z ∷ [])

@@ -7,14 +7,14 @@ use Rattle.polcert_cells.specs.declared.entry.Place.{Place}
 use Rattle.polcert_cells.specs.declared.entry.Place.TheVariants.{Every, Only}
 use Rattle.polcert_cells.specs.declared.entry.Entry.{Entry}
 use Rattle.polcert_cells.specs.Preamble.{Preamble}
-use Rattle.polcert_cells.specs.Cells.{fits_place, fit_places, is_table, covers, reward}
+use Rattle.polcert_cells.specs.Cells.{fit_places, is_table, covers, reward}
 use Rattle.polcert_rules.specs.declared.reward_parts.RewardBody.{RewardBody}
 use Rattle.polcert_rules.specs.Keys.{key_base, key_in, table_key, AreDigits, most_places}
 use Rattle.polcert_rules.specs.Steps.Newest.{IsLastNumber}
 use Rattle.polcert_rules.specs.Steps.Rewards.{AreRewardsOf}
 use Rattle.polcert_rules.specs.RewardAt.{RewardRules, cell_in}
 use Rattle.polcert_rules.specs.Steps.RewardSearch.{Begins, IsLastBody, IsSingle}
-use Rattle.polcert_rules.proofs.Keyed.Fitting.{and_true}
+use Rattle.polcert_rules.proofs.RewardLaws.RewardKeys.{begins_behind}
 use Rattle.polcert_rules.proofs.RewardLaws.RewardAlike.{NoneBegins, covering}
 use Rattle.polcert_rules.proofs.RewardLaws.RewardValues.{is_open, body_reward, no_reward}
 
@@ -22,44 +22,20 @@ use Rattle.polcert_rules.proofs.RewardLaws.RewardValues.{is_open, body_reward, n
 end_begins : (low a s e z : ℕ) (p q : Place) (n : ℕ) (rest : List Place) (key : ℕ) → fit_places (p ∷ q ∷ Only n ∷ rest) (a ∷ s ∷ e ∷ z ∷ []) ≡ true
     → AreDigits most_places (p ∷ q ∷ Only n ∷ rest) → key ≡ key_in most_places low (p ∷ q ∷ Only n ∷ rest) → Begins most_places low (a ∷ s ∷ []) (key_base + 2) key
 end_begins low a s e z p q n [] key fits digits is =
-    let one = and_true (fits_place p a) _ fits in
-    let two = and_true (fits_place q s) _ one.1 in
     let small = digits.1.1.0 in
-    record {
-      places = p ∷ q ∷ [];
-      fits = ap (λ b. b && (fits_place q s && true)) one.0 ∙ ap (λ b. b && true) two.0;
-      all = refl;
-      from = omega arith;
-      to = omega arith;
-    }
+    begins_behind most_places low (p ∷ q ∷ []) (Only n ∷ []) (a ∷ s ∷ []) (e ∷ z ∷ []) _ key refl fits (omega arith) (omega arith)
 end_begins low a s e z p q n (r ∷ []) key fits digits is =
-    let one = and_true (fits_place p a) _ fits in
-    let two = and_true (fits_place q s) _ one.1 in
     let small = digits.1.1.0 in
     let smaller = digits.1.1.1.0 in
-    record {
-      places = p ∷ q ∷ [];
-      fits = ap (λ b. b && (fits_place q s && true)) one.0 ∙ ap (λ b. b && true) two.0;
-      all = refl;
-      from = omega arith;
-      to = omega arith;
-    }
+    begins_behind most_places low (p ∷ q ∷ []) (Only n ∷ r ∷ []) (a ∷ s ∷ []) (e ∷ z ∷ []) _ key refl fits (omega arith) (omega arith)
 end_begins low a s e z p q n (r ∷ x ∷ xs) key fits digits is = absurd digits.1.1.1.1
 
 -- and so does what names an observation behind any end state
 seen_begins : (low a s e z : ℕ) (p q : Place) (n : ℕ) (rest : List Place) (key : ℕ) → fit_places (p ∷ q ∷ Every ∷ Only n ∷ rest) (a ∷ s ∷ e ∷ z ∷ []) ≡ true
     → AreDigits most_places (p ∷ q ∷ Every ∷ Only n ∷ rest) → key ≡ key_in most_places low (p ∷ q ∷ Every ∷ Only n ∷ rest) → Begins most_places low (a ∷ s ∷ []) (key_base + 2) key
 seen_begins low a s e z p q n [] key fits digits is =
-    let one = and_true (fits_place p a) _ fits in
-    let two = and_true (fits_place q s) _ one.1 in
     let small = digits.1.1.1.0 in
-    record {
-      places = p ∷ q ∷ [];
-      fits = ap (λ b. b && (fits_place q s && true)) one.0 ∙ ap (λ b. b && true) two.0;
-      all = refl;
-      from = omega arith;
-      to = omega arith;
-    }
+    begins_behind most_places low (p ∷ q ∷ []) (Every ∷ Only n ∷ []) (a ∷ s ∷ []) (e ∷ z ∷ []) _ key refl fits (omega arith) (omega arith)
 seen_begins low a s e z p q n (x ∷ xs) key fits digits is = absurd digits.1.1.1.1
 
 -- places that name neither fit every end state and observation, or none

@@ -1,5 +1,5 @@
 -- Keys that begin with places that fit.
-use Rattle.std.proofs.Common.{◌≡◌, ◌∙◌, ℕ, zero, suc, ◌+◌, ◌-◌, ◌*◌, ◌^◌, ◌<◌, ◌≤◌, ◌↔◌, Bool, true, false, ◌&&◌, ◌⊎◌, inl, inr, ⊎_elim, List, [], ◌∷◌, length, Contains, refl, sym, ap, subst, arith}
+use Rattle.std.proofs.Common.{◌≡◌, ◌∙◌, ℕ, zero, suc, ◌+◌, ◌-◌, ◌*◌, ◌^◌, ◌<◌, ◌≤◌, ◌↔◌, Bool, true, false, ◌&&◌, ◌⊎◌, inl, inr, ⊎_elim, List, [], ◌∷◌, ◌++◌, length, Contains, refl, sym, ap, subst, arith}
 use Rattle.std.specs.Prelude.{◌==◌, not}
 use Rattle.std.proofs.lemmas.Bool.Decides.{nat_tests}
 use Rattle.polcert_cells.specs.declared.entry.Place.{Place}
@@ -25,6 +25,18 @@ key_room (suc m) low (p ∷ ps) a =
     let top = digit_below (digit p) (key_base ^ m) a.0 in
     let next = power_next m in
     omega arith
+
+-- a key behind places that fit goes on from there, whatever places come behind them
+fits_front : (ps rest : List Place) (is more : List ℕ) → length ps ≡ length is → fit_places (ps ++ rest) (is ++ more) ≡ true → fit_places ps is ≡ true
+fits_front [] rest is more size fits = refl
+fits_front (p ∷ ps) rest [] more size fits = absurd (omega arith)
+fits_front (p ∷ ps) rest (i ∷ is) more size fits =
+    let both = and_true (fits_place p i) _ fits in
+    ap (λ b. b && fit_places ps is) both.0 ∙ fits_front ps rest is more (omega arith) both.1
+
+pub begins_behind : (m low : ℕ) (ps rest : List Place) (is more : List ℕ) (least key : ℕ) → length ps ≡ length is → fit_places (ps ++ rest) (is ++ more) ≡ true
+    → key_in m low ps + least ≤ key → key < key_in m low ps + key_base ^ (m - length is) → Begins m low is least key
+begins_behind m low ps rest is more least key size fits from to = record { places = ps; fits = fits_front ps rest is more size fits; all = size; from = from; to = to }
 
 pub begins_low : (m low : ℕ) (indices : List ℕ) (least key : ℕ) → Begins m low indices least key → low ≤ key
 begins_low m low indices least key b = let l = key_low m low b.places in let f = b.from in omega arith

@@ -10,6 +10,7 @@ use Rattle.polcert_rules.specs.declared.rule.Rule.{Rule}
 use Rattle.polcert_rules.specs.declared.reward_parts.RewardBody.{RewardBody}
 use Rattle.polcert_rules.specs.Steps.Rewards.{worth, rewards_in, IsBodyOf, AreBodiesOf}
 use Rattle.polcert_rules.specs.RewardAt.{body_at}
+use Rattle.polcert_rules.proofs.Indexes.KeptLaws.{get_front}
 use Rattle.polcert_rules.proofs.Indexes.NotedLaws.{only_one, same_or_not}
 
 -- ---- one more at the end, where the others are still to come
@@ -37,11 +38,6 @@ first_of_taken rules i first of_each r among =
     of_each r (subst (λ (xs : List Rule). Contains xs r) (take-append-drop i rules) (Contains-append_left (take i rules) (drop i rules) r among))
 
 -- ---- numbers behind others
-get_front : (xs ys : List ℤ) (k : ℕ) (v : ℤ) → slice_get xs k ≡ Some v → slice_get (xs ++ ys) k ≡ Some v
-get_front [] ys k v e = cc
-get_front (x ∷ xs) ys zero v e = e
-get_front (x ∷ xs) ys (suc k) v e = get_front xs ys k v e
-
 get_behind : (xs ys : List ℤ) (k : ℕ) → slice_get (xs ++ ys) (length xs + k) ≡ slice_get ys k
 get_behind [] ys k = let e : 0 + k ≡ k = omega arith in ap (slice_get ys) e
 get_behind (x ∷ xs) ys k =

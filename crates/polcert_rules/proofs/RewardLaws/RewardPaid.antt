@@ -1,12 +1,11 @@
 -- Where an entry of R is about an action and a start state.
-use Rattle.std.proofs.Common.{◌≡◌, ◌∙◌, ℕ, zero, suc, ◌+◌, ◌-◌, ◌*◌, ◌^◌, ◌<◌, ◌≤◌, true, false, ◌&&◌, ⊎_elim, Some, None, List, [], ◌∷◌, length, take, Contains, refl, sym, ap, subst, arith, suc-mul, pos}
+use Rattle.std.proofs.Common.{◌≡◌, ◌∙◌, ℕ, zero, suc, ◌+◌, ◌-◌, ◌*◌, ◌^◌, ◌<◌, ◌≤◌, true, false, ◌&&◌, ⊎_elim, Some, None, List, [], ◌∷◌, length, take, Contains, refl, sym, ap, subst, arith, pos}
 use Rattle.std.specs.List.{slice_get}
 use Rattle.std.proofs.Math.Nat.{mul-le-mul_right}
 use Rattle.std.proofs.lemmas.Bool.{cases_lt}
 use Rattle.polcert_cells.specs.declared.entry.Table.{Table}
 use Rattle.polcert_cells.specs.declared.entry.Table.TheVariants.{Transition, Observation, Reward}
 use Rattle.polcert_cells.specs.declared.entry.Place.{Place}
-use Rattle.polcert_cells.specs.declared.entry.Place.TheVariants.{Every, Only}
 use Rattle.polcert_cells.specs.declared.entry.Entry.{Entry}
 use Rattle.polcert_cells.specs.Preamble.{Preamble}
 use Rattle.polcert_cells.specs.Cells.{fits_place, fit_places, is_table, covers, reward}
@@ -20,7 +19,8 @@ use Rattle.polcert_rules.specs.Steps.RewardSearch.{Begins}
 use Rattle.polcert_cells.proofs.Basics.{true≢false}
 use Rattle.polcert_rules.proofs.Keyed.Fitting.{and_true, key_low, key_high, power_some, fit_digits}
 use Rattle.polcert_rules.proofs.Keyed.Covering.{keyed_at}
-use Rattle.polcert_rules.proofs.RewardLaws.RewardKeys.{key_room}
+use Rattle.polcert_rules.proofs.Keyed.Keying.{digit_some, same_place, next_digit}
+use Rattle.polcert_rules.proofs.RewardLaws.RewardKeys.{key_room, begins_behind}
 use Rattle.polcert_rules.proofs.RewardLaws.RewardAlike.{NoneBegins, covering}
 use Rattle.polcert_rules.proofs.RewardLaws.RewardValues.{no_reward}
 
@@ -40,18 +40,10 @@ covering_begins : (low a s e z key : ℕ) (ps : List Place) → 2 ≤ length ps 
 covering_begins low a s e z key [] two fits digits is = absurd (omega arith)
 covering_begins low a s e z key (p ∷ []) two fits digits is = absurd (omega arith)
 covering_begins low a s e z key (p ∷ q ∷ rest) two fits digits is =
-    let one = and_true (fits_place p a) _ fits in
-    let other = and_true (fits_place q s) _ one.1 in
     let start = low + digit p * key_base ^ 3 + digit q * key_base ^ 2 in
     let from_here = key_low 2 start rest in
     let to_there = key_high 2 start rest digits.1.1 in
-    record {
-      places = p ∷ q ∷ [];
-      fits = ap (λ b. b && (fits_place q s && true)) one.0 ∙ ap (λ b. b && true) other.0;
-      all = refl;
-      from = omega arith;
-      to = omega arith;
-    }
+    begins_behind most_places low (p ∷ q ∷ []) rest (a ∷ s ∷ []) (e ∷ z ∷ []) 0 key refl fits (omega arith) (omega arith)
 
 pub unpaid : (p : Preamble) (entries : List Entry) (rewards : RewardRules) (a s e z : ℕ) → AreRewardsOf p entries rewards → IsLastNumber entries Reward (a ∷ []) None → NoneBegins rewards (a ∷ s ∷ []) 0
     → reward p entries (a ∷ s ∷ e ∷ z ∷ []) ≡ pos 0
@@ -61,19 +53,6 @@ unpaid p entries rewards a s e z are nowhere none = sym (no_reward p entries (a 
     none d.rule d.among (covering_begins (table_key Reward) a s e z d.rule.key x.places (two_places x a s e z d.table d.fits (nowhere k x is)) d.fits d.digits d.key)))
 
 -- ---- a rule that begins with places that fit
-digit_some : (p : Place) → 1 ≤ digit p
-digit_some Every = omega arith
-digit_some (Only n) = omega arith
-
-next_digit : (c d s : ℕ) → c < d → c * s + s ≤ d * s
-next_digit c d s l = let more : suc c * s ≤ d * s = mul-le-mul_right s l in let one : suc c * s ≡ c * s + s = suc-mul c s in omega arith
-
-same_place : (p q : Place) → digit p ≡ digit q → p ≡ q
-same_place Every Every e = refl
-same_place Every (Only n) e = absurd (omega arith)
-same_place (Only m) Every e = absurd (omega arith)
-same_place (Only m) (Only n) e = let f : m ≡ n = omega arith in ap Only f
-
 -- keys between one and where its places leave no more room come from places that begin with its own
 begins_with : (m low : ℕ) (ps qs : List Place) → AreDigits m ps → AreDigits m qs → key_in m low ps ≤ key_in m low qs → key_in m low qs < key_in m low ps + key_base ^ (m - length ps)
     → take (length ps) qs ≡ ps

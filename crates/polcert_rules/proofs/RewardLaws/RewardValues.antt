@@ -2,6 +2,7 @@
 use Rattle.std.proofs.Common.{◌≡◌, ◌∙◌, ℕ, zero, suc, ◌+◌, ◌*◌, ◌<◌, ◌≤◌, Bool, true, false, ◌⊎◌, inl, inr, Option, Some, None, List, [], ◌∷◌, length, drop, map, get_or, All, refl, sym, ap, subst, arith, ℤ, pos, negsuc, neg_ℤ, unsigned_abs, w64, if◌then◌else◌}
 use Rattle.std.specs.Prelude.{◌==◌}
 use Rattle.std.specs.List.{slice_get, list_any}
+use Rattle.std.proofs.lemmas.Bool.Decides.{nat_tests}
 use Rattle.std.proofs.lemmas.List.{drop_all}
 use Rattle.std.proofs.lemmas.Nat.{mul-add-lt}
 use Rattle.std.proofs.Math.Nat.{mul_comm, mul_assoc, add-mul}
@@ -27,7 +28,6 @@ use Rattle.polcert_rules.specs.Steps.Newest.{IsLastNumber, entry_at}
 use Rattle.polcert_rules.specs.Steps.Rewards.{worth, rewards_in, IsBodyOf, AreRewardsOf}
 use Rattle.polcert_rules.specs.RewardAt.{cell_in, RewardRules}
 use Rattle.polcert_rules.specs.Steps.RewardSearch.{AreWithin, IsLastBody}
-use Rattle.polcert_rules.proofs.Keyed.Fitting.{same_number}
 use Rattle.polcert_rules.proofs.Keyed.Covering.{last_is, keyed_at}
 
 -- ---- the reward of a cell is what the entry of its last number gives
@@ -53,15 +53,8 @@ abbrev pub IsForm : ℕ → Type 0
 IsForm n = (n ≡ 1) ⊎ ((n ≡ 2) ⊎ ((n ≡ 3) ⊎ (n ≡ 4)))
 
 pub form_of : (mdp : Bool) (n : ℕ) → list_any (λ k. k == n) (if mdp then (1 ∷ 2 ∷ 3 ∷ 4 ∷ []) else (2 ∷ 3 ∷ 4 ∷ [])) ≡ true → IsForm n
-form_of mdp n e = at mdp (1 == n) (2 == n) (3 == n) (4 == n) refl refl refl refl e
-  where
-    at : (mdp w x y z : Bool) → (1 == n) ≡ w → (2 == n) ≡ x → (3 == n) ≡ y → (4 == n) ≡ z → list_any (λ k. k == n) (if mdp then (1 ∷ 2 ∷ 3 ∷ 4 ∷ []) else (2 ∷ 3 ∷ 4 ∷ [])) ≡ true → IsForm n
-    at mdp true x y z d a b c e = inl (sym (same_number 1 n d))
-    at mdp false true y z d a b c e = inr (inl (sym (same_number 2 n a)))
-    at mdp false false true z d a b c e = inr (inr (inl (sym (same_number 3 n b))))
-    at mdp false false false true d a b c e = inr (inr (inr (sym (same_number 4 n c))))
-    at true false false false false d a b c e = cc
-    at false false false false false d a b c e = cc
+form_of true n e = grind (arith, nat_tests)
+form_of false n e = grind (arith, nat_tests)
 
 -- the number of the cell is the one of the definition, and there is one
 pub record IsOpen (p : Preamble) (n : ℕ) (indices : List ℕ) : Type 0 where

@@ -1,5 +1,5 @@
 -- What entries of T and O give, by their forms.
-use Rattle.std.proofs.Common.{◌≡◌, ◌∙◌, ℕ, ◌+◌, ◌*◌, ◌≤◌, ◌==◌, ◌||◌, Bool, true, false, eqb, List, [], ◌∷◌, length, drop, get_or, All, refl, sym, ap, subst, arith}
+use Rattle.std.proofs.Common.{◌≡◌, ◌∙◌, ℕ, ◌+◌, ◌*◌, ◌≤◌, ◌==◌, Bool, true, false, List, [], ◌∷◌, length, drop, get_or, All, refl, sym, ap, subst, arith}
 use Rattle.std.specs.List.{list_any}
 use Rattle.std.proofs.lemmas.Bool.Decides.{nat_tests}
 use Rattle.std.proofs.lemmas.List.Elements.{All-head}
@@ -29,51 +29,26 @@ Lens Identity n = n ≡ 1
 Lens (Rewards hs) n = ⊥
 
 in_three : (n : ℕ) → list_any (λ k. k == n) (1 ∷ 2 ∷ 3 ∷ []) ≡ true → (1 ≤ n) × (n ≤ 3)
-in_three n e = at (eqb 1 n) refl (eqb 2 n) refl (eqb 3 n) refl e
-  where
-    at : (a : Bool) → eqb 1 n ≡ a → (b : Bool) → eqb 2 n ≡ b → (c : Bool) → eqb 3 n ≡ c → (a || (b || (c || false))) ≡ true → (1 ≤ n) × (n ≤ 3)
-    at true f b g c h e = let same : 1 ≡ n = grind (arith, nat_tests) in (omega arith, omega arith)
-    at false f true g c h e = let same : 2 ≡ n = grind (arith, nat_tests) in (omega arith, omega arith)
-    at false f false g true h e = let same : 3 ≡ n = grind (arith, nat_tests) in (omega arith, omega arith)
-    at false f false g false h e = cc
+in_three n e = (grind (arith, nat_tests), grind (arith, nat_tests))
 
 in_two : (n : ℕ) → list_any (λ k. k == n) (1 ∷ 2 ∷ []) ≡ true → (1 ≤ n) × (n ≤ 2)
-in_two n e = at (eqb 1 n) refl (eqb 2 n) refl e
-  where
-    at : (a : Bool) → eqb 1 n ≡ a → (b : Bool) → eqb 2 n ≡ b → (a || (b || false)) ≡ true → (1 ≤ n) × (n ≤ 2)
-    at true f b g e = let same : 1 ≡ n = grind (arith, nat_tests) in (omega arith, omega arith)
-    at false f true g e = let same : 2 ≡ n = grind (arith, nat_tests) in (omega arith, omega arith)
-    at false f false g e = cc
+in_two n e = (grind (arith, nat_tests), grind (arith, nat_tests))
 
 in_one : (n : ℕ) → list_any (λ k. k == n) (1 ∷ []) ≡ true → n ≡ 1
-in_one n e = at (eqb 1 n) refl e
-  where
-    at : (a : Bool) → eqb 1 n ≡ a → (a || false) ≡ true → n ≡ 1
-    at true f e = let same : 1 ≡ n = grind (arith, nat_tests) in sym same
-    at false f e = cc
+in_one n e = grind (arith, nat_tests)
 
 lens : (t : Table) (body : Body) (n : ℕ) → IsWeighted t → list_any (λ k. k == n) (forms false t body) ≡ true → Lens body n
-lens Transition (Probabilities ps) n w e = in_three n e
-lens Transition Uniform n w e = in_two n e
-lens Transition Identity n w e = in_one n e
-lens Transition (Rewards hs) n w e = cc
-lens Observation (Probabilities ps) n w e = in_three n e
-lens Observation Uniform n w e = in_two n e
-lens Observation Identity n w e = cc
-lens Observation (Rewards hs) n w e = cc
 lens Reward body n w e = absurd w
+lens Transition Identity n w e = in_one n e
+lens _ (Probabilities ps) n w e = in_three n e
+lens _ Uniform n w e = in_two n e
+lens _ _ n w e = cc
 
 -- the forms of T and O are the same in an MDP
 weighted_form : (mdp : Bool) (t : Table) (body : Body) (n : ℕ) → IsWeighted t → list_any (λ k. k == n) (forms mdp t body) ≡ true → list_any (λ k. k == n) (forms false t body) ≡ true
-weighted_form mdp Transition (Probabilities ps) n w e = e
-weighted_form mdp Transition Uniform n w e = e
-weighted_form mdp Transition Identity n w e = e
-weighted_form mdp Transition (Rewards hs) n w e = e
-weighted_form mdp Observation (Probabilities ps) n w e = e
-weighted_form mdp Observation Uniform n w e = e
-weighted_form mdp Observation Identity n w e = e
-weighted_form mdp Observation (Rewards hs) n w e = e
 weighted_form mdp Reward body n w e = absurd w
+weighted_form mdp _ (Probabilities ps) n w e = e
+weighted_form mdp _ _ n w e = e
 
 -- what the last index of a table of weights runs over, as the states of a preamble
 last_of : Preamble → Table → Preamble

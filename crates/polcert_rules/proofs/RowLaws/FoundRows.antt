@@ -13,14 +13,11 @@ use Rattle.polcert_rules.specs.Matching.{later}
 use Rattle.polcert_rules.specs.Steps.Rows.{IsSingle, IsCell, HasNoSuchColumn, HaveColumns, at_column, no_column}
 use Rattle.polcert_rules.specs.Steps.Zeros.{IsSplit, others_in, AreOrdered, IsRowOf, is_zero, zero_of, number_under}
 use Rattle.polcert_rules.proofs.Keyed.Fitting.{fits_low, fits_high}
+use Rattle.polcert_rules.proofs.Indexes.NotedLaws.{later_none}
 use Rattle.polcert_rules.proofs.Keyed.Covering.{covered_fits, fits_covered, last_number, keyed_at}
 use Rattle.polcert_rules.proofs.RowLaws.RowNumbers.{fits_split, single_fits, covers_any}
 use Rattle.polcert_rules.proofs.RowLaws.SingleEntries.{single_entries}
 use Rattle.polcert_rules.proofs.Indexes.Greatest.{greatest_as, greatest_of, newest_of, greatest_of_two}
-
-later_none : (o : Option ℕ) → later o None ≡ o
-later_none None = refl
-later_none (Some n) = refl
 
 pub under_is : (whole : Option ℕ) (zeros : Option RowZeros) (c : ℕ) → number_under whole zeros c ≡ later whole (zero_of zeros c)
 under_is whole None c = sym (later_none whole)

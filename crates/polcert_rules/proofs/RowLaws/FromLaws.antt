@@ -1,25 +1,20 @@
 -- The cells of a row from a column on.
-use Rattle.std.proofs.Common.{◌≡◌, ◌∙◌, ℕ, zero, suc, ◌+◌, ◌<◌, ◌≤◌, ⊎_elim, Bool, true, false, cond, ltb, Some, None, List, [], ◌∷◌, length, get_or, drop, refl, sym, ap, subst, arith}
+use Rattle.std.proofs.Common.{◌≡◌, ◌∙◌, ℕ, zero, suc, ◌+◌, ◌<◌, ◌≤◌, Bool, true, false, cond, ltb, Some, None, List, [], ◌∷◌, length, get_or, drop, refl, sym, ap, arith}
 use Rattle.std.specs.List.{slice_get}
-use Rattle.std.specs.List.Sorted.{IsPartitionedBy, IsNonDecreasingBy}
-use Rattle.std.proofs.lemmas.Bool.{cases_lt, lt-ltb, le-ltb}
+use Rattle.std.specs.List.Sorted.{IsPartitionedBy}
+use Rattle.std.proofs.lemmas.Bool.{lt-ltb, le-ltb}
 use Rattle.std.proofs.lemmas.Option.{slice_get_within, get_or_from_slice_get}
 use Rattle.std.proofs.lemmas.Bool.Decides.{nat_tests}
 use Rattle.std.proofs.lemmas.List.Sorted.{IsPartitionedBy-ltb}
 use Rattle.polcert_cells.specs.declared.cell.Cell.{Cell}
 use Rattle.polcert_cells.specs.Sparse.{weight_at, AreRising, IsSparse}
 use Rattle.polcert_rules.specs.Steps.Merging.{from}
+use Rattle.polcert_rules.proofs.Keyed.KeyRanges.{in_order}
 use Rattle.polcert_cells.proofs.SparseLaws.{Climbs, climbs_from, weight_head, weight_tail, weight_below}
-
-in_order : (xs : List Cell) → AreRising xs → IsNonDecreasingBy (λ x. x.column) xs
-in_order xs up i j d le l = ⊎_elim
-    (λ less. let here = up i j d less l in omega arith)
-    (λ ge. let same : j ≡ i = omega arith in subst (λ k. (get_or xs i d).column ≤ (get_or xs k d).column) (sym same) (omega arith))
-    (cases_lt i j)
 
 -- the test that the cells are found by
 pub parted : (xs : List Cell) (column : ℕ) → AreRising xs → IsPartitionedBy (λ x. ltb x.column column) xs
-parted xs column up = IsPartitionedBy-ltb (λ x. x.column) xs column (in_order xs up)
+parted xs column up = IsPartitionedBy-ltb (λ x. x.column) xs column (in_order (λ x. x.column) xs up)
 
 pub drop_is_from : (xs : List Cell) (k column : ℕ) → ((i : ℕ) (d : Cell) → i < k → i < length xs → ltb (get_or xs i d).column column ≡ true)
     → ((i : ℕ) (d : Cell) → k ≤ i → i < length xs → ltb (get_or xs i d).column column ≡ false) → drop k xs ≡ from column xs
@@ -41,7 +36,7 @@ full_up_to xs column x up is same =
     (λ i d l m. let here = ap (λ (z : Cell). z.column) (get_or_from_slice_get xs column x d is) ∙ same in
     let less = up i column d l inside in lt-ltb (get_or xs i d).column column (omega arith))
     (λ i d l m. let here = ap (λ (z : Cell). z.column) (get_or_from_slice_get xs column x d is) ∙ same in
-    let no_less = in_order xs up column i d l m in le-ltb (get_or xs i d).column column (omega arith))
+    let no_less = in_order (λ (z : Cell). z.column) xs up column i d l m in le-ltb (get_or xs i d).column column (omega arith))
 
 from_climbs : (low n column : ℕ) (xs : List Cell) → Climbs low n xs → Climbs column n (from column xs)
 from_climbs low n column [] h = tt

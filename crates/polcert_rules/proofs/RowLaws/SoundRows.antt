@@ -1,18 +1,19 @@
 -- Sound entries: their keys, and the numbers and weights of their rows.
-use Rattle.std.proofs.Common.{◌≡◌, ◌∙◌, ℕ, ◌*◌, ◌<◌, ◌≤◌, Option, Some, None, List, [], ◌∷◌, ◌++◌, length, All, refl, sym, ap, subst, arith}
+use Rattle.std.proofs.Common.{◌≡◌, ◌∙◌, ℕ, zero, suc, ◌+◌, ◌*◌, ◌<◌, ◌≤◌, lit≤, Option, Some, None, List, [], ◌∷◌, ◌++◌, length, All, refl, sym, ap, subst, arith}
 use Rattle.std.specs.List.{slice_get}
 use Rattle.polcert_cells.specs.declared.entry.Table.{Table}
 use Rattle.polcert_cells.specs.declared.entry.Table.TheVariants.{Transition, Observation, Reward}
 use Rattle.polcert_cells.specs.declared.entry.Place.{Place}
 use Rattle.polcert_cells.specs.declared.entry.Place.TheVariants.{Every, Only}
 use Rattle.polcert_cells.specs.declared.entry.Entry.{Entry}
+use Rattle.polcert_cells.specs.declared.elements.Elements.{Elements}
 use Rattle.polcert_cells.specs.Elements.{count_of, most_states, most_actions, most_observations, most_elements}
 use Rattle.polcert_cells.specs.Cells.{is_table, fit_places, last_covering, IsLastCovering, last, weight, weight_of, value_or}
 use Rattle.polcert_cells.specs.Meaning.{IsCount}
 use Rattle.polcert_cells.specs.Numbers.{one}
-use Rattle.polcert_cells.specs.Preamble.{Preamble, dimensions, observed, rewarded}
+use Rattle.polcert_cells.specs.Preamble.{Preamble, dimensions, observed}
 use Rattle.polcert_cells.specs.Rows.{IsWeighted}
-use Rattle.polcert_cells.specs.Steps.Sound.{IsPlaceIn, ArePlacesIn, IsSoundEntry}
+use Rattle.polcert_cells.specs.Steps.Sound.{ArePlacesIn, IsSoundEntry}
 use Rattle.polcert_cells.proofs.CellLaws as cells
 use Rattle.polcert_cells.proofs.SoundLaws.{rewarded_few}
 use Rattle.polcert_rules.specs.declared.rule.Rule.{Rule}
@@ -21,7 +22,7 @@ use Rattle.polcert_rules.specs.declared.split.SplitRules.{SplitRules}
 use Rattle.polcert_rules.specs.declared.row.Row.{Row}
 use Rattle.polcert_rules.specs.Steps.Zeros.{IsSplit, IsRowOf, under}
 use Rattle.polcert_rules.specs.Steps.Repeats.{IsWholeNumber}
-use Rattle.polcert_rules.specs.Keys.{key_base, digit, AreDigits, most_places}
+use Rattle.polcert_rules.specs.Keys.{key_base, AreDigits, most_places}
 use Rattle.polcert_rules.specs.Steps.Newest.{IsIndexOf, AreKeyed, IsLastNumber, entry_at}
 use Rattle.polcert_rules.specs.Steps.Rows.{HasNoSuchColumn, HaveColumns, IsSingleEntry, no_column, number_in}
 use Rattle.polcert_rules.specs.Steps.Given.{IsWithin, FitsShape, HasColumn, given}
@@ -35,34 +36,23 @@ use Rattle.polcert_rules.proofs.Indexes.KeptLaws.{at_number, given_small}
 use Rattle.polcert_rules.proofs.RowLaws.FormLaws.{given_is, sound_fits, single_number}
 
 -- ---- places within their counts have keys, and no column is too large
+-- each of these elements has a digit
+abbrev AreFew : List Elements → Type 0
+AreFew [] = Unit {0}
+AreFew (d ∷ ds) = (count_of d + 2 < key_base) × AreFew ds
+
+digits_in : (m : ℕ) (ds : List Elements) (ps : List Place) → length ds ≤ m → AreFew ds → ArePlacesIn ds ps → AreDigits m ps
+digits_in m ds [] l few h = tt
+digits_in m [] (x ∷ ps) l few h = absurd h
+digits_in zero (d ∷ ds) (x ∷ ps) l few h = absurd (omega arith)
+digits_in (suc m) (d ∷ ds) (x ∷ ps) l few h = (place_digit d x few.0 h.0, digits_in m ds ps (omega arith) few.1 h.1)
+
 module _ (p : Preamble) (sound : (count_of p.states ≤ most_states) × (count_of p.actions ≤ most_actions) × (count_of (observed p) ≤ most_observations)) where
-  states_digit : (x : Place) → IsPlaceIn p.states x → digit x < key_base
-  states_digit x h = place_digit p.states x (element_digit _ sound.0) h
-
-  actions_digit : (x : Place) → IsPlaceIn p.actions x → digit x < key_base
-  actions_digit x h = place_digit p.actions x (action_digit _ sound.1) h
-
-  observed_digit : (x : Place) → IsPlaceIn (observed p) x → digit x < key_base
-  observed_digit x h = place_digit (observed p) x (element_digit _ sound.2) h
-
-  rewarded_digit : (x : Place) → IsPlaceIn (rewarded p) x → digit x < key_base
-  rewarded_digit x h = place_digit (rewarded p) x (element_digit _ (rewarded_few p sound.2)) h
-
   keyed : (t : Table) (ps : List Place) → ArePlacesIn (dimensions p t) ps → AreDigits most_places ps
-  keyed t [] h = tt
-  keyed Transition (x ∷ []) h = (actions_digit x h.0, tt)
-  keyed Transition (x ∷ y ∷ []) h = (actions_digit x h.0, (states_digit y h.1.0, tt))
-  keyed Transition (x ∷ y ∷ z ∷ []) h = (actions_digit x h.0, (states_digit y h.1.0, (states_digit z h.1.1.0, tt)))
-  keyed Transition (x ∷ y ∷ z ∷ w ∷ ps) h = absurd h.1.1.1
-  keyed Observation (x ∷ []) h = (actions_digit x h.0, tt)
-  keyed Observation (x ∷ y ∷ []) h = (actions_digit x h.0, (states_digit y h.1.0, tt))
-  keyed Observation (x ∷ y ∷ z ∷ []) h = (actions_digit x h.0, (states_digit y h.1.0, (observed_digit z h.1.1.0, tt)))
-  keyed Observation (x ∷ y ∷ z ∷ w ∷ ps) h = absurd h.1.1.1
-  keyed Reward (x ∷ []) h = (actions_digit x h.0, tt)
-  keyed Reward (x ∷ y ∷ []) h = (actions_digit x h.0, (states_digit y h.1.0, tt))
-  keyed Reward (x ∷ y ∷ z ∷ []) h = (actions_digit x h.0, (states_digit y h.1.0, (states_digit z h.1.1.0, tt)))
-  keyed Reward (x ∷ y ∷ z ∷ w ∷ []) h = (actions_digit x h.0, (states_digit y h.1.0, (states_digit z h.1.1.0, (rewarded_digit w h.1.1.1.0, tt))))
-  keyed Reward (x ∷ y ∷ z ∷ w ∷ v ∷ ps) h = absurd h.1.1.1.1
+  keyed Transition ps h = digits_in 4 _ ps (lit≤ tt) (action_digit _ sound.1, (element_digit _ sound.0, (element_digit _ sound.0, tt))) h
+  keyed Observation ps h = digits_in 4 _ ps (lit≤ tt) (action_digit _ sound.1, (element_digit _ sound.0, (element_digit _ sound.2, tt))) h
+  keyed Reward ps h =
+      digits_in 4 _ ps (lit≤ tt) (action_digit _ sound.1, (element_digit _ sound.0, (element_digit _ sound.0, (element_digit _ (rewarded_few p sound.2), tt)))) h
 
   no_such : (t : Table) (ps : List Place) → ArePlacesIn (dimensions p t) ps → HasNoSuchColumn ps
   no_such t [] h = tt

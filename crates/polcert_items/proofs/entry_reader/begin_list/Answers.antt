@@ -13,7 +13,7 @@ returns-in_err-feed-clause-refused g c =
     subst (λ n. IfErr c.from_residual.result (λ stop. IfRefused stop (λ r. CannotTake (NumberListGoes g.T.ListNumber.kind) n (lexeme_of c.args.token)))) c.new-numbers.ensures (search rules)
 
 pub returns-clause-leads : goal.returns-clause-leads
-returns-clause-leads g c = no_numbers_lead c.new-numbers.result c.args.needed (lexeme_of c.args.token) _ c.new-numbers.ensures c.in_ok-feed.ensures.leads
+returns-clause-leads g c = no_numbers_lead c.new-numbers.result c.args.needed (lexeme_of c.args.token) _ c.new-numbers.ensures c.in_ok-feed.ensures.fed.leads
 
 pub returns-in_err-feed-clause-kind : goal.returns-in_err-feed-clause-kind
 returns-in_err-feed-clause-kind g c =

@@ -5,7 +5,8 @@ use Rattle.polcert_text.specs.Reading.{lexeme_of}
 use Rattle.polcert_cells.specs.Entry.{cells_in}
 use Rattle.polcert_cells.specs.Preamble.{is_mdp}
 use Rattle.polcert_format.specs.KnownPreamble.{preamble_in, indices_in}
-use Rattle.polcert_items.specs.Steps.Entries.{IfRefused, CannotBegin, IsWordBehind}
+use Rattle.polcert_items.specs.Steps.Lines.{CannotTake}
+use Rattle.polcert_items.specs.Steps.Entries.{EntryGoes, IfRefused, CannotBegin, IsWordBehind}
 use Rattle.polcert_items.specs.declared.entry_reader.EntryState.TheVariants as states
 use Rattle.polcert_cells.proofs.Basics.{true≢false}
 use Rattle.polcert_format.proofs.FurtherNumbers.{begins_no_number}
@@ -14,46 +15,54 @@ use Rattle.polcert_items.proofs.WantLaws.{numbers_lead, body_leads, number_begin
 use Rattle.polcert_items.proofs.entry_reader.EntryReader.feed_body.Goals.{in_default-via-in-Colon+else-written-indices_of, in_default-via-in-Numeral+else-takes_numbers, in_default-via-in_default}
 use Rattle.polcert_items.proofs.entry_reader.EntryReader.feed_body.Goals as goal
 
-pub returns-in-Colon-clause-takes : goal.returns-in-Colon-clause-takes
-returns-in-Colon-clause-takes c =
+pub returns-in-Colon-clause-fed : goal.returns-in-Colon-clause-fed
+returns-in-Colon-clause-fed c =
     let r = c.args.self.now in
     let preamble = preamble_in c.args.known.now in
-    in_state preamble r states.Body states.Place (lexeme_of c.args.token) c.requires.state (colon_takes preamble r.table r.places (lexeme_of c.args.token) c.in-Colon.is)
+    let takes = in_state preamble r states.Body states.Place (lexeme_of c.args.token) c.requires.state (colon_takes preamble r.table r.places (lexeme_of c.args.token) c.in-Colon.is) in
+    search rules
 
-pub returns-in_ok-self-in-Numeral-clause-takes : goal.returns-in_ok-self-in-Numeral-clause-takes
-returns-in_ok-self-in-Numeral-clause-takes c =
+pub returns-in_ok-self-in-Numeral-clause-fed : goal.returns-in_ok-self-in-Numeral-clause-fed
+returns-in_ok-self-in-Numeral-clause-fed c =
     let r = c.args.self.now in
     let preamble = preamble_in c.args.known.now in
     let l = lexeme_of c.args.token in
     let cells = c.cells_behind-needed.ensures ∙ ap (λ n. cells_in (drop n (indices_in c.args.known.now r.table))) c.len-written.ensures in
     let low = subst (λ b. least_written b r.table ≤ length r.places) c.is_mdp.ensures (subst (λ n. least_written c.is_mdp.result r.table ≤ n) c.len-written.ensures (c.takes_numbers.ensures.0 c.if-takes_numbers.true)) in
-    in_state preamble r states.Body c.in_ok-self-in-Numeral.field-0 l c.requires.state
-    (numbers_begin c.args.known.now r.table r.places l c.in_ok-self-in-Numeral.field-0 c.cells_behind-needed.result (number_not_colon l.kind c.in-Numeral.is) (number_not_name l.kind c.in-Numeral.is) cells low c.requires.within c.in_ok-self-in-Numeral.ensures.begun)
+    let takes = in_state preamble r states.Body c.in_ok-self-in-Numeral.field-0 l c.requires.state
+    (numbers_begin c.args.known.now r.table r.places l c.in_ok-self-in-Numeral.field-0 c.cells_behind-needed.result (number_not_colon l.kind c.in-Numeral.is) (number_not_name l.kind c.in-Numeral.is) cells low c.requires.within c.in_ok-self-in-Numeral.ensures.begun) in
+    let leads = body_leads preamble r l _ c.requires.state
+    (numbers_lead preamble r.table (length r.places) l _ (number_begins l.kind c.in-Numeral.is)
+    (subst (λ m. Leads (numbers_want false m) l (state_wants preamble r.table r.places c.in_ok-self-in-Numeral.field-0)) cells (c.in_ok-self-in-Numeral.ensures.leads preamble r.places))) in
+    search rules
 
-pub returns-in_err-self-in-Numeral-clause-refused : goal.returns-in_err-self-in-Numeral-clause-refused
-returns-in_err-self-in-Numeral-clause-refused c =
+pub returns-in_err-self-in-Numeral-clause-fed : goal.returns-in_err-self-in-Numeral-clause-fed
+returns-in_err-self-in-Numeral-clause-fed c =
     let r = c.args.self.now in
     let preamble = preamble_in c.args.known.now in
     let l = lexeme_of c.args.token in
     let needed = c.cells_behind-needed.result in
     let cells = c.cells_behind-needed.ensures ∙ ap (λ n. cells_in (drop n (indices_in c.args.known.now r.table))) c.len-written.ensures in
     let stuck = λ (begin : CannotBegin r.table needed l). stuck_in_state preamble r states.Body l c.requires.state (numbers_stuck c.args.known.now r.table r.places l needed (number_not_colon l.kind c.in-Numeral.is) (number_not_name l.kind c.in-Numeral.is) cells begin) in
-    if_err_map c.from_residual.result (λ stop. IfRefused stop (λ r'. CannotBegin r.table needed l)) _ (λ stop h. refused_map stop stuck h) (search rules)
+    let refused = if_err_map c.from_residual.result (λ stop. IfRefused stop (λ r'. CannotBegin r.table needed l)) _ (λ stop h. refused_map stop stuck h) (search rules) in
+    search rules
 
-pub returns-in-Some-clause-takes : goal.returns-in-Some-clause-takes
-returns-in-Some-clause-takes c =
+pub returns-in-Some-clause-fed : goal.returns-in-Some-clause-fed
+returns-in-Some-clause-fed c =
     let r = c.args.self.now in
     let preamble = preamble_in c.args.known.now in
     let l = lexeme_of c.args.token in
     let is = subst (λ n. IsWordBehind (is_mdp preamble) r.table n l c.in-Some.word) c.len-written.ensures (c.in-Some.ensures.word (is_mdp preamble)) in
-    in_state preamble r states.Body (states.Word c.in-Some.word) l c.requires.state (word_takes preamble r.table r.places l c.in-Some.word is)
+    let takes = in_state preamble r states.Body (states.Word c.in-Some.word) l c.requires.state (word_takes preamble r.table r.places l c.in-Some.word is) in
+    search rules
 
-pub returns-in-None-clause-refused : goal.returns-in-None-clause-refused
-returns-in-None-clause-refused c =
+pub returns-in-None-clause-fed : goal.returns-in-None-clause-fed
+returns-in-None-clause-fed c =
     let r = c.args.self.now in
     let preamble = preamble_in c.args.known.now in
     let l = lexeme_of c.args.token in
     let none = c.in-None.ensures.none (is_mdp preamble) in
+    let stuck : CannotTake (EntryGoes preamble) r l =
     elim c.in_default.branch [
       | in_default-via-in-Colon+else-written-indices_of w ↦
           let count = w.indices_of.ensures c.args.known.now in
@@ -65,14 +74,5 @@ returns-in-None-clause-refused c =
           stuck_in_state preamble r states.Body l c.requires.state (nothing_takes preamble r.table r.places l w.in_default.not-Colon
           (λ ls hs a. begins_no_number w.in_default.not-Numeral w.in_default.not-Plus w.in_default.not-Minus a)
           (λ word is. none word (subst (λ n. IsWordBehind (is_mdp preamble) r.table n l word) (sym c.len-written.ensures) is)))
-    ]
-
-pub returns-in_ok-self-in-Numeral-clause-leads : goal.returns-in_ok-self-in-Numeral-clause-leads
-returns-in_ok-self-in-Numeral-clause-leads c =
-    let r = c.args.self.now in
-    let preamble = preamble_in c.args.known.now in
-    let l = lexeme_of c.args.token in
-    let cells = c.cells_behind-needed.ensures ∙ ap (λ n. cells_in (drop n (indices_in c.args.known.now r.table))) c.len-written.ensures in
-    body_leads preamble r l _ c.requires.state
-    (numbers_lead preamble r.table (length r.places) l _ (number_begins l.kind c.in-Numeral.is)
-    (subst (λ m. Leads (numbers_want false m) l (state_wants preamble r.table r.places c.in_ok-self-in-Numeral.field-0)) cells (c.in_ok-self-in-Numeral.ensures.leads preamble r.places)))
+    ] in
+    search rules

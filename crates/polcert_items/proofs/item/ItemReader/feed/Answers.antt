@@ -3,7 +3,8 @@ use Rattle.polcert_text.specs.Reading.{lexeme_of}
 use Rattle.polcert_items.specs.Steps.Entries.{entry_sign}
 use Rattle.polcert_items.specs.declared.item.ItemReader.TheVariants as items
 use Rattle.polcert_items.proofs.PatternLaws.{on_ok_map}
-use Rattle.polcert_items.proofs.ItemReading.{all_fed, all_refused, sign_ends}
+use Rattle.polcert_items.proofs.StartSeen.{sign_ends}
+use Rattle.polcert_items.proofs.ItemReading.{all_fed, all_refused}
 use Rattle.polcert_items.proofs.item.ItemReader.feed.Goals as goal
 
 pub returns-in-Entry-clause-fed : goal.returns-in-Entry-clause-fed

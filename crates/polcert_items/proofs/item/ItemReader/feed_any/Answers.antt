@@ -1,12 +1,13 @@
-use Rattle.std.proofs.Common.{None, [], ◌∷◌, ◌++◌, subst, rules}
+use Rattle.std.proofs.Common.{None, subst, rules}
 use Rattle.polcert_format.specs.FirstNumber.{states_known}
 use Rattle.polcert_text.specs.Reading.{lexeme_of}
 use Rattle.polcert_items.specs.Steps.Entries.{entry_sign}
 use Rattle.polcert_items.specs.Steps.Lines.{discount_sign}
 use Rattle.polcert_items.specs.Steps.Items.{IsSeen}
 use Rattle.polcert_items.specs.declared.item.ItemReader.TheVariants as items
-use Rattle.polcert_items.proofs.PatternLaws.{if_err_map, refused_map, each_refused_map, on_ok_map}
-use Rattle.polcert_items.proofs.ItemReading.{all_fed, all_refused, sign_ends, elements_seen, states_reason, actions_reason, observations_reason, start_reason, start_takes, start_stuck, start_forms, start_formless, start_leads, start_seen, start_keeps, start_stops_in, start_late}
+use Rattle.polcert_items.proofs.PatternLaws.{if_err_map, each_refused_map, on_ok_map}
+use Rattle.polcert_items.proofs.StartSeen.{sign_ends}
+use Rattle.polcert_items.proofs.ItemReading.{all_fed, all_refused, elements_seen, states_reason, actions_reason, observations_reason, start_fed, start_refused}
 use Rattle.polcert_items.proofs.item.ItemReader.feed_any.Goals as goal
 
 pub returns-in_ok-feed-in-Discount-clause-fed : goal.returns-in_ok-feed-in-Discount-clause-fed
@@ -40,7 +41,7 @@ returns-in-States-clause-refused c =
     let l = lexeme_of c.args.token in
     let known = c.args.known.now in
     all_refused c.feed-in-States.result known c.args.self.now l (search rules) (search rules)
-    (λ body s. if_err_map _ _ _ (λ stop h. each_refused_map stop (λ f x. states_reason c.args.self.now c.in-States.reader body l f.kind f.place (states_known known) s x c.in-States.is) h) c.feed-in-States.ensures.reason)
+    (λ body s. if_err_map _ _ _ (λ stop h. each_refused_map stop (λ f x. states_reason c.args.self.now c.in-States.reader body l f.kind f.place (states_known known) s x c.in-States.is) h) c.feed-in-States.ensures.fed.reason)
     (search rules) (λ body s. search rules) (λ body more ends late s start due. search rules)
 
 pub returns-in-Actions-clause-fed : goal.returns-in-Actions-clause-fed
@@ -56,7 +57,7 @@ returns-in-Actions-clause-refused c =
     let l = lexeme_of c.args.token in
     let known = c.args.known.now in
     all_refused c.feed-in-Actions.result known c.args.self.now l (search rules) (search rules)
-    (λ body s. if_err_map _ _ _ (λ stop h. each_refused_map stop (λ f x. actions_reason c.args.self.now c.in-Actions.reader body l f.kind f.place (states_known known) s x c.in-Actions.is) h) c.feed-in-Actions.ensures.reason)
+    (λ body s. if_err_map _ _ _ (λ stop h. each_refused_map stop (λ f x. actions_reason c.args.self.now c.in-Actions.reader body l f.kind f.place (states_known known) s x c.in-Actions.is) h) c.feed-in-Actions.ensures.fed.reason)
     (search rules) (λ body s. search rules) (λ body more ends late s start due. search rules)
 
 pub returns-in-Observations-clause-fed : goal.returns-in-Observations-clause-fed
@@ -72,38 +73,19 @@ returns-in-Observations-clause-refused c =
     let l = lexeme_of c.args.token in
     let known = c.args.known.now in
     all_refused c.feed-in-Observations.result known c.args.self.now l (search rules) (search rules)
-    (λ body s. if_err_map _ _ _ (λ stop h. each_refused_map stop (λ f x. observations_reason c.args.self.now c.in-Observations.reader body l f.kind f.place (states_known known) s x c.in-Observations.is) h) c.feed-in-Observations.ensures.reason)
+    (λ body s. if_err_map _ _ _ (λ stop h. each_refused_map stop (λ f x. observations_reason c.args.self.now c.in-Observations.reader body l f.kind f.place (states_known known) s x c.in-Observations.is) h) c.feed-in-Observations.ensures.fed.reason)
     (search rules) (λ body s. search rules) (λ body more ends late s start due. search rules)
 
 pub returns-in-Start-clause-fed : goal.returns-in-Start-clause-fed
 returns-in-Start-clause-fed c =
-    let known = c.args.known.now in
-    let states = c.states.result.now in
-    let old = c.args.self.now in
-    let l = lexeme_of c.args.token in
-    let new = c.feed-in-Start.new.self in
-    let e = c.feed-in-Start.ensures in
-    all_fed c.feed-in-Start.result known old (items.Start new) l (search rules)
-    (on_ok_map _ (start_takes known states old c.in-Start.reader new l c.states.ensures.states c.in-Start.is) e.takes)
-    (on_ok_map _ (start_forms known states old c.in-Start.reader new l c.states.ensures.states c.in-Start.is) e.takes)
-    (λ body s. on_ok_map _ (start_keeps known states new (body ++ l ∷ []) c.states.ensures.states) (e.seen body (start_seen known states old c.in-Start.reader body c.states.ensures.states c.in-Start.is s)))
-    (on_ok_map _ (start_leads known states old c.in-Start.reader new l c.states.ensures.states c.in-Start.is) e.leads)
+    on_ok_map _
+    (start_fed c.args.known.now c.states.result.now c.args.self.now c.in-Start.reader c.feed-in-Start.new.self (lexeme_of c.args.token) c.states.ensures.states c.in-Start.is)
+    c.feed-in-Start.ensures.fed
 
 pub returns-in-Start-clause-refused : goal.returns-in-Start-clause-refused
 returns-in-Start-clause-refused c =
-    let known = c.args.known.now in
-    let states = c.states.result.now in
-    let old = c.args.self.now in
-    let l = lexeme_of c.args.token in
-    let result = c.feed-in-Start.result in
     let e = c.feed-in-Start.ensures in
-    all_refused result known old l
-    (if_err_map _ _ _ (λ stop h. refused_map stop (start_stuck known states old c.in-Start.reader l c.states.ensures.states c.in-Start.is) h) e.refused)
-    (if_err_map _ _ _ (λ stop h. refused_map stop (start_formless known states old c.in-Start.reader l c.states.ensures.states c.in-Start.is) h) e.refused)
-    (λ body s. if_err_map _ _ _ (λ stop h. each_refused_map stop (λ f x. start_reason old c.in-Start.reader body l f.kind f.place c.in-Start.is x) h) (e.reason body (start_seen known states old c.in-Start.reader body c.states.ensures.states c.in-Start.is s)))
-    (search rules)
-    (λ body s. start_stops_in known states old c.in-Start.reader body l result c.states.ensures.states c.in-Start.is s e.late e.stops)
-    (λ body more ends late s start due. start_late known states old c.in-Start.reader body more l ends late result c.states.ensures.states c.in-Start.is s due e.late e.held)
+    start_refused c.args.known.now c.states.result.now c.args.self.now c.in-Start.reader (lexeme_of c.args.token) c.feed-in-Start.result c.states.ensures.states c.in-Start.is e.late e.held e.refused
 
 pub returns-in-Entry-clause-fed : goal.returns-in-Entry-clause-fed
 returns-in-Entry-clause-fed c =

@@ -40,7 +40,7 @@ returns-clause-takes c =
     let f = fraction h (simp to_z-of_z at c.if-self-lt0.false) (simp to_z-of_z at c.if-self.false) in
     let more = more_states (count_of c.args.states.now) c.count-count.result c.count-count.ensures c.if-count-eq1.false c.requires.0 in
     let is = one_read c.args.states.now _ c.count-count.result _ (simp to_z-of_z at c.in_ok-numbers.ensures) c.count-count.ensures in
-    number_takes c.args.states.now c.args.self _ _ _ (lexeme_of c.args.token) f.value f.small more is c.in_ok-feed.ensures.takes
+    number_takes c.args.states.now c.args.self _ _ _ (lexeme_of c.args.token) f.value f.small more is c.in_ok-feed.ensures.fed.takes
 
 pub returns-clause-within : goal.returns-clause-within
 returns-clause-within c = record {
