@@ -1,5 +1,6 @@
 -- The full form of vectors, read with their graph, gives the vectors back.
 use Rattle.std.proofs.Common.{◌≡◌, ◌∙◌, ℕ, ℤ, suc, zero, ◌+◌, ◌-◌, ◌*◌, ◌^◌, ◌<◌, ◌≤◌, Bool, true, false, cond, pos, negsuc, None, List, [], ◌∷◌, ◌++◌, length, take, decimal, codes, refl, sym, ap, subst, arith, append_assoc, append-nil, length-append, take_all}
+use Rattle.std.proofs.Math.Path.{subst₂}
 use Rattle.std.specs.List.{list_all}
 use Rattle.std.specs.Prelude.{◌==◌}
 use Rattle.std.proofs.lemmas.Bool.{le-ltb}
@@ -22,7 +23,8 @@ use Rattle.polcert_policy.specs.Steps.VectorsRead.{AreVectorsUpTo}
 use Rattle.polcert_policy.specs.FullForm.{behind_value, values_text, action_text, vectors_text_up_to, vectors_text}
 use Rattle.polcert_policy.proofs.Places.{some_none, same_some, row_above}
 use Rattle.polcert_policy.proofs.Fillers.{action_spelled}
-use Rattle.polcert_policy.proofs.VectorSteps.{step_vector_action, step_value_within, step_value_last}
+use Rattle.polcert_policy.proofs.GraphLaws.{IsBehind}
+use Rattle.polcert_policy.proofs.VectorSteps.{no_vectors, step_vector_action, step_value}
 use Rattle.polcert_text.proofs.Printing.Numerals.{IsPlain, plain_decimal}
 use Rattle.polcert_text.proofs.Printing.PrintedCut.{rest_at}
 use Rattle.polcert_text.proofs.Printing.WrittenNumbers.{size_written, plain_size, readable_written}
@@ -225,7 +227,16 @@ module _ (g : PolicyGraph) (v : PolicyVectors) (proper_g : IsProperGraph g) (pro
       let most : nodes g * (1 + v.states) ≤ 10_000 * (1 + v.states) = mul-le-mul_right (1 + v.states) proper_g.few_nodes in
       omega (arith, bound, count, most, proper_v.few_states)
 
-  module _ {way : Rounding} where
+  module _ (way : Rounding) where
+    -- one value more
+    one_value : (ps : List Part) (n place s m c : ℕ) → n < nodes g → s < v.states → IsBehind 1 v.states n s m c
+        → UpTo way (ps ++ parts_from place (action_printed g n ∷ values_printed v n s)) n (1 + s) (take (n * v.states + s) v.values)
+        → UpTo way (ps ++ parts_from place (action_printed g n ∷ values_printed v n (suc s))) m c (take (n * v.states + suc s) v.values)
+    one_value ps n place s m c l k behind old =
+        let right = value_part way _ (value_of v n s) (value_fits n s l k) in
+        subst₂ (λ qs vs. UpTo way qs m c vs) (parts_more ps n place s) (values_more n s l k)
+        (step_value g v.states (ps ++ parts_from place (action_printed g n ∷ values_printed v n s)) _ (value_of v n s) n s m c (take (n * v.states + s) v.values) old right behind)
+
     row : (ps : List Part) (n place : ℕ) → n < nodes g → UpTo way ps n 0 (take (n * v.states) v.values) → (s : ℕ) → s < v.states
         → UpTo way (ps ++ parts_from place (action_printed g n ∷ values_printed v n s)) n (1 + s) (take (n * v.states + s) v.values)
     row ps n place l old zero k =
@@ -233,41 +244,22 @@ module _ (g : PolicyGraph) (v : PolicyVectors) (proper_g : IsProperGraph g) (pro
         subst (λ m. UpTo way (ps ++ part ∷ []) n 1 (take m v.values)) (omega arith)
         (step_vector_action g v.states ps part n (take (n * v.states) v.values) proper_v.some_states old l (action_part place (action_of g n) (omega (arith, known_action n l))))
     row ps n place l old (suc s) k =
-        let h = value_of v n s in
-        let before = ps ++ parts_from place (action_printed g n ∷ values_printed v n s) in
-        let part = part_with (place + length (texts_of (action_printed g n ∷ values_printed v n s))) (is_below_zero h) (size_text h) in
         let inside : s < v.states = omega (arith, k) in
-        let stepped = step_value_within g v.states before part h n s (take (n * v.states + s) v.values) k (row ps n place l old s inside) (value_part way _ h (value_fits n s l inside)) in
-        subst (λ vs. UpTo way (ps ++ parts_from place (action_printed g n ∷ values_printed v n (suc s))) n (1 + suc s) vs) (values_more n s l inside)
-        (subst (λ qs. UpTo way qs n (1 + suc s) (take (n * v.states + s) v.values ++ h ∷ [])) (parts_more ps n place s)
-        (subst (λ c. UpTo way (before ++ part ∷ []) n c (take (n * v.states + s) v.values ++ h ∷ [])) (omega arith) stepped))
+        one_value ps n place s n (1 + suc s) l inside (record { inside = λ k. (refl, refl); last = λ e. absurd (omega (arith, e, k)) }) (row ps n place l old s inside)
 
     whole_row : (ps : List Part) (n place : ℕ) → n < nodes g → UpTo way ps n 0 (take (n * v.states) v.values)
         → UpTo way (ps ++ parts_from place (vector_printed g v n)) (suc n) 0 (take (suc n * v.states) v.values)
     whole_row ps n place l old =
         let s = v.states - 1 in
         let last : suc s ≡ v.states = omega (arith, proper_v.some_states) in
-        let inside : s < v.states = omega (arith, proper_v.some_states) in
-        let h = value_of v n s in
-        let before = ps ++ parts_from place (action_printed g n ∷ values_printed v n s) in
-        let part = part_with (place + length (texts_of (action_printed g n ∷ values_printed v n s))) (is_below_zero h) (size_text h) in
-        let stepped = step_value_last g v.states before part h n s (take (n * v.states + s) v.values) last (row ps n place l old s inside) (value_part way _ h (value_fits n s l inside)) in
-        let filled : take (n * v.states + s) v.values ++ h ∷ [] ≡ take (suc n * v.states) v.values = values_more n s l inside ∙ ap (λ m. take m v.values) (omega (arith, last)) in
-        let joined : before ++ part ∷ [] ≡ ps ++ parts_from place (vector_printed g v n) = parts_more ps n place s ∙ ap (λ c. ps ++ parts_from place (action_printed g n ∷ values_printed v n c)) last in
-        subst (λ vs. UpTo way (ps ++ parts_from place (vector_printed g v n)) (suc n) 0 vs) filled (subst (λ qs. UpTo way qs (suc n) 0 (take (n * v.states + s) v.values ++ h ∷ [])) joined stepped)
+        let inside : s < v.states = omega (arith, last) in
+        let read = one_value ps n place s (suc n) 0 l inside (record { inside = λ k. absurd (omega (arith, k, last)); last = λ e. (refl, refl) }) (row ps n place l old s inside) in
+        subst₂ (λ c m. UpTo way (ps ++ parts_from place (action_printed g n ∷ values_printed v n c)) (suc n) 0 (take m v.values)) last (omega (arith, last)) read
 
     all_rows : (n : ℕ) → n ≤ nodes g → UpTo way (parts_from 0 (all_printed g v n)) n 0 (take (n * v.states) v.values)
     all_rows zero l =
-        let start : UpTo way [] 0 0 [] = record {
-          records = record { action = λ n p e. absurd (some_none p e); value = λ n s p l e. absurd (some_none p e) };
-          count = omega arith;
-          within = omega arith;
-          filled = omega arith;
-          few = omega arith;
-          few_begun = λ l. absurd (omega (arith, l));
-        } in
         let none : 0 ≡ 0 * v.states = omega arith in
-        subst (λ m. UpTo way [] 0 0 (take m v.values)) none start
+        subst (λ m. UpTo way [] 0 0 (take m v.values)) none (no_vectors g v.states)
     all_rows (suc n) l =
         let few : n < nodes g = omega (arith, l) in
         subst (λ qs. UpTo way qs (suc n) 0 (take (suc n * v.states) v.values)) (sym (parts-append 0 (all_printed g v n) (vector_printed g v n)))

@@ -1,5 +1,6 @@
 -- How the tokens of a graph are read on, and what can't follow.
 use Rattle.std.proofs.Common.{◌≡◌, ◌∙◌, ℕ, suc, zero, ◌+◌, ◌-◌, ◌*◌, ◌<◌, ◌≤◌, ◌==◌, Bool, true, false, ◌&&◌, ◌⊎◌, inl, inr, ⊎_elim, Option, Some, List, [], ◌∷◌, ◌++◌, length, slice_get, refl, sym, ap, subst, arith, length-append, append_assoc, append-nil, lit<}
+use Rattle.std.proofs.Math.Path.{subst₂}
 use Rattle.polcert_text.specs.Bytes.{class_of}
 use Rattle.polcert_text.specs.Cut.{Lexeme}
 use Rattle.polcert_text.specs.declared.lexeme.TokenKind.{TokenKind}
@@ -7,7 +8,7 @@ use Rattle.polcert_text.specs.declared.lexeme.TokenKind.TheVariants.{Name, Numer
 use Rattle.polcert_policy.specs.Fields.{numeral_kind, minus_kind, is_whole, whole_of, is_successor, successor_of, is_joined}
 use Rattle.polcert_policy.specs.Graphs.{PolicyGraph, nodes, IsAction, IsSuccessor, AreNodes, IsLooseGraph, IsPossible, width, most_nodes}
 use Rattle.polcert_policy.specs.Steps.GraphRead.{AreNodesUpTo, IsApartFrom}
-use Rattle.polcert_policy.proofs.Places.{row_above, order, same_row, same_column, get_snoc, get_more, get_here, get_within, within_get, same_some, same_list, row_of, row_below, below_or_at}
+use Rattle.polcert_policy.proofs.Places.{some_columns, row_above, order, same_row, same_column, get_snoc, get_more, get_here, get_within, within_get, same_some, same_list, row_of, row_below, below_or_at}
 
 -- what a token is at its place
 pub record Fits (actions observations node column : ℕ) (t : Lexeme) (chosen : List ℕ) (successors : List (Option ℕ)) : Type 0 where
@@ -109,9 +110,9 @@ step_action a o ts t node cs ss some old apart whole known =
       few_begun = λ l. old.few_begun (omega arith);
     }
 
--- the place behind the place of a successor
-pub record IsBehind (o node z n c : ℕ) : Type 0 where
-  pub inside : suc z < o → (n ≡ node) × (c ≡ 3 + z)
+-- the place behind the z-th of so many places, of which the first is in this column
+pub record IsBehind (first o node z n c : ℕ) : Type 0 where
+  pub inside : suc z < o → (n ≡ node) × (c ≡ first + suc z)
   pub last : suc z ≡ o → (n ≡ suc node) × (c ≡ 0)
 
 step_within : (a o : ℕ) (ts : List Lexeme) (t : Lexeme) (node z : ℕ) (cs : List ℕ) (ss : List (Option ℕ))
@@ -146,7 +147,7 @@ step_last a o ts t node z cs ss e old new =
     }
 
 pub step_successor : (a o : ℕ) (ts : List Lexeme) (t : Lexeme) (node z n c : ℕ) (cs : List ℕ) (ss : List (Option ℕ))
-    → AreNodesUpTo a o ts node (2 + z) cs ss → IsApartFrom ts t → is_successor t ≡ true → IsBehind o node z n c
+    → AreNodesUpTo a o ts node (2 + z) cs ss → IsApartFrom ts t → is_successor t ≡ true → IsBehind 2 o node z n c
     → AreNodesUpTo a o (ts ++ t ∷ []) n c cs (ss ++ successor_of t ∷ [])
 step_successor a o ts t node z n c cs ss old apart right behind =
     let place : node * o + z ≡ length ss = omega (arith, old.filled) in
@@ -158,8 +159,8 @@ step_successor a o ts t node z n c cs ss old apart right behind =
     }) in
     let At : ℕ → ℕ → Type 0 = λ n c. AreNodesUpTo a o (ts ++ t ∷ []) n c cs (ss ++ successor_of t ∷ []) in
     let ends : (suc z < o) ⊎ (suc z ≡ o) = below_or_at (suc z) o (omega (arith, old.within)) in
-    ⊎_elim (λ l. let is = behind.inside l in subst (λ c. At n c) (sym is.1) (subst (λ n. At n (3 + z)) (sym is.0) (step_within a o ts t node z cs ss l old new)))
-    (λ e. let is = behind.last e in subst (λ c. At n c) (sym is.1) (subst (λ n. At n 0) (sym is.0) (step_last a o ts t node z cs ss e old new)))
+    ⊎_elim (λ l. let is = behind.inside l in subst₂ At (sym is.0) (omega (arith, is.1)) (step_within a o ts t node z cs ss l old new))
+    (λ e. let is = behind.last e in subst₂ At (sym is.0) (sym is.1) (step_last a o ts t node z cs ss e old new))
     ends
 
 -- whole nodes are a graph
@@ -213,7 +214,7 @@ possible_successors a o zero ts node z cs ss e old =
     let new = step_successor a o ts letter_x node z (suc node) 0 cs ss old (x_apart ts) refl (record { inside = λ l. absurd (omega (arith, l, e)); last = λ e. (refl, refl) }) in
     possible_before a o ts (letter_x ∷ []) (possible_loose a o _ _ (loose_of a o _ (suc node) cs _ (omega arith) new))
 possible_successors a o (suc left) ts node z cs ss e old =
-    let new = step_successor a o ts letter_x node z node (3 + z) cs ss old (x_apart ts) refl (record { inside = λ l. (refl, refl); last = λ f. absurd (omega (arith, f, e)) }) in
+    let new = step_successor a o ts letter_x node z node (3 + z) cs ss old (x_apart ts) refl (record { inside = λ l. (refl, omega arith); last = λ f. absurd (omega (arith, f, e)) }) in
     possible_before a o ts (letter_x ∷ []) (possible_successors a o left (ts ++ letter_x ∷ []) node (suc z) cs _ (omega (arith, e)) (subst (λ c. AreNodesUpTo a o (ts ++ letter_x ∷ []) node c cs (ss ++ successor_of letter_x ∷ [])) (omega arith) new))
 
 no_minus_whole : (k : TokenKind) (b c : Bool) → (numeral_kind k && b) ≡ true → (minus_kind k && c) ≡ false
@@ -305,10 +306,6 @@ same_action a o ts g h p q k x y ex ey =
     let rows = row_above (width o) k (nodes g) inside in
     let token = get_within ts (k * width o + 1) (omega (arith, rows, p.tokens)) in
     same_values x y (whole_of token.0) (sym ex ∙ (p.records.action k token.0 token.1).value) (sym ey ∙ (q.records.action k token.0 token.1).value)
-
-some_columns : (n o k : ℕ) → k < n * o → 1 ≤ o
-some_columns n zero k h = absurd (omega (arith, h))
-some_columns n (suc o) k h = omega arith
 
 same_next : (a o : ℕ) (ts : List Lexeme) (g h : PolicyGraph) → IsLooseGraph a o ts g → IsLooseGraph a o ts h
     → (k : ℕ) (x y : Option ℕ) → slice_get g.successors k ≡ Some x → slice_get h.successors k ≡ Some y → x ≡ y

@@ -5,9 +5,8 @@ use Rattle.polcert_text.specs.Cut.{Lexeme}
 use Rattle.polcert_cells.specs.Elements.{most_states, most_actions, most_observations}
 use Rattle.polcert_policy.specs.Graphs.{PolicyGraph, nodes, action_of, IsLooseGraph, IsGraph, IsProperGraph, width, most_nodes}
 use Rattle.polcert_policy.specs.Vectors.{PolicyVectors, IsRoundedVectors, IsInRange, AreProperVectors, value_of}
-use Rattle.polcert_policy.proofs.Places.{row_above, row_below, row_of, get_within, within_get}
+use Rattle.polcert_policy.proofs.Places.{row_above, row_below, row_of, get_within, within_get, place_inside}
 use Rattle.polcert_policy.proofs.VectorEndLaws.{values_in_range}
-use Rattle.polcert_policy.proofs.EndLaws.{place_inside}
 use Rattle.polcert_text.specs.declared.number.Rounding.{Rounding}
 
 pub loose_actions : (a o : ℕ) (ts : List Lexeme) (g : PolicyGraph) → IsLooseGraph a o ts g → (n : ℕ) → n < nodes g → action_of g n < a

@@ -1,10 +1,12 @@
--- Where the tokens of a text stop being possible.
+-- Where the tokens of a text stop being possible, and that it is refused for one reason.
 use Rattle.std.proofs.Common.{◌≡◌, ◌∙◌, ◌⊎◌, inl, inr, ⊎_elim, Option, List, [], ◌∷◌, ◌++◌, refl, sym, subst, append-nil}
+use Rattle.std.proofs.Math.Path.{subst₂, subst⁻¹}
 use Rattle.polcert_text.specs.Cut.{Lexeme, Rest, TakesToken, IsCut}
 use Rattle.polcert_text.specs.TakenTokens.{Taken, nothing, token}
 use Rattle.polcert_text.specs.declared.tokens.TokenFault.{TokenFault}
-use Rattle.polcert_text.proofs.TextLaws.{one_next_token}
+use Rattle.polcert_text.proofs.TextLaws.{one_cut, one_next_token}
 use Rattle.polcert_text.proofs.Taken.TakenTokens.{cut_taken}
+use Rattle.polcert_policy.specs.Stops.{StopFor}
 use Rattle.polcert_policy.proofs.VectorLaws.{head_of, tail_of, cons_not_nil}
 
 -- the tokens taken, from the first on
@@ -57,14 +59,37 @@ module _ (P : List Lexeme → Type 0) (front : (ts us : List Lexeme) → P (ts +
       absurd (none (front (us ++ s ∷ []) w.0 (subst P w.1 possible)))
 
   -- the tokens of a text stop being possible at one token
-  pub one_stop : (rest x y : Rest) (us vs : List Lexeme) (s t : Lexeme) → Taken rest (us ++ s ∷ []) x → Taken rest (vs ++ t ∷ []) y
+  one_stop : (rest x y : Rest) (us vs : List Lexeme) (s t : Lexeme) → Taken rest (us ++ s ∷ []) x → Taken rest (vs ++ t ∷ []) y
       → P us → P vs → (P (us ++ s ∷ []) → ⊥) → (P (vs ++ t ∷ []) → ⊥) → (us ≡ vs) × (s ≡ t)
   one_stop rest x y us vs s t a b p q none_p none_q =
       ⊎_elim (λ l. not_longer us vs s t q none_p l.0 l.1) (λ r. let same = not_longer vs us t s p none_q r.0 r.1 in (sym same.0, sym same.1))
       (fronts rest x y (us ++ s ∷ []) (vs ++ t ∷ []) (taken_from rest x _ a) (taken_from rest y _ b))
 
   -- where all of them are possible they stop nowhere
-  pub no_stop : (rest x : Rest) (ts us : List Lexeme) (end : Option TokenFault) → IsCut rest ts end → P ts → Taken rest us x → (P us → ⊥) → ⊥
+  no_stop : (rest x : Rest) (ts us : List Lexeme) (end : Option TokenFault) → IsCut rest ts end → P ts → Taken rest us x → (P us → ⊥) → ⊥
   no_stop rest x ts us end cut possible taken none =
       let behind = cut_taken rest x us ts end taken cut in
       none (front us behind.0 (subst P behind.1.0 possible))
+
+  -- Why a text is refused, where this says why a token can't stand behind others, and that how the text ends: one of its tokens can't
+  -- stand behind those before it, or the text ends so.
+  module _ {F : Type 0} (IsWrong : List Lexeme → Lexeme → F → Type 0) (EndsFor : List Lexeme → Option TokenFault → F → Type 0) (rest : Rest) where
+    abbrev pub HasReason : F → Type 0
+    HasReason f = ((tokens : List Lexeme) × ((new : Rest) × Taken rest tokens new × StopFor P (λ before token. IsWrong before token f) tokens))
+        ⊎ ((tokens : List Lexeme) × ((end : Option TokenFault) × IsCut rest tokens end × P tokens × EndsFor tokens end f))
+
+    -- there is one reason, where a wrong token has one and an end has
+    pub one_reason : ((ts : List Lexeme) (t : Lexeme) (f g : F) → IsWrong ts t f → IsWrong ts t g → f ≡ g)
+        → ((ts : List Lexeme) (end : Option TokenFault) (f g : F) → EndsFor ts end f → EndsFor ts end g → f ≡ g)
+        → (f g : F) → HasReason f → HasReason g → f ≡ g
+    one_reason one_wrong one_end f g (inl x) (inl y) =
+        let p = x.1.2 in
+        let q = y.1.2 in
+        let same = one_stop rest x.1.0 y.1.0 p.before q.before p.token q.token (subst (λ ts. Taken rest ts x.1.0) p.spelled x.1.1) (subst (λ ts. Taken rest ts y.1.0) q.spelled y.1.1)
+        p.possible q.possible (λ h. p.impossible (subst⁻¹ P p.spelled h)) (λ h. q.impossible (subst⁻¹ P q.spelled h)) in
+        one_wrong p.before p.token f g p.wrong (subst₂ (λ us t. IsWrong us t g) (sym same.0) (sym same.1) q.wrong)
+    one_reason one_wrong one_end f g (inl x) (inr y) = absurd (no_stop rest x.1.0 y.0 x.0 y.1.0 y.1.1 y.1.2 x.1.1 x.1.2.impossible)
+    one_reason one_wrong one_end f g (inr x) (inl y) = absurd (no_stop rest y.1.0 x.0 y.0 x.1.0 x.1.1 x.1.2 y.1.1 y.1.2.impossible)
+    one_reason one_wrong one_end f g (inr x) (inr y) =
+        let same = one_cut rest x.0 y.0 x.1.0 y.1.0 x.1.1 y.1.1 in
+        one_end x.0 x.1.0 f g x.1.3 (subst₂ (λ ts e. EndsFor ts e g) (sym same.0) (sym same.1) y.1.3)

@@ -1,5 +1,6 @@
 -- What is read of vectors where the text ends.
-use Rattle.std.proofs.Common.{◌≡◌, ◌∙◌, ℕ, ℤ, suc, zero, ◌+◌, ◌*◌, ◌<◌, ◌≤◌, ◌≤ℤ◌, ◌*ℤ◌, Bool, true, false, pos, neg_ℤ, Option, Some, None, List, [], ◌∷◌, ◌++◌, length, slice_get, get_or, refl, sym, ap, subst, arith, append-nil, length-append}
+use Rattle.std.proofs.Common.{◌≡◌, ◌∙◌, ℕ, ℤ, ◌+◌, ◌*◌, ◌<◌, ◌≤◌, ◌≤ℤ◌, ◌*ℤ◌, Bool, true, false, pos, neg_ℤ, Option, Some, None, List, [], ◌∷◌, ◌++◌, length, slice_get, get_or, refl, sym, ap, subst, arith, append-nil, length-append}
+use Rattle.std.proofs.Math.Path.{subst⁻¹}
 use Rattle.std.proofs.lemmas.Int.{ints, to_z-of_z, fits_signed_from_abs}
 use Rattle.std.proofs.lemmas.Option.{slice_get-get_or}
 use Rattle.std.specs.Prelude.{FitsSigned}
@@ -10,16 +11,14 @@ use Rattle.polcert_text.specs.Numbers.{millionth, size_of, largest, signed, IsRe
 use Rattle.polcert_text.proofs.Numbers.SignedLaws.{signed-mul, le_times_back}
 use Rattle.polcert_text.proofs.Numbers.SizeLaws.{millionth_pos}
 use Rattle.polcert_policy.specs.Graphs.{PolicyGraph, nodes}
-use Rattle.polcert_cells.specs.Elements.{most_states}
 use Rattle.polcert_policy.specs.Vectors.{PolicyVectors, Part, sign_kind, is_negative, with_sign, tokens_of, AreVectors, IsRoundedVectors, IsInRange, AreProper}
 use Rattle.polcert_policy.specs.VectorText.{IsPartColumn}
-use Rattle.polcert_policy.specs.Steps.VectorsRead.{AreVectorsUpTo, open_of, IsOpenSign, HasVectors, AreUnfinished}
-use Rattle.polcert_policy.specs.declared.vectors_reading.OpenSign.{OpenSign}
+use Rattle.polcert_policy.specs.Steps.VectorsRead.{AreVectorsUpTo, open_of, HasVectors, AreUnfinished}
 use Rattle.polcert_policy.specs.declared.vectors_reading.VectorsReading.{VectorsReading}
-use Rattle.polcert_policy.proofs.Places.{row_above, row_below, row_of, same_column, get_within, within_get, same_some}
-use Rattle.polcert_policy.proofs.VectorLaws.{head_of, tail_of, cons_not_nil, not_sign, front_parts, vector_parts}
+use Rattle.polcert_policy.proofs.Places.{row_above, same_column, same_some}
+use Rattle.polcert_policy.proofs.VectorLaws.{part_of_value, head_of, tail_of, cons_not_nil, not_sign, front_parts, vector_parts}
 use Rattle.polcert_policy.proofs.VectorSteps.{tokens-append}
-use Rattle.polcert_policy.proofs.VectorReadLaws.{NextPart, drop_same, next_part, possible_seen, column_read}
+use Rattle.polcert_policy.proofs.VectorReadLaws.{NextPart, drop_same, next_part, possible_seen, column_read, closed_lexeme}
 use Rattle.polcert_text.specs.declared.number.Rounding.{Rounding}
 use Rattle.polcert_text.specs.declared.number.Rounding.TheVariants.{Down, Up}
 
@@ -55,10 +54,6 @@ rounded_in_range rounding b bs h readable rounded = at rounding rounded
     at : (r : Rounding) → IsRounded r b bs h → IsInRange h
     at Down is = (is.greatest (neg_ℤ (pos largest)) low, le_times_back millionth millionth_pos h (pos largest) (le_through (h *ℤ pos millionth) (signed b (size_of bs)) (pos largest *ℤ pos millionth) is.not_above high))
     at Up is = (le_times_back millionth millionth_pos (neg_ℤ (pos largest)) h (le_through (neg_ℤ (pos largest) *ℤ pos millionth) (signed b (size_of bs)) (h *ℤ pos millionth) low is.not_below), is.least (pos largest) high)
-
-some_columns : (n o k : ℕ) → k < n * o → 1 ≤ o
-some_columns n zero k h = absurd (omega (arith, h))
-some_columns n (suc o) k h = omega arith
 
 abbrev pub vectors_of : ℕ → ℕ → List ℤ → PolicyVectors
 vectors_of node o vs = record { nodes = node; states = o; values = vs }
@@ -100,16 +95,15 @@ module _ {way : Rounding} where
   unfinished_vector g seen r some begun h = record {
     column_is = column_read g seen r h;
     possible = possible_seen g seen r some h;
-    unfinished = λ v all. at h.sign r.sign h.sign_is v (subst (λ ts. IsRoundedVectors way g r.states ts v) h.spelled all);
+    unfinished = λ v all. at h.sign h.signed v (subst (λ ts. IsRoundedVectors way g r.states ts v) h.spelled all);
   }
     where
-      at : (s : Option Lexeme) (u : Option OpenSign) → IsOpenSign s u r.column → (v : PolicyVectors) → IsRoundedVectors way g r.states (tokens_of h.parts ++ open_of s) v → ⊥
-      at None u is v all =
+      at : (sign : Option Lexeme) → ((s : Lexeme) → sign ≡ Some s → (sign_kind s.kind ≡ true) × (0 < r.column)) → (v : PolicyVectors) → IsRoundedVectors way g r.states (tokens_of h.parts ++ open_of sign) v → ⊥
+      at None signed v all =
           let count = whole_count g r.states h.parts r.values.items v h.vectors.records all in
           let zero_is = same_column (1 + r.states) r.node (nodes g) r.column 0 h.vectors.within (omega arith) (omega (arith, count, h.vectors.count)) in
           omega (arith, zero_is, begun)
-      at (Some s) None is v all = absurd is
-      at (Some s) (Some u) is v all = open_ended g r.states h.parts r.node r.column r.values.items s v is.0.kind h.vectors all
+      at (Some s) signed v all = open_ended g r.states h.parts r.node r.column r.values.items s v (signed s refl).0 h.vectors all
 
   pub at_column : (g : PolicyGraph) (seen : List Lexeme) (r : VectorsReading) → r.column ≤ 0 → (h : HasVectors way g seen r) → AreVectorsUpTo way g r.states h.parts r.node 0 r.values.items
   at_column g seen r e h =
@@ -118,12 +112,7 @@ module _ {way : Rounding} where
 
   -- at a vector's action the tokens are the parts'
   spelled_whole : (g : PolicyGraph) (seen : List Lexeme) (r : VectorsReading) → r.column ≤ 0 → (h : HasVectors way g seen r) → seen ≡ tokens_of h.parts ++ []
-  spelled_whole g seen r e h = at h.sign r.sign h.sign_is h.spelled
-    where
-      at : (s : Option Lexeme) (u : Option OpenSign) → IsOpenSign s u r.column → seen ≡ tokens_of h.parts ++ open_of s → seen ≡ tokens_of h.parts ++ []
-      at None u is spelled = spelled
-      at (Some s) None is spelled = absurd is
-      at (Some s) (Some u) is spelled = absurd (omega (arith, is.1, e))
+  spelled_whole g seen r e h = h.spelled ∙ ap (λ s. tokens_of h.parts ++ open_of s) (closed_lexeme g seen r h (omega (arith, e)))
 
   pub too_few : (g : PolicyGraph) (seen : List Lexeme) (r : VectorsReading) → 1 ≤ r.states → r.column ≤ 0 → r.node < nodes g → HasVectors way g seen r → AreUnfinished way g r.states seen r.node 0
   too_few g seen r some e fewer h = record {
@@ -137,21 +126,10 @@ module _ {way : Rounding} where
   pub values_in_range : (g : PolicyGraph) (o : ℕ) (ps : List Part) (node : ℕ) (vs : List ℤ) → AreVectors way g o ps vs → length ps ≡ node * (1 + o) → length vs ≡ node * o
       → (k : ℕ) (h : ℤ) → slice_get vs k ≡ Some h → IsInRange h
   values_in_range g o ps node vs records count filled k h e =
-      let row = row_of o k (some_columns node o k (omega (arith, within_get vs k h e, filled))) in
-      at row.0 row.1.0 row.1.1 row.1.2
-    where
-      spelled : (n s : ℕ) (part : Part) → s < o → slice_get ps (n * (1 + o) + (1 + s)) ≡ Some part → slice_get vs (n * o + s) ≡ Some h → IsInRange h
-      spelled n s part l here there =
-          let one = records.value n s part l here in
-          let same : h ≡ one.0 = same_some h one.0 (sym there ∙ one.1) in
-          subst IsInRange (sym same) (rounded_in_range way (is_negative part.sign) part.token.bytes one.0 one.2.readable one.2.rounded)
-
-      at : (n s : ℕ) → k ≡ n * o + s → s < o → IsInRange h
-      at n s place l =
-          let inside : n * o + s < node * o = omega (arith, within_get vs k h e, filled, place) in
-          let rows = row_above (1 + o) n node (row_below o n s node inside) in
-          let part = get_within ps (n * (1 + o) + (1 + s)) (omega (arith, rows, count, l)) in
-          spelled n s part.0 l part.1 (subst (λ j. slice_get vs j ≡ Some h) place e)
+      let (n, s, part, place, l, here) = part_of_value o ps node vs h count filled k e in
+      let one = records.value n s part l here in
+      let same : h ≡ one.0 = same_some h one.0 (sym e ∙ ap (slice_get vs) place ∙ one.1) in
+      subst⁻¹ IsInRange same (rounded_in_range way (is_negative part.sign) part.token.bytes one.0 one.2.readable one.2.rounded)
 
   -- whole vectors, one for each node
   pub vectors_read : (g : PolicyGraph) (seen : List Lexeme) (r : VectorsReading) → r.column ≤ 0 → nodes g ≤ r.node → HasVectors way g seen r → IsRoundedVectors way g r.states seen (vectors_of r.node r.states r.values.items)
@@ -166,16 +144,4 @@ module _ {way : Rounding} where
         count = at.count ∙ omega (arith, ap (λ n. n * (1 + r.states)) all);
         filled = at.filled ∙ omega (arith, ap (λ n. n * r.states) all);
         records = at.records;
-      }
-
-  pub proper_read : (g : PolicyGraph) (seen : List Lexeme) (r : VectorsReading) → 1 ≤ r.states → r.states ≤ most_states → r.column ≤ 0 → nodes g ≤ r.node → HasVectors way g seen r → AreProper r.node r.states r.values.items
-  proper_read g seen r some few e enough h =
-      let at = at_column g seen r e h in
-      record {
-        some_nodes = omega (arith, enough, h.proper.some_nodes);
-        few_nodes = omega (arith, at.few, h.proper.few_nodes);
-        some_states = some;
-        few_states = few;
-        filled = at.filled ∙ omega arith;
-        in_range = values_in_range g r.states h.parts r.node r.values.items at.records (at.count ∙ omega arith) (at.filled ∙ omega arith);
       }

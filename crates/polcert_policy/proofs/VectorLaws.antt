@@ -1,13 +1,13 @@
 -- Tokens are at most one list of vectors.
-use Rattle.std.proofs.Common.{◌≡◌, ◌∙◌, ℕ, ℤ, suc, zero, ◌+◌, ◌*◌, ◌<◌, ◌≤◌, Bool, true, ◌&&◌, Option, Some, None, List, [], ◌∷◌, ◌++◌, length, slice_get, refl, sym, ap, subst, arith, append-nil}
+use Rattle.std.proofs.Common.{◌≡◌, ◌∙◌, ℕ, ℤ, suc, zero, ◌+◌, ◌*◌, ◌<◌, Bool, true, ◌&&◌, Option, Some, None, List, [], ◌∷◌, ◌++◌, length, slice_get, refl, sym, ap, subst, arith, append-nil}
 use Rattle.polcert_text.specs.Cut.{Lexeme}
 use Rattle.polcert_text.specs.declared.lexeme.TokenKind.{TokenKind}
 use Rattle.polcert_text.specs.declared.lexeme.TokenKind.TheVariants.{Numeral}
 use Rattle.polcert_text.proofs.TextLaws.{one_rounded}
 use Rattle.polcert_policy.specs.Fields.{numeral_kind}
 use Rattle.polcert_policy.specs.Graphs.{PolicyGraph, nodes}
-use Rattle.polcert_policy.specs.Vectors.{PolicyVectors, Part, sign_kind, with_sign, tokens_of, is_negative, IsPart, IsActionPart, IsValuePart, AreVectors, IsRoundedVectors}
-use Rattle.polcert_policy.proofs.Places.{row_above, row_below, row_of, get_within, within_get, same_some, some_none, same_list}
+use Rattle.polcert_policy.specs.Vectors.{PolicyVectors, Part, sign_kind, with_sign, tokens_of, is_negative, IsPart, IsActionPart, AreVectors, IsRoundedVectors}
+use Rattle.polcert_policy.proofs.Places.{some_columns, row_above, row_below, row_of, get_within, within_get, same_some, some_none, same_list}
 use Rattle.polcert_text.specs.declared.number.Rounding.{Rounding}
 
 pub head_of : {X : Type 0} (x y : X) (xs ys : List X) → x ∷ xs ≡ y ∷ ys → x ≡ y
@@ -72,9 +72,15 @@ same_count [] [] l = refl
 same_count [] (y ∷ ys) l = absurd (omega (arith, l))
 same_count (x ∷ xs) ys l = ap (λ zs. x ∷ zs) (same_count xs ys (omega (arith, l)))
 
-some_columns : (n o k : ℕ) → k < n * o → 1 ≤ o
-some_columns n zero k h = absurd (omega (arith, h))
-some_columns n (suc o) k h = omega arith
+-- the part of each value
+pub part_of_value : (o : ℕ) (ps : List Part) (node : ℕ) (vs : List ℤ) (x : ℤ) → length ps ≡ node * (1 + o) → length vs ≡ node * o → (k : ℕ) → slice_get vs k ≡ Some x
+    → (n : ℕ) × (s : ℕ) × (part : Part) × (k ≡ n * o + s) × (s < o) × (slice_get ps (n * (1 + o) + (1 + s)) ≡ Some part)
+part_of_value o ps node vs x count filled k e =
+    let inside = within_get vs k x e in
+    let (n, (s, place, l)) = row_of o k (some_columns node o k (omega (arith, inside, filled))) in
+    let rows = row_above (1 + o) n node (row_below o n s node (omega (arith, inside, filled, place))) in
+    let part = get_within ps (n * (1 + o) + (1 + s)) (omega (arith, rows, count, l)) in
+    (n, s, part.0, place, l, part.1)
 
 module _ {way : Rounding} where
   -- the parts of vectors are numerals, perhaps behind a sign
@@ -94,28 +100,12 @@ module _ {way : Rounding} where
   same_value : (g : PolicyGraph) (states : ℕ) (ps : List Part) (vs ws : List ℤ) → length ps ≡ nodes g * (1 + states) → length vs ≡ nodes g * states → AreVectors way g states ps vs → AreVectors way g states ps ws
       → (k : ℕ) (x y : ℤ) → slice_get vs k ≡ Some x → slice_get ws k ≡ Some y → x ≡ y
   same_value g states ps vs ws count filled p q k x y ex ey =
-      let row = row_of states k (some_columns (nodes g) states k (omega (arith, within_get vs k x ex, filled))) in
-      at row.0 row.1.0 row.1.1 row.1.2
-    where
-      floors : (part : Part) (h j : ℤ) → IsValuePart way part h → IsValuePart way part j → h ≡ j
-      floors part h j a b = one_rounded way (is_negative part.sign) part.token.bytes h j a.rounded b.rounded
-
-      spelled : (n s : ℕ) (part : Part) → s < states → slice_get ps (n * (1 + states) + (1 + s)) ≡ Some part
-          → slice_get vs (n * states + s) ≡ Some x → slice_get ws (n * states + s) ≡ Some y → x ≡ y
-      spelled n s part l e ex ey =
-          let one = p.value n s part l e in
-          let two = q.value n s part l e in
-          let first : x ≡ one.0 = same_some x one.0 (sym ex ∙ one.1) in
-          let second : y ≡ two.0 = same_some y two.0 (sym ey ∙ two.1) in
-          let same : one.0 ≡ two.0 = floors part one.0 two.0 one.2 two.2 in
-          cc
-
-      at : (n s : ℕ) → k ≡ n * states + s → s < states → x ≡ y
-      at n s e l =
-          let inside : n * states + s < nodes g * states = omega (arith, within_get vs k x ex, filled, e) in
-          let rows = row_above (1 + states) n (nodes g) (row_below states n s (nodes g) inside) in
-          let part = get_within ps (n * (1 + states) + (1 + s)) (omega (arith, rows, count, l)) in
-          spelled n s part.0 l part.1 (subst (λ j. slice_get vs j ≡ Some x) e ex) (subst (λ j. slice_get ws j ≡ Some y) e ey)
+      let (n, s, part, place, l, here) = part_of_value states ps (nodes g) vs x count filled k ex in
+      let one = p.value n s part l here in
+      let two = q.value n s part l here in
+      let first : x ≡ one.0 = same_some x one.0 (sym ex ∙ ap (slice_get vs) place ∙ one.1) in
+      let second : y ≡ two.0 = same_some y two.0 (sym ey ∙ ap (slice_get ws) place ∙ two.1) in
+      first ∙ one_rounded way (is_negative part.sign) part.token.bytes one.0 two.0 one.2.rounded two.2.rounded ∙ sym second
 
   -- tokens are at most one list of vectors
   pub one_list : (g : PolicyGraph) (states : ℕ) (ts : List Lexeme) (v w : PolicyVectors) → IsRoundedVectors way g states ts v → IsRoundedVectors way g states ts w → v ≡ w

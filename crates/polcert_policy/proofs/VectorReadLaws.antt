@@ -1,5 +1,6 @@
 -- What is read of vectors behind one more token, and why a token is refused.
-use Rattle.std.proofs.Common.{◌≡◌, ◌∙◌, ℕ, ℤ, suc, ◌+◌, ◌-◌, ◌*◌, ◌^◌, ◌<◌, ◌≤◌, ◌⊎◌, inl, inr, ⊎_elim, Bool, true, false, ◌||◌, if◌then◌else◌, pos, Option, Some, None, Err, List, [], ◌∷◌, ◌++◌, length, slice_get, refl, sym, ap, subst, arith, append_assoc, append-nil, length-append}
+use Rattle.std.proofs.Common.{◌≡◌, ◌∙◌, ℕ, ℤ, suc, ◌+◌, ◌-◌, ◌*◌, ◌^◌, ◌<◌, ◌≤◌, true, false, ◌||◌, if◌then◌else◌, pos, Option, Some, None, Err, List, [], ◌∷◌, ◌++◌, length, slice_get, option_map, refl, sym, ap, subst, arith, append_assoc, append-nil, length-append}
+use Rattle.std.proofs.Math.Path.{transport⁻¹, subst₂, subst⁻¹}
 use Rattle.polcert_text.specs.Cut.{Lexeme}
 use Rattle.polcert_text.specs.Numbers.{IsReadable, IsRounded, IsRefused}
 use Rattle.polcert_text.specs.declared.number.NumberFault.{NumberFault}
@@ -10,19 +11,17 @@ use Rattle.polcert_policy.specs.Fields.{numeral_kind, minus_kind, is_whole, whol
 use Rattle.polcert_policy.specs.Graphs.{PolicyGraph, nodes, action_of, IsProperGraph}
 use Rattle.polcert_policy.specs.Vectors.{PolicyVectors, Part, sign_kind, with_sign, tokens_of, is_negative, IsPart, IsActionPart, IsValuePart, AreVectors, IsRoundedVectors, ArePossible}
 use Rattle.polcert_policy.specs.VectorText.{numbers, IsPartColumn, last_sign, number_place, is_part_shaped, IsPartMisfit, StopVectorsFor}
-use Rattle.polcert_policy.specs.Steps.VectorsRead.{AreVectorsUpTo, open_of, IsOpenSign, place_behind, is_minus, HasVectors, IsPartRefusal, CheckedAction, AdvancedValue}
+use Rattle.polcert_policy.specs.Steps.VectorsRead.{AreVectorsUpTo, open_of, kept_sign, place_behind, is_minus, HasVectors, IsPartRefusal, CheckedAction, AdvancedValue}
 use Rattle.polcert_policy.specs.declared.fault.VectorFault.{VectorFault}
 use Rattle.polcert_policy.specs.declared.fault.VectorFault.TheVariants as faults
 use Rattle.polcert_policy.specs.declared.vectors_reading.OpenSign.{OpenSign}
 use Rattle.polcert_policy.specs.declared.vectors_reading.VectorsReading.{VectorsReading}
-use Rattle.polcert_policy.proofs.Places.{some_none, same_some}
+use Rattle.polcert_policy.proofs.Places.{true_false, some_none, same_some}
 use Rattle.polcert_policy.proofs.Fillers.{signed_zero, signed_zero_value}
 use Rattle.polcert_policy.proofs.VectorLaws.{head_of, tail_of, cons_not_nil, not_sign, AreParts, front_parts, vector_parts}
-use Rattle.polcert_policy.proofs.VectorSteps.{FitsVectors, step_vector_action, step_value_within, step_value_last, needed_part, can_end, possible_parts, tokens-append}
+use Rattle.polcert_policy.proofs.VectorSteps.{FitsVectors, no_vectors, value_read, step_vector_action, step_value, some_behind, needed_part, can_end, possible_parts, tokens-append}
+use Rattle.polcert_policy.proofs.GraphLaws.{IsBehind}
 use Rattle.polcert_text.specs.declared.number.Rounding.{Rounding}
-
-true_false : {b : Bool} → b ≡ true → b ≡ false → ⊥
-true_false e f = cc
 
 pub drop_same : {X : Type 0} (xs ys zs : List X) → xs ++ ys ≡ xs ++ zs → ys ≡ zs
 drop_same [] ys zs e = e
@@ -81,34 +80,32 @@ numbers_of (p ∷ ps) sign parts is = at p.sign refl (numbers_of ps sign (λ k. 
     at None e was = one ∙ ap suc was
     at (Some s) e was = no_number s (p.token ∷ (tokens_of ps ++ open_of sign)) (sign_no_numeral s.kind ((parts 0 p refl).signed s e)) ∙ one ∙ ap suc was
 
-open_signs : (sign : Option Lexeme) (open_sign : Option OpenSign) (column : ℕ) → IsOpenSign sign open_sign column → (s : Lexeme) → sign ≡ Some s → sign_kind s.kind ≡ true
-open_signs None open_sign column is s e = absurd (some_none s e)
-open_signs (Some u) None column is s e = absurd is
-open_signs (Some u) (Some o) column is s e = subst (λ x. sign_kind x.kind ≡ true) (same_some u s e) is.0.kind
+open_place : (sign : Option Lexeme) (t : Lexeme) → place_behind (option_map kept_sign sign) t.place ≡ number_place sign t
+open_place None t = refl
+open_place (Some s) t = refl
 
-open_place : (sign : Option Lexeme) (open_sign : Option OpenSign) (column : ℕ) (t : Lexeme) → IsOpenSign sign open_sign column → place_behind open_sign t.place ≡ number_place sign t
-open_place None None column t is = refl
-open_place None (Some u) column t is = absurd is
-open_place (Some s) None column t is = absurd is
-open_place (Some s) (Some u) column t is = is.0.place
+open_minus : (sign : Option Lexeme) → is_minus (option_map kept_sign sign) ≡ is_negative sign
+open_minus None = refl
+open_minus (Some s) = refl
+
+none_kept : (sign : Option Lexeme) → option_map kept_sign sign ≡ None → sign ≡ None
+none_kept None e = refl
+none_kept (Some s) e = absurd (some_none _ (sym e))
 
 open_tokens : (sign : Option Lexeme) (t : Lexeme) → open_of sign ++ t ∷ [] ≡ with_sign sign t
 open_tokens None t = refl
 open_tokens (Some s) t = refl
 
--- the tokens of one more part
-spelled_more : (seen : List Lexeme) (ps : List Part) (sign : Option Lexeme) (t : Lexeme) (p : Part) → p.sign ≡ sign → p.token ≡ t
-    → seen ≡ tokens_of ps ++ open_of sign → seen ++ t ∷ [] ≡ tokens_of (ps ++ p ∷ []) ++ []
-spelled_more seen ps sign t p s_is t_is e =
-    ap (λ ts. ts ++ t ∷ []) e ∙ append_assoc (tokens_of ps) (open_of sign) (t ∷ []) ∙ ap (λ ts. tokens_of ps ++ ts) (at sign ∙ sym (append-nil (with_sign sign t))
-    ∙ (λ i. with_sign (sym s_is i) (sym t_is i) ++ [])) ∙ sym (tokens-append ps (p ∷ [])) ∙ sym (append-nil (tokens_of (ps ++ p ∷ [])))
-  where
-    at : (sign : Option Lexeme) → open_of sign ++ t ∷ [] ≡ with_sign sign t
-    at None = refl
-    at (Some s) = refl
-
 abbrev plain_part : Option Lexeme → Lexeme → Part
 plain_part s t = record { sign = s; token = t }
+
+-- the tokens of one more part
+pub spelled_more : (seen : List Lexeme) (ps : List Part) (sign : Option Lexeme) (t : Lexeme) → seen ≡ tokens_of ps ++ open_of sign
+    → seen ++ t ∷ [] ≡ tokens_of (ps ++ plain_part sign t ∷ []) ++ []
+spelled_more seen ps sign t e =
+    ap (λ ts. ts ++ t ∷ []) e ∙ append_assoc (tokens_of ps) (open_of sign) (t ∷ [])
+    ∙ ap (λ ts. tokens_of ps ++ ts) (open_tokens sign t ∙ sym (append-nil (with_sign sign t)))
+    ∙ sym (tokens-append ps (plain_part sign t ∷ [])) ∙ sym (append-nil (tokens_of (ps ++ plain_part sign t ∷ [])))
 
 -- neither a numeral nor a sign
 pub other_kind : (k : TokenKind) → (k ≡ Numeral → ⊥) → (k ≡ Plus → ⊥) → (k ≡ Minus → ⊥) → (numeral_kind k ≡ false) × (sign_kind k ≡ false)
@@ -181,54 +178,53 @@ module _ {way : Rounding} where
       at None e tokens = true_false (subst (λ x. numeral_kind x.kind ≡ true) (sym (head_of t n.part.token _ _ tokens)) n.is_part.numeral) no_numeral
       at (Some s) e tokens = true_false (subst (λ x. sign_kind x.kind ≡ true) (sym (head_of t s _ _ tokens)) (n.is_part.signed s e)) no_sign
 
-  -- what is read is possible
-  pub possible_open : (g : PolicyGraph) (o : ℕ) (ps : List Part) (node column : ℕ) (vs : List ℤ) (sign : Option Lexeme) (open_sign : Option OpenSign)
-      → IsProperGraph g → 1 ≤ o → AreVectorsUpTo way g o ps node column vs → IsOpenSign sign open_sign column → ArePossible way g o (tokens_of ps ++ open_of sign)
-  possible_open g o ps node column vs None open_sign proper some old is =
-      subst (λ ts. ArePossible way g o ts) (sym (append-nil (tokens_of ps)))
-      (possible_parts g o ps (can_end g o some (small_actions g proper) ps node column vs old))
-  possible_open g o ps node column vs (Some s) None proper some old is = absurd is
-  possible_open g o ps node column vs (Some s) (Some u) proper some old is =
-      let e : column ≡ 1 + (column - 1) = omega (arith, is.1) in
-      let at : AreVectorsUpTo way g o ps node (1 + (column - 1)) vs = subst (λ c. AreVectorsUpTo way g o ps node c vs) e old in
-      go (column - 1) at (order (suc (column - 1)) o (omega (arith, at.within)))
+  -- what holds without an open sign, and with each that is kept rightly, holds
+  pub by_sign : (g : PolicyGraph) (seen : List Lexeme) (r : VectorsReading) (h : HasVectors way g seen r) (P : Option Lexeme → Type 0) → P None
+      → ((s : Lexeme) → h.sign ≡ Some s → sign_kind s.kind ≡ true → 0 < r.column → P (Some s)) → P h.sign
+  by_sign g seen r h P none some = at h.sign refl
     where
-      order : (m n : ℕ) → m ≤ n → (m < n) ⊎ (m ≡ n)
-      order m n h = grind (arith, h)
+      at : (sign : Option Lexeme) → h.sign ≡ sign → P sign
+      at None e = none
+      at (Some s) e = some s e (h.signed s e).0 (h.signed s e).1
 
-      zero : IsValuePart way (signed_zero s) (pos 0)
-      zero = signed_zero_value s is.0.kind
-
-      before : ArePossible way g o (tokens_of (ps ++ signed_zero s ∷ [])) → ArePossible way g o (tokens_of ps ++ s ∷ [])
-      before h =
-          let numeral = (signed_zero s).token in
-          let tokens : tokens_of (ps ++ signed_zero s ∷ []) ++ h.0 ≡ (tokens_of ps ++ s ∷ []) ++ (numeral ∷ h.0) =
-          ap (λ ts. ts ++ h.0) (tokens-append ps (signed_zero s ∷ [])) ∙ append_assoc (tokens_of ps) (s ∷ numeral ∷ []) h.0 ∙ sym (append_assoc (tokens_of ps) (s ∷ []) (numeral ∷ h.0)) in
-          (numeral ∷ h.0, (h.1.0, subst (λ ts. IsRoundedVectors way g o ts h.1.0) tokens h.1.1))
-
-      go : (c : ℕ) → AreVectorsUpTo way g o ps node (1 + c) vs → (suc c < o) ⊎ (suc c ≡ o) → ArePossible way g o (tokens_of ps ++ s ∷ [])
-      go c old (inl l) =
-          before (possible_parts g o _ (can_end g o some (small_actions g proper) _ node (2 + c) _ (step_value_within g o ps (signed_zero s) (pos 0) node c vs l old zero)))
-      go c old (inr e) =
-          before (possible_parts g o _ (can_end g o some (small_actions g proper) _ (suc node) 0 _ (step_value_last g o ps (signed_zero s) (pos 0) node c vs e old zero)))
-
+  -- what is read is possible
   pub possible_seen : (g : PolicyGraph) (seen : List Lexeme) (r : VectorsReading) → 1 ≤ r.states → HasVectors way g seen r → ArePossible way g r.states seen
-  possible_seen g seen r some h =
-      subst (λ ts. ArePossible way g r.states ts) (sym h.spelled) (possible_open g r.states h.parts r.node r.column r.values.items h.sign r.sign h.proper some h.vectors h.sign_is)
+  possible_seen g seen r some h = subst⁻¹ (λ ts. ArePossible way g r.states ts) h.spelled (by_sign g seen r h (λ sign. ArePossible way g r.states (tokens_of h.parts ++ open_of sign))
+      (subst⁻¹ (λ ts. ArePossible way g r.states ts) (append-nil (tokens_of h.parts)) (filled h.parts r.node r.column r.values.items h.vectors)) signed)
+    where
+      filled : (ps : List Part) (node column : ℕ) (vs : List ℤ) → AreVectorsUpTo way g r.states ps node column vs → ArePossible way g r.states (tokens_of ps)
+      filled ps node column vs old = possible_parts g r.states ps (can_end g r.states some (small_actions g h.proper) ps node column vs old)
+
+      signed : (s : Lexeme) → h.sign ≡ Some s → sign_kind s.kind ≡ true → 0 < r.column → ArePossible way g r.states (tokens_of h.parts ++ s ∷ [])
+      signed s is kind begun =
+          let zero = signed_zero s in
+          let old : AreVectorsUpTo way g r.states h.parts r.node (1 + (r.column - 1)) r.values.items = value_read g r.states h.parts r.node r.column r.values.items begun h.vectors in
+          let next = some_behind r.states r.node (r.column - 1) (omega (arith, old.within)) in
+          let more = filled _ _ _ _ (step_value g r.states h.parts zero (pos 0) r.node (r.column - 1) next.0 next.1.0 r.values.items old (signed_zero_value s kind) next.1.1) in
+          let tokens : tokens_of (h.parts ++ zero ∷ []) ++ more.0 ≡ (tokens_of h.parts ++ s ∷ []) ++ (zero.token ∷ more.0) =
+          ap (λ ts. ts ++ more.0) (tokens-append h.parts (zero ∷ [])) ∙ append_assoc (tokens_of h.parts) (s ∷ zero.token ∷ []) more.0 ∙ sym (append_assoc (tokens_of h.parts) (s ∷ []) (zero.token ∷ more.0)) in
+          (zero.token ∷ more.0, (more.1.0, subst (λ ts. IsRoundedVectors way g r.states ts more.1.0) tokens more.1.1))
+
+  -- at a vector's action no sign is open
+  pub closed_lexeme : (g : PolicyGraph) (seen : List Lexeme) (r : VectorsReading) (h : HasVectors way g seen r) → r.column ≡ 0 → h.sign ≡ None
+  closed_lexeme g seen r h e = by_sign g seen r h (λ sign. sign ≡ None) refl (λ s is kind begun. absurd (omega (arith, begun, e)))
+
+  closed_sign : (g : PolicyGraph) (seen : List Lexeme) (r : VectorsReading) → HasVectors way g seen r → r.column ≡ 0 → r.sign ≡ None
+  closed_sign g seen r h e = h.kept ∙ ap (option_map kept_sign) (closed_lexeme g seen r h e)
 
   -- the place that is read next
   pub column_read : (g : PolicyGraph) (seen : List Lexeme) (r : VectorsReading) → HasVectors way g seen r → IsPartColumn r.states seen r.node r.column
   column_read g seen r h = record {
-    count = ap numbers h.spelled ∙ numbers_of h.parts h.sign (vector_parts g r.states h.parts r.values.items h.vectors.records) (open_signs h.sign r.sign r.column h.sign_is) ∙ h.vectors.count;
+    count = ap numbers h.spelled ∙ numbers_of h.parts h.sign (vector_parts g r.states h.parts r.values.items h.vectors.records) (λ s e. (h.signed s e).0) ∙ h.vectors.count;
     within = h.vectors.within;
   }
 
   module _ (g : PolicyGraph) (seen : List Lexeme) (r : VectorsReading) (t : Lexeme) (some : 1 ≤ r.states) (h : HasVectors way g seen r) where
     last_seen : last_sign seen ≡ h.sign
-    last_seen = ap last_sign h.spelled ∙ last_open h.parts h.sign (vector_parts g r.states h.parts r.values.items h.vectors.records) (open_signs h.sign r.sign r.column h.sign_is)
+    last_seen = ap last_sign h.spelled ∙ last_open h.parts h.sign (vector_parts g r.states h.parts r.values.items h.vectors.records) (λ s e. (h.signed s e).0)
 
     place_seen : (place : ℕ) → place ≡ place_behind r.sign t.place → place ≡ number_place (last_sign seen) t
-    place_seen place e = e ∙ open_place h.sign r.sign r.column t h.sign_is ∙ ap (λ s. number_place s t) (sym last_seen)
+    place_seen place e = e ∙ ap (λ u. place_behind u t.place) h.kept ∙ open_place h.sign t ∙ ap (λ s. number_place s t) (sym last_seen)
 
     column_at : (c : ℕ) → r.column ≡ c → IsPartColumn r.states seen r.node c
     column_at c e = subst (λ x. IsPartColumn r.states seen r.node x) e (column_read g seen r h)
@@ -254,30 +250,11 @@ module _ {way : Rounding} where
     next : (x : Lexeme) (more : List Lexeme) (v : PolicyVectors) → IsRoundedVectors way g r.states (tokens_of h.parts ++ x ∷ more) v → NextPart way g r.states h.parts r.node r.column v.values x more
     next x more v all = next_part g r.states h.parts r.node r.column r.values.items x more v h.vectors all
 
-    -- at a vector's action no sign is open
-    pub closed_lexeme : r.column ≡ 0 → h.sign ≡ None
-    closed_lexeme e = at h.sign r.sign h.sign_is
-      where
-        at : (s : Option Lexeme) (u : Option OpenSign) → IsOpenSign s u r.column → s ≡ None
-        at None None is = refl
-        at None (Some u) is = absurd is
-        at (Some s) None is = absurd is
-        at (Some s) (Some u) is = absurd (omega (arith, is.1, e))
-
-    closed_sign : r.column ≡ 0 → r.sign ≡ None
-    closed_sign e = at h.sign r.sign h.sign_is
-      where
-        at : (s : Option Lexeme) (u : Option OpenSign) → IsOpenSign s u r.column → u ≡ None
-        at None None is = refl
-        at None (Some u) is = absurd is
-        at (Some s) None is = absurd is
-        at (Some s) (Some u) is = absurd (omega (arith, is.1, e))
-
     stop_action : (fault : VectorFault) → r.column ≡ 0 → IsPartMisfit g r.states seen t fault
         → ((more : List Lexeme) (v : PolicyVectors) → NextPart way g r.states h.parts r.node r.column v.values t more → ⊥) → StopVectorsFor way g r.states (seen ++ t ∷ []) fault
     stop_action fault e misfit none =
         stop_seen fault misfit
-        (λ more v all. none more v (next t more v (subst (λ s. IsRoundedVectors way g r.states (tokens_of h.parts ++ (with_sign s t ++ more)) v) (closed_lexeme e) all)))
+        (λ more v all. none more v (next t more v (subst (λ s. IsRoundedVectors way g r.states (tokens_of h.parts ++ (with_sign s t ++ more)) v) (closed_lexeme g seen r h e) all)))
 
     -- the token that comes next in place of an action
     action_next : (ws : List ℤ) (more : List Lexeme) → r.column ≡ 0 → NextPart way g r.states h.parts r.node r.column ws t more → (is_whole t ≡ true) × (whole_of t ≡ action_of g r.node)
@@ -300,7 +277,7 @@ module _ {way : Rounding} where
         above m n l = grind (arith, l)
     refuse_vector_action (faults.BadShape place) e c =
         stop_action (faults.BadShape place) e
-        (place_seen place (c.0 ∙ ap (λ u. place_behind u t.place) (sym (closed_sign e))), (r.node, (0, column_at 0 e, c.1, c.2)))
+        (place_seen place (c.0 ∙ ap (λ u. place_behind u t.place) (sym (closed_sign g seen r h e))), (r.node, (0, column_at 0 e, c.1, c.2)))
         (λ more v n. true_false (action_next v.values more e n).0 c.2)
     refuse_vector_action (faults.ActionMismatch place) e c =
         stop_action (faults.ActionMismatch place) e (c.0, (r.node, column_at 0 e, c.1, c.2, c.3)) (λ more v n. c.3 (action_next v.values more e n).1)
@@ -309,78 +286,66 @@ module _ {way : Rounding} where
     -- a token that is neither a numeral nor a first sign
     pub refuse_other : (place : ℕ) → 0 < r.column → place ≡ place_behind r.sign t.place → numeral_kind t.kind ≡ false → sign_kind t.kind ≡ false → StopVectorsFor way g r.states (seen ++ t ∷ []) (faults.BadShape place)
     refuse_other place begun e no_numeral no_sign =
-        stop_seen (faults.BadShape place) (place_seen place e, (r.node, (suc (r.column - 1), value_column begun, h.vectors.few_begun begun, shape (last_sign seen)))) (at h.sign r.sign h.sign_is)
+        stop_seen (faults.BadShape place) (place_seen place e, (r.node, (suc (r.column - 1), value_column begun, h.vectors.few_begun begun, shape (last_sign seen))))
+        (by_sign g seen r h (λ sign. GoesOn way g r.states h.parts sign t) (λ more v all. number_begins g r.states h.parts r.node r.column v.values t more no_numeral no_sign (next t more v all))
+        (λ s is kind begun more v all.
+        let n = next s (t ∷ more) v all in
+        let p = signed_part g r.states h.parts r.node r.column v.values s t more kind n in
+        true_false (subst (λ x. numeral_kind x.kind ≡ true) (sym p.1) n.is_part.numeral) no_numeral))
       where
         shape : (s : Option Lexeme) → is_part_shaped (suc (r.column - 1)) s t ≡ false
         shape None = (λ i. no_numeral i || no_sign i)
         shape (Some s) = no_numeral
 
-        at : (s : Option Lexeme) (u : Option OpenSign) → IsOpenSign s u r.column → GoesOn way g r.states h.parts s t
-        at None u is = λ more v all. number_begins g r.states h.parts r.node r.column v.values t more no_numeral no_sign (next t more v all)
-        at (Some s) None is = absurd is
-        at (Some s) (Some u) is = λ more v all.
-            let n = next s (t ∷ more) v all in
-            let p = signed_part g r.states h.parts r.node r.column v.values s t more is.0.kind n in
-            true_false (subst (λ x. numeral_kind x.kind ≡ true) (sym p.1) n.is_part.numeral) no_numeral
-
     -- a sign behind a sign
     pub refuse_second_sign : (u : OpenSign) → 0 < r.column → r.sign ≡ Some u → sign_kind t.kind ≡ true → StopVectorsFor way g r.states (seen ++ t ∷ []) (faults.BadShape u.place)
     refuse_second_sign u begun e sign =
+        let open_one = sym e ∙ h.kept in
         stop_seen (faults.BadShape u.place)
-        (place_seen u.place (ap (λ x. place_behind x t.place) (sym e)), (r.node, (suc (r.column - 1), value_column begun, h.vectors.few_begun begun, subst (λ s. is_part_shaped (suc (r.column - 1)) s t ≡ false) (sym last_seen) (shape h.sign r.sign h.sign_is e))))
-        (at h.sign r.sign h.sign_is e)
+        (place_seen u.place (ap (λ x. place_behind x t.place) (sym e)), (r.node, (suc (r.column - 1), value_column begun, h.vectors.few_begun begun, subst⁻¹ (λ s. is_part_shaped (suc (r.column - 1)) s t ≡ false) last_seen (shape h.sign open_one))))
+        (at h.sign h.signed open_one)
       where
-        shape : (s : Option Lexeme) (x : Option OpenSign) → IsOpenSign s x r.column → x ≡ Some u → is_part_shaped (suc (r.column - 1)) s t ≡ false
-        shape None None is e = absurd (some_none u e)
-        shape None (Some x) is e = absurd is
-        shape (Some s) x is e = sign_no_numeral t.kind sign
+        shape : (s : Option Lexeme) → Some u ≡ option_map kept_sign s → is_part_shaped (suc (r.column - 1)) s t ≡ false
+        shape None is = absurd (some_none u (sym is))
+        shape (Some s) is = sign_no_numeral t.kind sign
 
-        at : (s : Option Lexeme) (x : Option OpenSign) → IsOpenSign s x r.column → x ≡ Some u → GoesOn way g r.states h.parts s t
-        at None None is e = absurd (some_none u e)
-        at None (Some x) is e = absurd is
-        at (Some s) None is e = absurd is
-        at (Some s) (Some x) is e = λ more v all.
+        at : (sign : Option Lexeme) → ((s : Lexeme) → sign ≡ Some s → (sign_kind s.kind ≡ true) × (0 < r.column)) → Some u ≡ option_map kept_sign sign → GoesOn way g r.states h.parts sign t
+        at None signed is = absurd (some_none u (sym is))
+        at (Some s) signed is = λ more v all.
             let n = next s (t ∷ more) v all in
-            let p = signed_part g r.states h.parts r.node r.column v.values s t more is.0.kind n in
+            let p = signed_part g r.states h.parts r.node r.column v.values s t more (signed s refl).0 n in
             not_sign t n.part.token p.1 sign n.is_part.numeral
 
     -- a numeral that can't be read
     pub refuse_numeral : (fault : NumberFault) (place : ℕ) → 0 < r.column → place ≡ place_behind r.sign t.place → numeral_kind t.kind ≡ true → IsRefused t.bytes fault → StopVectorsFor way g r.states (seen ++ t ∷ []) (faults.Number fault place)
     refuse_numeral fault place begun e numeral refused =
-        stop_seen (faults.Number fault place) (place_seen place e, (r.node, (r.column - 1, value_column begun)), numeral, refused) (at h.sign r.sign h.sign_is)
+        stop_seen (faults.Number fault place) (place_seen place e, (r.node, (r.column - 1, value_column begun)), numeral, refused)
+        (by_sign g seen r h (λ sign. GoesOn way g r.states h.parts sign t)
+        (λ more v all. let n = next t more v all in unreadable n.part v.values n.fits (unsigned_part g r.states h.parts r.node r.column v.values t more numeral n).1)
+        (λ s is kind begun more v all.
+        let n = next s (t ∷ more) v all in
+        unreadable n.part v.values n.fits (signed_part g r.states h.parts r.node r.column v.values s t more kind n).1))
       where
         unreadable : (p : Part) (ws : List ℤ) → FitsVectors way g r.states r.node r.column p ws → t ≡ p.token → ⊥
         unreadable p ws fits same =
             let value = fits.value (r.column - 1) (omega (arith, begun)) in
             readable_not_refused t.bytes fault (subst (λ x. IsReadable x.bytes) (sym same) value.2.readable) refused
 
-        at : (s : Option Lexeme) (u : Option OpenSign) → IsOpenSign s u r.column → GoesOn way g r.states h.parts s t
-        at None u is = λ more v all.
-            let n = next t more v all in
-            unreadable n.part v.values n.fits (unsigned_part g r.states h.parts r.node r.column v.values t more numeral n).1
-        at (Some s) None is = absurd is
-        at (Some s) (Some u) is = λ more v all.
-            let n = next s (t ∷ more) v all in
-            unreadable n.part v.values n.fits (signed_part g r.states h.parts r.node r.column v.values s t more is.0.kind n).1
-
+  -- an action is read
   pub read_vector_action : (g : PolicyGraph) (old new : VectorsReading) (seen : List Lexeme) (t : Lexeme)
       → 1 ≤ old.states → old.column ≡ 0 → new.states ≡ old.states → new.node ≡ old.node → new.column ≡ 1 → new.values ≡ old.values → new.sign ≡ old.sign
       → HasVectors way g seen old → old.node < nodes g → is_whole t ≡ true → whole_of t ≡ action_of g old.node → HasVectors way g (seen ++ t ∷ []) new
   read_vector_action g old new seen t some e states node column values sign h few whole value =
-      let p = plain_part None t in
-      let closed = closed_lexeme g seen old t some h e in
-      let at : AreVectorsUpTo way g old.states h.parts old.node 0 old.values.items = subst (λ c. AreVectorsUpTo way g old.states h.parts old.node c old.values.items) e h.vectors in
-      let stepped = step_vector_action g old.states h.parts p old.node old.values.items some at few (record { unsigned = refl; whole = whole; value = value }) in
+      let at = subst (λ c. AreVectorsUpTo way g old.states h.parts old.node c old.values.items) e h.vectors in
+      let stepped = step_vector_action g old.states h.parts (plain_part None t) old.node old.values.items some at few (record { unsigned = refl; whole = whole; value = value }) in
       record {
         proper = h.proper;
-        parts = h.parts ++ p ∷ [];
+        parts = h.parts ++ plain_part None t ∷ [];
         sign = None;
-        vectors = subst (λ o. AreVectorsUpTo way g o (h.parts ++ p ∷ []) new.node new.column new.values.items) (sym states)
-            (subst (λ n. AreVectorsUpTo way g old.states (h.parts ++ p ∷ []) n new.column new.values.items) (sym node)
-            (subst (λ c. AreVectorsUpTo way g old.states (h.parts ++ p ∷ []) old.node c new.values.items) (sym column)
-            (subst (λ v. AreVectorsUpTo way g old.states (h.parts ++ p ∷ []) old.node 1 v.items) (sym values) stepped)));
-        spelled = spelled_more seen h.parts None t p refl refl (h.spelled ∙ ap (λ s. tokens_of h.parts ++ open_of s) closed);
-        sign_is = subst (λ u. IsOpenSign None u new.column) (sym (sign ∙ closed_sign g seen old t some h e)) tt;
+        vectors = transport⁻¹ (λ i. AreVectorsUpTo way g (states i) (h.parts ++ plain_part None t ∷ []) (node i) (column i) (values i).items) stepped;
+        spelled = spelled_more seen h.parts None t (h.spelled ∙ ap (λ s. tokens_of h.parts ++ open_of s) (closed_lexeme g seen old h e));
+        kept = sign ∙ closed_sign g seen old h e;
+        signed = λ s same. absurd (some_none s same);
       }
 
   -- a first sign is read
@@ -388,23 +353,16 @@ module _ {way : Rounding} where
       → 0 < old.column → old.sign ≡ None → new.states ≡ old.states → new.node ≡ old.node → new.column ≡ old.column → new.values ≡ old.values → new.sign ≡ Some u
       → sign_kind t.kind ≡ true → u.place ≡ t.place → u.is_negative ≡ minus_kind t.kind → HasVectors way g seen old → HasVectors way g (seen ++ t ∷ []) new
   read_sign g old new seen t u begun none states node column values sign kind place minus h =
-      let closed = at h.sign old.sign h.sign_is none in
+      let closed = none_kept h.sign (sym h.kept ∙ none) in
       record {
         proper = h.proper;
         parts = h.parts;
         sign = Some t;
-        vectors = subst (λ o. AreVectorsUpTo way g o h.parts new.node new.column new.values.items) (sym states)
-            (subst (λ n. AreVectorsUpTo way g old.states h.parts n new.column new.values.items) (sym node)
-            (subst (λ c. AreVectorsUpTo way g old.states h.parts old.node c new.values.items) (sym column)
-            (subst (λ v. AreVectorsUpTo way g old.states h.parts old.node old.column v.items) (sym values) h.vectors)));
+        vectors = transport⁻¹ (λ i. AreVectorsUpTo way g (states i) h.parts (node i) (column i) (values i).items) h.vectors;
         spelled = ap (λ ts. ts ++ t ∷ []) (h.spelled ∙ ap (λ s. tokens_of h.parts ++ open_of s) closed ∙ append-nil (tokens_of h.parts));
-        sign_is = subst (λ x. IsOpenSign (Some t) x new.column) (sym sign) (record { kind = kind; place = place; minus = minus }, omega (arith, begun, column));
+        kept = sign ∙ (λ i. Some (record { place = place i; is_negative = minus i }));
+        signed = λ s same. (subst (λ x. sign_kind x.kind ≡ true) (same_some t s same) kind, omega (arith, begun, column));
       }
-    where
-      at : (s : Option Lexeme) (x : Option OpenSign) → IsOpenSign s x old.column → x ≡ None → s ≡ None
-      at None x is e = refl
-      at (Some s) None is e = absurd is
-      at (Some s) (Some x) is e = absurd (some_none x (sym e))
 
   -- a number is read
   pub read_value : (g : PolicyGraph) (old mid new : VectorsReading) (seen : List Lexeme) (t : Lexeme) (value : ℤ)
@@ -414,62 +372,34 @@ module _ {way : Rounding} where
   read_value g old mid new seen t value begun numeral readable rounded states node column sign values next h =
       let p = plain_part h.sign t in
       let part : IsValuePart way p value = record {
-        part = record { numeral = numeral; signed = λ s e. signed h.sign old.sign h.sign_is s e };
+        part = record { numeral = numeral; signed = λ s e. (h.signed s e).0 };
         readable = readable;
-        rounded = subst (λ b. IsRounded way b t.bytes value) (minus h.sign old.sign h.sign_is) rounded;
+        rounded = subst (λ b. IsRounded way b t.bytes value) (ap is_minus h.kept ∙ open_minus h.sign) rounded;
       } in
-      let e : old.column ≡ 1 + (old.column - 1) = omega (arith, begun) in
-      let at : AreVectorsUpTo way g old.states h.parts old.node (1 + (old.column - 1)) old.values.items = subst (λ c. AreVectorsUpTo way g old.states h.parts old.node c old.values.items) e h.vectors in
-      let At : ℕ → ℕ → Type 0 = λ n c. AreVectorsUpTo way g old.states (h.parts ++ p ∷ []) n c (old.values.items ++ value ∷ []) in
-      let ends : (suc (old.column - 1) < old.states) ⊎ (suc (old.column - 1) ≡ old.states) = order (suc (old.column - 1)) old.states (omega (arith, at.within)) in
-      let stepped : At new.node new.column = ⊎_elim (λ l.
-      let is = next.inside (omega (arith, l, states, column, begun)) in
-      subst (λ n. At n new.column) (sym (is.0 ∙ node)) (subst (λ c. At old.node c) (omega (arith, is.1, column, begun)) (step_value_within g old.states h.parts p value old.node (old.column - 1) old.values.items l at part)))
-      (λ f.
-      let is = next.last (omega (arith, f, states, column, begun)) in
-      subst (λ n. At n new.column) (omega (arith, is.0, node)) (subst (λ c. At (suc old.node) c) (sym is.1) (step_value_last g old.states h.parts p value old.node (old.column - 1) old.values.items f at part)))
-      ends in
+      let behind : IsBehind 1 old.states old.node (old.column - 1) new.node new.column = record {
+        inside = λ l. let is = next.inside (omega (arith, l, states, column, begun)) in (is.0 ∙ node, omega (arith, is.1, column, begun));
+        last = λ f. let is = next.last (omega (arith, f, states, column, begun)) in (omega (arith, is.0, node), is.1);
+      } in
+      let at = value_read g old.states h.parts old.node old.column old.values.items begun h.vectors in
+      let stepped = step_value g old.states h.parts p value old.node (old.column - 1) new.node new.column old.values.items at part behind in
       record {
         proper = h.proper;
         parts = h.parts ++ p ∷ [];
         sign = None;
-        vectors = subst (λ o. AreVectorsUpTo way g o (h.parts ++ p ∷ []) new.node new.column new.values.items) (sym (next.states_same ∙ states))
-            (subst (λ xs. AreVectorsUpTo way g old.states (h.parts ++ p ∷ []) new.node new.column xs) (sym (ap (λ v. v.items) next.values_same ∙ values)) stepped);
-        spelled = spelled_more seen h.parts h.sign t p refl refl h.spelled;
-        sign_is = subst (λ u. IsOpenSign None u new.column) (sym (next.sign_same ∙ sign)) tt;
+        vectors = subst₂ (λ o xs. AreVectorsUpTo way g o (h.parts ++ p ∷ []) new.node new.column xs) (sym (next.states_same ∙ states)) (sym (ap (λ v. v.items) next.values_same ∙ values)) stepped;
+        spelled = spelled_more seen h.parts h.sign t h.spelled;
+        kept = next.sign_same ∙ sign;
+        signed = λ s e. absurd (some_none s e);
       }
-    where
-      order : (m n : ℕ) → m ≤ n → (m < n) ⊎ (m ≡ n)
-      order m n h = grind (arith, h)
-
-      minus : (s : Option Lexeme) (u : Option OpenSign) → IsOpenSign s u old.column → is_minus u ≡ is_negative s
-      minus None None is = refl
-      minus None (Some u) is = absurd is
-      minus (Some s) None is = absurd is
-      minus (Some s) (Some u) is = is.0.minus
-
-      signed : (s : Option Lexeme) (u : Option OpenSign) → IsOpenSign s u old.column → (x : Lexeme) → s ≡ Some x → sign_kind x.kind ≡ true
-      signed None u is x e = absurd (some_none x e)
-      signed (Some s) None is x e = absurd is
-      signed (Some s) (Some u) is x e = subst (λ y. sign_kind y.kind ≡ true) (same_some s x e) is.0.kind
 
   -- nothing is read yet
   pub none_read : (g : PolicyGraph) (r : VectorsReading) → IsProperGraph g → r.node ≡ 0 → r.column ≡ 0 → r.values.items ≡ [] → r.sign ≡ None → HasVectors way g [] r
-  none_read g r proper node column values sign =
-      let start : AreVectorsUpTo way g r.states [] 0 0 [] = record {
-        records = record { action = λ n p e. absurd (some_none p e); value = λ n s p l e. absurd (some_none p e) };
-        count = omega arith;
-        within = omega arith;
-        filled = omega arith;
-        few = omega arith;
-        few_begun = λ l. absurd (omega (arith, l));
-      } in
-      record {
-        proper = proper;
-        parts = [];
-        sign = None;
-        vectors = subst (λ n. AreVectorsUpTo way g r.states [] n r.column r.values.items) (sym node)
-            (subst (λ c. AreVectorsUpTo way g r.states [] 0 c r.values.items) (sym column) (subst (λ xs. AreVectorsUpTo way g r.states [] 0 0 xs) (sym values) start));
-        spelled = refl;
-        sign_is = subst (λ u. IsOpenSign None u r.column) (sym sign) tt;
-      }
+  none_read g r proper node column values sign = record {
+    proper = proper;
+    parts = [];
+    sign = None;
+    vectors = transport⁻¹ (λ i. AreVectorsUpTo way g r.states [] (node i) (column i) (values i)) (no_vectors g r.states);
+    spelled = refl;
+    kept = sign;
+    signed = λ s e. absurd (some_none s e);
+  }

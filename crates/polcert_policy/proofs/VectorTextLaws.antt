@@ -1,19 +1,16 @@
 -- What a refused or accepted list of tokens says of the whole text of vectors.
-use Rattle.std.proofs.Common.{◌≡◌, ℕ, inl, inr, ⊎_elim, Some, None, Result, Ok, Err, List, length, MatchResult, IfErr, subst}
+use Rattle.std.proofs.Common.{◌≡◌, ℕ, inl, inr, ⊎_elim, None, Result, Ok, Err, List, length, IsErrAnd, MatchResult, IfErr, subst}
+use Rattle.std.proofs.Math.Path.{subst₂, subst⁻¹}
 use Rattle.polcert_text.specs.Cut.{Lexeme, Rest, IsCut, text_rest, text_limit}
-use Rattle.polcert_text.proofs.TextLaws.{one_cut}
 use Rattle.polcert_text.specs.TakenTokens.{Taken}
+use Rattle.polcert_text.specs.declared.number.Rounding.{Rounding}
 use Rattle.polcert_policy.specs.Graphs.{PolicyGraph}
 use Rattle.polcert_policy.specs.Vectors.{PolicyVectors, IsRoundedVectors}
-use Rattle.polcert_policy.specs.VectorText.{IsRoundedVectorsText, EndVectorsEarly, HasWrongPart, IsRoundedVectorsRefusal, IsNoRoundedVectorsText}
+use Rattle.polcert_policy.specs.VectorText.{IsRoundedVectorsText, EndVectorsEarly, HasWrongPart, IsRoundedVectorsRefusal, IsNoRoundedVectorsText, IsRefusedRoundedVectorsText}
 use Rattle.polcert_policy.specs.Steps.VectorsRead.{IsPartRefusal, AreEndRefusal, AreUnfinished}
 use Rattle.polcert_policy.specs.declared.fault.VectorFault.{VectorFault}
 use Rattle.polcert_policy.specs.declared.fault.VectorFault.TheVariants as faults
-use Rattle.polcert_text.proofs.Taken.TakenTokens.{cut_taken}
-use Rattle.polcert_text.specs.declared.number.Rounding.{Rounding}
-
-none_some : {A : Type 0} (x : A) → None ≡ Some x → ⊥
-none_some x e = cc
+use Rattle.polcert_policy.proofs.WholeTexts.{not_stopped, same_tokens, no_token_fault}
 
 module _ (way : Rounding) where
   pub part_refusal : (g : PolicyGraph) (o p : ℕ) (text : List ℕ) (ts : List Lexeme) (rest : Rest) (fault : VectorFault)
@@ -28,41 +25,60 @@ module _ (way : Rounding) where
       at faults.Memory h = tt
       at _ h = absurd h
 
-  ends_early : (g : PolicyGraph) (o : ℕ) (text : List ℕ) (ts : List Lexeme) (place n column : ℕ) → IsCut (text_rest text text_limit) ts None → place ≡ length text → AreUnfinished way g o ts n column → EndVectorsEarly way g o text place n column
-  ends_early g o text ts place n column cut e h = record { tokens = ts; cut = cut; place_is = e; possible = h.possible; unfinished = h.unfinished; column_is = h.column_is }
+  module _ (g : PolicyGraph) (o : ℕ) (text : List ℕ) where
+    module _ (ts : List Lexeme) (cut : IsCut (text_rest text text_limit) ts None) where
+      ends_early : (place n column : ℕ) → place ≡ length text → AreUnfinished way g o ts n column → EndVectorsEarly way g o text place n column
+      ends_early place n column e h = record { tokens = ts; cut = cut; place_is = e; possible = h.possible; unfinished = h.unfinished; column_is = h.column_is }
 
-  end_refusal : (g : PolicyGraph) (o : ℕ) (text : List ℕ) (ts : List Lexeme) (fault : VectorFault)
-      → IsCut (text_rest text text_limit) ts None → AreEndRefusal way g o ts (length text) fault → IsRoundedVectorsRefusal way g o text fault
-  end_refusal g o text ts (faults.Truncated place) cut h = (h.1.0, (h.1.1.0, ends_early g o text ts place h.1.0 h.1.1.0 cut h.0 h.1.1.1, h.1.1.2))
-  end_refusal g o text ts (faults.WrongVectorCount place) cut h = inr (h.1.0, ends_early g o text ts place h.1.0 0 cut h.0 h.1.1, h.1.2)
-  end_refusal g o text ts _ cut h = absurd h
+      end_refusal : (fault : VectorFault) → AreEndRefusal way g o ts (length text) fault → IsRoundedVectorsRefusal way g o text fault
+      end_refusal (faults.Truncated place) h = (h.1.0, (h.1.1.0, ends_early place h.1.0 h.1.1.0 h.0 h.1.1.1, h.1.1.2))
+      end_refusal (faults.WrongVectorCount place) h = inr (h.1.0, ends_early place h.1.0 0 h.0 h.1.1, h.1.2)
+      end_refusal _ h = absurd h
 
-  wrong_part : (g : PolicyGraph) (o : ℕ) (text : List ℕ) (fault : VectorFault) → HasWrongPart way g o text fault → (v : PolicyVectors) → IsRoundedVectorsText way g o text v → ⊥
-  wrong_part g o text fault h v is =
-      let behind = cut_taken _ h.1.0 h.0 is.0 None h.1.1 is.1 in
-      h.1.2.impossible (behind.0, (v, subst (λ xs. IsRoundedVectors way g o xs v) behind.1.0 is.2))
+      -- the text is no vectors where it is refused
+      module _ (v : PolicyVectors) (are : IsRoundedVectors way g o ts v) where
+        no_wrong : (fault : VectorFault) → HasWrongPart way g o text fault → ⊥
+        no_wrong fault h = not_stopped (IsRoundedVectors way g o) text v ts cut are h.0 h.1.0 h.1.1 h.1.2.impossible
 
-  not_early : (g : PolicyGraph) (o : ℕ) (text : List ℕ) (place n column : ℕ) → EndVectorsEarly way g o text place n column → (v : PolicyVectors) → IsRoundedVectorsText way g o text v → ⊥
-  not_early g o text place n column h v is =
-      let same = (one_cut _ is.0 h.tokens None None is.1 h.cut).0 in
-      h.unfinished v (subst (λ xs. IsRoundedVectors way g o xs v) same is.2)
+        not_early : (place n column : ℕ) → EndVectorsEarly way g o text place n column → ⊥
+        not_early place n column h = h.unfinished v (same_tokens (IsRoundedVectors way g o) text v ts cut are h.tokens h.cut)
 
-  pub no_vectors : (g : PolicyGraph) (o : ℕ) (text : List ℕ) (fault : VectorFault) → IsRoundedVectorsRefusal way g o text fault → IsNoRoundedVectorsText way g o text fault
-  no_vectors g o text (faults.Token fault) h = λ v is. none_some fault (one_cut _ is.0 h.0 None (Some fault) is.1 h.1).1
-  no_vectors g o text (faults.Number fault place) h = wrong_part g o text _ h
-  no_vectors g o text (faults.BadShape place) h = wrong_part g o text _ h
-  no_vectors g o text (faults.ActionMismatch place) h = wrong_part g o text _ h
-  no_vectors g o text (faults.Truncated place) h = not_early g o text place h.0 h.1.0 h.1.1
-  no_vectors g o text (faults.WrongVectorCount place) h = ⊎_elim (wrong_part g o text _) (λ e. not_early g o text place e.0 0 e.1) h
-  no_vectors g o text faults.Memory h = tt
+    pub no_vectors : (fault : VectorFault) → IsRoundedVectorsRefusal way g o text fault → IsNoRoundedVectorsText way g o text fault
+    no_vectors (faults.Token fault) h = λ v is. no_token_fault (IsRoundedVectors way g o) text v is.0 is.1 is.2 h.0 fault h.1
+    no_vectors (faults.Truncated place) h = λ v is. not_early is.0 is.1 v is.2 place h.0 h.1.0 h.1.1
+    no_vectors (faults.WrongVectorCount place) h = λ v is.
+        ⊎_elim (no_wrong is.0 is.1 v is.2 (faults.WrongVectorCount place)) (λ e. not_early is.0 is.1 v is.2 place e.0 0 e.1) h
+    no_vectors faults.Memory h = tt
+    no_vectors fault h = λ v is. no_wrong is.0 is.1 v is.2 fault h
+
+    -- all that is promised of a refusal
+    pub refused_text : (fault : VectorFault) → IsRoundedVectorsRefusal way g o text fault → IsRefusedRoundedVectorsText way g o fault text
+    refused_text fault r = record { no_vectors = no_vectors fault r; refusal = r }
+
+    -- what an answer says of a text in memory
+    pub record AreAnswered (r : Result PolicyVectors VectorFault) : Type 0 where
+      pub accepted : MatchResult r (IsRoundedVectorsText way g o text) (IsNoRoundedVectorsText way g o text)
+      pub refused : IfErr r (IsRoundedVectorsRefusal way g o text)
+
+    pub refusal_answered : (fault : VectorFault) → IsRoundedVectorsRefusal way g o text fault → AreAnswered (Err fault)
+    refusal_answered fault r = record { accepted = no_vectors fault r; refused = r }
+
+    -- a refusal that is handed on
+    pub handed_on : (r : Result PolicyVectors VectorFault) (given : VectorFault) → IsErrAnd r (λ fault. fault ≡ given)
+        → IsRoundedVectorsRefusal way g o text given → AreAnswered r
+    handed_on (Ok v) given is refusal = absurd is
+    handed_on (Err fault) given is refusal = subst⁻¹ (λ f. AreAnswered (Err f)) is (refusal_answered given refusal)
 
   -- what the end of the text makes of what was read
-  pub end_accepted : (g : PolicyGraph) (o p : ℕ) (text : List ℕ) (ts : List Lexeme) (r : Result PolicyVectors VectorFault)
-      → o ≡ p → IsCut (text_rest text text_limit) ts None → MatchResult r (IsRoundedVectors way g o ts) (AreEndRefusal way g o ts (length text))
-      → MatchResult r (IsRoundedVectorsText way g p text) (IsNoRoundedVectorsText way g p text) × IfErr r (IsRoundedVectorsRefusal way g p text)
-  end_accepted g o p text ts r e cut h =
-      at r (subst (λ x. MatchResult r (IsRoundedVectors way g x ts) (AreEndRefusal way g x ts (length text))) e h)
+  pub end_answered : (g : PolicyGraph) (o p : ℕ) (text : List ℕ) (ts : List Lexeme) (r : Result PolicyVectors VectorFault)
+      → o ≡ p → IsCut (text_rest text text_limit) ts None → MatchResult r (IsRoundedVectors way g o ts) (AreEndRefusal way g o ts (length text)) → AreAnswered g p text r
+  end_answered g o p text ts r e cut h = subst (λ x. AreAnswered g x text r) e (at r h)
     where
-      at : (r : Result PolicyVectors VectorFault) → MatchResult r (IsRoundedVectors way g p ts) (AreEndRefusal way g p ts (length text)) → MatchResult r (IsRoundedVectorsText way g p text) (IsNoRoundedVectorsText way g p text) × IfErr r (IsRoundedVectorsRefusal way g p text)
-      at (Ok v) h = ((ts, cut, h), tt)
-      at (Err fault) h = let refused = end_refusal g p text ts fault cut h in (no_vectors g p text fault refused, refused)
+      at : (r : Result PolicyVectors VectorFault) → MatchResult r (IsRoundedVectors way g o ts) (AreEndRefusal way g o ts (length text)) → AreAnswered g o text r
+      at (Ok v) h = record { accepted = (ts, cut, h); refused = tt }
+      at (Err fault) h = refusal_answered g o text fault (end_refusal g o text ts cut fault h)
+
+  pub end_refused : (g : PolicyGraph) (o p : ℕ) (text : List ℕ) (ts : List Lexeme) (end : ℕ) (fault : VectorFault)
+      → o ≡ p → IsCut (text_rest text text_limit) ts None → end ≡ length text → AreEndRefusal way g o ts end fault → IsRefusedRoundedVectorsText way g p fault text
+  end_refused g o p text ts end fault e cut place h =
+      refused_text g p text fault (end_refusal g p text ts cut fault (subst₂ (λ x n. AreEndRefusal way g x ts n fault) e place h))

@@ -1,5 +1,5 @@
 -- Helper definitions of private functions: how far vectors have been read. Nobody has to believe them.
-use Rattle.std.specs.Prelude.{◌≡◌, ℕ, ℤ, ◌+◌, ◌-◌, ◌*◌, ◌<◌, ◌≤◌, ◌≢◌, Bool, true, false, Option, Some, None, Result, Ok, Err, List, [], ◌∷◌, ◌++◌, length, MatchResult}
+use Rattle.std.specs.Prelude.{◌≡◌, ℕ, ℤ, ◌+◌, ◌-◌, ◌*◌, ◌<◌, ◌≤◌, ◌≢◌, Bool, true, false, Option, Some, None, Result, Ok, Err, List, [], ◌∷◌, ◌++◌, length, option_map, MatchResult}
 use Rattle.polcert_text.specs.Cut.{Lexeme}
 use Rattle.polcert_text.specs.declared.number.Rounding.{Rounding}
 use Rattle.polcert_policy.specs.Fields.{minus_kind, is_whole, whole_of}
@@ -25,15 +25,9 @@ abbrev pub open_of : Option Lexeme → List Lexeme
 open_of None = []
 open_of (Some s) = s ∷ []
 
-pub record IsSignOf (s : Lexeme) (sign : OpenSign) : Type 0 where
-  pub kind : sign_kind s.kind ≡ true
-  pub place : sign.place ≡ s.place
-  pub minus : sign.is_negative ≡ minus_kind s.kind
-
-abbrev pub IsOpenSign : Option Lexeme → Option OpenSign → ℕ → Type 0
-IsOpenSign None None column = Unit {0}
-IsOpenSign (Some s) (Some sign) column = IsSignOf s sign × (0 < column)
-IsOpenSign _ _ column = ⊥
+-- what is kept of it
+abbrev pub kept_sign : Lexeme → OpenSign
+kept_sign s = record { place = s.place; is_negative = minus_kind s.kind }
 
 -- where a number begins whose numeral stands at the place
 abbrev pub place_behind : Option OpenSign → ℕ → ℕ
@@ -51,7 +45,8 @@ pub record HasVectors (rounding : Rounding) (graph : PolicyGraph) (seen : List L
   pub sign : Option Lexeme
   pub vectors : AreVectorsUpTo rounding graph reading.states parts reading.node reading.column reading.values.items
   pub spelled : seen ≡ tokens_of parts ++ open_of sign
-  pub sign_is : IsOpenSign sign reading.sign reading.column
+  pub kept : reading.sign ≡ option_map kept_sign sign
+  pub signed : (s : Lexeme) → sign ≡ Some s → (sign_kind s.kind ≡ true) × (0 < reading.column)
 
 -- why these tokens aren't read on
 abbrev pub IsPartRefusal : Rounding → PolicyGraph → ℕ → List Lexeme → VectorFault → Type 0

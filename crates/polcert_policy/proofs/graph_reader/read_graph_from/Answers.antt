@@ -1,11 +1,14 @@
-use Rattle.std.proofs.Common.{◌∙◌, ◌++◌, ◌∷◌, ◌≤◌, ◌<◌, [], ap, arith, Ok, Err}
+use Rattle.std.proofs.Common.{◌∙◌, ◌++◌, ◌∷◌, [], ap, Ok, Err}
+use Rattle.std.proofs.Math.Path.{subst₂}
 use Rattle.polcert_text.specs.Reading.{lexeme_of}
 use Rattle.polcert_text.proofs.Streams.ReadTexts.{value_read, text_refused, read_failed}
-use Rattle.polcert_text.proofs.Streams.StreamTaken.{none_taken, token_taken, place_grows, place_within}
-use Rattle.polcert_text.specs.Cut.{text_limit}
+use Rattle.polcert_text.proofs.Streams.StreamTaken.{none_taken, token_taken, each_taken, each_cut}
+use Rattle.polcert_policy.specs.Graphs.{IsGraph}
+use Rattle.polcert_policy.specs.GraphText.{IsGraphText, IsRefusedGraphText}
 use Rattle.polcert_policy.specs.declared.fault.GraphFault.TheVariants as faults
 use Rattle.polcert_policy.proofs.ReadLaws.{possible_read}
-use Rattle.polcert_policy.proofs.GraphStreams.{refused_at_token, refused_tokens, graph_at_end, refused_at_end}
+use Rattle.polcert_policy.proofs.SourceTexts.{less_left, of_its_text, of_each_text}
+use Rattle.polcert_policy.proofs.TextLaws.{token_refusal, refused_text, end_refused, possible_at}
 use Rattle.polcert_policy.proofs.graph_reader.read_graph_from.Goals as goal
 
 pub loop-token-init : goal.loop-token-init
@@ -29,10 +32,7 @@ loop-token-smaller g c =
     let was = c.loop-token.invariant.seen in
     let new = c.next_token.follows.lender-at-none in
     let gives = rw (c.in-Ok-Some.is ∙ ap Ok c.in-Ok-Some.field-0-is) at c.next_token.follows.holds-at-none.answers in
-    let grows : c.loop-token.tokens.ahead.place < new.ahead.place = place_grows c.loop-token.tokens.ahead new.ahead gives.0.given (lexeme_of c.in-Ok-Some.token) gives.0.next in
-    let taken = token_taken _ _ _ _ was.0 c.loop-token.tokens c.loop-token.source (lexeme_of c.in-Ok-Some.token) new c.next_token.new.source was.1 gives.0 gives.2 in
-    let within : new.ahead.place ≤ text_limit = place_within _ _ _ _ _ new c.next_token.new.source taken in
-    omega (arith, grows, within)
+    less_left _ _ _ was.0 c.loop-token.tokens c.loop-token.source (lexeme_of c.in-Ok-Some.token) new c.next_token.new.source was.1 gives.0 gives.2
 
 pub returns-in-Err : goal.returns-in-Err
 returns-in-Err g c =
@@ -43,7 +43,8 @@ returns-in-Err g c =
     let taken = token_taken _ _ _ _ was.0 c.loop-token.tokens c.loop-token.source (lexeme_of c.in-Ok-Some.token) new c.next_token.new.source was.1 gives.0 gives.2 in
     record {
       read = text_refused c.in-Err.fault
-          (refused_at_token _ _ _ _ _ _ _ _ new c.next_token.new.source c.in-Err.fault counts.0 counts.1 taken (c.in-Err.ensures.read was.0 was.2))
+          (each_taken _ _ _ _ _ new c.next_token.new.source (IsRefusedGraphText c.args.actions c.args.observations c.in-Err.fault) taken
+          (λ text rest t. refused_text _ _ text _ (token_refusal _ _ _ _ text _ rest _ counts.0 counts.1 t (c.in-Err.ensures.read was.0 was.2))))
           taken.same_count;
     }
 
@@ -54,7 +55,8 @@ returns-in-Ok g c =
     let gives = rw (c.in-Ok-None.is ∙ ap Ok c.in-Ok-None.field-0-is) at c.next_token.follows.holds-at-none.answers in
     record {
       read = value_read c.in-Ok.graph
-          (graph_at_end _ _ _ _ _ _ _ was.0 _ _ _ _ c.in-Ok.graph counts.0 counts.1 was.1 gives.0 (c.in-Ok.ensures was.0 was.2))
+          (of_its_text _ _ _ was.0 _ _ _ _ was.1 gives.0 (λ text. IsGraphText c.args.actions c.args.observations text c.in-Ok.graph)
+          (λ text cut place. (was.0, cut, subst₂ (λ a o. IsGraph a o was.0 c.in-Ok.graph) counts.0 counts.1 (c.in-Ok.ensures was.0 was.2))))
           (gives.0.same_count ∙ was.1.same_count);
     }
 
@@ -65,7 +67,8 @@ returns-in-Err-finish g c =
     let gives = rw (c.in-Ok-None.is ∙ ap Ok c.in-Ok-None.field-0-is) at c.next_token.follows.holds-at-none.answers in
     record {
       read = text_refused c.in-Err-finish.fault
-          (refused_at_end _ _ _ _ _ _ _ was.0 _ _ _ _ c.in-Err-finish.fault c.place.result counts.0 counts.1 was.1 gives.0 c.place.ensures (c.in-Err-finish.ensures was.0 was.2))
+          (of_each_text _ _ _ was.0 _ _ _ _ was.1 gives.0 (IsRefusedGraphText c.args.actions c.args.observations c.in-Err-finish.fault)
+          (λ text cut place. end_refused _ _ _ _ text was.0 c.place.result _ counts.0 counts.1 cut (c.place.ensures ∙ place) (c.in-Err-finish.ensures was.0 was.2)))
           (gives.0.same_count ∙ was.1.same_count);
     }
 
@@ -78,8 +81,8 @@ returns-in-Err-Token g c =
     let gives = rw (c.in-Err-Token.is ∙ ap Err c.in-Err-Token.field-0-is) at c.next_token.follows.holds-at-none.answers in
     record {
       read = text_refused (faults.Token c.in-Err-Token.fault)
-          (refused_tokens _ _ _ _ _ _ _ was.0 c.loop-token.tokens c.loop-token.source c.in-Err-Token.fault new.ahead c.next_token.new.source counts.0 counts.1 was.1 gives.0
-          (possible_read was.0 r r.some_actions r.some_observations was.2.nodes))
+          (each_cut _ _ _ _ was.0 c.loop-token.tokens c.loop-token.source _ new.ahead c.next_token.new.source (IsRefusedGraphText c.args.actions c.args.observations (faults.Token c.in-Err-Token.fault)) was.1 gives.0
+          (λ text cut. refused_text _ _ text _ (was.0, cut, possible_at _ _ _ _ was.0 counts.0 counts.1 (possible_read was.0 r r.some_actions r.some_observations was.2.nodes))))
           (gives.0.same_count ∙ was.1.same_count);
     }
 

@@ -1,6 +1,7 @@
 use Rattle.std.proofs.Common.{◌≡◌, ◌∙◌, ◌+◌, ◌<◌, suc, refl, sym, subst, rules, arith}
 use Rattle.polcert_text.specs.Sink.{Takes, nothing}
 use Rattle.polcert_text.proofs.Printing.Taking.{took_then}
+use Rattle.polcert_text.specs.declared.number.Rounding.TheVariants.{Down}
 use Rattle.polcert_policy.specs.Graphs.{nodes}
 use Rattle.polcert_policy.specs.FullForm.{vectors_text_up_to, vector_text}
 use Rattle.polcert_policy.proofs.FullFormLaws.{reads_back}
@@ -10,11 +11,16 @@ use Rattle.polcert_policy.proofs.print_vectors.write_vectors.Goals as goal
 pub loop-node-init : goal.loop-node-init
 loop-node-init g c = record { took = nothing; same_count = refl }
 
-pub returns-in_err-write_vector-clause-written : goal.returns-in_err-write_vector-clause-written
-returns-in_err-write_vector-clause-written g c =
+pub returns-in_err-write_vector : goal.returns-in_err-write_vector
+returns-in_err-write_vector g c =
     let below : c.loop-node.node < nodes c.args.graph.now = search rules in
-    wrote_part (vectors_text_up_to c.args.graph.now c.args.vectors.now) (vector_text c.args.graph.now c.args.vectors.now) (λ n. refl) c.loop-node.node (nodes c.args.graph.now) below _ (search rules)
-    c.loop-node.invariant.took c.loop-node.invariant.same_count c.in_err-write_vector.ensures.err c.in_err-write_vector.ensures.count
+    let back = reads_back c.args.graph.now c.args.vectors.now c.nodes-nodes.ensures.proper c.nodes-vector_count.ensures.proper (sym c.requires) in
+    record {
+      written = wrote_part (vectors_text_up_to c.args.graph.now c.args.vectors.now) (vector_text c.args.graph.now c.args.vectors.now) (λ n. refl) c.loop-node.node (nodes c.args.graph.now) below _ (search rules)
+          c.loop-node.invariant.took c.loop-node.invariant.same_count c.in_err-write_vector.ensures.err c.in_err-write_vector.ensures.count;
+      reads_back = back Down;
+      either_way = back;
+    }
 
 pub loop-node-preserved : goal.loop-node-preserved
 loop-node-preserved g c =
@@ -25,18 +31,7 @@ loop-node-preserved g c =
       same_count = c.in_ok-write_vector.ensures.same_count ∙ c.loop-node.invariant.same_count;
     }
 
-pub returns-clause-reads_back : goal.returns-clause-reads_back
-returns-clause-reads_back g c =
-    reads_back c.args.graph.now c.args.vectors.now c.nodes-nodes.ensures.proper c.nodes-vector_count.ensures.proper (sym c.requires)
-
-pub returns-in_err-write_vector-clause-reads_back : goal.returns-in_err-write_vector-clause-reads_back
-returns-in_err-write_vector-clause-reads_back g c =
-    reads_back c.args.graph.now c.args.vectors.now c.nodes-nodes.ensures.proper c.nodes-vector_count.ensures.proper (sym c.requires)
-
-pub returns-clause-either_way : goal.returns-clause-either_way
-returns-clause-either_way g c = λ rounding.
-    reads_back c.args.graph.now c.args.vectors.now c.nodes-nodes.ensures.proper c.nodes-vector_count.ensures.proper (sym c.requires)
-
-pub returns-in_err-write_vector-clause-either_way : goal.returns-in_err-write_vector-clause-either_way
-returns-in_err-write_vector-clause-either_way g c = λ rounding.
-    reads_back c.args.graph.now c.args.vectors.now c.nodes-nodes.ensures.proper c.nodes-vector_count.ensures.proper (sym c.requires)
+pub returns : goal.returns
+returns g c =
+    let back = reads_back c.args.graph.now c.args.vectors.now c.nodes-nodes.ensures.proper c.nodes-vector_count.ensures.proper (sym c.requires) in
+    record { written = search rules; reads_back = back Down; either_way = back }

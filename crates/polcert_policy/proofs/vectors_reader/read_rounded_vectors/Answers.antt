@@ -1,5 +1,4 @@
 use Rattle.std.proofs.Common.{◌≡◌, ◌∙◌, ◌++◌, ◌∷◌, [], None, sym, subst}
-use Rattle.std.proofs.lemmas.Result.{err_from_is_err_and}
 use Rattle.polcert_text.specs.Cut.{text_rest, text_limit}
 use Rattle.polcert_text.specs.Reading.{lexeme_of}
 use Rattle.polcert_text.specs.TakenTokens.{Taken, nothing, token}
@@ -8,7 +7,7 @@ use Rattle.polcert_policy.specs.Vectors.{ArePossible}
 use Rattle.polcert_policy.specs.declared.fault.VectorFault.TheVariants as faults
 use Rattle.polcert_policy.proofs.ReadLaws.{none_from_not}
 use Rattle.polcert_policy.proofs.VectorReadLaws.{possible_seen}
-use Rattle.polcert_policy.proofs.VectorTextLaws.{part_refusal, no_vectors, end_accepted}
+use Rattle.polcert_policy.proofs.VectorTextLaws.{part_refusal, refusal_answered, handed_on, end_answered}
 use Rattle.polcert_policy.proofs.vectors_reader.read_rounded_vectors.Goals as goal
 
 pub loop-next-init : goal.loop-next-init
@@ -26,41 +25,27 @@ loop-next-preserved c =
       states = c.in_ok-take-in-Ok.ensures.states ∙ c.loop-next.invariant.states;
     }
 
-pub returns-in_err-take-in-Ok-clause-refused : goal.returns-in_err-take-in-Ok-clause-refused
-returns-in_err-take-in-Ok-clause-refused c =
+pub returns-in_err-take-in-Ok : goal.returns-in_err-take-in-Ok
+returns-in_err-take-in-Ok c =
     let was = c.loop-next.invariant.seen in
     let gives = rw c.in-Ok.is at c.in-Some.ensures in
-    let p = err_from_is_err_and c.from_residual.result c.from_residual.ensures.1 in
-    rw (p.1, p.2) (part_refusal c.args.rounding _ _ _ _ _ _ _ c.loop-next.invariant.states (token _ _ _ was.0 _ was.1 gives.0) (c.in_err-take-in-Ok.ensures.takes was.0 was.2))
+    let refusal = part_refusal c.args.rounding _ _ _ _ _ _ _ c.loop-next.invariant.states (token _ _ _ was.0 _ was.1 gives.0) (c.in_err-take-in-Ok.ensures.takes was.0 was.2) in
+    let answered = handed_on c.args.rounding _ _ _ c.from_residual.result _ c.from_residual.ensures.1 refusal in
+    record { accepted = answered.accepted; refused = answered.refused }
 
-pub returns-in_err-take-in-Ok-clause-accepted : goal.returns-in_err-take-in-Ok-clause-accepted
-returns-in_err-take-in-Ok-clause-accepted c =
-    let was = c.loop-next.invariant.seen in
-    let gives = rw c.in-Ok.is at c.in-Some.ensures in
-    let p = err_from_is_err_and c.from_residual.result c.from_residual.ensures.1 in
-    rw (p.1, p.2) (no_vectors c.args.rounding _ _ _ _ (part_refusal c.args.rounding _ _ _ _ _ _ _ c.loop-next.invariant.states (token _ _ _ was.0 _ was.1 gives.0) (c.in_err-take-in-Ok.ensures.takes was.0 was.2)))
-
-pub returns-in-Err-clause-refused : goal.returns-in-Err-clause-refused
-returns-in-Err-clause-refused c =
+pub returns-in-Err : goal.returns-in-Err
+returns-in-Err c =
     let was = c.loop-next.invariant.seen in
     let gives = rw c.in-Err.is at c.in-Some.ensures in
     let r = c.loop-next.reading in
-    (was.0, all_taken _ _ was.0 _ was.1 gives.0, subst (λ o. ArePossible c.args.rounding c.args.graph.now o was.0) c.loop-next.invariant.states (possible_seen c.args.graph.now was.0 r r.some_states was.2))
+    let possible = subst (λ o. ArePossible c.args.rounding c.args.graph.now o was.0) c.loop-next.invariant.states (possible_seen c.args.graph.now was.0 r r.some_states was.2) in
+    let answered = refusal_answered c.args.rounding _ _ _ (faults.Token c.in-Err.fault) (was.0, all_taken _ _ was.0 _ was.1 gives.0, possible) in
+    record { accepted = answered.accepted; refused = answered.refused }
 
-pub returns-in-Err-clause-accepted : goal.returns-in-Err-clause-accepted
-returns-in-Err-clause-accepted c =
-    no_vectors c.args.rounding _ _ _ (faults.Token c.in-Err.fault) (returns-in-Err-clause-refused c)
-
-pub returns-clause-accepted : goal.returns-clause-accepted
-returns-clause-accepted c =
+pub returns : goal.returns
+returns c =
     let was = c.loop-next.invariant.seen in
     let none : c.next_token.result ≡ None = none_from_not _ c.in_default.not-Some in
     let gives = rw none at c.next_token.ensures in
-    (end_accepted c.args.rounding _ _ _ _ was.0 _ c.loop-next.invariant.states (all_taken _ _ was.0 _ was.1 gives.0) (c.finish.ensures c.args.rounding was.0 was.2)).0
-
-pub returns-clause-refused : goal.returns-clause-refused
-returns-clause-refused c =
-    let was = c.loop-next.invariant.seen in
-    let none : c.next_token.result ≡ None = none_from_not _ c.in_default.not-Some in
-    let gives = rw none at c.next_token.ensures in
-    (end_accepted c.args.rounding _ _ _ _ was.0 _ c.loop-next.invariant.states (all_taken _ _ was.0 _ was.1 gives.0) (c.finish.ensures c.args.rounding was.0 was.2)).1
+    let answered = end_answered c.args.rounding _ _ _ _ was.0 _ c.loop-next.invariant.states (all_taken _ _ was.0 _ was.1 gives.0) (c.finish.ensures c.args.rounding was.0 was.2) in
+    record { accepted = answered.accepted; refused = answered.refused }

@@ -1,11 +1,13 @@
-use Rattle.std.proofs.Common.{◌∙◌, ◌++◌, ◌∷◌, ◌≤◌, ◌<◌, [], ap, arith, Ok, Err}
-use Rattle.polcert_text.specs.Cut.{text_limit}
+use Rattle.std.proofs.Common.{◌∙◌, ◌++◌, ◌∷◌, [], ap, subst, Ok, Err}
 use Rattle.polcert_text.specs.Reading.{lexeme_of}
 use Rattle.polcert_text.proofs.Streams.ReadTexts.{value_read, text_refused, read_failed}
-use Rattle.polcert_text.proofs.Streams.StreamTaken.{none_taken, token_taken, place_grows, place_within}
+use Rattle.polcert_text.proofs.Streams.StreamTaken.{none_taken, token_taken, each_taken, each_cut}
+use Rattle.polcert_policy.specs.Vectors.{IsRoundedVectors, ArePossible}
+use Rattle.polcert_policy.specs.VectorText.{IsRoundedVectorsText, IsRefusedRoundedVectorsText}
 use Rattle.polcert_policy.specs.declared.fault.VectorFault.TheVariants as faults
 use Rattle.polcert_policy.proofs.VectorReadLaws.{possible_seen}
-use Rattle.polcert_policy.proofs.VectorStreams.{vectors_refused_at_token, vectors_refused_tokens, vectors_at_end, vectors_refused_at_end}
+use Rattle.polcert_policy.proofs.SourceTexts.{less_left, of_its_text, of_each_text}
+use Rattle.polcert_policy.proofs.VectorTextLaws.{part_refusal, refused_text, end_refused}
 use Rattle.polcert_policy.proofs.vectors_reader.read_rounded_vectors_from.Goals as goal
 
 pub loop-token-init : goal.loop-token-init
@@ -28,10 +30,7 @@ loop-token-smaller g c =
     let was = c.loop-token.invariant.seen in
     let new = c.next_token.follows.lender-at-none in
     let gives = rw (c.in-Ok-Some.is ∙ ap Ok c.in-Ok-Some.field-0-is) at c.next_token.follows.holds-at-none.answers in
-    let grows : c.loop-token.tokens.ahead.place < new.ahead.place = place_grows c.loop-token.tokens.ahead new.ahead gives.0.given (lexeme_of c.in-Ok-Some.token) gives.0.next in
-    let taken = token_taken _ _ _ _ was.0 c.loop-token.tokens c.loop-token.source (lexeme_of c.in-Ok-Some.token) new c.next_token.new.source was.1 gives.0 gives.2 in
-    let within : new.ahead.place ≤ text_limit = place_within _ _ _ _ _ new c.next_token.new.source taken in
-    omega (arith, grows, within)
+    less_left _ _ _ was.0 c.loop-token.tokens c.loop-token.source (lexeme_of c.in-Ok-Some.token) new c.next_token.new.source was.1 gives.0 gives.2
 
 pub returns-in-Err : goal.returns-in-Err
 returns-in-Err g c =
@@ -41,7 +40,8 @@ returns-in-Err g c =
     let taken = token_taken _ _ _ _ was.0 c.loop-token.tokens c.loop-token.source (lexeme_of c.in-Ok-Some.token) new c.next_token.new.source was.1 gives.0 gives.2 in
     record {
       read = text_refused c.in-Err.fault
-          (vectors_refused_at_token c.args.rounding _ _ _ c.args.graph.now _ _ _ new c.next_token.new.source c.in-Err.fault c.loop-token.invariant.states taken (c.in-Err.ensures.takes was.0 was.2))
+          (each_taken _ _ _ _ _ new c.next_token.new.source (IsRefusedRoundedVectorsText c.args.rounding c.args.graph.now c.args.states c.in-Err.fault) taken
+          (λ text rest t. refused_text c.args.rounding _ _ text _ (part_refusal c.args.rounding _ _ _ text _ rest _ c.loop-token.invariant.states t (c.in-Err.ensures.takes was.0 was.2))))
           taken.same_count;
     }
 
@@ -51,7 +51,8 @@ returns-in-Ok g c =
     let gives = rw (c.in-Ok-None.is ∙ ap Ok c.in-Ok-None.field-0-is) at c.next_token.follows.holds-at-none.answers in
     record {
       read = value_read c.in-Ok.vectors
-          (vectors_at_end c.args.rounding _ _ _ c.args.graph.now _ _ was.0 _ _ _ _ c.in-Ok.vectors c.loop-token.invariant.states was.1 gives.0 (c.in-Ok.ensures c.args.rounding was.0 was.2))
+          (of_its_text _ _ _ was.0 _ _ _ _ was.1 gives.0 (λ text. IsRoundedVectorsText c.args.rounding c.args.graph.now c.args.states text c.in-Ok.vectors)
+          (λ text cut place. (was.0, cut, subst (λ o. IsRoundedVectors c.args.rounding c.args.graph.now o was.0 c.in-Ok.vectors) c.loop-token.invariant.states (c.in-Ok.ensures c.args.rounding was.0 was.2))))
           (gives.0.same_count ∙ was.1.same_count);
     }
 
@@ -61,7 +62,8 @@ returns-in-Err-finish g c =
     let gives = rw (c.in-Ok-None.is ∙ ap Ok c.in-Ok-None.field-0-is) at c.next_token.follows.holds-at-none.answers in
     record {
       read = text_refused c.in-Err-finish.fault
-          (vectors_refused_at_end c.args.rounding _ _ _ c.args.graph.now _ _ was.0 _ _ _ _ c.in-Err-finish.fault c.place.result c.loop-token.invariant.states was.1 gives.0 c.place.ensures (c.in-Err-finish.ensures c.args.rounding was.0 was.2))
+          (of_each_text _ _ _ was.0 _ _ _ _ was.1 gives.0 (IsRefusedRoundedVectorsText c.args.rounding c.args.graph.now c.args.states c.in-Err-finish.fault)
+          (λ text cut place. end_refused c.args.rounding _ _ _ text was.0 c.place.result _ c.loop-token.invariant.states cut (c.place.ensures ∙ place) (c.in-Err-finish.ensures c.args.rounding was.0 was.2)))
           (gives.0.same_count ∙ was.1.same_count);
     }
 
@@ -69,12 +71,13 @@ pub returns-in-Err-Token : goal.returns-in-Err-Token
 returns-in-Err-Token g c =
     let was = c.loop-token.invariant.seen in
     let r = c.loop-token.reading in
+    let possible = subst (λ o. ArePossible c.args.rounding c.args.graph.now o was.0) c.loop-token.invariant.states (possible_seen c.args.graph.now was.0 r r.some_states was.2) in
     let new = c.next_token.follows.lender-at-none in
     let gives = rw (c.in-Err-Token.is ∙ ap Err c.in-Err-Token.field-0-is) at c.next_token.follows.holds-at-none.answers in
     rw c.in-Err-Token.field-0-is (record {
       read = text_refused (faults.Token c.in-Err-Token.fault)
-          (vectors_refused_tokens c.args.rounding _ _ _ c.args.graph.now _ _ was.0 c.loop-token.tokens c.loop-token.source c.in-Err-Token.fault new.ahead c.next_token.new.source c.loop-token.invariant.states was.1 gives.0
-          (possible_seen c.args.graph.now was.0 r r.some_states was.2))
+          (each_cut _ _ _ _ was.0 c.loop-token.tokens c.loop-token.source _ new.ahead c.next_token.new.source (IsRefusedRoundedVectorsText c.args.rounding c.args.graph.now c.args.states (faults.Token c.in-Err-Token.fault)) was.1 gives.0
+          (λ text cut. refused_text c.args.rounding _ _ text _ (was.0, cut, possible)))
           (gives.0.same_count ∙ was.1.same_count);
     })
 

@@ -1,7 +1,8 @@
 use Rattle.std.proofs.Common.{◌<◌, refl, sym, subst, arith}
 use Rattle.polcert_policy.specs.Graphs.{nodes}
 use Rattle.polcert_policy.specs.Vectors.{IsRoundedVectors}
-use Rattle.polcert_policy.proofs.VectorEndLaws.{unfinished_vector, too_few, vectors_read, proper_read}
+use Rattle.polcert_policy.proofs.VectorEndLaws.{unfinished_vector, too_few, vectors_read}
+use Rattle.polcert_policy.proofs.LimitLaws.{vectors_proper}
 use Rattle.polcert_policy.proofs.vectors_reading.VectorsReading.finish.Goals as goal
 
 pub returns-then-self-gt0 : goal.returns-then-self-gt0
@@ -14,7 +15,10 @@ returns-then-self-nodes c = λ way seen h.
 
 pub new-requires : goal.new-requires
 new-requires c =
-    proper_read _ c.requires.1.0 c.args.self c.args.self.some_states c.args.self.few_states c.if-self-gt0.false (omega (arith, c.if-self-nodes.false, c.nodes.ensures.count)) c.requires.1.1
+    let r = c.args.self in
+    let h = c.requires.1.1 in
+    let read = vectors_read _ c.requires.1.0 r c.if-self-gt0.false (omega (arith, c.if-self-nodes.false, c.nodes.ensures.count)) h in
+    vectors_proper c.args.graph.now r.states c.requires.1.0 _ h.proper.some_nodes h.proper.few_nodes r.some_states r.few_states read
 
 pub returns : goal.returns
 returns c = λ way seen h.
