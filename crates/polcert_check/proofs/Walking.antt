@@ -1,5 +1,4 @@
 -- The walk over all pairs, and what it finds.
-pub mod Ahead
 pub mod Answering
 pub mod Earning
 pub mod Expecting
@@ -10,3 +9,4 @@ pub mod Places
 pub mod StartWalks
 pub mod Verdicts
 pub mod Walked
+pub mod Weighed

@@ -3,6 +3,7 @@ pub mod Certificate
 pub mod Factored
 pub mod Findings
 pub mod Followed
+pub mod Leasts
 pub mod Mirrored
 pub mod Ranges
 pub mod Walks

@@ -9,6 +9,7 @@ mod earned;
 mod earnings;
 mod ends;
 mod examples;
+mod expected;
 mod fault;
 mod filled;
 mod findings;

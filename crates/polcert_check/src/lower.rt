@@ -4,6 +4,7 @@ ghost use Rattle.polcert_policy.specs.Vectors.{IsInRange};
 ghost use Rattle.polcert_check.specs.Steps.Certificate.{judged};
 ghost use Rattle.polcert_check.specs.Horizon.{Fits, controller_of, one};
 ghost use Rattle.polcert_check.specs.Lower.{NoneLacks, IsLeast, IsLeastConstant, IsNotMended, IsNotLowered, RefusesSmallAmount, IsLowered, RefusesToLower};
+ghost use Rattle.polcert_check.specs.Steps.Leasts.{IsLowerAnswer};
 ghost use Rattle.polcert_check.specs.Steps.Mirrored.{CanMove, IsLeastMove};
 ghost use Rattle.polcert_check.specs.Steps.Findings.{IsFound, IsPair, IsRefused, IsWorstOf};
 ghost use Rattle.polcert_check.specs.declared.findings.Aim.TheVariants.{Lowering};
@@ -161,13 +162,8 @@ fn least_watched<C: Cells, W: Watch>(
     vectors: &Vectors,
     watch: &mut W,
 ) -> Result<i64, LowerFault>
-    requires fits { Fits (C.table cells.now) graph.now vectors.now }
-    ensures least { IfOk result
-        (IsLeastConstant (controller_of (C.table cells.now) graph.now vectors.now) vectors.now) }
-    ensures refused { IfErr result
-        (IsNotLowered (controller_of (C.table cells.now) graph.now vectors.now) vectors.now) }
-    ensures small { IfErr result
-        (RefusesSmallAmount (controller_of (C.table cells.now) graph.now vectors.now)) }
+    requires { Fits (C.table cells.now) graph.now vectors.now }
+    ensures { IsLowerAnswer (controller_of (C.table cells.now) graph.now vectors.now) vectors.now result }
 {
     least_of(&Certificate::new(Side::Below, cells, graph, vectors), watch)
 }

@@ -2,6 +2,7 @@
 ghost use Rattle.std.specs.Prelude.{◌≡◌, IfOk, IfErr};
 ghost use Rattle.polcert_check.specs.Horizon.{Fits, controller_of};
 ghost use Rattle.polcert_check.specs.Raise.{IsLeastRaise, IsNotRaised, RefusesSmallRaise, IsRaised, RefusesToRaise};
+ghost use Rattle.polcert_check.specs.Steps.Leasts.{IsRaiseAnswer};
 ghost use Rattle.polcert_check.specs.Steps.Mirrored.{raise_of};
 
 use crate::certificate::Certificate;
@@ -66,13 +67,8 @@ fn least_watched<C: Cells, W: Watch>(
     vectors: &Vectors,
     watch: &mut W,
 ) -> Result<i64, RaiseFault>
-    requires fits { Fits (C.table cells.now) graph.now vectors.now }
-    ensures least { IfOk result
-        (IsLeastRaise (controller_of (C.table cells.now) graph.now vectors.now) vectors.now) }
-    ensures refused { IfErr result
-        (IsNotRaised (controller_of (C.table cells.now) graph.now vectors.now) vectors.now) }
-    ensures small { IfErr result
-        (RefusesSmallRaise (controller_of (C.table cells.now) graph.now vectors.now)) }
+    requires { Fits (C.table cells.now) graph.now vectors.now }
+    ensures { IsRaiseAnswer (controller_of (C.table cells.now) graph.now vectors.now) vectors.now result }
 {
     let certificate = Certificate::new(Side::Above, cells, graph, vectors);
     match least_of(&certificate, watch) {

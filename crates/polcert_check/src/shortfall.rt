@@ -4,17 +4,17 @@ ghost use Rattle.polcert_policy.specs.Graphs.{nodes};
 ghost use Rattle.polcert_check.specs.Steps.Certificate.{controller};
 ghost use Rattle.polcert_check.specs.Horizon.{Fits, controller_of};
 ghost use Rattle.polcert_check.specs.Shortfall.{most_short, short};
-ghost use Rattle.polcert_check.specs.Steps.Factored.{reward_ahead, value_ahead};
+ghost use Rattle.polcert_check.specs.Steps.Factored.{reward_ahead};
 ghost use Rattle.polcert_check.specs.Steps.Followed.{followed};
 
 use crate::certificate::Certificate;
-use crate::earned::{reward_ahead, weighed};
+use crate::earned::reward_ahead;
 use crate::ends::end_of;
+use crate::expected::value_ahead;
 use crate::filled::Filled;
 use crate::followed::Followed;
 use crate::pairs::amount_above;
 use crate::side::Side;
-use crate::walk::next_end;
 use polcert_cells::Cells;
 use polcert_policy::{Graph, Vectors};
 
@@ -33,24 +33,6 @@ fn followed_reward<C: Cells>(certificate: &Certificate<'_, C>, n: usize, s: usiz
     )
 }
 
-/// What node `n` expects at state `s`, added up end state by end state.
-fn expected_at<C: Cells>(certificate: &Certificate<'_, C>, n: usize, s: usize) -> i128
-    requires node { n < (controller certificate.now).nodes }
-    requires start { s < (controller certificate.now).cells.states }
-    ensures { result ≡ value_ahead (controller certificate.now) n s }
-{
-    let cells = certificate.cells;
-    let a = certificate.graph.action(n);
-    let mut worth: i128 = 0;
-    let row = cells.t_row(a, s);
-    let mut at = 0;
-    while let Some(end) = next_end(cells, a, s, row, at) {
-        worth += weighed(end.weight, end_of(certificate, n, end.column).worth);
-        at = end.next;
-    }
-    worth
-}
-
 /// How far the value of node `n` at state `s` is above what the next step backs.
 fn amount_at<C: Cells>(certificate: &Certificate<'_, C>, n: usize, s: usize) -> i128
     requires node { n < (controller certificate.now).nodes }
@@ -58,7 +40,7 @@ fn amount_at<C: Cells>(certificate: &Certificate<'_, C>, n: usize, s: usize) -> 
     ensures is { result ≡ short (controller certificate.now) n s }
     ensures small { unsigned_abs result ≤ most_short (controller certificate.now) }
 {
-    let expected = expected_at(certificate, n, s);
+    let expected = value_ahead(certificate, n, s, |e| end_of(certificate, n, e).worth);
     let earned = followed_reward(certificate, n, s);
     let value = certificate.vectors.at(n, s);
     amount_above(certificate.cells, value, earned, expected)

@@ -8,6 +8,7 @@ use crate::blocks::{ENDS_AT_ONCE, STARTS_AT_ONCE, StartBlock};
 use crate::certificate::Certificate;
 use crate::earned::weighed;
 use crate::ends::{Steps, lesser};
+use crate::expected::value_ahead;
 use crate::known::Ends;
 use crate::walk::{next_end, place_from};
 use polcert_model::Cells;
@@ -97,16 +98,7 @@ fn worth_ahead<C: Cells>(
     ensures { result ≡ value_before (controller certificate.now) n s
         (controller certificate.now).cells.states }
 {
-    let cells = certificate.cells;
-    let a = certificate.graph.action(n);
-    let mut worth: i128 = 0;
-    let row = cells.t_row(a, s);
-    let mut at = 0;
-    while let Some(end) = next_end(cells, a, s, row, at) {
-        worth += weighed(end.weight, worths[end.column]);
-        at = end.next;
-    }
-    worth
+    value_ahead(certificate, n, s, |e| worths[e])
 }
 
 impl Walks {

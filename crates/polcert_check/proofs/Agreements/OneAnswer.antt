@@ -1,7 +1,6 @@
 -- A check has one verdict, lowering one outcome, and a start one best node with one worth.
-use Rattle.std.proofs.Common.{◌≡◌, ◌∙◌, ℕ, ◌<◌, ℤ, pos, ◌≤ℤ◌, ◌<ℤ◌, ◌+ℤ◌, ◌*ℤ◌, ◌⊎◌, inl, inr, Some, None, sym, refl, ap, subst, arith, Bool, true, false, not, T}
-use lib.Signed.{lt_z, lt_z_no}
-use Rattle.std.proofs.lemmas.Bool.{cases_order}
+use Rattle.std.proofs.Common.{◌≡◌, ◌∙◌, ℕ, ◌<◌, ℤ, pos, ◌≤ℤ◌, ◌<ℤ◌, ◌+ℤ◌, ◌*ℤ◌, Some, None, sym, refl, ap, subst, arith}
+use Rattle.std.proofs.lemmas.Int.{by_lt_z}
 use Rattle.polcert_cells.specs.Meaning.{Meaning, start_total}
 use Rattle.polcert_policy.specs.Vectors.{PolicyVectors}
 use Rattle.polcert_check.specs.declared.fault.LowerFault.{LowerFault}
@@ -9,27 +8,14 @@ use Rattle.polcert_check.specs.declared.fault.LowerFault.TheVariants as faults
 use Rattle.polcert_check.specs.declared.verdict.Verdict.{Verdict}
 use Rattle.polcert_check.specs.declared.verdict.Verdict.TheVariants.{Yes, Short, NoSuccessor}
 use Rattle.polcert_check.specs.Horizon.{Controller}
-use Rattle.polcert_check.specs.Shortfall.{short, PairPasses}
+use Rattle.polcert_check.specs.Shortfall.{short, Lacks, PairPasses, Passes}
 use Rattle.polcert_check.specs.Verdict.{IsBefore, IsVerdict, IsLeastLacking}
-use Rattle.polcert_check.specs.Lower.{IsLeast, CanLower, IsFirstLack, IsFirstShort, IsNotMended, IsNotLowered, IsLeastConstant}
+use Rattle.polcert_check.specs.Lower.{lowered_by, IsLeast, CanLower, IsFirstLack, IsFirstShort, IsNotMended, IsNotLowered, IsLeastConstant}
 use Rattle.polcert_check.specs.Steps.Mirrored.{IsLeastMove}
 use Rattle.polcert_check.specs.StartWorth.{start_sum, IsFirstGreatest, IsFloorQuotient, IsBestStart, IsStartWorth}
 use Rattle.polcert_check.proofs.Sums.Ring.{linear, mul_le}
 
 -- ---- the first pair
-
-abbrev Order : ℕ → ℕ → ℕ → ℕ → Type 0
-Order n s m t = IsBefore n s m t ⊎ (IsBefore m t n s ⊎ ((n ≡ m) × (s ≡ t)))
-
-order_in : (n s m t : ℕ) → n ≡ m → (s ≡ t) ⊎ ((s < t) ⊎ (t < s)) → Order n s m t
-order_in n s m t e (inl f) = inr (inr (e, f))
-order_in n s m t e (inr (inl l)) = inl (inr (e, l))
-order_in n s m t e (inr (inr l)) = inr (inl (inr (sym e, l)))
-
-order_of : (n s m t : ℕ) → (n ≡ m) ⊎ ((n < m) ⊎ (m < n)) → Order n s m t
-order_of n s m t (inl e) = order_in n s m t e (cases_order s t)
-order_of n s m t (inr (inl l)) = inl (inl l)
-order_of n s m t (inr (inr l)) = inr (inl (inl l))
 
 -- pairs that fail, before which none in range does
 record IsFirstFailing (Good : ℕ → ℕ → Type 0) (nodes states n s : ℕ) : Type 0 where
@@ -38,29 +24,22 @@ record IsFirstFailing (Good : ℕ → ℕ → Type 0) (nodes states n s : ℕ) :
   fails : Good n s → ⊥
   before : (m t : ℕ) → m < nodes → t < states → IsBefore m t n s → Good m t
 
-first_in_order : (Good : ℕ → ℕ → Type 0) (nodes states n s m t : ℕ) → IsFirstFailing Good nodes states n s → IsFirstFailing Good nodes states m t → Order n s m t → (n ≡ m) × (s ≡ t)
-first_in_order Good nodes states n s m t h g (inl l) = absurd (h.fails (g.before n s h.node h.state l))
-first_in_order Good nodes states n s m t h g (inr (inl l)) = absurd (g.fails (h.before m t g.node g.state l))
-first_in_order Good nodes states n s m t h g (inr (inr e)) = e
-
 one_first : (Good : ℕ → ℕ → Type 0) (nodes states n s m t : ℕ) → IsFirstFailing Good nodes states n s → IsFirstFailing Good nodes states m t → (n ≡ m) × (s ≡ t)
-one_first Good nodes states n s m t h g = first_in_order Good nodes states n s m t h g (order_of n s m t (cases_order n m))
+one_first Good nodes states n s m t h g = grind (arith, h.before m t, g.before n s)
+
+one_least_number : (P : ℕ → Type 0) (a b : ℕ) → P a → ((d : ℕ) → d < a → P d → ⊥) → P b → ((d : ℕ) → d < b → P d → ⊥) → a ≡ b
+one_least_number P a b is least also before = grind arith
 
 -- ---- why a pair fails
 
 some_not_none : (c : Controller) (n s z : ℕ) → IsLeastLacking c n s (Some z) → IsLeastLacking c n s None → ⊥
 some_not_none c n s z lacks none = none z lacks.0 lacks.1
 
-least_in_order : (c : Controller) (n s z y : ℕ) → IsLeastLacking c n s (Some z) → IsLeastLacking c n s (Some y) → (z ≡ y) ⊎ ((z < y) ⊎ (y < z)) → z ≡ y
-least_in_order c n s z y h g (inl e) = e
-least_in_order c n s z y h g (inr (inl l)) = absurd (g.2 z l h.1)
-least_in_order c n s z y h g (inr (inr l)) = absurd (h.2 y l g.1)
-
 one_least_lacking : (c : Controller) (n s m t z y : ℕ) → n ≡ m → s ≡ t → IsLeastLacking c n s (Some z) → IsLeastLacking c m t (Some y) → z ≡ y
 one_least_lacking c n s m t z y e f h g =
     let at_node : IsLeastLacking c m s (Some z) = subst (λ (k : ℕ). IsLeastLacking c k s (Some z)) e h in
     let here : IsLeastLacking c m t (Some z) = subst (λ (k : ℕ). IsLeastLacking c m k (Some z)) f at_node in
-    least_in_order c m t z y here g (cases_order z y)
+    one_least_number (Lacks c m t) z y here.1 here.2 g.1 g.2
 
 one_amount : (c : Controller) (n s m t : ℕ) (a b : ℤ) → n ≡ m → s ≡ t → a ≡ short c n s → b ≡ short c m t → a ≡ b
 one_amount c n s m t a b e f h g = h ∙ ap (λ (k : ℕ). short c k s) e ∙ ap (λ (k : ℕ). short c m k) f ∙ sym g
@@ -104,13 +83,8 @@ one_verdict c (NoSuccessor n s z) (NoSuccessor m t y) h g =
 
 -- ---- one outcome of lowering
 
-least_of : (c : Controller) (a b : ℕ) → IsLeast c a → IsLeast c b → (a ≡ b) ⊎ ((a < b) ⊎ (b < a)) → a ≡ b
-least_of c a b h g (inl e) = e
-least_of c a b h g (inr (inl l)) = absurd (g.1 a l h.0)
-least_of c a b h g (inr (inr l)) = absurd (h.1 b l g.0)
-
 one_least : (c : Controller) (a b : ℕ) → IsLeast c a → IsLeast c b → a ≡ b
-one_least c a b h g = least_of c a b h g (cases_order a b)
+one_least c a b h g = one_least_number (λ d. Passes (lowered_by c d)) a b h.0 h.1 g.0 g.1
 
 -- `Can` says by which constants all values stay in range
 pub one_move : (c : Controller) (Can : ℕ → Type 0) (x y : ℤ) → IsLeastMove c Can x → IsLeastMove c Can y → x ≡ y
@@ -163,36 +137,20 @@ not_lowered_has_no_constant c v = move_or_fault c (CanLower v)
 
 -- ---- one best node, and one worth
 
-not_greater : (x y : ℤ) → x <ℤ y → y ≤ℤ x → ⊥
-not_greater x y l h = omega (arith, linear)
-
-next_le : (x y : ℤ) → x <ℤ y → (x +ℤ pos 1) ≤ℤ y
-next_le x y l = omega (arith, linear)
-
-not_within : (x sum y : ℤ) → x ≤ℤ sum → sum <ℤ y → y ≤ℤ x → ⊥
-not_within x sum y h g l = omega (arith, linear)
-
 le_antisym : (x y : ℤ) → x ≤ℤ y → y ≤ℤ x → x ≡ y
 le_antisym x y h g = omega (arith, linear)
 
-greatest_in_order : (f : ℕ → ℤ) (count n m : ℕ) → IsFirstGreatest f count n → IsFirstGreatest f count m → (n ≡ m) ⊎ ((n < m) ⊎ (m < n)) → n ≡ m
-greatest_in_order f count n m h g (inl e) = e
-greatest_in_order f count n m h g (inr (inl l)) = absurd (not_greater (f n) (f m) (g.smaller_before n l) (h.none_greater m g.is_below))
-greatest_in_order f count n m h g (inr (inr l)) = absurd (not_greater (f m) (f n) (h.smaller_before m l) (g.none_greater n h.is_below))
-
 pub one_best : (f : ℕ → ℤ) (count n m : ℕ) → IsFirstGreatest f count n → IsFirstGreatest f count m → n ≡ m
-one_best f count n m h g = greatest_in_order f count n m h g (cases_order n m)
-
-le_or_above : (x y : ℤ) (b : Bool) → lt_z y x ≡ b → (x ≤ℤ y) ⊎ ((y +ℤ pos 1) ≤ℤ x)
-le_or_above x y true t = inr (next_le y x (record { lt = subst T (sym t) tt }))
-le_or_above x y false t = inl (lt_z_no (subst (λ (b : Bool). T (not b)) (sym t) tt))
-
-quotient_in_order : (sum : ℤ) (total : ℕ) (p q : ℤ) → IsFloorQuotient sum total p → IsFloorQuotient sum total q → (p ≤ℤ q) ⊎ ((q +ℤ pos 1) ≤ℤ p) → p ≤ℤ q
-quotient_in_order sum total p q h g (inl l) = l
-quotient_in_order sum total p q h g (inr l) = absurd (not_within (pos total *ℤ p) sum (pos total *ℤ (q +ℤ pos 1)) h.0 g.1 (mul_le total (q +ℤ pos 1) p l))
+one_best f count n m h g = grind (arith, linear, h.none_greater m, h.smaller_before m, g.none_greater n, g.smaller_before n)
 
 quotient_le : (sum : ℤ) (total : ℕ) (p q : ℤ) → IsFloorQuotient sum total p → IsFloorQuotient sum total q → p ≤ℤ q
-quotient_le sum total p q h g = quotient_in_order sum total p q h g (le_or_above p q (lt_z q p) refl)
+quotient_le sum total p q h g =
+    by_lt_z q p
+    (λ less.
+    let next : (q +ℤ pos 1) ≤ℤ p = omega (arith, linear) in
+    let more : (pos total *ℤ (q +ℤ pos 1)) ≤ℤ (pos total *ℤ p) = mul_le total (q +ℤ pos 1) p next in
+    absurd (omega (arith, linear)))
+    (λ le. le)
 
 pub one_quotient : (sum : ℤ) (total : ℕ) (p q : ℤ) → IsFloorQuotient sum total p → IsFloorQuotient sum total q → p ≡ q
 one_quotient sum total p q h g = le_antisym p q (quotient_le sum total p q h g) (quotient_le sum total q p g h)

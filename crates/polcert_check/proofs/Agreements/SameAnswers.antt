@@ -19,37 +19,23 @@ use Rattle.polcert_check.proofs.Horizons.Enumerated.{All-runs}
 use Rattle.polcert_check.proofs.Certificates.{closed_is}
 use Rattle.polcert_check.proofs.Agreements.SameCells.{with_cells, runs_same, is_cut_same, weight_same, promise_same, reward_promise_same, short_same, lacks_same, lacks_back, pair_same, passes_same}
 
-pub same_back : (x y : CellTable) → HasSameCells x y → HasSameCells y x
-same_back x y same =
-    record {
-      states = sym same.states;
-      actions = sym same.actions;
-      observations = sym same.observations;
-      discount = sym same.discount;
-      t_scale = sym same.t_scale;
-      o_scale = sym same.o_scale;
-      t = λ a s e al sl el. sym (same.t a s e (rw same.actions al) (rw same.states sl) (rw same.states el));
-      o = λ a e z al el zl. sym (same.o a e z (rw same.actions al) (rw same.states el) (rw same.observations zl));
-      r = λ a s e z al sl el zl. sym (same.r a s e z (rw same.actions al) (rw same.states sl) (rw same.states el) (rw same.observations zl));
-    }
-
 -- ---- a controller over cells that agree, and back
 module _ (c : Controller) (p : IsClosed c) (y : CellTable) (same : HasSameCells c.cells y) where
   closed_with : IsClosed (with_cells c y)
   closed_with = record { actions_in_range = p.actions_in_range; next_in_range = p.next_in_range }
 
   agrees_back : HasSameCells (with_cells c y).cells c.cells
-  agrees_back = same_back c.cells (with_cells c y).cells (record {
+  agrees_back = record {
     states = refl;
     actions = refl;
     observations = refl;
     discount = refl;
     t_scale = refl;
     o_scale = refl;
-    t = same.t;
-    o = same.o;
-    r = same.r;
-  })
+    t = λ a s e al sl el. sym (same.t a s e al sl el);
+    o = λ a e z al el zl. sym (same.o a e z al el zl);
+    r = λ a s e z al sl el zl. sym (same.r a s e z al sl el zl);
+  }
 
   -- ---- the verdict
   before_same : (n s : ℕ) → PassesBefore c n s → PassesBefore (with_cells c y) n s
@@ -89,17 +75,11 @@ module _ (c : Controller) (p : IsClosed c) (y : CellTable) (same : HasSameCells 
       (λ promise. meets.0 (promise_back 1 n s is.0 is.1 promise), cut_run_with n s z is.0 is.1 meets.1)
 
   -- ---- lowering
-  closed_lowered : (by : ℕ) → IsClosed (lowered_by c by)
-  closed_lowered by = record { actions_in_range = p.actions_in_range; next_in_range = p.next_in_range }
-
-  closed_back : (by : ℕ) → IsClosed (lowered_by (with_cells c y) by)
-  closed_back by = record { actions_in_range = p.actions_in_range; next_in_range = p.next_in_range }
-
   lowered_passes : (by : ℕ) → Passes (lowered_by c by) → Passes (lowered_by (with_cells c y) by)
-  lowered_passes by = passes_same (lowered_by c by) (closed_lowered by) y same
+  lowered_passes by = passes_same (lowered_by c by) (record { actions_in_range = p.actions_in_range; next_in_range = p.next_in_range }) y same
 
   lowered_back : (by : ℕ) → Passes (lowered_by (with_cells c y) by) → Passes (lowered_by c by)
-  lowered_back by = passes_same (lowered_by (with_cells c y) by) (closed_back by) c.cells agrees_back
+  lowered_back by = passes_same (lowered_by (with_cells c y) by) (record { actions_in_range = p.actions_in_range; next_in_range = p.next_in_range }) c.cells agrees_back
 
   least_with : (by : ℕ) → IsLeast c by → IsLeast (with_cells c y) by
   least_with by (passes, least) = (lowered_passes by passes, λ d less also. least d less (lowered_back d also))

@@ -37,31 +37,28 @@ module _ (c : Controller) (p : IsClosed c) (y : CellTable) (same : HasSameCells 
       let o_is : c.cells.o (c.action n) e z ≡ y.o (c.action n) e z = same.o (c.action n) e z al el zl in
       cc
 
-  weight_after : (n z e : ℕ) (run : List (ℕ × ℕ)) → n < c.nodes → z < c.cells.observations → ((m : ℕ) → m < c.nodes → weight (with_cells c y) (Some m) e run ≡ weight c (Some m) e run) → (at : Option ℕ) → c.next n z ≡ at → weight (with_cells c y) at e run ≡ weight c at e run
-  weight_after n z e run nl zl later None is = refl
-  weight_after n z e run nl zl later (Some m) is = later m (p.next_in_range n z m nl zl is)
+  -- what a run weighs and earns
+  abbrev RunIsSame : Option ℕ → ℕ → List (ℕ × ℕ) → Type 0
+  RunIsSame at s run = (weight (with_cells c y) at s run ≡ weight c at s run) × (rewards (with_cells c y) at s run ≡ rewards c at s run)
+
+  run_after : (n z e : ℕ) (run : List (ℕ × ℕ)) → n < c.nodes → z < c.cells.observations → ((m : ℕ) → m < c.nodes → RunIsSame (Some m) e run) → (at : Option ℕ) → c.next n z ≡ at → RunIsSame at e run
+  run_after n z e run nl zl later None is = (refl, refl)
+  run_after n z e run nl zl later (Some m) is = later m (p.next_in_range n z m nl zl is)
+
+  run_same : (run : List (ℕ × ℕ)) (n s : ℕ) → n < c.nodes → s < c.cells.states → IsRunInRange c run → RunIsSame (Some n) s run
+  run_same [] n s nl sl f = (refl, refl)
+  run_same (q ∷ run) n s nl sl f =
+      let step : step_weight (with_cells c y) n s q.0 q.1 ≡ step_weight c n s q.0 q.1 = step_same n s q.0 q.1 nl sl f.0 f.1 in
+      let earned : c.cells.r (c.action n) s q.0 q.1 ≡ y.r (c.action n) s q.0 q.1 = same.r (c.action n) s q.0 q.1 (p.actions_in_range n nl) sl f.0 f.1 in
+      let later : RunIsSame (c.next n q.1) q.0 run = run_after n q.1 q.0 run nl f.1 (λ m ml. run_same run m q.0 ml f.0 f.2) (c.next n q.1) refl in
+      (cc, cc)
 
   pub weight_same : (run : List (ℕ × ℕ)) (n s : ℕ) → n < c.nodes → s < c.cells.states → IsRunInRange c run → weight (with_cells c y) (Some n) s run ≡ weight c (Some n) s run
-  weight_same [] n s nl sl f = refl
-  weight_same (q ∷ run) n s nl sl f =
-      let here : step_weight (with_cells c y) n s q.0 q.1 ≡ step_weight c n s q.0 q.1 = step_same n s q.0 q.1 nl sl f.0 f.1 in
-      let later : weight (with_cells c y) (c.next n q.1) q.0 run ≡ weight c (c.next n q.1) q.0 run = weight_after n q.1 q.0 run nl f.1 (λ m ml. weight_same run m q.0 ml f.0 f.2) (c.next n q.1) refl in
-      cc
-
-  rewards_after : (n z e : ℕ) (run : List (ℕ × ℕ)) → n < c.nodes → z < c.cells.observations → ((m : ℕ) → m < c.nodes → rewards (with_cells c y) (Some m) e run ≡ rewards c (Some m) e run) → (at : Option ℕ) → c.next n z ≡ at → rewards (with_cells c y) at e run ≡ rewards c at e run
-  rewards_after n z e run nl zl later None is = refl
-  rewards_after n z e run nl zl later (Some m) is = later m (p.next_in_range n z m nl zl is)
-
-  rewards_same : (run : List (ℕ × ℕ)) (n s : ℕ) → n < c.nodes → s < c.cells.states → IsRunInRange c run → rewards (with_cells c y) (Some n) s run ≡ rewards c (Some n) s run
-  rewards_same [] n s nl sl f = refl
-  rewards_same (q ∷ run) n s nl sl f =
-      let here : c.cells.r (c.action n) s q.0 q.1 ≡ y.r (c.action n) s q.0 q.1 = same.r (c.action n) s q.0 q.1 (p.actions_in_range n nl) sl f.0 f.1 in
-      let later : rewards (with_cells c y) (c.next n q.1) q.0 run ≡ rewards c (c.next n q.1) q.0 run = rewards_after n q.1 q.0 run nl f.1 (λ m ml. rewards_same run m q.0 ml f.0 f.2) (c.next n q.1) refl in
-      cc
+  weight_same run n s nl sl f = (run_same run n s nl sl f).0
 
   reward_part_same : (k : ℕ) (run : List (ℕ × ℕ)) (n s : ℕ) → n < c.nodes → s < c.cells.states → IsRunInRange c run → reward_part (with_cells c y) k (Some n) s run ≡ reward_part c k (Some n) s run
   reward_part_same k run n s nl sl f =
-      ap (λ (rs : List ℤ). total_below (λ i. pos (c.cells.discount ^ i * one ^ (k - i)) *ℤ get_or rs i (pos 0)) k) (rewards_same run n s nl sl f)
+      ap (λ (rs : List ℤ). total_below (λ i. pos (c.cells.discount ^ i * one ^ (k - i)) *ℤ get_or rs i (pos 0)) k) (run_same run n s nl sl f).1
 
   total_same : (k : ℕ) (run : List (ℕ × ℕ)) (n s : ℕ) → n < c.nodes → s < c.cells.states → IsRunInRange c run → total (with_cells c y) k (Some n) s run ≡ total c k (Some n) s run
   total_same k run n s nl sl f =

@@ -51,19 +51,19 @@ module _ (m n : Meaning) (same : IsSame m n) where
       (subst (λ (sum : ℤ). IsFloorQuotient sum (start_total m) worth) (start_sum_same v node) is)
 
 -- the promise from the start, for other cells and then for other shares
-pub start_worths_same : (m : Meaning) (c : Controller) (p : IsClosed c) (y : CellTable) (same : HasSameCells c.cells y) (k n : ℕ) → n < c.nodes
+start_worths_same : (m : Meaning) (c : Controller) (p : IsClosed c) (y : CellTable) (same : HasSameCells c.cells y) (k n : ℕ) → n < c.nodes
     → total_below (λ s. pos (start_weight m s) *ℤ worth_sum (with_cells c y) k (Some n) s) c.cells.states ≡ total_below (λ s. pos (start_weight m s) *ℤ worth_sum c k (Some n) s) c.cells.states
 start_worths_same m c p y same k n nl =
     sum_below_same _ _ c.cells.states (λ s sl. ap (λ (w : ℤ). pos (start_weight m s) *ℤ w) (worth_sum_same c p y same k n s nl sl))
 
-start_promise_with : (m : Meaning) (c : Controller) (p : IsClosed c) (y : CellTable) (same : HasSameCells c.cells y) (k n : ℕ) (worth : ℤ) → n < c.nodes → StartPromise m c k n worth → StartPromise m (with_cells c y) k n worth
+pub start_promise_with : (m : Meaning) (c : Controller) (p : IsClosed c) (y : CellTable) (same : HasSameCells c.cells y) (k n : ℕ) (worth : ℤ) → n < c.nodes → StartPromise m c k n worth → StartPromise m (with_cells c y) k n worth
 start_promise_with m c p y same k n worth nl promise =
     record {
       cut_runs = λ s sl some. cut_runs_same c p y same k n s nl sl (promise.cut_runs s sl some);
       uncut_runs = rw (start_worths_same m c p y same k n nl) promise.uncut_runs;
     }
 
-start_promise_of : (m n : Meaning) → m.start ≡ n.start → (c : Controller) (k node : ℕ) (worth : ℤ) → StartPromise m c k node worth → StartPromise n c k node worth
+pub start_promise_of : (m n : Meaning) → m.start ≡ n.start → (c : Controller) (k node : ℕ) (worth : ℤ) → StartPromise m c k node worth → StartPromise n c k node worth
 start_promise_of m n start c k node worth promise =
     record {
       cut_runs = λ s sl some. promise.cut_runs s sl (rw start some);

@@ -1,5 +1,5 @@
 -- Where a pair is short or lacks an observation, the promise of one step is false.
-use Rattle.std.proofs.Common.{◌≡◌, ℕ, ◌*◌, ◌^◌, ◌<◌, ℤ, pos, ◌+ℤ◌, ◌*ℤ◌, ◌≤ℤ◌, ◌<ℤ◌, true, List, [], ◌∷◌, Option, Some, None, refl, ap, ◌∙◌, arith, Contains}
+use Rattle.std.proofs.Common.{◌≡◌, ℕ, ◌*◌, ◌^◌, ◌<◌, ℤ, pos, ◌+ℤ◌, ◌*ℤ◌, ◌≤ℤ◌, ◌<ℤ◌, true, List, [], ◌∷◌, Option, Some, None, refl, ap, ◌∙◌, arith}
 use Rattle.std.proofs.lemmas.List.Elements.{All-contains}
 use Rattle.std.proofs.Math.IntN.{*ℤ_comm}
 use Rattle.std.proofs.Math.Nat.{pow-suc, pow-zero}
@@ -39,17 +39,6 @@ refused_short c n s h promise =
     let is : worth_sum c 1 (Some n) s ≡ backing c n s = worth_sum_one c n s in
     omega (arith, linear)
 
-pub refused_lacking : (c : Controller) (n s z : ℕ) → z < c.cells.observations → Lacks c n s z → Promise c 1 n s → ⊥
-refused_lacking c n s z zl lack promise =
-    let e : ℕ = lack.1.0 in
-    let run : List (ℕ × ℕ) = (e, z) ∷ [] in
-    let among : Contains (runs c 1) run = Contains-runs c 1 run refl (lack.1.1, zl, tt) in
-    let cut : is_cut c (Some n) run ≡ true = rw lack.0 refl in
-    let nothing : weight c (Some n) s run ≡ 0 = All-contains (λ u. is_cut c (Some n) u ≡ true → weight c (Some n) s u ≡ 0) (runs c 1) run promise.cut_runs among cut in
-    let is : weight c (Some n) s run ≡ step_weight c n s e z * 1 = rw lack.0 refl in
-    let some : 0 < step_weight c n s e z = lack.1.2 in
-    omega arith
-
 pub cut_run : (c : Controller) (n s z : ℕ) → z < c.cells.observations → Lacks c n s z → HasCutRun c n s z
 cut_run c n s z zl lack =
     let e : ℕ = lack.1.0 in
@@ -57,3 +46,9 @@ cut_run c n s z zl lack =
     let is : weight c (Some n) s run ≡ step_weight c n s e z * 1 = rw lack.0 refl in
     let some : 0 < step_weight c n s e z = lack.1.2 in
     (e, Contains-runs c 1 run refl (lack.1.1, zl, tt), rw lack.0 refl, omega arith)
+
+pub refused_lacking : (c : Controller) (n s z : ℕ) → z < c.cells.observations → Lacks c n s z → Promise c 1 n s → ⊥
+refused_lacking c n s z zl lack promise =
+    let (e, among, cut, some) = cut_run c n s z zl lack in
+    let nothing : weight c (Some n) s ((e, z) ∷ []) ≡ 0 = All-contains (λ u. is_cut c (Some n) u ≡ true → weight c (Some n) s u ≡ 0) (runs c 1) ((e, z) ∷ []) promise.cut_runs among cut in
+    omega (arith, nothing, some)

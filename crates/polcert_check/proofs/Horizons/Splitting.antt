@@ -1,6 +1,5 @@
 -- The backing of a pair, from what its action earns and what its node expects.
-use Rattle.std.proofs.Common.{◌≡◌, ℕ, ◌<◌, ◌≤◌, ◌⊎◌, inl, inr, ℤ, pos, ◌+ℤ◌, ◌*ℤ◌, Option, Some, None, refl, sym, ap, ◌∙◌, arith}
-use Rattle.std.proofs.lemmas.Bool.{cases_lt}
+use Rattle.std.proofs.Common.{◌≡◌, ℕ, ◌<◌, ℤ, pos, ◌+ℤ◌, ◌*ℤ◌, Option, Some, None, refl, sym, ap, ◌∙◌}
 use Rattle.std.proofs.Math.IntN.{zero-*ℤ, *ℤ-zero}
 use Rattle.polcert_check.specs.Horizon.{Controller, one, total_below, step_weight}
 use Rattle.polcert_check.specs.Shortfall.{at_node, backing}
@@ -9,7 +8,7 @@ use Rattle.polcert_check.specs.Steps.Factored.{reward_ahead, value_term, value_b
 use Rattle.polcert_check.specs.Steps.Followed.{followed}
 use Rattle.polcert_check.proofs.Sums.Ring.{products, *ℤ_assoc}
 use Rattle.polcert_check.proofs.Sums.SumLaws.{sum_below_same, sum_below_scale, sum_below_add}
-use Rattle.polcert_check.proofs.Horizons.Kept.{backing_term}
+use Rattle.polcert_check.proofs.Horizons.Kept.{backing_term, no_weight}
 
 sum_split : (u g : ℤ) (x y : ℕ → ℤ) (n : ℕ) → total_below (λ i. u *ℤ x i +ℤ g *ℤ y i) n ≡ u *ℤ total_below x n +ℤ g *ℤ total_below y n
 sum_split u g x y n =
@@ -58,15 +57,8 @@ module _ (c : Controller) (n s : ℕ) (rewards : ℕ → ℕ → ℤ) (counted :
       ∙ sum_split (pos one) (pos c.cells.discount) (λ e. pos (c.cells.t (c.action n) s e) *ℤ total_below (λ z. pos (c.cells.o (c.action n) e z) *ℤ rewards e z) c.cells.observations) (λ e. pos (c.cells.t (c.action n) s e) *ℤ value_behind c n e) c.cells.states
 
 -- ---- of a pair that lacks nothing every reward counts
-no_weight_of : (c : Controller) (n s e z : ℕ) → IsLeastLacking c n s None → e < c.cells.states → z < c.cells.observations → c.next n z ≡ None → step_weight c n s e z ≡ 0
-no_weight_of c n s e z lacks el zl none = go (cases_lt 0 (step_weight c n s e z))
-  where
-    go : (0 < step_weight c n s e z) ⊎ (step_weight c n s e z ≤ 0) → step_weight c n s e z ≡ 0
-    go (inl l) = absurd (lacks z zl (none, (e, el, l)))
-    go (inr l) = omega (arith, l)
-
 all_counted : (c : Controller) (n s : ℕ) → IsLeastLacking c n s None → (e z : ℕ) → e < c.cells.states → z < c.cells.observations → (at : Option ℕ) → c.next n z ≡ at → IsCounted c n s e z (c.cells.r (c.action n) s e z) at
-all_counted c n s lacks e z el zl None is = ap (λ (w : ℕ). pos w *ℤ c.cells.r (c.action n) s e z) (no_weight_of c n s e z lacks el zl is) ∙ zero-*ℤ (c.cells.r (c.action n) s e z)
+all_counted c n s lacks e z el zl None is = ap (λ (w : ℕ). pos w *ℤ c.cells.r (c.action n) s e z) (no_weight c n s e z (lacks z zl) el is) ∙ zero-*ℤ (c.cells.r (c.action n) s e z)
 all_counted c n s lacks e z el zl (Some m) is = refl
 
 pub backing_split : (c : Controller) (n s : ℕ) → IsLeastLacking c n s None → backing c n s ≡ pos one *ℤ reward_ahead c.cells (c.action n) s +ℤ pos c.cells.discount *ℤ value_ahead c n s

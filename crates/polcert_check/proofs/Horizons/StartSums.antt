@@ -9,7 +9,7 @@ use Rattle.std.proofs.Math.Numerals.{add-one}
 use Rattle.std.specs.List.{fold}
 use Rattle.polcert_text.specs.Numbers.{largest}
 use Rattle.polcert_cells.specs.Meaning.{Meaning, HasLimitedNumbers, states_of, start_weight, start_total}
-use Rattle.polcert_policy.specs.Vectors.{PolicyVectors, IsInRange, AreProperVectors, value_of}
+use Rattle.polcert_policy.specs.Vectors.{PolicyVectors, AreProperVectors, value_of}
 use Rattle.polcert_check.specs.Horizon.{Controller, one, total_below, step_scale, worth_sum}
 use Rattle.polcert_check.specs.Shortfall.{Passes}
 use Rattle.polcert_check.specs.Steps.Ranges.{IsController}
@@ -19,7 +19,7 @@ use Rattle.polcert_check.proofs.Sums.SumLaws.{sum_below_front, sum_below_le, sum
 use Rattle.polcert_check.proofs.Horizons.Kept.{worth_all}
 use Rattle.polcert_check.proofs.Horizons.Cuts.{promise_all}
 use Rattle.polcert_check.proofs.Sums.Bounds.{abs-*ℤ_le, abs_part_le, fits_128}
-use Rattle.polcert_check.proofs.Certificates.{value_is_in_range}
+use Rattle.polcert_check.proofs.Certificates.{value_is_within}
 
 -- ---- the shares
 sum_more : (a : ℕ) (xs : List ℕ) → fold ◌+◌ a xs ≡ a + sum xs
@@ -38,9 +38,6 @@ start_row m limits =
     rw limits.start_count at (shares_sum m.start.weights ∙ ap (λ (k : ℕ). pos k) limits.start_sum)
 
 -- ---- one term
-within : (h : ℤ) → IsInRange h → unsigned_abs h ≤ largest
-within h r = omega (arith, ints, r.0, r.1)
-
 pub value_fits : (value : ℤ) → unsigned_abs value ≤ largest → FitsSigned w128 value
 value_fits value small = fits_128 value largest small (lit< tt)
 
@@ -51,7 +48,7 @@ term_small share value small = abs-*ℤ_le (pos share) value share largest (omeg
 pub start_part_le : (m : Meaning) (v : PolicyVectors) → HasLimitedNumbers m → AreProperVectors v → v.states ≡ states_of m → (n i : ℕ) → n < v.nodes → i ≤ states_of m → unsigned_abs (total_below (λ s. pos (start_weight m s) *ℤ value_of v n s) i) ≤ start_total m * largest
 start_part_le m v limits proper same n i nl il =
     abs_part_le (λ s. pos (start_weight m s) *ℤ value_of v n s) (start_weight m) largest i (states_of m) (start_total m) (start_row m limits) il
-    (λ s sl. term_small (start_weight m s) (value_of v n s) (within (value_of v n s) (value_is_in_range v proper n s nl (omega (arith, sl, same)))))
+    (λ s sl. term_small (start_weight m s) (value_of v n s) (value_is_within v proper n s nl (omega (arith, sl, same))))
 
 pub start_fits : (total : ℕ) (x : ℤ) → total ≤ 1000000 → unsigned_abs x ≤ total * largest → FitsSigned w128 x
 start_fits total x few small =
@@ -88,7 +85,8 @@ floor_small (pos a) k m some small = div-le_of_le-mul k small
 floor_small (negsuc a) k m some small = (div-lt_iff_lt-mul some).1 (omega (arith, small))
 
 -- the code's quotient, which is cast to 64 bits
-pub floor_back : (a : ℤ) (k : ℕ) (q : ℤ) → 0 < k → k ≤ 1000000 → unsigned_abs a ≤ k * largest → FitsSigned w128 a → q ≡ int_div_euclid (to_z w128 (of_z w128 a)) (to_z w128 k) → IsFloorQuotient a k (to_z w64 (of_z w64 (to_z w128 (of_z w128 q))))
+pub floor_back : (a : ℤ) (k : ℕ) (q : ℤ) → 0 < k → k ≤ 1000000 → unsigned_abs a ≤ k * largest → FitsSigned w128 a → q ≡ int_div_euclid (to_z w128 (of_z w128 a)) (to_z w128 k)
+    → IsFloorQuotient a k (to_z w64 (of_z w64 (to_z w128 (of_z w128 q)))) × (unsigned_abs (to_z w64 (of_z w64 (to_z w128 (of_z w128 q)))) ≤ largest)
 floor_back a k q some few small fa is =
     let top : to_z w128 (of_z w128 a) ≡ a = to_z-of_z w128 a fa in
     let below : to_z w128 k ≡ pos k = to_z_pos w128 k (omega arith) in
@@ -96,17 +94,7 @@ floor_back a k q some few small fa is =
     let small_q : unsigned_abs q ≤ largest = rw same (floor_small a k largest some small) in
     let wide : to_z w128 (of_z w128 q) ≡ q = to_z-of_z w128 q (value_fits q small_q) in
     let narrow : to_z w64 (of_z w64 q) ≡ q = to_z-of_z w64 q (fits_signed_from_abs w64 q (omega (arith, small_q))) in
-    rw (wide, narrow, same) (floor_is a k some)
-
-pub floor_back_small : (a : ℤ) (k : ℕ) (q : ℤ) → 0 < k → k ≤ 1000000 → unsigned_abs a ≤ k * largest → FitsSigned w128 a → q ≡ int_div_euclid (to_z w128 (of_z w128 a)) (to_z w128 k) → unsigned_abs (to_z w64 (of_z w64 (to_z w128 (of_z w128 q)))) ≤ largest
-floor_back_small a k q some few small fa is =
-    let top : to_z w128 (of_z w128 a) ≡ a = to_z-of_z w128 a fa in
-    let below : to_z w128 k ≡ pos k = to_z_pos w128 k (omega arith) in
-    let same : q ≡ int_div_euclid a (pos k) = rw (top, below) at is in
-    let small_q : unsigned_abs q ≤ largest = rw same (floor_small a k largest some small) in
-    let wide : to_z w128 (of_z w128 q) ≡ q = to_z-of_z w128 q (value_fits q small_q) in
-    let narrow : to_z w64 (of_z w64 q) ≡ q = to_z-of_z w64 q (fits_signed_from_abs w64 q (omega (arith, small_q))) in
-    rw (wide, narrow) small_q
+    rw (wide, narrow) (rw same (floor_is a k some), small_q)
 
 -- the quotient as it is returned
 pub worth_is : (m : Meaning) (v : PolicyVectors) (n total : ℕ) (x q : ℤ) → FitsSigned w128 x → x ≡ start_sum m v n → total ≡ start_total m → FitsSigned w64 q → IsFloorQuotient (to_z w128 (of_z w128 x)) total q → IsStartWorth m v n (to_z w64 (of_z w64 q))
@@ -117,7 +105,7 @@ worth_is m v n total x q fx x_is total_is fq floor =
 
 -- ---- the promise
 -- `worth` is at most the start-weighted mean of the values of n
-start_all : (c : Controller) → IsController c → Passes c → (start : ℕ → ℕ) (start_total : ℕ) (worth : ℤ) (n : ℕ) → n < c.nodes → (pos start_total *ℤ worth) ≤ℤ total_below (λ s. pos (start s) *ℤ c.value n s) c.cells.states → (k : ℕ) → (pos (start_total * (step_scale c ^ k * one ^ k)) *ℤ worth) ≤ℤ total_below (λ s. pos (start s) *ℤ worth_sum c k (Some n) s) c.cells.states
+pub start_all : (c : Controller) → IsController c → Passes c → (start : ℕ → ℕ) (start_total : ℕ) (worth : ℤ) (n : ℕ) → n < c.nodes → (pos start_total *ℤ worth) ≤ℤ total_below (λ s. pos (start s) *ℤ c.value n s) c.cells.states → (k : ℕ) → (pos (start_total * (step_scale c ^ k * one ^ k)) *ℤ worth) ≤ℤ total_below (λ s. pos (start s) *ℤ worth_sum c k (Some n) s) c.cells.states
 start_all c p passes start start_total worth n nl mean k =
     let x : ℕ = step_scale c ^ k * one ^ k in
     let first : pos (start_total * x) *ℤ worth ≡ pos x *ℤ (pos start_total *ℤ worth) = *ℤ_assoc (pos start_total) (pos x) worth ∙ *ℤ_left_comm (pos start_total) (pos x) worth in

@@ -1,8 +1,8 @@
 -- The greatest short, and the least constant that it gives.
 use Rattle.std.proofs.Common.{◌≡◌, ℕ, ◌+◌, ◌-◌, ◌*◌, ◌^◌, ◌<◌, ◌≤◌, ℤ, pos, ◌≤ℤ◌, ◌<ℤ◌, inl, ⊎_elim, sym, refl, subst, arith, lit<, ◌+ℤ◌, ◌-ℤ◌, neg_ℤ, FitsSigned, to_z, of_z, unsigned_abs}
 use mir.Syntax.{w128}
-use Rattle.std.proofs.lemmas.Int.{to_z-of_z, ints, fits_signed_from_abs}
-use Rattle.polcert_check.proofs.Sums.Bounds.{fits_128}
+use Rattle.std.proofs.lemmas.Int.{ints, fits_signed_from_abs}
+use Rattle.polcert_check.proofs.Sums.Bounds.{fits_128, negated_is}
 use Rattle.polcert_text.specs.Numbers.{largest}
 use Rattle.polcert_cells.specs.Tables.{CellTable, IsWithinLimits}
 use Rattle.polcert_check.specs.Horizon.{Controller, one, step_scale}
@@ -18,12 +18,9 @@ use Rattle.polcert_check.specs.Steps.Mirrored.{turned, CanMove}
 use Rattle.polcert_check.proofs.Walking.Verdicts.{positive_product}
 use Rattle.polcert_policy.specs.Vectors.{PolicyVectors, AreProperVectors, IsInRange, value_of}
 use Rattle.polcert_check.proofs.Certificates.{value_is_in_range}
-use Rattle.polcert_check.proofs.Sums.Ring.{linear}
+use Rattle.polcert_check.proofs.Sums.Ring.{linear, wider}
 use Rattle.polcert_check.proofs.Horizons.Kept.{LacksNone}
 use Rattle.polcert_check.proofs.Lowerings.Lowering.{passes_lowered, from_passes_lowered}
-
-wider : (x : ℤ) (a b : ℕ) → x ≤ℤ pos a → a ≤ b → x ≤ℤ pos b
-wider x a b h l = omega (arith, linear)
 
 mul_assoc : (a b d : ℕ) → a * b * d ≡ a * (b * d)
 mul_assoc a b d = omega arith
@@ -111,15 +108,12 @@ constant_small side v proper by can =
 pub constant_fits : (side : Side) (v : PolicyVectors) → AreProperVectors v → (by : ℕ) → CanMove side v by → FitsSigned w64 (pos by)
 constant_fits side v proper by can = let small : by ≤ 2 * largest = constant_small side v proper by can in record { sfits = omega (arith, ints) }
 
-minus : (by : ℕ) → pos 0 -ℤ pos by ≡ neg_ℤ (pos by)
-minus by = omega (arith, ints)
-
 pub negated : (v : PolicyVectors) → AreProperVectors v → (by : ℕ) → CanLower v by → (x : ℤ) → x ≡ pos by → to_z w64 (of_z w64 (pos 0 -ℤ to_z w64 (of_z w64 x))) ≡ neg_ℤ (pos by)
 negated v proper by can x e =
     let small : by ≤ 2 * largest = constant_small Below v proper by can in
     let fits : FitsSigned w64 (pos by) = constant_fits Below v proper by can in
     let below : FitsSigned w64 (neg_ℤ (pos by)) = fits_signed_from_abs w64 (neg_ℤ (pos by)) (omega (arith, ints)) in
-    rw (e, to_z-of_z w64 (pos by) fits, minus by) (to_z-of_z w64 (neg_ℤ (pos by)) below)
+    rw e (negated_is w64 (pos by) fits below)
 
 pub at_one : (m : CellTable) → IsWithinLimits m → 1000000 ≤ m.discount → m.discount ≡ one
 unfolding one

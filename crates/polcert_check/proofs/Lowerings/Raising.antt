@@ -1,5 +1,5 @@
 -- What lowers the mirror image raises the controller.
-use Rattle.std.proofs.Common.{◌≡◌, ◌∙◌, ℕ, ◌<◌, ℤ, pos, neg_ℤ, ◌+ℤ◌, ◌-ℤ◌, refl, sym, ap, subst, arith}
+use Rattle.std.proofs.Common.{◌≡◌, ◌↔◌, ◌∙◌, ℕ, ◌<◌, ℤ, pos, neg_ℤ, ◌+ℤ◌, ◌-ℤ◌, refl, sym, ap, subst, arith}
 use Rattle.std.proofs.lemmas.Int.{ints}
 use Rattle.polcert_cells.specs.Tables.{CellTable}
 use Rattle.polcert_policy.specs.Graphs.{PolicyGraph}
@@ -28,37 +28,28 @@ turned_sum x by = omega (arith, linear)
 same_moved : (c : Controller) (by : ℕ) → lowered_by (mirrored c) by ≡ mirrored (raised_by c by)
 same_moved c by = λ i. record (mirrored c) { value = λ n s. turned_sum (c.value n s) by i }
 
-passes_raised : (c : Controller) (by : ℕ) → Passes (lowered_by (mirrored c) by) → PassesAbove (raised_by c by)
-passes_raised c by h = passes_above (raised_by c by) (subst Passes (same_moved c by) h)
+passes_moved : (c : Controller) (by : ℕ) → Passes (lowered_by (mirrored c) by) ↔ PassesAbove (raised_by c by)
+passes_moved c by = ((λ h. passes_above (raised_by c by) (subst Passes (same_moved c by) h)), (λ h. subst Passes (sym (same_moved c by)) (passes_below (raised_by c by) h)))
 
-passes_lowered : (c : Controller) (by : ℕ) → PassesAbove (raised_by c by) → Passes (lowered_by (mirrored c) by)
-passes_lowered c by h = subst Passes (sym (same_moved c by)) (passes_below (raised_by c by) h)
-
-least_above : (c : Controller) (by : ℕ) → IsLeast (mirrored c) by → IsLeastAbove c by
-least_above c by h = (passes_raised c by h.0, λ d l p. h.1 d l (passes_lowered c d p))
-
-least_below : (c : Controller) (by : ℕ) → IsLeastAbove c by → IsLeast (mirrored c) by
-least_below c by h = (passes_lowered c by h.0, λ d l p. h.1 d l (passes_raised c d p))
+least_moved : (c : Controller) (by : ℕ) → IsLeast (mirrored c) by ↔ IsLeastAbove c by
+least_moved c by = (
+  (λ h. ((passes_moved c by).0 h.0, λ d l p. h.1 d l ((passes_moved c d).1 p))),
+  (λ h. ((passes_moved c by).1 h.0, λ d l p. h.1 d l ((passes_moved c d).0 p))),
+)
 
 -- ---- the range
-range_up : (x : ℤ) (by : ℕ) → IsInRange (neg_ℤ x +ℤ neg_ℤ (pos by)) → IsInRange (x +ℤ pos by)
-range_up x by r = (omega (arith, ints, r.0, r.1), omega (arith, ints, r.0, r.1))
+range_turned : (x : ℤ) (by : ℕ) → IsInRange (neg_ℤ x +ℤ neg_ℤ (pos by)) ↔ IsInRange (x +ℤ pos by)
+range_turned x by = omega (arith, ints)
 
-range_down : (x : ℤ) (by : ℕ) → IsInRange (x +ℤ pos by) → IsInRange (neg_ℤ x +ℤ neg_ℤ (pos by))
-range_down x by r = (omega (arith, ints, r.0, r.1), omega (arith, ints, r.0, r.1))
-
-can_raise : (v : PolicyVectors) (by : ℕ) → CanMove Above v by → CanRaise v by
-can_raise v by h = λ n s nl sl. range_up (value_of v n s) by (h n s nl sl)
-
-can_move : (v : PolicyVectors) (by : ℕ) → CanRaise v by → CanMove Above v by
-can_move v by h = λ n s nl sl. range_down (value_of v n s) by (h n s nl sl)
+can_raise : (v : PolicyVectors) (by : ℕ) → CanMove Above v by ↔ CanRaise v by
+can_raise v by = ((λ h n s nl sl. (range_turned (value_of v n s) by).0 (h n s nl sl)), (λ h n s nl sl. (range_turned (value_of v n s) by).1 (h n s nl sl)))
 
 -- ---- what is answered
 pub least_raise_is : (c : Controller) (v : PolicyVectors) (x : ℤ) → IsLeastMove (mirrored c) (CanMove Above v) x → IsLeastRaise c v x
-least_raise_is c v x h = (h.0, h.1, least_above c h.0 h.2, can_raise v h.0 h.3)
+least_raise_is c v x h = (h.0, h.1, (least_moved c h.0).0 h.2, (can_raise v h.0).0 h.3)
 
 pub least_move_is : (c : Controller) (v : PolicyVectors) (x : ℤ) → IsLeastRaise c v x → IsLeastMove (mirrored c) (CanMove Above v) x
-least_move_is c v x h = (h.0, h.1, least_below c h.0 h.2, can_move v h.0 h.3)
+least_move_is c v x h = (h.0, h.1, (least_moved c h.0).1 h.2, (can_raise v h.0).1 h.3)
 
 first_long : (c : Controller) (n s : ℕ) (amount : ℤ) → IsFirstShort (mirrored c) n s amount → IsFirstLong c n s amount
 first_long c n s amount h =
@@ -70,8 +61,8 @@ first_short c n s amount h =
 
 pub not_raised_is : (c : Controller) (v : PolicyVectors) (fault : LowerFault) → IsNotMended (mirrored c) (CanMove Above v) fault → IsNotRaised c v (raise_of fault)
 not_raised_is c v (lower.NoSuccessor n s z) h = h
-not_raised_is c v (lower.NoConstant n s amount) h = (h.0, (λ by p. h.1 by (passes_lowered c by p)), first_long c n s amount h.2)
-not_raised_is c v lower.OutOfRange h = (h.0, (h.1.0, least_above c h.1.0 h.1.1, (λ can. h.1.2 (can_move v h.1.0 can))))
+not_raised_is c v (lower.NoConstant n s amount) h = (h.0, (λ by p. h.1 by ((passes_moved c by).1 p)), first_long c n s amount h.2)
+not_raised_is c v lower.OutOfRange h = (h.0, (h.1.0, (least_moved c h.1.0).0 h.1.1, (λ can. h.1.2 ((can_raise v h.1.0).1 can))))
 not_raised_is c v lower.Memory h = h
 
 -- the refusal to lower the mirror image that says this from above
@@ -89,8 +80,8 @@ raise_again raise.Memory = refl
 
 pub not_mended_is : (c : Controller) (v : PolicyVectors) (fault : RaiseFault) → IsNotRaised c v fault → IsNotMended (mirrored c) (CanMove Above v) (lower_of fault)
 not_mended_is c v (raise.NoSuccessor n s z) h = h
-not_mended_is c v (raise.NoConstant n s amount) h = (h.0, (λ by p. h.1 by (passes_raised c by p)), first_short c n s amount h.2)
-not_mended_is c v raise.OutOfRange h = (h.0, (h.1.0, least_below c h.1.0 h.1.1, (λ can. h.1.2 (can_raise v h.1.0 can))))
+not_mended_is c v (raise.NoConstant n s amount) h = (h.0, (λ by p. h.1 by ((passes_moved c by).0 p)), first_short c n s amount h.2)
+not_mended_is c v raise.OutOfRange h = (h.0, (h.1.0, (least_moved c h.1.0).1 h.1.1, (λ can. h.1.2 ((can_raise v h.1.0).0 can))))
 not_mended_is c v raise.Memory h = h
 
 pub small_raise : (c : Controller) (fault : LowerFault) → RefusesSmallAmount (mirrored c) fault → RefusesSmallRaise c (raise_of fault)

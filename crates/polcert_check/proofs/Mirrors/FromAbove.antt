@@ -1,37 +1,40 @@
 -- What passes from below in the mirror image passes from above, and its promises are promises from above.
-use Rattle.std.proofs.Common.{◌≡◌, ◌∙◌, ℕ, ◌*◌, ◌^◌, ◌<◌, ℤ, pos, neg_ℤ, ◌+ℤ◌, ◌*ℤ◌, ◌≤ℤ◌, IsTrue, All, Some, List, ◌∷◌, [], refl, sym, subst, arith}
-use Rattle.std.proofs.lemmas.List.Elements.{All-weaker}
+use Rattle.std.proofs.Common.{◌≡◌, ◌∙◌, ℕ, ◌*◌, ◌^◌, ◌<◌, ℤ, pos, neg_ℤ, ◌+ℤ◌, ◌*ℤ◌, ◌≤ℤ◌, IsTrue, All, Contains, Some, List, ◌∷◌, [], refl, sym, subst, arith}
 use Rattle.polcert_check.specs.declared.above.AboveVerdict.{AboveVerdict}
 use Rattle.polcert_check.specs.declared.above.AboveVerdict.TheVariants as above
 use Rattle.polcert_check.specs.declared.verdict.Verdict.{Verdict}
 use Rattle.polcert_check.specs.declared.verdict.Verdict.TheVariants.{Yes, Short, NoSuccessor}
 use Rattle.polcert_check.specs.declared.side.Side.TheVariants.{Above}
-use Rattle.polcert_check.specs.Horizon.{Controller, one, step_scale, runs, is_cut, weight, worth_sum, rewards_sum, Promise, RewardPromise, AtMost, MeetsEveryHorizon, MeetsHorizon, HasCutRun}
+use Rattle.polcert_check.specs.Horizon.{Controller, one, step_scale, runs, is_cut, weight, Promise, RewardPromise, AtMost, MeetsEveryHorizon, MeetsHorizon, HasCutRun}
 use Rattle.polcert_check.specs.Shortfall.{short, PairPasses, Passes}
 use Rattle.polcert_check.specs.Verdict.{PassesBefore, IsVerdict, NamesSmallAmount}
 use Rattle.polcert_check.specs.Above.{PromiseAbove, AtLeast, RewardPromiseAbove, MeetsEveryHorizonAbove, MeetsHorizonAbove, PairPassesAbove, PassesAbove, PassesAboveBefore, IsAboveVerdict, NamesSmallAmountAbove}
 use Rattle.polcert_check.specs.Steps.Mirrored.{mirrored, above_of}
 use Rattle.polcert_check.specs.Steps.Ranges.{IsController}
 use Rattle.polcert_check.proofs.Horizons.EveryHorizon.{every_horizon, passes_if_promised}
-use Rattle.polcert_check.proofs.Sums.Ring.{linear}
+use Rattle.polcert_check.proofs.Sums.Ring.{linear, neg_product}
 use Rattle.polcert_check.proofs.Mirrors.Sides.{sided_proper}
-use Rattle.polcert_check.proofs.Mirrors.Mirrored.{neg_product, mirrored_short, mirrored_runs, mirrored_cut, mirrored_weight, mirrored_weights, mirrored_worth, mirrored_earned}
+use Rattle.polcert_check.proofs.Mirrors.Mirrored.{mirrored_short, mirrored_runs, mirrored_cut, mirrored_weight, mirrored_weights, mirrored_worth, mirrored_earned}
 
 -- ---- numbers
-turn_le : (x y : ℤ) → neg_ℤ x ≤ℤ neg_ℤ y → y ≤ℤ x
-turn_le x y h = omega (arith, linear)
+-- what is at least the negative of a product, and what is at most the product, each with the sum that a reward's promise has
+pub le_above : (x v w w' : ℤ) → w' ≡ neg_ℤ w → (x *ℤ neg_ℤ v) ≤ℤ w' → w ≤ℤ (x *ℤ v)
+le_above x v w w' e h = omega (arith, linear, neg_product x v)
+
+pub le_below : (x v w w' : ℤ) → w' ≡ neg_ℤ w → w ≤ℤ (x *ℤ v) → (x *ℤ neg_ℤ v) ≤ℤ w'
+le_below x v w w' e h = omega (arith, linear, neg_product x v)
+
+sum_above : (x v r r' y m : ℤ) → r' ≡ neg_ℤ r → (x *ℤ neg_ℤ v) ≤ℤ (r' +ℤ y *ℤ neg_ℤ m) → (r +ℤ y *ℤ m) ≤ℤ (x *ℤ v)
+sum_above x v r r' y m e h = omega (arith, linear, neg_product x v, neg_product y m)
+
+sum_below : (x v r r' y m : ℤ) → r' ≡ neg_ℤ r → (r +ℤ y *ℤ neg_ℤ m) ≤ℤ (x *ℤ v) → (x *ℤ neg_ℤ v) ≤ℤ (r' +ℤ y *ℤ m)
+sum_below x v r r' y m e h = omega (arith, linear, neg_product x v, neg_product y m)
 
 turn_back : (x y : ℤ) → y ≤ℤ x → neg_ℤ x ≤ℤ neg_ℤ y
 turn_back x y h = omega (arith, linear)
 
 turn_up : (x y : ℤ) → neg_ℤ y ≤ℤ x → neg_ℤ x ≤ℤ y
 turn_up x y h = omega (arith, linear)
-
-turn_le_sum : (x r y : ℤ) → neg_ℤ x ≤ℤ (neg_ℤ r +ℤ neg_ℤ y) → (r +ℤ y) ≤ℤ x
-turn_le_sum x r y h = omega (arith, linear)
-
-turn_back_sum : (x r y : ℤ) → (r +ℤ neg_ℤ y) ≤ℤ x → neg_ℤ x ≤ℤ (neg_ℤ r +ℤ y)
-turn_back_sum x r y h = omega (arith, linear)
 
 pub turn_short : (x y : ℤ) → x ≡ neg_ℤ y → x ≤ℤ pos 0 → pos 0 ≤ℤ y
 turn_short x y e h = omega (arith, linear)
@@ -88,112 +91,61 @@ small_above c (NoSuccessor n s z) h = h
 abbrev CutsWeighNothing : Controller → ℕ → ℕ → List (ℕ × ℕ) → Type 0
 CutsWeighNothing c n s run = IsTrue (is_cut c (Some n) run) → weight c (Some n) s run ≡ 0
 
-cut_above : (c : Controller) (k n s : ℕ) → All (CutsWeighNothing (mirrored c) n s) (runs (mirrored c) k)
-    → All (CutsWeighNothing c n s) (runs c k)
-cut_above c k n s h =
-    All-weaker (CutsWeighNothing (mirrored c) n s) (CutsWeighNothing c n s)
-    (λ run is cut. sym (mirrored_weight c (Some n) s run) ∙ is (subst (λ b. IsTrue b) (sym (mirrored_cut c (Some n) run)) cut))
-    (runs c k)
-    (subst (λ rs. All (CutsWeighNothing (mirrored c) n s) rs) (mirrored_runs c k) h)
-
-cut_below : (c : Controller) (k n s : ℕ) → All (CutsWeighNothing c n s) (runs c k)
-    → All (CutsWeighNothing (mirrored c) n s) (runs (mirrored c) k)
-cut_below c k n s h =
-    subst (λ rs. All (CutsWeighNothing (mirrored c) n s) rs) (sym (mirrored_runs c k))
-    (All-weaker (CutsWeighNothing c n s) (CutsWeighNothing (mirrored c) n s)
-    (λ run is cut. mirrored_weight c (Some n) s run ∙ is (subst (λ b. IsTrue b) (mirrored_cut c (Some n) run) cut))
-    (runs c k) h)
+pub cuts_turned : (c : Controller) (k n s : ℕ) → All (CutsWeighNothing (mirrored c) n s) (runs (mirrored c) k) ≡ All (CutsWeighNothing c n s) (runs c k)
+cuts_turned c k n s = λ i. All (λ run. IsTrue (mirrored_cut c (Some n) run i) → mirrored_weight c (Some n) s run i ≡ 0) (mirrored_runs c k i)
 
 pub promise_above : (c : Controller) (k n s : ℕ) → Promise (mirrored c) k n s → PromiseAbove c k n s
-promise_above c k n s h =
-    let x : ℤ = pos (step_scale c ^ k * one ^ k) in
-    record {
-      cut_runs = cut_above c k n s h.cut_runs;
-      uncut_runs = turn_le (x *ℤ c.value n s) (worth_sum c k (Some n) s)
-          (subst (λ (y : ℤ). y ≤ℤ neg_ℤ (worth_sum c k (Some n) s)) (neg_product x (c.value n s))
-          (subst (λ (y : ℤ). (x *ℤ neg_ℤ (c.value n s)) ≤ℤ y) (mirrored_worth c k (Some n) s) h.uncut_runs));
-    }
+promise_above c k n s h = record {
+  cut_runs = subst (λ (T : Type 0). T) (cuts_turned c k n s) h.cut_runs;
+  uncut_runs = le_above (pos (step_scale c ^ k * one ^ k)) (c.value n s) _ _ (mirrored_worth c k (Some n) s) h.uncut_runs;
+}
 
 pub promise_below : (c : Controller) (k n s : ℕ) → PromiseAbove c k n s → Promise (mirrored c) k n s
-promise_below c k n s h =
-    let x : ℤ = pos (step_scale c ^ k * one ^ k) in
-    record {
-      cut_runs = cut_below c k n s h.cut_runs;
-      uncut_runs = subst (λ (y : ℤ). (x *ℤ neg_ℤ (c.value n s)) ≤ℤ y) (sym (mirrored_worth c k (Some n) s))
-          (subst (λ (y : ℤ). y ≤ℤ neg_ℤ (worth_sum c k (Some n) s)) (sym (neg_product x (c.value n s)))
-          (turn_back (x *ℤ c.value n s) (worth_sum c k (Some n) s) h.uncut_runs));
-    }
+promise_below c k n s h = record {
+  cut_runs = subst (λ (T : Type 0). T) (sym (cuts_turned c k n s)) h.cut_runs;
+  uncut_runs = le_below (pos (step_scale c ^ k * one ^ k)) (c.value n s) _ _ (mirrored_worth c k (Some n) s) h.uncut_runs;
+}
 
 at_most : (c : Controller) (m : ℤ) → AtLeast c m → AtMost (mirrored c) (neg_ℤ m)
 at_most c m h = λ n s nl sl. turn_back (c.value n s) m (h n s nl sl)
 
 pub rewards_above : (c : Controller) (k n s : ℕ) → RewardPromise (mirrored c) k n s → RewardPromiseAbove c k n s
-rewards_above c k n s h =
-    let x : ℤ = pos (step_scale c ^ k * one ^ k) in
-    let y : ℤ = pos (c.cells.discount ^ k * step_scale c ^ k) in
-    record {
-      weights = sym (mirrored_weights c k (Some n) s) ∙ h.weights;
-      rewarded = λ m least. turn_le_sum (x *ℤ c.value n s) (rewards_sum c k (Some n) s) (y *ℤ m)
-          (subst (λ (z : ℤ). z ≤ℤ (neg_ℤ (rewards_sum c k (Some n) s) +ℤ neg_ℤ (y *ℤ m))) (neg_product x (c.value n s))
-          (subst (λ (z : ℤ). (x *ℤ neg_ℤ (c.value n s)) ≤ℤ (neg_ℤ (rewards_sum c k (Some n) s) +ℤ z)) (neg_product y m)
-          (subst (λ (z : ℤ). (x *ℤ neg_ℤ (c.value n s)) ≤ℤ (z +ℤ y *ℤ neg_ℤ m)) (mirrored_earned c k (Some n) s) (h.rewarded (neg_ℤ m) (at_most c m least)))));
-    }
+rewards_above c k n s h = record {
+  weights = sym (mirrored_weights c k (Some n) s) ∙ h.weights;
+  rewarded = λ m least. sum_above (pos (step_scale c ^ k * one ^ k)) (c.value n s) _ _ (pos (c.cells.discount ^ k * step_scale c ^ k)) m (mirrored_earned c k (Some n) s) (h.rewarded (neg_ℤ m) (at_most c m least));
+}
 
 at_least : (c : Controller) (m : ℤ) → AtMost (mirrored c) m → AtLeast c (neg_ℤ m)
 at_least c m h = λ n s nl sl. turn_up m (c.value n s) (h n s nl sl)
 
 pub rewards_below : (c : Controller) (k n s : ℕ) → RewardPromiseAbove c k n s → RewardPromise (mirrored c) k n s
-rewards_below c k n s h =
-    let x : ℤ = pos (step_scale c ^ k * one ^ k) in
-    let y : ℤ = pos (c.cells.discount ^ k * step_scale c ^ k) in
-    record {
-      weights = mirrored_weights c k (Some n) s ∙ h.weights;
-      rewarded = λ m most. subst (λ (z : ℤ). z ≤ℤ (rewards_sum (mirrored c) k (Some n) s +ℤ y *ℤ m)) (sym (neg_product x (c.value n s)))
-          (subst (λ (z : ℤ). neg_ℤ (x *ℤ c.value n s) ≤ℤ (z +ℤ y *ℤ m)) (sym (mirrored_earned c k (Some n) s))
-          (turn_back_sum (x *ℤ c.value n s) (rewards_sum c k (Some n) s) (y *ℤ m)
-          (subst (λ (z : ℤ). (rewards_sum c k (Some n) s +ℤ z) ≤ℤ (x *ℤ c.value n s)) (neg_product y m) (h.rewarded (neg_ℤ m) (at_least c m most)))));
-    }
+rewards_below c k n s h = record {
+  weights = mirrored_weights c k (Some n) s ∙ h.weights;
+  rewarded = λ m most. sum_below (pos (step_scale c ^ k * one ^ k)) (c.value n s) _ _ (pos (c.cells.discount ^ k * step_scale c ^ k)) m (mirrored_earned c k (Some n) s) (h.rewarded (neg_ℤ m) (at_least c m most));
+}
 
 pub every_horizon_above : (c : Controller) → MeetsEveryHorizon (mirrored c) → MeetsEveryHorizonAbove c
 every_horizon_above c h = λ k n s nl sl. let both = h k n s nl sl in (promise_above c k n s both.0, rewards_above c k n s both.1)
 
-cut_run_above : (c : Controller) (n s z : ℕ) → HasCutRun (mirrored c) n s z → HasCutRun c n s z
-cut_run_above c n s z h =
-    let run : List (ℕ × ℕ) = (h.0, z) ∷ [] in (
-      h.0,
-      h.1,
-      subst (λ b. IsTrue b) (mirrored_cut c (Some n) run) h.2,
-      subst (λ (w : ℕ). 0 < w) (mirrored_weight c (Some n) s run) h.3,
-    )
+cut_run_turned : (c : Controller) (n s z : ℕ) → HasCutRun (mirrored c) n s z ≡ HasCutRun c n s z
+cut_run_turned c n s z = λ i. (e : ℕ) × Contains (mirrored_runs c 1 i) ((e, z) ∷ []) × IsTrue (mirrored_cut c (Some n) ((e, z) ∷ []) i) × (0 < mirrored_weight c (Some n) s ((e, z) ∷ []) i)
 
 every_horizon_below : (c : Controller) → MeetsEveryHorizonAbove c → MeetsEveryHorizon (mirrored c)
 every_horizon_below c h = λ k n s nl sl. let both = h k n s nl sl in (promise_below c k n s both.0, rewards_below c k n s both.1)
 
-cut_run_below : (c : Controller) (n s z : ℕ) → HasCutRun c n s z → HasCutRun (mirrored c) n s z
-cut_run_below c n s z h =
-    let run : List (ℕ × ℕ) = (h.0, z) ∷ [] in (
-      h.0,
-      h.1,
-      subst (λ b. IsTrue b) (sym (mirrored_cut c (Some n) run)) h.2,
-      subst (λ (w : ℕ). 0 < w) (sym (mirrored_weight c (Some n) s run)) h.3,
-    )
-
 pub horizon_above : (c : Controller) (v : Verdict) → MeetsHorizon (mirrored c) v → MeetsHorizonAbove c (above_of v)
 horizon_above c Yes h = every_horizon_above c h
 horizon_above c (Short n s amount) h = λ p. h (promise_below c 1 n s p)
-horizon_above c (NoSuccessor n s z) h = ((λ p. h.0 (promise_below c 1 n s p)), cut_run_above c n s z h.1)
+horizon_above c (NoSuccessor n s z) h = ((λ p. h.0 (promise_below c 1 n s p)), subst (λ (T : Type 0). T) (cut_run_turned c n s z) h.1)
 
 pub horizon_below : (c : Controller) (v : AboveVerdict) → MeetsHorizonAbove c v → MeetsHorizon (mirrored c) (below_of v)
 horizon_below c above.Yes h = every_horizon_below c h
 horizon_below c (above.Long n s amount) h = λ p. h (promise_above c 1 n s p)
-horizon_below c (above.NoSuccessor n s z) h = ((λ p. h.0 (promise_above c 1 n s p)), cut_run_below c n s z h.1)
+horizon_below c (above.NoSuccessor n s z) h = ((λ p. h.0 (promise_above c 1 n s p)), subst (λ (T : Type 0). T) (sym (cut_run_turned c n s z)) h.1)
 
 -- ---- where every pair passes, and only there
 pub horizons_above : (c : Controller) → IsController c → PassesAbove c → MeetsEveryHorizonAbove c
 horizons_above c p h = every_horizon_above c (every_horizon (mirrored c) (sided_proper Above c p) (passes_below c h))
-
-pub promised_above : (c : Controller) → IsController c → PassesAbove c → (k n s : ℕ) → n < c.nodes → s < c.cells.states → PromiseAbove c k n s
-promised_above c p h k n s nl sl = (horizons_above c p h k n s nl sl).0
 
 pub passes_if_promised_above : (c : Controller) (n s : ℕ) → PromiseAbove c 1 n s → PairPassesAbove c n s
 passes_if_promised_above c n s h = pair_above c n s (passes_if_promised (mirrored c) n s (promise_below c 1 n s h))

@@ -1,29 +1,18 @@
 -- What is so of a controller, and what of its mirror image: each sum of rewards and values is negated, and weights stay.
 use Rattle.std.proofs.Common.{◌≡◌, ◌∙◌, ℕ, zero, suc, ◌-◌, ◌*◌, ◌^◌, ℤ, pos, neg_ℤ, ◌+ℤ◌, ◌-ℤ◌, ◌*ℤ◌, Bool, not, cond, Option, Some, None, List, [], ◌∷◌, map, filter, flat_map, get_or, refl, sym, ap, arith}
+use Rattle.std.proofs.Math.IntN.{neg_ℤ-+ℤ}
 use Rattle.polcert_check.specs.Horizon.{Controller, one, total_below, sum_over, step_weight, step_scale, pairs, runs, is_cut, weight, rewards, end_value, reward_part, total, uncut, weights_sum, worth_sum, rewards_sum}
 use Rattle.polcert_check.specs.Shortfall.{at_node, backing, short}
 use Rattle.polcert_check.specs.Steps.Mirrored.{mirrored}
-use Rattle.polcert_check.proofs.Sums.Ring.{linear, *ℤ-+ℤ}
+use Rattle.polcert_check.proofs.Sums.Ring.{linear, neg_product}
 use Rattle.polcert_check.proofs.Sums.SumLaws.{sum_below_same, sum_over_same}
 
 -- ---- numbers
 neg_sum : (x y : ℤ) → neg_ℤ x +ℤ neg_ℤ y ≡ neg_ℤ (x +ℤ y)
-neg_sum x y = omega (arith, linear)
+neg_sum x y = sym (neg_ℤ-+ℤ x y)
 
 neg_difference : (x y : ℤ) → neg_ℤ x -ℤ neg_ℤ y ≡ neg_ℤ (x -ℤ y)
 neg_difference x y = omega (arith, linear)
-
-from_zero : (x y : ℤ) → x +ℤ y ≡ pos 0 → y ≡ neg_ℤ x
-from_zero x y e = omega (arith, linear)
-
-neg_cancels : (x : ℤ) → x +ℤ neg_ℤ x ≡ pos 0
-neg_cancels x = omega (arith, linear)
-
-times_zero : (x : ℤ) → x *ℤ pos 0 ≡ pos 0
-times_zero x = let e : x *ℤ pos 0 ≡ x *ℤ pos 0 +ℤ x *ℤ pos 0 = *ℤ-+ℤ x (pos 0) (pos 0) in omega (arith, linear)
-
-pub neg_product : (x y : ℤ) → x *ℤ neg_ℤ y ≡ neg_ℤ (x *ℤ y)
-neg_product x y = from_zero (x *ℤ y) (x *ℤ neg_ℤ y) (sym (*ℤ-+ℤ x y (neg_ℤ y)) ∙ ap (λ (z : ℤ). x *ℤ z) (neg_cancels y) ∙ times_zero x)
 
 -- ---- sums
 pub sum_below_neg : (f : ℕ → ℤ) (n : ℕ) → total_below (λ i. neg_ℤ (f i)) n ≡ neg_ℤ (total_below f n)
@@ -44,15 +33,7 @@ mirrored_step : (c : Controller) (n s e z : ℕ) (at : Option ℕ)
     → at_node (λ m. pos (step_weight c n s e z) *ℤ (pos one *ℤ neg_ℤ (c.cells.r (c.action n) s e z) +ℤ pos c.cells.discount *ℤ neg_ℤ (c.value m e))) at
     ≡ neg_ℤ (at_node (λ m. pos (step_weight c n s e z) *ℤ (pos one *ℤ c.cells.r (c.action n) s e z +ℤ pos c.cells.discount *ℤ c.value m e)) at)
 mirrored_step c n s e z None = refl
-mirrored_step c n s e z (Some m) =
-    let w : ℤ = pos (step_weight c n s e z) in
-    let r : ℤ = c.cells.r (c.action n) s e z in
-    let g : ℤ = pos c.cells.discount in
-    let v : ℤ = c.value m e in
-    ap (λ (x : ℤ). w *ℤ (x +ℤ g *ℤ neg_ℤ v)) (neg_product (pos one) r)
-    ∙ ap (λ (x : ℤ). w *ℤ (neg_ℤ (pos one *ℤ r) +ℤ x)) (neg_product g v)
-    ∙ ap (λ (x : ℤ). w *ℤ x) (neg_sum (pos one *ℤ r) (g *ℤ v))
-    ∙ neg_product w (pos one *ℤ r +ℤ g *ℤ v)
+mirrored_step c n s e z (Some m) = simp (neg_product, neg_sum)
 
 pub mirrored_backing : (c : Controller) (n s : ℕ) → backing (mirrored c) n s ≡ neg_ℤ (backing c n s)
 mirrored_backing c n s =
@@ -63,10 +44,8 @@ mirrored_backing c n s =
 
 pub mirrored_short : (c : Controller) (n s : ℕ) → short (mirrored c) n s ≡ neg_ℤ (short c n s)
 mirrored_short c n s =
-    let q : ℤ = pos (step_scale c * one) in
-    ap (λ (x : ℤ). x -ℤ backing (mirrored c) n s) (neg_product q (c.value n s))
-    ∙ ap (λ (x : ℤ). neg_ℤ (q *ℤ c.value n s) -ℤ x) (mirrored_backing c n s)
-    ∙ neg_difference (q *ℤ c.value n s) (backing c n s)
+    let backed : backing (mirrored c) n s ≡ neg_ℤ (backing c n s) = mirrored_backing c n s in
+    rw (backed, neg_product) (neg_difference (pos (step_scale c * one) *ℤ c.value n s) (backing c n s))
 
 -- ---- runs
 pub mirrored_runs : (c : Controller) (k : ℕ) → runs (mirrored c) k ≡ runs c k
@@ -103,11 +82,9 @@ mirrored_part c k at s run =
 
 mirrored_total : (c : Controller) (k : ℕ) (at : Option ℕ) (s : ℕ) (run : List (ℕ × ℕ)) → total (mirrored c) k at s run ≡ neg_ℤ (total c k at s run)
 mirrored_total c k at s run =
-    let g : ℤ = pos (c.cells.discount ^ k) in
-    ap (λ (x : ℤ). x +ℤ g *ℤ end_value (mirrored c) at s run) (mirrored_part c k at s run)
-    ∙ ap (λ (x : ℤ). neg_ℤ (reward_part c k at s run) +ℤ g *ℤ x) (mirrored_end c at s run)
-    ∙ ap (λ (x : ℤ). neg_ℤ (reward_part c k at s run) +ℤ x) (neg_product g (end_value c at s run))
-    ∙ neg_sum (reward_part c k at s run) (g *ℤ end_value c at s run)
+    let rewarded : reward_part (mirrored c) k at s run ≡ neg_ℤ (reward_part c k at s run) = mirrored_part c k at s run in
+    let ended : end_value (mirrored c) at s run ≡ neg_ℤ (end_value c at s run) = mirrored_end c at s run in
+    rw (rewarded, ended, neg_product) (neg_sum (reward_part c k at s run) (pos (c.cells.discount ^ k) *ℤ end_value c at s run))
 
 -- the same runs are left
 kept_same : {X : Type 0} (p q : X → Bool) (xs : List X) → ((x : X) → p x ≡ q x) → filter p xs ≡ filter q xs

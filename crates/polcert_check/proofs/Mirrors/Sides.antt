@@ -1,6 +1,5 @@
 -- What is so of a controller from either side.
-use Rattle.std.proofs.Common.{◌≡◌, ℕ, ◌≤◌, ℤ, neg_ℤ, unsigned_abs, refl, sym, subst, arith}
-use Rattle.std.proofs.lemmas.Int.{ints}
+use Rattle.std.proofs.Common.{◌≡◌, ℕ, ◌≤◌, ℤ, unsigned_abs, refl, sym, subst}
 use Rattle.polcert_text.specs.Numbers.{largest}
 use Rattle.polcert_cells.specs.Tables.{IsWithinLimits}
 use Rattle.polcert_check.specs.Horizon.{Controller}
@@ -9,14 +8,12 @@ use Rattle.polcert_check.specs.Steps.Ranges.{IsClosed, IsController, ValuesAreWi
 use Rattle.polcert_check.specs.declared.side.Side.{Side}
 use Rattle.polcert_check.specs.declared.side.Side.TheVariants.{Below, Above}
 use Rattle.polcert_check.specs.Steps.Mirrored.{turned, sided}
+use Rattle.polcert_check.proofs.Sums.Bounds.{abs_neg}
 use Rattle.polcert_check.proofs.Mirrors.Mirrored.{mirrored_short}
-
-neg_size : (x : ℤ) → unsigned_abs (neg_ℤ x) ≡ unsigned_abs x
-neg_size x = omega (arith, ints)
 
 pub turned_size : (side : Side) (x : ℤ) → unsigned_abs (turned side x) ≡ unsigned_abs x
 turned_size Below x = refl
-turned_size Above x = neg_size x
+turned_size Above x = abs_neg x
 
 pub sided_short : (side : Side) (c : Controller) (n s : ℕ) → short (sided side c) n s ≡ turned side (short c n s)
 sided_short Below c n s = refl

@@ -1,22 +1,28 @@
 -- The promise from above, from a model's start.
-use Rattle.std.proofs.Common.{◌≡◌, ◌∙◌, ℕ, ◌*◌, ◌^◌, ◌<◌, ◌≤◌, ℤ, pos, neg_ℤ, ◌+ℤ◌, ◌-ℤ◌, ◌*ℤ◌, ◌≤ℤ◌, ◌<ℤ◌, Some, unsigned_abs, FitsSigned, to_z, of_z, w64, sym, refl, ap, subst, arith}
+use Rattle.std.proofs.Common.{◌≡◌, ◌∙◌, ℕ, ◌*◌, ◌^◌, ◌<◌, ◌≤◌, ℤ, pos, neg_ℤ, ◌+ℤ◌, ◌-ℤ◌, ◌*ℤ◌, ◌≤ℤ◌, ◌<ℤ◌, Some, unsigned_abs, to_z, of_z, w64, sym, refl, ap, subst, arith}
 use mir.Syntax.{w128}
-use Rattle.std.proofs.lemmas.Int.{ints, to_z-of_z, fits_signed_from_abs}
+use Rattle.std.proofs.lemmas.Int.{fits_signed_from_abs}
 use Rattle.polcert_text.specs.Numbers.{largest}
 use Rattle.polcert_cells.specs.Meaning.{Meaning, states_of, start_weight, start_total}
 use Rattle.polcert_cells.specs.Tables.{table_of}
 use Rattle.polcert_policy.specs.Graphs.{PolicyGraph, nodes}
-use Rattle.polcert_policy.specs.Vectors.{PolicyVectors}
+use Rattle.polcert_policy.specs.Vectors.{PolicyVectors, value_of}
 use Rattle.polcert_check.specs.Horizon.{Controller, Fits, controller_of, one, total_below, step_scale, worth_sum}
 use Rattle.polcert_check.specs.Steps.Ranges.{IsController}
-use Rattle.polcert_check.specs.StartWorth.{IsFloorQuotient, IsCeilQuotient}
+use Rattle.polcert_check.specs.StartWorth.{start_sum, IsFloorQuotient, IsCeilQuotient, StartPromise}
+use Rattle.polcert_check.specs.Steps.Mirrored.{mirrored}
+use Rattle.polcert_check.specs.Shortfall.{Passes}
+use Rattle.polcert_check.specs.declared.side.Side.TheVariants.{Above}
 use Rattle.polcert_check.specs.StartMost.{IsStartMost, StartPromiseAbove}
-use Rattle.polcert_check.specs.Above.{PromiseAbove, PassesAbove}
-use Rattle.polcert_check.proofs.Sums.Ring.{linear, *ℤ_assoc, *ℤ_left_comm, mul_le, ≤ℤ_trans, ≤ℤ_from_eq}
-use Rattle.polcert_check.proofs.Sums.SumLaws.{sum_below_le, sum_below_scale}
-use Rattle.polcert_check.proofs.Mirrors.Mirrored.{neg_product}
-use Rattle.polcert_check.proofs.Mirrors.FromAbove.{promised_above}
-use Rattle.polcert_check.proofs.Horizons.StartSums.{start_fits}
+use Rattle.polcert_check.specs.Above.{PassesAbove}
+use Rattle.polcert_check.proofs.Sums.Ring.{linear, ≤ℤ_trans, neg_product}
+use Rattle.polcert_check.proofs.Sums.Bounds.{abs_neg, negated_is}
+use Rattle.polcert_check.proofs.Sums.SumLaws.{sum_below_same}
+use Rattle.polcert_check.proofs.Mirrors.FromAbove.{passes_below, cuts_turned, le_above, le_below}
+use Rattle.polcert_check.proofs.Mirrors.Mirrored.{sum_below_neg, mirrored_worth}
+use Rattle.polcert_check.proofs.Mirrors.Sides.{sided_proper}
+use Rattle.polcert_check.proofs.Horizons.Cuts.{promise_all}
+use Rattle.polcert_check.proofs.Horizons.StartSums.{start_fits, start_all}
 
 -- ---- a quotient rounded up is that of the negative number rounded down
 turn_low : (sum x : ℤ) → x ≤ℤ neg_ℤ sum → sum ≤ℤ neg_ℤ x
@@ -53,52 +59,46 @@ floor_is_neg sum total q h =
     )
 
 -- ---- what the code negates
-from_nothing : (x : ℤ) → pos 0 -ℤ x ≡ neg_ℤ x
-from_nothing x = omega (arith, linear)
-
-same_size : (x : ℤ) → unsigned_abs (neg_ℤ x) ≡ unsigned_abs x
-same_size x = omega (arith, ints)
-
 pub neg_sum_is : (total : ℕ) (sum : ℤ) → total ≤ 1000000 → unsigned_abs sum ≤ total * largest → to_z w128 (of_z w128 (pos 0 -ℤ to_z w128 (of_z w128 sum))) ≡ neg_ℤ sum
 neg_sum_is total sum few small =
-    let fits : FitsSigned w128 sum = start_fits total sum few small in
-    let below : FitsSigned w128 (neg_ℤ sum) = start_fits total (neg_ℤ sum) few (subst (λ (x : ℕ). x ≤ total * largest) (sym (same_size sum)) small) in
-    rw (to_z-of_z w128 sum fits, from_nothing sum) (to_z-of_z w128 (neg_ℤ sum) below)
+    negated_is w128 sum (start_fits total sum few small) (start_fits total (neg_ℤ sum) few (rw (abs_neg sum) small))
 
 pub neg_quotient_is : (q : ℤ) → unsigned_abs q ≤ largest → to_z w64 (of_z w64 (pos 0 -ℤ to_z w64 (of_z w64 q))) ≡ neg_ℤ q
 neg_quotient_is q small =
-    let fits : FitsSigned w64 q = fits_signed_from_abs w64 q (omega (arith, small)) in
-    let below : FitsSigned w64 (neg_ℤ q) = fits_signed_from_abs w64 (neg_ℤ q) (omega (arith, small, same_size q)) in
-    rw (to_z-of_z w64 q fits, from_nothing q) (to_z-of_z w64 (neg_ℤ q) below)
+    negated_is w64 q (fits_signed_from_abs w64 q (omega (arith, small))) (fits_signed_from_abs w64 (neg_ℤ q) (omega (arith, small, abs_neg q)))
 
--- ---- the promise
-start_all_above : (c : Controller) → ((k n s : ℕ) → n < c.nodes → s < c.cells.states → PromiseAbove c k n s) → (start : ℕ → ℕ) (total : ℕ) (most : ℤ) (n : ℕ) → n < c.nodes
-    → total_below (λ s. pos (start s) *ℤ c.value n s) c.cells.states ≤ℤ (pos total *ℤ most) → (k : ℕ)
-    → total_below (λ s. pos (start s) *ℤ worth_sum c k (Some n) s) c.cells.states ≤ℤ (pos (total * (step_scale c ^ k * one ^ k)) *ℤ most)
-start_all_above c promised start total most n nl mean k =
-    let x : ℕ = step_scale c ^ k * one ^ k in
-    let last : pos x *ℤ (pos total *ℤ most) ≡ pos (total * x) *ℤ most = sym (*ℤ_assoc (pos total) (pos x) most ∙ *ℤ_left_comm (pos total) (pos x) most) in
-    let scaled : (pos x *ℤ total_below (λ s. pos (start s) *ℤ c.value n s) c.cells.states) ≤ℤ (pos x *ℤ (pos total *ℤ most)) = mul_le x _ _ mean in
-    let inside : total_below (λ s. pos x *ℤ (pos (start s) *ℤ c.value n s)) c.cells.states ≡ pos x *ℤ total_below (λ s. pos (start s) *ℤ c.value n s) c.cells.states = sum_below_scale (pos x) (λ s. pos (start s) *ℤ c.value n s) c.cells.states in
-    let each : total_below (λ s. pos (start s) *ℤ worth_sum c k (Some n) s) c.cells.states ≤ℤ total_below (λ s. pos x *ℤ (pos (start s) *ℤ c.value n s)) c.cells.states =
-    sum_below_le _ _ c.cells.states (λ s sl. ≤ℤ_trans _ _ _ (mul_le (start s) _ _ (promised k n s nl sl).uncut_runs) (≤ℤ_from_eq _ _ (*ℤ_left_comm (pos (start s)) (pos x) (c.value n s)))) in
-    ≤ℤ_trans _ _ _ each (≤ℤ_trans _ _ _ (≤ℤ_from_eq _ _ inside) (≤ℤ_trans _ _ _ scaled (≤ℤ_from_eq _ _ last)))
+-- ---- the promise: that of the mirror image from below
+weighed_turned : (w : ℕ → ℕ) (f g : ℕ → ℤ) (count : ℕ) → ((i : ℕ) → f i ≡ neg_ℤ (g i)) → total_below (λ i. pos (w i) *ℤ f i) count ≡ neg_ℤ (total_below (λ i. pos (w i) *ℤ g i) count)
+weighed_turned w f g count turned =
+    sum_below_same _ (λ i. neg_ℤ (pos (w i) *ℤ g i)) count (λ i _. ap (λ (x : ℤ). pos (w i) *ℤ x) (turned i) ∙ neg_product (pos (w i)) (g i))
+    ∙ sum_below_neg (λ i. pos (w i) *ℤ g i) count
 
--- `best` is the node of the greatest sum
-pub start_promise_above : (m : Meaning) (c : Controller) → c.cells.states ≡ states_of m → ((k n s : ℕ) → n < c.nodes → s < c.cells.states → PromiseAbove c k n s)
-    → (best : ℕ) (most : ℤ) → ((n : ℕ) → n < c.nodes → total_below (λ s. pos (start_weight m s) *ℤ c.value n s) (states_of m) ≤ℤ total_below (λ s. pos (start_weight m s) *ℤ c.value best s) (states_of m))
-    → IsCeilQuotient (total_below (λ s. pos (start_weight m s) *ℤ c.value best s) (states_of m)) (start_total m) most → (k n : ℕ) → n < c.nodes → StartPromiseAbove m c k n most
-start_promise_above m c same promised best most greatest ceil k n nl =
-    let sums = λ (i states : ℕ). total_below (λ s. pos (start_weight m s) *ℤ c.value i s) states in
-    let mean : sums n (states_of m) ≤ℤ (pos (start_total m) *ℤ most) = ≤ℤ_trans (sums n (states_of m)) (sums best (states_of m)) (pos (start_total m) *ℤ most) (greatest n nl) ceil.0 in
-    record {
-      cut_runs = λ s sl some. (promised k n s nl sl).cut_runs;
-      uncut_runs = start_all_above c promised (start_weight m) (start_total m) most n nl (subst (λ states. sums n states ≤ℤ (pos (start_total m) *ℤ most)) (sym same) mean) k;
-    }
+module _ (m : Meaning) (c : Controller) (k n : ℕ) (most : ℤ) where
+  worths_turned : total_below (λ s. pos (start_weight m s) *ℤ worth_sum (mirrored c) k (Some n) s) c.cells.states ≡ neg_ℤ (total_below (λ s. pos (start_weight m s) *ℤ worth_sum c k (Some n) s) c.cells.states)
+  worths_turned = weighed_turned (start_weight m) (worth_sum (mirrored c) k (Some n)) (worth_sum c k (Some n)) c.cells.states (mirrored_worth c k (Some n))
 
--- the same of a graph and vectors that fit the model
+  pub start_promise_above : StartPromise m (mirrored c) k n (neg_ℤ most) → StartPromiseAbove m c k n most
+  start_promise_above h = record {
+    cut_runs = λ s sl some. subst (λ (T : Type 0). T) (cuts_turned c k n s) (h.cut_runs s sl some);
+    uncut_runs = le_above (pos (start_total m * (step_scale c ^ k * one ^ k))) most _ _ worths_turned h.uncut_runs;
+  }
+
+  pub start_promise_below : StartPromiseAbove m c k n most → StartPromise m (mirrored c) k n (neg_ℤ most)
+  start_promise_below h = record {
+    cut_runs = λ s sl some. subst (λ (T : Type 0). T) (sym (cuts_turned c k n s)) (h.cut_runs s sl some);
+    uncut_runs = le_below (pos (start_total m * (step_scale c ^ k * one ^ k))) most _ _ worths_turned h.uncut_runs;
+  }
+
+-- of a graph and vectors that fit the model
 pub start_above : (m : Meaning) (graph : PolicyGraph) (v : PolicyVectors) → Fits (table_of m) graph v → IsController (controller_of (table_of m) graph v) → PassesAbove (controller_of (table_of m) graph v)
     → (most : ℤ) → IsStartMost m v most → (k n : ℕ) → n < nodes graph → StartPromiseAbove m (controller_of (table_of m) graph v) k n most
-start_above m graph v fits proper passes most is =
+start_above m graph v fits proper passes most is k n nl =
     let c : Controller = controller_of (table_of m) graph v in
-    start_promise_above m c refl (promised_above c proper passes) is.0 most (λ n nl. is.1.none_greater n (omega (arith, nl, fits.nodes_same))) is.2
+    let turned : IsController (mirrored c) = sided_proper Above c proper in
+    let below : Passes (mirrored c) = passes_below c passes in
+    let mean : start_sum m v n ≤ℤ (pos (start_total m) *ℤ most) = ≤ℤ_trans _ _ _ (is.1.none_greater n (omega (arith, nl, fits.nodes_same))) is.2.0 in
+    let mean_below = le_below (pos (start_total m)) most _ _ (weighed_turned (start_weight m) (λ s. neg_ℤ (value_of v n s)) (value_of v n) (states_of m) (λ s. refl)) mean in
+    start_promise_above m c k n most (record {
+      cut_runs = λ s sl some. (promise_all (mirrored c) turned below k n s nl sl).cut_runs;
+      uncut_runs = start_all (mirrored c) turned below (start_weight m) (start_total m) (neg_ℤ most) n nl mean_below k;
+    })

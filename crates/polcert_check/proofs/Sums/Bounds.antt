@@ -1,7 +1,7 @@
 -- Absolute values, and which sums fit 128 bits.
-use Rattle.std.proofs.Common.{◌≡◌, ℕ, zero, suc, ◌+◌, ◌*◌, ◌^◌, ◌<◌, ◌≤◌, ℤ, pos, ◌+ℤ◌, ◌*ℤ◌, ◌≤ℤ◌, unsigned_abs, FitsSigned, ap, arith, lit<, ◌⊎◌, inl, inr}
+use Rattle.std.proofs.Common.{◌≡◌, ℕ, zero, suc, ◌+◌, ◌*◌, ◌^◌, ◌<◌, ◌≤◌, ℤ, pos, ◌+ℤ◌, ◌-ℤ◌, ◌*ℤ◌, ◌≤ℤ◌, neg_ℤ, unsigned_abs, FitsSigned, to_z, of_z, ap, arith, lit<, ◌⊎◌, inl, inr}
 use mir.Syntax.{w128}
-use Rattle.std.proofs.lemmas.Int.{ints, unsigned_abs-mul, fits_signed_from_abs}
+use Rattle.std.proofs.lemmas.Int.{ints, unsigned_abs-mul, fits_signed_from_abs, to_z-of_z, to_z_pos}
 use Rattle.std.proofs.Math.Nat.{mul-le-mul}
 use Rattle.std.proofs.lemmas.Bool.{cases_lt}
 use Rattle.std.proofs.Math.IntN.{*ℤ_comm}
@@ -16,8 +16,17 @@ abs-+ℤ a b = omega (arith, ints)
 pub abs-*ℤ_le : (a b : ℤ) (m n : ℕ) → unsigned_abs a ≤ m → unsigned_abs b ≤ n → unsigned_abs (a *ℤ b) ≤ m * n
 abs-*ℤ_le a b m n h k = rw (unsigned_abs-mul a b) (mul-le-mul h k)
 
+pub abs_neg : (x : ℤ) → unsigned_abs (neg_ℤ x) ≡ unsigned_abs x
+abs_neg x = omega (arith, ints)
+
 pub fits_128 : (z : ℤ) (m : ℕ) → unsigned_abs z ≤ m → m < 2 ^ 127 → FitsSigned w128 z
 fits_128 z m h k = fits_signed_from_abs w128 z (omega arith)
+
+-- a number that the code negates
+pub negated_is : (w : _) (x : ℤ) → FitsSigned w x → FitsSigned w (neg_ℤ x) → to_z w (of_z w (pos 0 -ℤ to_z w (of_z w x))) ≡ neg_ℤ x
+negated_is w x fits turned =
+    let is : pos 0 -ℤ x ≡ neg_ℤ x = omega (arith, linear) in
+    rw (to_z-of_z w x fits, is) (to_z-of_z w (neg_ℤ x) turned)
 
 -- ---- bounds of sums
 pub abs_sum_le : (f : ℕ → ℤ) (w : ℕ → ℕ) (b n : ℕ) → ((i : ℕ) → i < n → unsigned_abs (f i) ≤ w i * b) → pos (unsigned_abs (total_below f n)) ≤ℤ (total_below (λ i. pos (w i)) n *ℤ pos b)
@@ -52,8 +61,8 @@ term_le w i n scale all l =
     omega (arith, linear)
 
 -- a value on the scale of one step
-pub scaled_fits : (t o : ℕ) (v : ℤ) → t * o ≤ most_scales → unsigned_abs v ≤ largest → FitsSigned w128 (pos (t * o) *ℤ pos 1000000) × FitsSigned w128 v × FitsSigned w128 ((pos (t * o) *ℤ pos 1000000) *ℤ v) × (unsigned_abs ((pos (t * o) *ℤ pos 1000000) *ℤ v) ≤ most_sum) × (t * o < 2 ^ 64)
+pub scaled_fits : (t o : ℕ) (v : ℤ) → t * o ≤ most_scales → unsigned_abs v ≤ largest → FitsSigned w128 (pos (t * o) *ℤ pos 1000000) × FitsSigned w128 v × FitsSigned w128 ((pos (t * o) *ℤ pos 1000000) *ℤ v) × (to_z w128 (t * o) ≡ pos (t * o))
 scaled_fits t o v q vl =
     let s : unsigned_abs (pos (t * o) *ℤ pos 1000000) ≤ most_scales * 1000000 = abs-*ℤ_le (pos (t * o)) (pos 1000000) most_scales 1000000 q (omega arith) in
     let b : unsigned_abs ((pos (t * o) *ℤ pos 1000000) *ℤ v) ≤ most_sum = abs-*ℤ_le (pos (t * o) *ℤ pos 1000000) v (most_scales * 1000000) largest s vl in
-    (fits_128 _ (most_scales * 1000000) s (lit< tt), fits_128 v largest vl (lit< tt), fits_128 _ most_sum b (lit< tt), b, omega (arith, q))
+    (fits_128 _ (most_scales * 1000000) s (lit< tt), fits_128 v largest vl (lit< tt), fits_128 _ most_sum b (lit< tt), to_z_pos w128 (t * o) (omega (arith, q)))

@@ -9,7 +9,7 @@ use Rattle.polcert_check.specs.Steps.Factored.{value_term, value_behind, value_a
 use Rattle.polcert_check.proofs.Sums.RowTotals.{o_rows}
 use Rattle.polcert_check.proofs.Sums.Bounds.{abs-*ℤ_le, abs_part_le}
 use Rattle.polcert_check.proofs.Sums.Scales.{behind_room}
-use Rattle.polcert_check.proofs.Walking.Ahead.{ahead_part_le}
+use Rattle.polcert_check.proofs.Walking.Weighed.{ends_weighed, part_le}
 use Rattle.polcert_check.proofs.Sums.Gaps.{gap, no_weight, cursor_step}
 
 -- no weight, no value
@@ -44,4 +44,4 @@ value_behind_le c p values n e nl el = value_part_le c p values n e c.cells.obse
 
 pub value_ahead_le : (c : Controller) → IsController c → IsWithinLimits c.cells → ValuesAreWithin c → (n s : ℕ) → n < c.nodes → s < c.cells.states → unsigned_abs (value_ahead c n s) ≤ c.cells.t_scale * (c.cells.o_scale * largest)
 value_ahead_le c p limits values n s nl sl =
-    ahead_part_le c.cells p.cells limits (c.action n) s (p.closed.actions_in_range n nl) sl (value_behind c n) (λ e el. value_behind_le c p values n e nl el) c.cells.states (omega arith)
+    part_le (ends_weighed c.cells p.cells limits (c.action n) s (p.closed.actions_in_range n nl) sl) (value_behind c n) (λ e el. value_behind_le c p values n e nl el) c.cells.states (omega arith)

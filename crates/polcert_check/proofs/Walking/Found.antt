@@ -1,6 +1,5 @@
 -- What a walk over pairs has found: with one pair more, with pairs that cannot be the first, and at the end.
 use Rattle.std.proofs.Common.{◌≡◌, ℕ, ◌<◌, ◌≤◌, ◌⊎◌, inl, inr, ⊎_elim, ℤ, pos, ◌≤ℤ◌, ◌<ℤ◌, unsigned_abs, sym, ◌∙◌, subst, arith}
-use Rattle.std.proofs.lemmas.Bool.{cases_lt}
 use Rattle.std.proofs.lemmas.Int.{ints}
 use Rattle.polcert_check.specs.Horizon.{Controller}
 use Rattle.polcert_check.specs.Shortfall.{short, PairPasses}
@@ -12,7 +11,7 @@ use Rattle.polcert_check.specs.declared.findings.Aim.TheVariants.{Check, Lowerin
 use Rattle.polcert_check.specs.declared.findings.Findings.{Findings}
 use Rattle.polcert_check.specs.declared.verdict.Verdict.{Verdict}
 use Rattle.polcert_check.specs.declared.verdict.Verdict.TheVariants.{Yes, Short, NoSuccessor}
-use Rattle.polcert_check.proofs.Sums.Ring.{linear}
+use Rattle.polcert_check.proofs.Sums.Ring.{linear, wider}
 
 abbrev pub Pairs : Type 1
 Pairs = ℕ → ℕ → Type 0
@@ -71,7 +70,7 @@ at_same R n s m t here e = subst (λ (k : ℕ). R k t) (sym e.0) (subst (λ (k :
 
 all_more : (P Q : Pairs) (n s : ℕ) → IsNext P Q n s → (R : Pairs) → ((m t : ℕ) → P m t → R m t) → R n s → (m t : ℕ) → Q m t → R m t
 all_more P Q n s next R all here m t q =
-    ⊎_elim (λ (p : P m t). all m t p) (λ (e : (m ≡ n) × (t ≡ s)). at_same R n s m t here e) (next.from m t q)
+    ⊎_elim (all m t) (at_same R n s m t here) (next.from m t q)
 
 -- its verdict is passed
 first_same : (Of : Judged) (P Q : Pairs) (n s : ℕ) (x : Verdict) → IsNext P Q n s → IsFirstOf Of P x → Of n s Yes → IsFirstOf Of Q x
@@ -79,9 +78,8 @@ first_same Of P Q n s Yes next is passed = all_more P Q n s next (λ m t. Of m t
 first_same Of P Q n s (Short m t amount) next is passed = (next.into m t is.0, is.1, all_more P Q n s next (λ i j. IsBefore i j m t → Of i j Yes) is.2 (λ l. passed))
 first_same Of P Q n s (NoSuccessor m t z) next is passed = (next.into m t is.0, is.1, all_more P Q n s next (λ i j. IsBefore i j m t → Of i j Yes) is.2 (λ l. passed))
 
-not_before : (P : Pairs) (n s m t : ℕ) → P m t → ((j : ℕ) → P n j → j < s) → m ≤ n → IsBefore n s m t → ⊥
-not_before P n s m t p behind until (inl l) = omega (arith, l, until)
-not_before P n s m t p behind until (inr e) = let l : t < s = behind t (subst (λ (k : ℕ). P k t) (sym e.0) p) in let k : s < t = e.1 in omega (arith, l, k)
+pub not_before : (P : Pairs) (n s m t : ℕ) → P m t → ((j : ℕ) → P n j → j < s) → m ≤ n → IsBefore n s m t → ⊥
+not_before P n s m t p behind until before = grind (arith, behind t)
 
 -- its verdict isn't passed, and another pair is the first
 first_kept : (Of : Judged) (P Q : Pairs) (n s : ℕ) (x : Verdict) → IsNext P Q n s → IsFirstOf Of P x → NamesUntil x n → IsFirstOf Of Q x
@@ -92,12 +90,7 @@ first_kept Of P Q n s (NoSuccessor m t z) next is until =
     (next.into m t is.0, is.1, all_more P Q n s next (λ i j. IsBefore i j m t → Of i j Yes) is.2 (λ l. absurd (not_before P n s m t is.0 next.behind until l)))
 
 lower_node : (i j n s m : ℕ) → IsBefore i j n s → (m ≤ n → ⊥) → i < m
-lower_node i j n s m before later = go (cases_lt i m) before
-  where
-    go : (i < m) ⊎ (m ≤ i) → IsBefore i j n s → i < m
-    go (inl l) b = l
-    go (inr l) (inl k) = absurd (later (omega (arith, l, k)))
-    go (inr l) (inr e) = let same : i ≡ n = e.0 in absurd (later (omega (arith, l, same)))
+lower_node i j n s m before later = grind arith
 
 -- its verdict isn't passed, and it is the first
 yes_before : (Of : Judged) (P : Pairs) (n s : ℕ) (x : Verdict) → IsFirstOf Of P x → (NamesUntil x n → ⊥) → AreYesBefore Of P n s
@@ -106,8 +99,7 @@ yes_before Of P n s (Short m t amount) is later i j p before = is.2 i j p (inl (
 yes_before Of P n s (NoSuccessor m t z) is later i j p before = is.2 i j p (inl (lower_node i j n s m before later))
 
 itself : (n s : ℕ) → IsBefore n s n s → ⊥
-itself n s (inl l) = omega (arith, l)
-itself n s (inr e) = let l : s < s = e.1 in omega (arith, l)
+itself n s before = grind arith
 
 abbrev IsAt : Verdict → ℕ → ℕ → Type 0
 IsAt Yes n s = ⊥
@@ -128,21 +120,15 @@ first_more Of P Q n s x v r next is here of (inl (until, e)) = subst (IsFirstOf 
 first_more Of P Q n s x v r next is here of (inr (later, e)) = subst (IsFirstOf Of Q) (sym e) (first_new Of P Q n s x v next is later here of)
 
 -- ---- the greatest shortfall, with one pair more
-wider : (x : ℤ) (a b : ℕ) → x ≤ℤ pos a → a ≤ b → x ≤ℤ pos b
-wider x a b h l = omega (arith, linear)
-
-above : (x : ℤ) (a : ℕ) → x ≤ℤ pos 0 → x ≤ℤ pos a
-above x a h = omega (arith, linear)
-
 worst_same : (c : Controller) (P Q : Pairs) (n s worst : ℕ) → IsNext P Q n s → IsWorstOf c P worst → short c n s ≤ℤ pos 0 → IsWorstOf c Q worst
 worst_same c P Q n s worst next is low =
     record {
-      bounds = all_more P Q n s next (λ m t. short c m t ≤ℤ pos worst) is.bounds (above (short c n s) worst low);
+      bounds = all_more P Q n s next (λ m t. short c m t ≤ℤ pos worst) is.bounds (wider (short c n s) 0 worst low (omega arith));
       is_reached = ⊎_elim (λ (e : worst ≡ 0). inl e) (λ (r : (m : ℕ) × (t : ℕ) × P m t × (pos worst ≡ short c m t)). inr (r.0, r.1, next.into r.0 r.1 r.2, r.3)) is.is_reached;
     }
 
 equal_le : (x : ℤ) (a b : ℕ) → pos a ≡ x → a ≤ b → x ≤ℤ pos b
-equal_le x a b e l = subst (λ (y : ℤ). y ≤ℤ pos b) e (wider (pos a) a b (omega (arith, linear)) l)
+equal_le x a b e l = omega (arith, linear)
 
 worst_more : (c : Controller) (P Q : Pairs) (n s worst here r : ℕ) → IsNext P Q n s → IsWorstOf c P worst → pos here ≡ short c n s → worst ≤ r → here ≤ r → (r ≡ worst) ⊎ (r ≡ here) → IsWorstOf c Q r
 worst_more c P Q n s worst here r next is at left right one =

@@ -1,6 +1,5 @@
 -- The least observation that has no successor, gathered from steps.
-use Rattle.std.proofs.Common.{◌≡◌, ℕ, zero, suc, ◌+◌, ◌*◌, ◌<◌, ◌≤◌, ◌⊎◌, inl, inr, ⊎_elim, Option, Some, None, refl, sym, subst, arith}
-use Rattle.std.proofs.lemmas.Bool.{cases_lt}
+use Rattle.std.proofs.Common.{◌≡◌, ℕ, ◌+◌, ◌*◌, ◌<◌, ◌≤◌, ◌⊎◌, inl, inr, ⊎_elim, Option, Some, None, refl, sym, subst, arith}
 use Rattle.polcert_check.specs.Horizon.{Controller}
 use Rattle.polcert_check.specs.Shortfall.{Lacks}
 use Rattle.polcert_check.specs.Verdict.{IsLeastLacking}
@@ -24,9 +23,6 @@ least_or P Q R (Some a) (Some b) r p q (inr h) split left right =
     subst (IsLeastOf R) (sym h.1) (right b q.0, λ z l k. ⊎_elim (λ (u : P z). p.1 z (omega (arith, l, h.0)) u) (λ (u : Q z). q.1 z l u) (split z k))
 
 -- ---- behind one end state
-not_zero : (x : ℕ) → x ≡ 0 → 0 < x → ⊥
-not_zero x e l = omega arith
-
 abbrev MissesAt : Controller → ℕ → ℕ → ℕ → ℕ → Type 0
 MissesAt c n e z y = (y ≡ z) × (c.next n y ≡ None) × (0 < c.cells.o (c.action n) e y)
 
@@ -37,12 +33,7 @@ missed_least c n e z missing some (inr h) =
     subst (IsLeastOf (MissesAt c n e z)) (sym h.0) ((refl, h.1, some), λ y l k. let e : y ≡ z = k.0 in omega (arith, l, e))
 
 split_at : (c : Controller) (n e from z : ℕ) → ((k : ℕ) → from ≤ k → k < z → c.cells.o (c.action n) e k ≡ 0) → (y : ℕ) → Misses c n e (z + 1) y → Misses c n e from y ⊎ MissesAt c n e z y
-split_at c n e from z none y (l, lacks, some) = go (cases_lt y from) (cases_lt y z)
-  where
-    go : (y < from) ⊎ (from ≤ y) → (y < z) ⊎ (z ≤ y) → Misses c n e from y ⊎ MissesAt c n e z y
-    go (inl k) _ = inl (k, lacks, some)
-    go (inr k) (inl h) = absurd (not_zero _ (none y k h) some)
-    go (inr k) (inr h) = inr (omega (arith, h, l), lacks, some)
+split_at c n e from z none y misses = grind arith
 
 pub end_more : (c : Controller) (n e from z w : ℕ) (x y r : Option ℕ) → from ≤ z → ((k : ℕ) → from ≤ k → k < z → c.cells.o (c.action n) e k ≡ 0) → w ≡ c.cells.o (c.action n) e z → 0 < w → IsLeastOf (Misses c n e from) x → IsMissedAt c n z y → IsLesser x y r → IsLeastOf (Misses c n e (z + 1)) r
 end_more c n e from z w x y r fl none we some least here is =
@@ -53,12 +44,7 @@ end_more c n e from z w x y r fl none we some least here is =
 
 -- ---- ahead of one start state
 split_before : (c : Controller) (n s from e : ℕ) → ((k : ℕ) → from ≤ k → k < e → c.cells.t (c.action n) s k ≡ 0) → (z : ℕ) → IsMissedBefore c n s (e + 1) z → IsMissedBefore c n s from z ⊎ Misses c n e c.cells.observations z
-split_before c n s from e none z (i, l, some, is) = go (cases_lt i from) (cases_lt i e)
-  where
-    go : (i < from) ⊎ (from ≤ i) → (i < e) ⊎ (e ≤ i) → IsMissedBefore c n s from z ⊎ Misses c n e c.cells.observations z
-    go (inl k) _ = inl (i, k, some, is)
-    go (inr k) (inl h) = absurd (not_zero _ (none i k h) some)
-    go (inr k) (inr h) = let same : i ≡ e = omega (arith, h, l) in inr (subst (λ (j : ℕ). Misses c n j c.cells.observations z) same is)
+split_before c n s from e none z missed = grind arith
 
 pub before_more : (c : Controller) (n s from e w : ℕ) (x y r : Option ℕ) → from ≤ e → ((k : ℕ) → from ≤ k → k < e → c.cells.t (c.action n) s k ≡ 0) → w ≡ c.cells.t (c.action n) s e → 0 < w → IsLeastOf (IsMissedBefore c n s from) x → IsLeastOf (Misses c n e c.cells.observations) y → IsLesser x y r → IsLeastOf (IsMissedBefore c n s (e + 1)) r
 before_more c n s from e w x y r fl none we some least here is =
@@ -70,14 +56,10 @@ before_more c n s from e w x y r fl none we some least here is =
 -- no weight between two places
 module _ (c : Controller) (n s from to : ℕ) (fl : from ≤ to) (none : (k : ℕ) → from ≤ k → k < to → c.cells.t (c.action n) s k ≡ 0) where
   further : (z : ℕ) → IsMissedBefore c n s from z → IsMissedBefore c n s to z
-  further z k = let l : k.0 < from = k.1 in (k.0, omega (arith, l, fl), k.2, k.3)
+  further z missed = grind arith
 
   nearer : (z : ℕ) → IsMissedBefore c n s to z → IsMissedBefore c n s from z
-  nearer z k = go (cases_lt k.0 from)
-    where
-      go : (k.0 < from) ⊎ (from ≤ k.0) → IsMissedBefore c n s from z
-      go (inl l) = (k.0, l, k.2, k.3)
-      go (inr l) = absurd (not_zero _ (none k.0 l k.1) k.2)
+  nearer z missed = (missed.0, grind arith, missed.2, missed.3)
 
   pub before_on : (x : Option ℕ) → IsLeastOf (IsMissedBefore c n s from) x → IsLeastOf (IsMissedBefore c n s to) x
   before_on x least = least_same (IsMissedBefore c n s from) (IsMissedBefore c n s to) x least nearer further
@@ -86,17 +68,13 @@ module _ (c : Controller) (n s from to : ℕ) (fl : from ≤ to) (none : (k : �
   before_back x least = least_same (IsMissedBefore c n s to) (IsMissedBefore c n s from) x least further nearer
 
 -- ---- a pair
-factor_left : (a b : ℕ) → 0 < a * b → 0 < a
-factor_left zero b l = omega arith
-factor_left (suc a) b l = omega arith
-
-factor_right : (a b : ℕ) → 0 < a * b → 0 < b
-factor_right a zero l = omega arith
-factor_right a (suc b) l = omega arith
+factors : (a b : ℕ) → 0 < a * b → (0 < a) × (0 < b)
+factors a b l = grind arith
 
 lack_before : (c : Controller) (n s z : ℕ) → z < c.cells.observations → Lacks c n s z → IsMissedBefore c n s c.cells.states z
 lack_before c n s z zl (none, (e, el, some)) =
-    (e, el, factor_left (c.cells.t (c.action n) s e) (c.cells.o (c.action n) e z) some, (zl, none, factor_right (c.cells.t (c.action n) s e) (c.cells.o (c.action n) e z) some))
+    let both = factors (c.cells.t (c.action n) s e) (c.cells.o (c.action n) e z) some in
+    (e, el, both.0, (zl, none, both.1))
 
 before_lack : (c : Controller) (n s z : ℕ) → IsMissedBefore c n s c.cells.states z → (z < c.cells.observations) × Lacks c n s z
 before_lack c n s z (e, el, some, misses) =

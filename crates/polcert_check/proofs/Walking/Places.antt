@@ -1,8 +1,7 @@
 -- Where a walk over a row begins that goes over its columns from one on.
-use Rattle.std.proofs.Common.{◌≡◌, ℕ, zero, suc, ◌<◌, ◌≤◌, ⊎_elim, true, false, ltb, Option, Some, None, List, [], ◌∷◌, length, get_or, refl, sym, subst, arith, add-one, Bor}
+use Rattle.std.proofs.Common.{◌≡◌, ℕ, zero, suc, ◌<◌, ◌≤◌, true, false, ltb, Option, Some, None, List, [], ◌∷◌, length, refl, sym, arith, add-one, Bor}
 use Rattle.std.specs.List.{slice_get}
 use Rattle.std.specs.List.Sorted.{IsPartitionedBy, IsPartitionPoint, IsNonDecreasingBy}
-use Rattle.std.proofs.lemmas.Bool.{cases_lt}
 use Rattle.std.proofs.lemmas.Bool.Decides.{nat_tests}
 use Rattle.std.proofs.lemmas.Option.{slice_get_within, get_or_from_slice_get}
 use Rattle.std.proofs.lemmas.List.Sorted.{IsPartitionedBy-ltb}
@@ -14,10 +13,7 @@ use Rattle.polcert_cells.proofs.RowSteps.{sparse_some, sparse_none}
 use Rattle.polcert_check.specs.Steps.Walks.{IsPlace}
 
 in_order : (xs : List Cell) → AreRising xs → IsNonDecreasingBy (λ x. x.column) xs
-in_order xs up i j d le l = ⊎_elim
-    (λ less. let here = up i j d less l in omega arith)
-    (λ ge. let same : j ≡ i = omega arith in subst (λ k. (get_or xs i d).column ≤ (get_or xs k d).column) (sym same) (omega arith))
-    (cases_lt i j)
+in_order xs up i j d le l = grind (arith, up i j d)
 
 -- the test that a place is found by
 pub parted : (xs : List Cell) (column : ℕ) → AreRising xs → IsPartitionedBy (λ x. ltb x.column column) xs

@@ -33,11 +33,7 @@ walk_stopped c n s from to low fl within none x are l = record { behind = l; wit
 
 -- where there is no weight before an end state, one with a weight is not nearer
 pub not_nearer : (c : Controller) (n s from low e w : ℕ) → from ≤ e → w ≡ c.cells.t (c.action n) s e → 0 < w → ((k : ℕ) → from ≤ k → k < low → c.cells.t (c.action n) s k ≡ 0) → low ≤ e
-not_nearer c n s from low e w fl we some clear = go (cases_lt e low)
-  where
-    go : (e < low) ⊎ (low ≤ e) → low ≤ e
-    go (inl l) = let none : c.cells.t (c.action n) s e ≡ 0 = clear e fl l in absurd (omega (arith, none, we, some))
-    go (inr l) = l
+not_nearer c n s from low e w fl we some clear = grind arith
 
 -- a walk over all end states has all steps
 pub walk_over : (c : Controller) (n s : ℕ) (walk : Walk) → IsWalk c n s c.cells.states walk → AreSteps c n s c.cells.states walk.steps

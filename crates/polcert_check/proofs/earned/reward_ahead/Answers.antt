@@ -1,4 +1,4 @@
-use Rattle.std.proofs.Common.{rules, refl, ◌∙◌, FitsSigned, to_z, of_z, w64, ◌≡◌, pos, ◌*ℤ◌}
+use Rattle.std.proofs.Common.{rules, refl, ◌∙◌, to_z, of_z, w64, ◌≡◌, pos, ◌*ℤ◌}
 use mir.Syntax.{w128}
 use Rattle.std.proofs.lemmas.Int.{to_z-of_z}
 use Rattle.polcert_cells.specs.Tables.{CellTable}
@@ -9,23 +9,16 @@ use Rattle.polcert_check.proofs.earned.reward_ahead.Goals as goal
 pub weighed-requires : goal.weighed-requires
 weighed-requires g c =
     let m : CellTable = g.C.Cells.table c.args.cells.now in
-    let fx : FitsSigned w128 c.weighed-behind.result = search rules in
-    let fh : FitsSigned w64 c.in-Some.reward = search rules in
-    let fh2 : FitsSigned w128 (to_z w64 (of_z w64 c.in-Some.reward)) = search rules in
     let behind : to_z w128 (of_z w128 c.weighed-behind.result) ≡ pos m.o_scale *ℤ c.in-Some.reward =
-    to_z-of_z w128 c.weighed-behind.result fx
-    ∙ weighed_is c.o_scale.result m.o_scale c.weighed-behind.result (to_z w64 (of_z w64 c.in-Some.reward)) c.in-Some.reward fh2 c.weighed-behind.ensures c.o_scale.ensures (to_z-of_z w64 c.in-Some.reward fh) in
+    to_z-of_z w128 c.weighed-behind.result (search rules)
+    ∙ weighed_is c.o_scale.result m.o_scale c.weighed-behind.result (to_z w64 (of_z w64 c.in-Some.reward)) c.in-Some.reward (search rules) c.weighed-behind.ensures c.o_scale.ensures (to_z-of_z w64 c.in-Some.reward (search rules)) in
     rw (behind, c.t_scale.ensures) (common_room m (g.met.C.Cells.is_proper c.args.cells.now) (g.met.C.Cells.is_within_limits c.args.cells.now) c.args.a c.args.s c.in-Some.reward c.requires.action c.requires.start (c.in-Some.ensures c.in-Some.reward refl))
 
 pub returns-in-Some : goal.returns-in-Some
 returns-in-Some g c =
     let m : CellTable = g.C.Cells.table c.args.cells.now in
-    let fx : FitsSigned w128 c.weighed.result = search rules in
-    let fb : FitsSigned w128 c.weighed-behind.result = search rules in
-    let fh : FitsSigned w64 c.in-Some.reward = search rules in
-    let fh2 : FitsSigned w128 (to_z w64 (of_z w64 c.in-Some.reward)) = search rules in
     let behind : c.weighed-behind.result ≡ pos m.o_scale *ℤ c.in-Some.reward =
-    weighed_is c.o_scale.result m.o_scale c.weighed-behind.result (to_z w64 (of_z w64 c.in-Some.reward)) c.in-Some.reward fh2 c.weighed-behind.ensures c.o_scale.ensures (to_z-of_z w64 c.in-Some.reward fh) in
-    to_z-of_z w128 c.weighed.result fx
-    ∙ weighed_is c.t_scale.result m.t_scale c.weighed.result c.weighed-behind.result (pos m.o_scale *ℤ c.in-Some.reward) fb c.weighed.ensures c.t_scale.ensures behind
+    weighed_is c.o_scale.result m.o_scale c.weighed-behind.result (to_z w64 (of_z w64 c.in-Some.reward)) c.in-Some.reward (search rules) c.weighed-behind.ensures c.o_scale.ensures (to_z-of_z w64 c.in-Some.reward (search rules)) in
+    to_z-of_z w128 c.weighed.result (search rules)
+    ∙ weighed_is c.t_scale.result m.t_scale c.weighed.result c.weighed-behind.result (pos m.o_scale *ℤ c.in-Some.reward) (search rules) c.weighed.ensures c.t_scale.ensures behind
     ∙ common m (g.met.C.Cells.is_proper c.args.cells.now) (g.met.C.Cells.is_within_limits c.args.cells.now) c.args.a c.args.s c.in-Some.reward c.requires.action c.requires.start (c.in-Some.ensures c.in-Some.reward refl)

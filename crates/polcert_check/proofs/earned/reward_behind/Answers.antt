@@ -1,4 +1,4 @@
-use Rattle.std.proofs.Common.{rules, refl, FitsSigned, to_z, of_z, w64, ◌∙◌}
+use Rattle.std.proofs.Common.{rules, refl, to_z, of_z, w64, ◌∙◌}
 use mir.Syntax.{w128}
 use Rattle.std.proofs.lemmas.Int.{to_z-of_z}
 use Rattle.polcert_cells.specs.Tables.{CellTable}
@@ -9,9 +9,6 @@ use Rattle.polcert_check.proofs.earned.reward_behind.Goals as goal
 pub returns-in-Some : goal.returns-in-Some
 returns-in-Some g c =
     let m : CellTable = g.C.Cells.table c.args.cells.now in
-    let fx : FitsSigned w128 c.weighed.result = search rules in
-    let fh : FitsSigned w64 c.in-Some.reward = search rules in
-    let fh2 : FitsSigned w128 (to_z w64 (of_z w64 c.in-Some.reward)) = search rules in
-    to_z-of_z w128 c.weighed.result fx
-    ∙ weighed_is c.o_scale.result m.o_scale c.weighed.result (to_z w64 (of_z w64 c.in-Some.reward)) c.in-Some.reward fh2 c.weighed.ensures c.o_scale.ensures (to_z-of_z w64 c.in-Some.reward fh)
+    to_z-of_z w128 c.weighed.result (search rules)
+    ∙ weighed_is c.o_scale.result m.o_scale c.weighed.result (to_z w64 (of_z w64 c.in-Some.reward)) c.in-Some.reward (search rules) c.weighed.ensures c.o_scale.ensures (to_z-of_z w64 c.in-Some.reward (search rules))
     ∙ alike m (g.met.C.Cells.is_proper c.args.cells.now) (g.met.C.Cells.is_within_limits c.args.cells.now) c.args.a c.args.s c.args.e c.in-Some.reward c.requires.action c.requires.end (c.in-Some.ensures c.in-Some.reward refl)

@@ -26,27 +26,22 @@ unfolding one
 overflow_add-backing g c =
     let m : CellTable = g.C.Cells.table c.args.cells.now in
     let limits : IsWithinLimits m = g.met.C.Cells.is_within_limits c.args.cells.now in
-    let fy : FitsSigned w128 c.weighed.result = search rules in
-    let fz : FitsSigned w128 c.weighed-2.result = search rules in
     let ye : c.weighed.result ≡ pos 1000000 *ℤ c.args.earned = weighed_is 1000000 1000000 c.weighed.result c.args.earned c.args.earned c.ranges.earned c.weighed.ensures refl refl in
     let de : c.from-discount.result ≡ m.discount = c.from-discount.ensures ∙ c.discount.ensures in
     let ze : c.weighed-2.result ≡ pos m.discount *ℤ c.args.expected = weighed_is c.from-discount.result m.discount c.weighed-2.result c.args.expected c.args.expected c.ranges.expected c.weighed-2.ensures de refl in
-    (backing_fits c.weighed.result c.weighed-2.result fy fz (factor_small m limits 1000000 c.args.earned c.weighed.result (omega arith) c.requires.earned ye) (factor_small m limits m.discount c.args.expected c.weighed-2.result (discount_small m limits) c.requires.expected ze)).0
+    (backing_fits c.weighed.result c.weighed-2.result (search rules) (search rules) (factor_small m limits 1000000 c.args.earned c.weighed.result (omega arith) c.requires.earned ye) (factor_small m limits m.discount c.args.expected c.weighed-2.result (discount_small m limits) c.requires.expected ze)).0
 
 pub overflow_sub-result : goal.overflow_sub-result
 unfolding one
 overflow_sub-result g c =
     let m : CellTable = g.C.Cells.table c.args.cells.now in
     let limits : IsWithinLimits m = g.met.C.Cells.is_within_limits c.args.cells.now in
-    let fx : FitsSigned w128 c.scaled_value.result = search rules in
-    let fy : FitsSigned w128 c.weighed.result = search rules in
-    let fz : FitsSigned w128 c.weighed-2.result = search rules in
     let ye : c.weighed.result ≡ pos 1000000 *ℤ c.args.earned = weighed_is 1000000 1000000 c.weighed.result c.args.earned c.args.earned c.ranges.earned c.weighed.ensures refl refl in
     let de : c.from-discount.result ≡ m.discount = c.from-discount.ensures ∙ c.discount.ensures in
     let ze : c.weighed-2.result ≡ pos m.discount *ℤ c.args.expected = weighed_is c.from-discount.result m.discount c.weighed-2.result c.args.expected c.args.expected c.ranges.expected c.weighed-2.ensures de refl in
     let fv : FitsSigned w64 c.args.value = c.ranges.value in
     let xe : c.scaled_value.result ≡ pos (m.t_scale * m.o_scale * one) *ℤ c.args.value = rw (c.scaled_value.ensures, to_z-of_z w64 c.args.value fv, c.t_scale.ensures, c.o_scale.ensures) refl in
-    (amount_fits c.scaled_value.result c.weighed.result c.weighed-2.result fx fy fz (value_small m limits c.args.value c.scaled_value.result c.requires.value xe) (factor_small m limits 1000000 c.args.earned c.weighed.result (omega arith) c.requires.earned ye) (factor_small m limits m.discount c.args.expected c.weighed-2.result (discount_small m limits) c.requires.expected ze)).0
+    (amount_fits c.scaled_value.result c.weighed.result c.weighed-2.result (search rules) (search rules) (search rules) (value_small m limits c.args.value c.scaled_value.result c.requires.value xe) (factor_small m limits 1000000 c.args.earned c.weighed.result (omega arith) c.requires.earned ye) (factor_small m limits m.discount c.args.expected c.weighed-2.result (discount_small m limits) c.requires.expected ze)).0
 
 pub returns : goal.returns
 unfolding one
@@ -54,14 +49,11 @@ returns g c =
     let m : CellTable = g.C.Cells.table c.args.cells.now in
     let limits : IsWithinLimits m = g.met.C.Cells.is_within_limits c.args.cells.now in
     let fv : FitsSigned w64 c.args.value = c.ranges.value in
-    let fx : FitsSigned w128 c.scaled_value.result = search rules in
-    let fy : FitsSigned w128 c.weighed.result = search rules in
-    let fz : FitsSigned w128 c.weighed-2.result = search rules in
     let ye : c.weighed.result ≡ pos 1000000 *ℤ c.args.earned = weighed_is 1000000 1000000 c.weighed.result c.args.earned c.args.earned c.ranges.earned c.weighed.ensures refl refl in
     let de : c.from-discount.result ≡ m.discount = c.from-discount.ensures ∙ c.discount.ensures in
     let ze : c.weighed-2.result ≡ pos m.discount *ℤ c.args.expected = weighed_is c.from-discount.result m.discount c.weighed-2.result c.args.expected c.args.expected c.ranges.expected c.weighed-2.ensures de refl in
     let xe : c.scaled_value.result ≡ pos (m.t_scale * m.o_scale * one) *ℤ c.args.value = rw (c.scaled_value.ensures, to_z-of_z w64 c.args.value fv, c.t_scale.ensures, c.o_scale.ensures) refl in
-    (amount_fits c.scaled_value.result c.weighed.result c.weighed-2.result fx fy fz (value_small m limits c.args.value c.scaled_value.result c.requires.value xe) (factor_small m limits 1000000 c.args.earned c.weighed.result (omega arith) c.requires.earned ye) (factor_small m limits m.discount c.args.expected c.weighed-2.result (discount_small m limits) c.requires.expected ze)).1
+    (amount_fits c.scaled_value.result c.weighed.result c.weighed-2.result (search rules) (search rules) (search rules) (value_small m limits c.args.value c.scaled_value.result c.requires.value xe) (factor_small m limits 1000000 c.args.earned c.weighed.result (omega arith) c.requires.earned ye) (factor_small m limits m.discount c.args.expected c.weighed-2.result (discount_small m limits) c.requires.expected ze)).1
     ∙ rw (xe, ye, ze) refl
 
 pub scaled_value-requires-clause-scales : goal.scaled_value-requires-clause-scales

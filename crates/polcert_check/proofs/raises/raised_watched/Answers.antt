@@ -1,4 +1,4 @@
-use Rattle.std.proofs.Common.{ℤ, ◌+ℤ◌, ◌∙◌, ap, rules, FitsSigned, w64}
+use Rattle.std.proofs.Common.{ℤ, ◌+ℤ◌, ◌∙◌, ap, rules, w64}
 use Rattle.std.proofs.lemmas.Int.{to_z-of_z}
 use Rattle.polcert_policy.specs.Vectors.{value_of}
 use Rattle.polcert_check.proofs.Certificates.{controller_is}
@@ -9,8 +9,7 @@ pub returns-clause-raised : goal.returns-clause-raised
 returns-clause-raised g c =
     let proper = controller_is _ _ _ c.requires.fits (g.met.C.Cells.is_proper c.args.cells.now) c.nodes-nodes.ensures.proper in
     let least = c.in_ok-by.ensures.least in
-    let fits : FitsSigned w64 c.in_ok-by.by = search rules in
-    let is = to_z-of_z w64 c.in_ok-by.by fits ∙ least.1 in
+    let is = to_z-of_z w64 c.in_ok-by.by (search rules) ∙ least.1 in
     record {
       least = search rules;
       shifted = search rules;

@@ -1,4 +1,4 @@
-use Rattle.std.proofs.Common.{rules, ◌≡◌, ◌∙◌, FitsSigned, to_z, of_z, w64}
+use Rattle.std.proofs.Common.{rules, ◌≡◌, ◌∙◌, to_z, of_z, w64}
 use mir.Syntax.{w128}
 use Rattle.std.proofs.lemmas.Int.{to_z-of_z}
 use Rattle.polcert_check.specs.Steps.Certificate.{controller}
@@ -15,26 +15,20 @@ use Rattle.polcert_check.proofs.shortfall.amount_at.Goals as goal
 pub amount_above-requires-clause-earned : goal.amount_above-requires-clause-earned
 amount_above-requires-clause-earned g c =
     let k : Controller = controller c.args.certificate.now in
-    let fits : FitsSigned w128 c.followed_reward-earned.result = search rules in
-    let same = to_z-of_z w128 c.followed_reward-earned.result fits ∙ c.followed_reward-earned.ensures in
+    let same = to_z-of_z w128 c.followed_reward-earned.result (search rules) ∙ c.followed_reward-earned.ensures in
     rw same (reward_ahead_le (followed k c.args.n) (followed_is_proper k c.args.n c.args.certificate.now.proper.cells) (followed_is_within k c.args.n (g.met.C.Cells.is_within_limits c.args.certificate.now.cells.now)) (k.action c.args.n) c.args.s (c.args.certificate.now.proper.closed.actions_in_range c.args.n c.requires.node) c.requires.start)
 
 pub amount_above-requires-clause-expected : goal.amount_above-requires-clause-expected
 amount_above-requires-clause-expected g c =
     let k : Controller = controller c.args.certificate.now in
-    let fits : FitsSigned w128 c.expected_at-expected.result = search rules in
-    let same = to_z-of_z w128 c.expected_at-expected.result fits ∙ c.expected_at-expected.ensures in
+    let same = to_z-of_z w128 c.value_ahead-expected.result (search rules) ∙ c.value_ahead-expected.ensures in
     rw same (value_ahead_le k c.args.certificate.now.proper (g.met.C.Cells.is_within_limits c.args.certificate.now.cells.now) c.args.certificate.now.values c.args.n c.args.s c.requires.node c.requires.start)
 
 pub returns-clause-is : goal.returns-clause-is
 returns-clause-is g c =
     let k : Controller = controller c.args.certificate.now in
-    let f : FitsSigned w128 c.amount_above.result = search rules in
-    let fe : FitsSigned w128 c.followed_reward-earned.result = search rules in
-    let fx : FitsSigned w128 c.expected_at-expected.result = search rules in
-    let fv : FitsSigned w64 c.at-value.result = search rules in
-    to_z-of_z w128 c.amount_above.result f
-    ∙ amount_is k c.args.n c.args.s _ _ (followed_split k c.args.n c.args.s) c.amount_above.result _ _ _ c.amount_above.ensures (to_z-of_z w64 c.at-value.result fv ∙ c.at-value.ensures.value) (to_z-of_z w128 c.followed_reward-earned.result fe ∙ c.followed_reward-earned.ensures) (to_z-of_z w128 c.expected_at-expected.result fx ∙ c.expected_at-expected.ensures)
+    to_z-of_z w128 c.amount_above.result (search rules)
+    ∙ amount_is k c.args.n c.args.s _ _ (followed_split k c.args.n c.args.s) c.amount_above.result _ _ _ c.amount_above.ensures (to_z-of_z w64 c.at-value.result (search rules) ∙ c.at-value.ensures.value) (to_z-of_z w128 c.followed_reward-earned.result (search rules) ∙ c.followed_reward-earned.ensures) (to_z-of_z w128 c.value_ahead-expected.result (search rules) ∙ c.value_ahead-expected.ensures)
 
 pub returns-clause-small : goal.returns-clause-small
 returns-clause-small g c =

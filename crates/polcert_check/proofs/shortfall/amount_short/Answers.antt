@@ -1,4 +1,4 @@
-use Rattle.std.proofs.Common.{rules, ◌≡◌, ◌<◌, ◌≤◌, ◌∙◌, unsigned_abs, FitsSigned, sym, subst}
+use Rattle.std.proofs.Common.{rules, ◌≡◌, ◌<◌, ◌≤◌, ◌∙◌, unsigned_abs, sym, subst}
 use mir.Syntax.{w128}
 use Rattle.std.proofs.lemmas.Int.{to_z-of_z}
 use Rattle.polcert_check.specs.Horizon.{Controller}
@@ -13,10 +13,8 @@ amount_at-requires-clause-start g c = subst (λ (k : Controller). c.args.s < k.c
 
 pub returns-clause-is : goal.returns-clause-is
 returns-clause-is g c =
-    let f : FitsSigned w128 c.amount_at.result = search rules in
-    to_z-of_z w128 c.amount_at.result f ∙ subst (λ (k : Controller). c.amount_at.result ≡ short k c.args.n c.args.s) c.new.ensures.controller c.amount_at.ensures.is
+    to_z-of_z w128 c.amount_at.result (search rules) ∙ subst (λ (k : Controller). c.amount_at.result ≡ short k c.args.n c.args.s) c.new.ensures.controller c.amount_at.ensures.is
 
 pub returns-clause-small : goal.returns-clause-small
 returns-clause-small g c =
-    let f : FitsSigned w128 c.amount_at.result = search rules in
-    rw (to_z-of_z w128 c.amount_at.result f) (subst (λ (k : Controller). unsigned_abs c.amount_at.result ≤ most_short k) c.new.ensures.controller c.amount_at.ensures.small)
+    rw (to_z-of_z w128 c.amount_at.result (search rules)) (subst (λ (k : Controller). unsigned_abs c.amount_at.result ≤ most_short k) c.new.ensures.controller c.amount_at.ensures.small)

@@ -1,4 +1,4 @@
-use Rattle.std.proofs.Common.{rules, ◌∙◌, ap, ℕ, FitsSigned}
+use Rattle.std.proofs.Common.{rules, ◌∙◌, ap, ℕ}
 use mir.Syntax.{w128}
 use Rattle.std.proofs.lemmas.Int.{to_z-of_z}
 use Rattle.polcert_check.specs.Steps.Certificate.{controller}
@@ -8,5 +8,4 @@ use Rattle.polcert_check.proofs.shortfall.followed_reward.Goals as goal
 
 pub returns : goal.returns
 returns g c =
-    let fits : FitsSigned w128 c.reward_ahead.result = search rules in
-    to_z-of_z w128 c.reward_ahead.result fits ∙ c.reward_ahead.ensures ∙ ap (λ (a : ℕ). reward_ahead (followed (controller c.args.certificate.now) c.args.n) a c.args.s) c.action.ensures.value
+    to_z-of_z w128 c.reward_ahead.result (search rules) ∙ c.reward_ahead.ensures ∙ ap (λ (a : ℕ). reward_ahead (followed (controller c.args.certificate.now) c.args.n) a c.args.s) c.action.ensures.value

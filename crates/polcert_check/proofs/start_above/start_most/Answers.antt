@@ -1,4 +1,4 @@
-use Rattle.std.proofs.Common.{◌∙◌, rules, FitsSigned, to_z, of_z, w64}
+use Rattle.std.proofs.Common.{◌∙◌, rules, to_z, of_z, w64}
 use mir.Syntax.{w128}
 use Rattle.std.proofs.lemmas.Int.{to_z-of_z}
 use Rattle.polcert_model.specs.Contents.{meaning}
@@ -14,10 +14,8 @@ use Rattle.polcert_check.proofs.start_above.start_most.Goals as goal
 pub returns-clause-most : goal.returns-clause-most
 returns-clause-most c =
     let m : Meaning = meaning c.args.model.now in
-    let fx : FitsSigned w128 c.best_start-node.result.1 = search rules in
-    let fq : FitsSigned w64 c.ceil_quotient.result = search rules in
-    let sum = to_z-of_z w128 c.best_start-node.result.1 fx ∙ c.best_start-node.ensures.sum in
-    let back = to_z-of_z w64 c.ceil_quotient.result fq in
+    let sum = to_z-of_z w128 c.best_start-node.result.1 (search rules) ∙ c.best_start-node.ensures.sum in
+    let back = to_z-of_z w64 c.ceil_quotient.result (search rules) in
     let quotient : IsCeilQuotient (start_sum m c.args.vectors.now c.best_start-node.result.0) (start_total m) (to_z w64 (of_z w64 c.ceil_quotient.result)) = rw back (rw (sum, c.start_total.ensures) at c.ceil_quotient.ensures) in
     (c.best_start-node.result.0, c.best_start-node.ensures.node, quotient)
 

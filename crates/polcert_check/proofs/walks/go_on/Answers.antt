@@ -1,4 +1,4 @@
-use Rattle.std.proofs.Common.{rules, arith, ◌≡◌, ◌∙◌, ◌<◌, ◌≤◌, ◌*◌, ℕ, unsigned_abs, FitsSigned, to_z, of_z, refl, sym, subst}
+use Rattle.std.proofs.Common.{rules, arith, ◌≡◌, ◌∙◌, ◌<◌, ◌≤◌, ◌*◌, ℕ, unsigned_abs, to_z, of_z, refl, sym, subst}
 use mir.Syntax.{w128}
 use Rattle.std.proofs.lemmas.Int.{to_z-of_z}
 use Rattle.polcert_text.specs.Numbers.{largest}
@@ -10,7 +10,7 @@ use Rattle.polcert_check.specs.Steps.Factored.{value_behind}
 use Rattle.polcert_check.specs.Steps.Walks.{AreSteps, IsPlace}
 use Rattle.polcert_check.specs.declared.blocks.Block.{Block}
 use Rattle.polcert_check.specs.declared.blocks.TheConstants.{ENDS_AT_ONCE}
-use Rattle.polcert_check.proofs.Walking.Ahead.{weight_room, ahead_step}
+use Rattle.polcert_check.proofs.Walking.Weighed.{ends_weighed, weight_room, weighed_step}
 use Rattle.polcert_check.proofs.Walking.Expecting.{value_behind_le}
 use Rattle.polcert_check.proofs.Walking.Missing.{before_more}
 use Rattle.polcert_check.proofs.Walking.StartWalks.{steps_back, not_nearer, walk_stopped}
@@ -22,9 +22,8 @@ loop-end-init g c =
     let at : ℕ = reached c.t_row-row.result c.place_from-at.result in
     let place : IsPlace (k.cells.t (k.action c.args.n) c.args.s) c.t_row-row.result c.args.walk.from c.place_from-at.result = rw c.action-a.ensures.value at (c.place_from-at.ensures (k.cells.t c.action-a.result c.args.s) k.cells.states c.requires.walk.within c.t_row-row.ensures) in
     let back : AreSteps k c.args.n c.args.s at c.args.walk.steps = steps_back k c.args.n c.args.s at c.args.walk.from place.behind place.clear c.args.walk.steps c.requires.walk.steps in
-    let fits : FitsSigned w128 c.args.walk.steps.worth = search rules in
     record {
-      worth = to_z-of_z w128 c.args.walk.steps.worth fits ∙ back.worth;
+      worth = to_z-of_z w128 c.args.walk.steps.worth (search rules) ∙ back.worth;
       missing = back.missing;
       within = omega (arith, place.behind, c.requires.walk.within);
       clear = λ j l h. place.clear j l (omega (arith, h, c.requires.walk.behind));
@@ -51,32 +50,27 @@ pub weighed-worth-requires : goal.weighed-worth-requires
 weighed-worth-requires g c =
     let k : Controller = controller c.args.certificate.now in
     let limits : IsWithinLimits k.cells = g.met.C.Cells.is_within_limits c.args.certificate.now.cells.now in
-    let fy : FitsSigned w128 c.behind-step.result.worth = search rules in
-    let back : to_z w128 (of_z w128 c.behind-step.result.worth) ≡ value_behind k c.args.n c.in-Some.end.column = to_z-of_z w128 c.behind-step.result.worth fy ∙ c.behind-step.ensures.steps.worth in
+    let back : to_z w128 (of_z w128 c.behind-step.result.worth) ≡ value_behind k c.args.n c.in-Some.end.column = to_z-of_z w128 c.behind-step.result.worth (search rules) ∙ c.behind-step.ensures.steps.worth in
     let next = rw c.action-a.ensures.value at c.in-Some.ensures.0 in
-    rw back (weight_room k.cells c.args.certificate.now.proper.cells limits (k.action c.args.n) c.args.s (c.args.certificate.now.proper.closed.actions_in_range c.args.n c.requires.node) c.requires.start c.in-Some.end.column c.in-Some.end.weight (value_behind k c.args.n c.in-Some.end.column) next.1 next.2 (value_behind_le k c.args.certificate.now.proper c.args.certificate.now.values c.args.n c.in-Some.end.column c.requires.node next.1))
+    rw back (weight_room (ends_weighed k.cells c.args.certificate.now.proper.cells limits (k.action c.args.n) c.args.s (c.args.certificate.now.proper.closed.actions_in_range c.args.n c.requires.node) c.requires.start) c.in-Some.end.column c.in-Some.end.weight (value_behind k c.args.n c.in-Some.end.column) next.1 next.2 (value_behind_le k c.args.certificate.now.proper c.args.certificate.now.values c.args.n c.in-Some.end.column c.requires.node next.1))
 
 pub overflow_add-worth : goal.overflow_add-worth
 overflow_add-worth g c =
     let k : Controller = controller c.args.certificate.now in
     let limits : IsWithinLimits k.cells = g.met.C.Cells.is_within_limits c.args.certificate.now.cells.now in
-    let fx : FitsSigned w128 c.weighed-worth.result = search rules in
-    let fy : FitsSigned w128 c.behind-step.result.worth = search rules in
     let small : (e : ℕ) → e < k.cells.states → unsigned_abs (value_behind k c.args.n e) ≤ k.cells.o_scale * largest = λ e el. value_behind_le k c.args.certificate.now.proper c.args.certificate.now.values c.args.n e c.requires.node el in
     let next = rw c.action-a.ensures.value at c.in-Some.ensures.0 in
-    (ahead_step k.cells c.args.certificate.now.proper.cells limits (k.action c.args.n) c.args.s (c.args.certificate.now.proper.closed.actions_in_range c.args.n c.requires.node) c.requires.start (value_behind k c.args.n) small (reached c.t_row-row.result c.loop-end.at) c.in-Some.end.column c.in-Some.end.weight (to_z w128 c.loop-end.worth-bits) c.weighed-worth.result c.behind-step.result.worth next.0 next.1 next.2 next.4 c.loop-end.invariant.worth fx fy c.weighed-worth.ensures c.behind-step.ensures.steps.worth).0
+    (weighed_step (ends_weighed k.cells c.args.certificate.now.proper.cells limits (k.action c.args.n) c.args.s (c.args.certificate.now.proper.closed.actions_in_range c.args.n c.requires.node) c.requires.start) (value_behind k c.args.n) small (reached c.t_row-row.result c.loop-end.at) c.in-Some.end.column c.in-Some.end.weight (to_z w128 c.loop-end.worth-bits) c.weighed-worth.result c.behind-step.result.worth next.0 next.1 next.2 next.4 c.loop-end.invariant.worth (search rules) (search rules) c.weighed-worth.ensures c.behind-step.ensures.steps.worth).0
 
 pub loop-end-preserved : goal.loop-end-preserved
 loop-end-preserved g c =
     let k : Controller = controller c.args.certificate.now in
     let limits : IsWithinLimits k.cells = g.met.C.Cells.is_within_limits c.args.certificate.now.cells.now in
-    let fx : FitsSigned w128 c.weighed-worth.result = search rules in
-    let fy : FitsSigned w128 c.behind-step.result.worth = search rules in
     let small : (e : ℕ) → e < k.cells.states → unsigned_abs (value_behind k c.args.n e) ≤ k.cells.o_scale * largest = λ e el. value_behind_le k c.args.certificate.now.proper c.args.certificate.now.values c.args.n e c.requires.node el in
     let next = rw c.action-a.ensures.value at c.in-Some.ensures.0 in
     let first : c.loop-end.ends.block.first ≤ c.in-Some.end.column = not_nearer k c.args.n c.args.s (reached c.t_row-row.result c.loop-end.at) c.loop-end.ends.block.first c.in-Some.end.column c.in-Some.end.weight next.0 next.2 next.3 c.loop-end.invariant.clear in
     rw c.in-Some.ensures.1 (record {
-      worth = (ahead_step k.cells c.args.certificate.now.proper.cells limits (k.action c.args.n) c.args.s (c.args.certificate.now.proper.closed.actions_in_range c.args.n c.requires.node) c.requires.start (value_behind k c.args.n) small (reached c.t_row-row.result c.loop-end.at) c.in-Some.end.column c.in-Some.end.weight (to_z w128 c.loop-end.worth-bits) c.weighed-worth.result c.behind-step.result.worth next.0 next.1 next.2 next.4 c.loop-end.invariant.worth fx fy c.weighed-worth.ensures c.behind-step.ensures.steps.worth).1;
+      worth = (weighed_step (ends_weighed k.cells c.args.certificate.now.proper.cells limits (k.action c.args.n) c.args.s (c.args.certificate.now.proper.closed.actions_in_range c.args.n c.requires.node) c.requires.start) (value_behind k c.args.n) small (reached c.t_row-row.result c.loop-end.at) c.in-Some.end.column c.in-Some.end.weight (to_z w128 c.loop-end.worth-bits) c.weighed-worth.result c.behind-step.result.worth next.0 next.1 next.2 next.4 c.loop-end.invariant.worth (search rules) (search rules) c.weighed-worth.ensures c.behind-step.ensures.steps.worth).1;
       missing = before_more k c.args.n c.args.s (reached c.t_row-row.result c.loop-end.at) c.in-Some.end.column c.in-Some.end.weight c.loop-end.missing c.behind-step.result.missing c.lesser-missing.result next.0 next.4 next.2 next.3 c.loop-end.invariant.missing c.behind-step.ensures.steps.missing c.lesser-missing.ensures;
       within = omega (arith, next.1);
       clear = λ j l h. absurd (omega (arith, l, first, subst (λ (b : Block ENDS_AT_ONCE). j < b.first) c.behind-step.ensures.block h));

@@ -1,6 +1,4 @@
-use Rattle.std.proofs.Common.{◌+◌, subst}
-use Rattle.polcert_check.specs.declared.verdict.Verdict.{Verdict}
-use Rattle.polcert_check.specs.Steps.Factored.{IsPairVerdict}
+use Rattle.std.proofs.Common.{◌+◌}
 use Rattle.polcert_check.specs.Steps.Findings.{IsWalked}
 use Rattle.polcert_check.proofs.Walking.Found.{noted_pass}
 use Rattle.polcert_check.proofs.Walking.Walked.{next_pair}
@@ -9,4 +7,4 @@ use Rattle.polcert_check.proofs.findings.Findings.note.Goals as goal
 pub returns-in-Yes-clause-found : goal.returns-in-Yes-clause-found
 returns-in-Yes-clause-found c = λ k first until s pair above judged is.
     noted_pass k (IsWalked k (k.action c.args.n) first until c.args.n s) (IsWalked k (k.action c.args.n) first until c.args.n (s + 1)) c.args.n s (next_pair k first until c.args.n s pair above) c.args.self.now is
-    (subst (λ (v : Verdict). IsPairVerdict k c.args.n s v) c.in-Yes.is judged)
+    (rw c.in-Yes.is at judged)

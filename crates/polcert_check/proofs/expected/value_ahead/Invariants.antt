@@ -3,7 +3,7 @@ use Rattle.polcert_check.specs.Steps.Certificate.{controller}
 use Rattle.polcert_check.specs.Horizon.{total_below}
 use Rattle.polcert_check.specs.Steps.Factored.{value_behind}
 use Rattle.polcert_cells.specs.LentRows.{reached}
-use Rattle.polcert_check.proofs.shortfall.expected_at.Given as goal
+use Rattle.polcert_check.proofs.expected.value_ahead.Given as goal
 
 -- the sum so far
 abbrev pub invariant-loop-end : goal.invariant-loop-end
