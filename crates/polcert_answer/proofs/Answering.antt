@@ -1,11 +1,9 @@
 -- What a run says of the texts of three sources, from what its calls say of what these denote.
-use Rattle.std.proofs.Common.{◌≡◌, ◌∙◌, ℕ, ◌<◌, ℤ, neg_ℤ, List, ◌⊎◌, inl, inr, Result, Ok, Err, IfOk, subst, ap, refl}
+use Rattle.std.proofs.Common.{◌≡◌, ◌∙◌, ℕ, ◌<◌, ℤ, neg_ℤ, List, ◌⊎◌, inl, inr, Result, Ok, Err, subst, ap}
 use Rattle.polcert_text.specs.declared.number.Rounding.TheVariants.{Down}
 use Rattle.polcert_cells.specs.Meaning.{Meaning}
-use Rattle.polcert_cells.specs.Tables.{table_of}
 use Rattle.polcert_policy.specs.Graphs.{PolicyGraph, nodes}
 use Rattle.polcert_policy.specs.Vectors.{PolicyVectors, shifted_by}
-use Rattle.polcert_policy.specs.VectorText.{IsVectorsText}
 use Rattle.polcert_policy.specs.FullForm.{vectors_text}
 use Rattle.polcert_check.specs.declared.fault.LowerFault.{LowerFault}
 use Rattle.polcert_check.specs.declared.fault.LowerFault.TheVariants as faults
@@ -14,7 +12,7 @@ use Rattle.polcert_answer.specs.declared.fault.RunFault.TheVariants.{Lower}
 use Rattle.polcert_check.specs.declared.verdict.Verdict.{Verdict}
 use Rattle.polcert_check.specs.declared.verdict.Verdict.TheVariants.{Yes}
 use Rattle.polcert_check.specs.Horizon.{Controller}
-use Rattle.polcert_check.specs.Lower.{HasLeastConstant, IsNotLowered, IsLowered}
+use Rattle.polcert_check.specs.Lower.{HasLeastConstant, IsNotLowered}
 use Rattle.polcert_check.specs.StartWorth.{IsBestStart}
 use Rattle.polcert_check.specs.Verdict.{IsVerdict}
 use Rattle.polcert_check.proofs.Agreements.OneAnswer as checks
@@ -24,7 +22,7 @@ use Rattle.polcert_answer.specs.Steps.Reading.{AreDenoted, IsAnswerLine, AreLowe
 use Rattle.polcert_answer.specs.Answer.{IsAnswer}
 use Rattle.polcert_answer.specs.Run.{HasVerdict, HavePromise, HasStartPromise, HasLowered, IsNotLowerable, IsWhy}
 use Rattle.polcert_answer.proofs.Denoted.{of_parts, certificate_of, verdict_of_each, line_of_each, best_of_each, worth_of_each, constant_of_each, reason_of_each, text_of_each, yes_certified, yes_rewarded, yes_started}
-use Rattle.polcert_answer.proofs.OfSources.{of_ok, ok_mapped, texts_of, rounded_verdict}
+use Rattle.polcert_answer.proofs.OfSources.{texts_of, rounded_verdict}
 use Rattle.polcert_answer.proofs.OneAnswer.{but_for_memory}
 
 pub same_lower : {V : Type 0} (a b : LowerFault) (r : Result V RunFault) → r ≡ Err (Lower a) → r ≡ Err (Lower b) → a ≡ b
@@ -47,7 +45,7 @@ module _ (of_model of_graph of_vectors : List ℕ → Type 0) (m : Meaning) (g :
   answer_is : (verdict : Verdict) (line : List ℕ) → IsLineOf verdict line → IsAnswer d.first d.second d.third (Ok verdict)
   answer_is verdict line is = (certificate_of m g v d.has_graph d.are_vectors, verdict_of_each m g v d.has_graph d.are_vectors verdict is.verdict_is)
 
-  has_promise : (line : List ℕ) → IsLineOf Yes line → HavePromise of_model of_graph of_vectors
+  pub has_promise : (line : List ℕ) → IsLineOf Yes line → HavePromise of_model of_graph of_vectors
   has_promise line is =
       let answer = answer_is Yes line is in
       record {
@@ -57,7 +55,7 @@ module _ (of_model of_graph of_vectors : List ℕ → Type 0) (m : Meaning) (g :
       }
 
   -- the line of a yes, and what is promised from the start
-  has_start_promise : (line : List ℕ) → IsLineOf Yes line → HasStartPromise of_model of_graph of_vectors line
+  pub has_start_promise : (line : List ℕ) → IsLineOf Yes line → HasStartPromise of_model of_graph of_vectors line
   has_start_promise line is =
       let (node, worth, best, is_worth, spelled) = is.line_is in
       let each = best_of_each m g v d.has_graph d.are_vectors node best in
@@ -72,30 +70,15 @@ module _ (of_model of_graph of_vectors : List ℕ → Type 0) (m : Meaning) (g :
         promise = λ c k. yes_started d.first d.second d.third (answer_is Yes line is) c k node worth (best_is_node c node (each c)) (worths c);
       }
 
-  -- what is answered of a line that a sink took, where one was written
-  module _ (took : List ℕ → Type 0) where
-    abbrev WasWritten : Verdict → Type 0
-    WasWritten verdict = (line : List ℕ) × IsLineOf verdict line × took line
-
-    pub answered_of : (r : Result Verdict RunFault) → IfOk r WasWritten → IfOk r (λ verdict. (line : List ℕ) × HasVerdict of_model of_graph of_vectors verdict line × took line)
-    answered_of = ok_mapped WasWritten (λ verdict. (line : List ℕ) × HasVerdict of_model of_graph of_vectors verdict line × took line)
-        (λ verdict w. (w.0, has_verdict verdict w.0 w.1, w.2))
-
-    pub promise_of : (r : Result Verdict RunFault) → IfOk r WasWritten → r ≡ Ok Yes → HavePromise of_model of_graph of_vectors
-    promise_of r is same = let (line, of_yes, was_taken) = of_ok WasWritten r Yes is same in has_promise line of_yes
-
-    pub start_promise_of : (r : Result Verdict RunFault) → IfOk r WasWritten → r ≡ Ok Yes → (line : List ℕ) × HasStartPromise of_model of_graph of_vectors line × took line
-    start_promise_of r is same = let (line, of_yes, was_taken) = of_ok WasWritten r Yes is same in (line, has_start_promise line of_yes, was_taken)
-
   -- the lowered vectors, as they are written and read back
   pub has_lowered : (by : ℤ) (text : List ℕ) → AreLowered m g v by text → HasLowered of_model of_graph of_vectors by text
   has_lowered by text are =
       let passed : IsAnswer d.first d.second text (Ok Yes) =
-      (certificate_of m g are.lower d.has_graph are.reads_back, verdict_of_each m g are.lower d.has_graph are.reads_back Yes are.lowered.passes) in
-      let spelled : text ≡ vectors_text g (shifted_by v (neg_ℤ by)) = are.text_is ∙ ap (λ w. vectors_text g w) are.lowered.shifted in
+      (certificate_of m g are.other d.has_graph are.reads_back, verdict_of_each m g are.other d.has_graph are.reads_back Yes are.moved.passes) in
+      let spelled : text ≡ vectors_text g (shifted_by v (neg_ℤ by)) = are.text_is ∙ ap (λ w. vectors_text g w) are.moved.shifted in
       record {
         texts = texts_of of_model of_graph of_vectors m g v d;
-        least = constant_of_each m g v d.has_graph d.are_vectors by are.lowered.least;
+        least = constant_of_each m g v d.has_graph d.are_vectors by are.moved.least;
         is_text = λ c. spelled ∙ text_of_each m g v d.has_graph d.are_vectors (neg_ℤ by) c;
         answer = passed;
         only_yes = but_for_memory Down IsVerdict checks.one_verdict d.first d.second text Yes passed;
@@ -103,37 +86,16 @@ module _ (of_model of_graph of_vectors : List ℕ → Type 0) (m : Meaning) (g :
         rewards = yes_rewarded d.first d.second text passed;
       }
 
-  pub lowered_of : (took : List ℕ → Type 0) (r : Result ℤ RunFault) → IfOk r (λ by. (text : List ℕ) × AreLowered m g v by text × took text)
-      → IfOk r (λ by. (text : List ℕ) × HasLowered of_model of_graph of_vectors by text × took text)
-  lowered_of took = ok_mapped (λ by. (text : List ℕ) × AreLowered m g v by text × took text) (λ by. (text : List ℕ) × HasLowered of_model of_graph of_vectors by text × took text)
-      (λ by w. (w.0, has_lowered by w.0 w.1, w.2))
-
   why_of_each : (fault : LowerFault) → IsWhy (of_parts m g v) v fault → (c : Certificate d.first d.second d.third) → IsWhy (controller c) c.values fault
   why_of_each faults.Memory (by, least) c = (by, constant_of_each m g v d.has_graph d.are_vectors by least c)
-  why_of_each (faults.NoConstant n s amount) why c = reason_of_each m g v d.has_graph d.are_vectors (faults.NoConstant n s amount) why c
-  why_of_each faults.OutOfRange why c = reason_of_each m g v d.has_graph d.are_vectors faults.OutOfRange why c
-  why_of_each (faults.NoSuccessor n s z) why c = reason_of_each m g v d.has_graph d.are_vectors (faults.NoSuccessor n s z) why c
+  why_of_each fault why c = reason_of_each m g v d.has_graph d.are_vectors fault why c
 
   pub not_lowerable : (fault : LowerFault) → IsWhy (of_parts m g v) v fault → IsNotLowerable of_model of_graph of_vectors fault
   not_lowerable fault why = record { texts = texts_of of_model of_graph of_vectors m g v d; reason = why_of_each fault why }
-
--- what is known of lowered vectors and of their full form
-pub are_lowered : (m : Meaning) (g : PolicyGraph) (v : PolicyVectors) (by : ℤ) (w : PolicyVectors) → IsLowered (table_of m) g v (by, w)
-    → IsVectorsText g w.states (vectors_text g w) w → AreLowered m g v by (vectors_text g w)
-are_lowered m g v by w lowered reads_back = record {
-  lower = w;
-  lowered = lowered;
-  text_is = refl;
-  reads_back = subst (λ s. IsVectorsText g s (vectors_text g w) w) lowered.fits_still.states reads_back;
-}
 
 -- why vectors are not lowered
 pub why_of : (c : Controller) (v : PolicyVectors) (fault : LowerFault) → ((fault ≡ faults.Memory) × HasLeastConstant c v) ⊎ IsNotLowered c v fault → IsWhy c v fault
 why_of c v faults.Memory (inl (is, least)) = least
 why_of c v faults.Memory (inr refused) = absurd refused
-why_of c v (faults.NoConstant n s amount) (inl (is, least)) = cc
-why_of c v (faults.NoConstant n s amount) (inr refused) = refused
-why_of c v faults.OutOfRange (inl (is, least)) = cc
-why_of c v faults.OutOfRange (inr refused) = refused
-why_of c v (faults.NoSuccessor n s z) (inl (is, least)) = cc
-why_of c v (faults.NoSuccessor n s z) (inr refused) = refused
+why_of c v _ (inl (is, least)) = cc
+why_of c v _ (inr refused) = refused

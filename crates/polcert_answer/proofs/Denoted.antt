@@ -182,14 +182,6 @@ pub certificate_of : {rounding : Rounding} {model graph vectors : List ℕ} (m :
 certificate_of m g v has are =
     record { meaning = m; policy = g; values = v; is_model = has.is_model; is_graph = has.is_graph; are_vectors = are }
 
--- a yes to what three texts denote certifies them
-pub certified : {model graph vectors : List ℕ} (c : Certificate model graph vectors) → ((d : Certificate model graph vectors) → MeetsHorizon (controller d) Yes) → IsCertified model graph vectors
-certified c meets = record { certificate = c; promise = λ d k n s nl sl. (meets d k n s nl sl).0 }
-
--- and the rewards alone
-pub rewards_certified : {model graph vectors : List ℕ} → ((d : Certificate model graph vectors) → MeetsHorizon (controller d) Yes) → AreRewardsCertified model graph vectors
-rewards_certified meets = λ d k n s nl sl. (meets d k n s nl sl).1
-
 -- what three texts denote, as its parts are used: its graph, that they fit, and that the controller is proper
 module _ {rounding : Rounding} {model graph vectors : List ℕ} (c : RoundedCertificate rounding model graph vectors) where
   pub graph_is : HasGraph model graph c.meaning c.policy
@@ -208,17 +200,14 @@ horizons {model} {graph} {vectors} passes c =
 
 -- the answer yes certifies the texts
 pub yes_certified : (model graph vectors : List ℕ) → IsAnswer model graph vectors (Ok Yes) → IsCertified model graph vectors
-yes_certified model graph vectors answer = certified answer.0 (horizons answer.1)
+yes_certified model graph vectors answer = record { certificate = answer.0; promise = λ d k n s nl sl. (horizons answer.1 d k n s nl sl).0 }
 
 -- and the rewards alone
 pub yes_rewarded : (model graph vectors : List ℕ) → IsAnswer model graph vectors (Ok Yes) → AreRewardsCertified model graph vectors
-yes_rewarded model graph vectors answer = rewards_certified (horizons answer.1)
+yes_rewarded model graph vectors answer = λ d k n s nl sl. (horizons answer.1 d k n s nl sl).1
 
 -- and from the start no less is expected than a node is worth there
-pub started : {model graph vectors : List ℕ} → ((c : Certificate model graph vectors) → IsVerdict (controller c) Yes) → (c : Certificate model graph vectors)
-    (k n : ℕ) (worth : ℤ) → n < nodes c.policy → IsStartWorth c.meaning c.values n worth → StartPromise c.meaning (controller c) k n worth
-started passes c k n worth nl is = start_promise c.meaning (controller c) refl (controller_proper c) (passes c) n worth nl is k
-
 pub yes_started : (model graph vectors : List ℕ) → IsAnswer model graph vectors (Ok Yes) → (c : Certificate model graph vectors)
     (k n : ℕ) (worth : ℤ) → n < nodes c.policy → IsStartWorth c.meaning c.values n worth → StartPromise c.meaning (controller c) k n worth
-yes_started model graph vectors answer = started answer.1
+yes_started model graph vectors answer c k n worth nl is =
+    start_promise c.meaning (controller c) refl (controller_proper c) (answer.1 c) n worth nl is k

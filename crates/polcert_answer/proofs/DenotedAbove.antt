@@ -68,23 +68,15 @@ pub line_of_each : {model graph vectors : List ℕ} (m : Meaning) (g : PolicyGra
 line_of_each m g v has are verdict line is = of_each m g v has are (λ n h w. IsAboveVerdictLine n (of_parts n h w) w verdict line) (λ n same. line_for m n same g v verdict line is)
 
 -- ---- a yes from above certifies the texts, with the vectors at the end and for the rewards alone
-pub certified : {model graph vectors : List ℕ} → CertificateAbove model graph vectors → ((d : CertificateAbove model graph vectors) → MeetsHorizonAbove (controller d) Yes)
-    → IsCertifiedAbove model graph vectors
-certified c meets = record { certificate = c; promise = λ d k n s nl sl. (meets d k n s nl sl).0 }
-
-pub rewards_certified : {model graph vectors : List ℕ} → ((d : CertificateAbove model graph vectors) → MeetsHorizonAbove (controller d) Yes)
-    → AreRewardsCertifiedAbove model graph vectors
-rewards_certified meets = λ d k n s nl sl. (meets d k n s nl sl).1
-
 module _ (model graph vectors : List ℕ) (answer : IsAnswerAbove model graph vectors (Ok Yes)) where
   horizons : (c : CertificateAbove model graph vectors) → MeetsHorizonAbove (controller c) Yes
   horizons c = horizons_above (controller c) (controller_proper c) (answer.1 c)
 
   pub yes_certified : IsCertifiedAbove model graph vectors
-  yes_certified = certified answer.0 horizons
+  yes_certified = record { certificate = answer.0; promise = λ d k n s nl sl. (horizons d k n s nl sl).0 }
 
   pub yes_rewarded : AreRewardsCertifiedAbove model graph vectors
-  yes_rewarded = rewards_certified horizons
+  yes_rewarded = λ d k n s nl sl. (horizons d k n s nl sl).1
 
   -- and from the start no more is expected than any node is worth there
   pub yes_started : (c : CertificateAbove model graph vectors) (k n : ℕ) (most : ℤ) → n < nodes c.policy → IsStartMost c.meaning c.values most

@@ -8,3 +8,5 @@ pub mod Passing
 pub mod ReadInTurn
 pub mod Answering
 pub mod AnsweringAbove
+pub mod Buffered
+pub mod Parts

@@ -1,27 +1,37 @@
 -- What is said of the texts of three sources, from what is said of what these denote, whichever way values are rounded.
-use Rattle.std.proofs.Common.{◌≡◌, ℕ, List, Result, Ok, Err, IfOk, subst}
+use Rattle.std.proofs.Common.{◌≡◌, ℕ, ℤ, List, Option, Result, Ok, Err, IfOk, subst, refl}
 use Rattle.polcert_text.specs.declared.number.Rounding.{Rounding}
+use Rattle.polcert_text.specs.Sink.{Takes}
 use Rattle.polcert_cells.specs.Meaning.{Meaning}
+use Rattle.polcert_cells.specs.Tables.{CellTable, table_of}
 use Rattle.polcert_policy.specs.Graphs.{PolicyGraph}
 use Rattle.polcert_policy.specs.Vectors.{PolicyVectors}
-use Rattle.polcert_check.specs.Horizon.{Controller}
+use Rattle.polcert_policy.specs.VectorText.{IsRoundedVectorsText}
+use Rattle.polcert_policy.specs.FullForm.{vectors_text}
+use Rattle.polcert_check.specs.Horizon.{Controller, Fits}
 use Rattle.polcert_answer.specs.declared.fault.RunFault.{RunFault}
 use Rattle.polcert_answer.specs.Headline.{RoundedCertificate, controller}
-use Rattle.polcert_answer.specs.Steps.Reading.{AreDenoted}
-use Rattle.polcert_answer.specs.Run.{AreRoundedCertified, HasRoundedVerdict}
+use Rattle.polcert_answer.specs.Steps.Reading.{AreDenoted, AreMoved}
+use Rattle.polcert_answer.specs.Run.{WritesAnswer, AreRoundedCertified, HasRoundedVerdict}
 use Rattle.polcert_answer.proofs.Denoted.{certificate_of}
 
--- what two answers hold that are one
-pub same_ok : {V E : Type 0} (v w : V) (r : Result V E) → r ≡ Ok v → r ≡ Ok w → v ≡ w
-same_ok v w r e f = cc
+-- what a run wrote of an answer, from what is known of what belongs to it
+module _ {T W : Type 0} {writes : W → Option (List ℕ) → W → Type 0} {sink sink' : W} (P : T → List ℕ → Type 0) where
+  pub wrote_mapped : (Q : T → List ℕ → Type 0) → ((answer : T) (text : List ℕ) → P answer text → Q answer text) → (r : Result T RunFault)
+      → WritesAnswer writes P r sink sink' → WritesAnswer writes Q r sink sink'
+  wrote_mapped Q follows r wrote = record {
+    took = at r wrote.took;
+    begun = λ failed. let (answer, text, belongs, took) = wrote.begun failed in (answer, text, follows answer text belongs, took);
+  }
+    where
+      at : (r : Result T RunFault) → IfOk r (λ answer. (text : List ℕ) × P answer text × Takes writes sink text sink')
+          → IfOk r (λ answer. (text : List ℕ) × Q answer text × Takes writes sink text sink')
+      at (Ok answer) (text, belongs, took) = (text, follows answer text belongs, took)
+      at (Err fault) took = tt
 
--- what is said of an answer is said of what it holds
-pub of_ok : {V : Type 0} (P : V → Type 0) (r : Result V RunFault) (v : V) → IfOk r P → r ≡ Ok v → P v
-of_ok {V} P r v is same = subst (λ (x : Result V RunFault). IfOk x P) same is
-
-pub ok_mapped : {V : Type 0} (P Q : V → Type 0) → ((v : V) → P v → Q v) → (r : Result V RunFault) → IfOk r P → IfOk r Q
-ok_mapped P Q f (Ok v) is = f v is
-ok_mapped P Q f (Err fault) is = tt
+  -- the text that belongs to one answer
+  pub text_of_answer : (r : Result T RunFault) (answer : T) → WritesAnswer writes P r sink sink' → r ≡ Ok answer → (text : List ℕ) × P answer text × Takes writes sink text sink'
+  text_of_answer r answer wrote same = subst (λ (x : Result T RunFault). IfOk x (λ a. (text : List ℕ) × P a text × Takes writes sink text sink')) same wrote.took
 
 module _ {rounding : Rounding} (of_model of_graph of_vectors : List ℕ → Type 0) (m : Meaning) (g : PolicyGraph) (v : PolicyVectors)
     (d : AreDenoted rounding of_model of_graph of_vectors m g v) where
@@ -43,3 +53,13 @@ module _ {rounding : Rounding} (of_model of_graph of_vectors : List ℕ → Type
       → HasRoundedVerdict rounding of_model of_graph of_vectors Is IsLine verdict line
   rounded_verdict Is IsLine verdict line is is_line =
       record { texts = texts_of; answer = (certificate_of m g v d.has_graph d.are_vectors, is); is_line = is_line }
+
+-- what is known of moved vectors and of their full form
+pub are_moved : (rounding : Rounding) (Moves : CellTable → PolicyGraph → PolicyVectors → ℤ × PolicyVectors → Type 0) (m : Meaning) (g : PolicyGraph) (v : PolicyVectors) (by : ℤ) (w : PolicyVectors)
+    → Moves (table_of m) g v (by, w) → Fits (table_of m) g w → IsRoundedVectorsText rounding g w.states (vectors_text g w) w → AreMoved rounding Moves m g v by (vectors_text g w)
+are_moved rounding Moves m g v by w moved fits reads_back = record {
+  other = w;
+  moved = moved;
+  text_is = refl;
+  reads_back = subst (λ s. IsRoundedVectorsText rounding g s (vectors_text g w) w) fits.states reads_back;
+}

@@ -1,13 +1,14 @@
 -- What a run says of its result: a fault of a read that it hands on, or the answer of the call that writes.
-use Rattle.std.proofs.Common.{◌≡◌, ◌∙◌, ℕ, List, Option, Result, Ok, Err, IfOk, IfErr, ap, subst, sym, refl}
+use Rattle.std.proofs.Common.{◌≡◌, ◌∙◌, ℕ, List, Option, Result, Ok, Err, IfOk, IfErr, ap, subst, sym, refl, rules}
+use Rattle.std.proofs.Math.Path.{subst⁻¹}
 use Rattle.std.specs.Result.{IsErrAnd}
 use Rattle.polcert_text.specs.declared.number.Rounding.{Rounding}
 use Rattle.polcert_check.specs.declared.fault.LowerFault.{LowerFault}
 use Rattle.polcert_check.specs.declared.fault.RaiseFault.{RaiseFault}
 use Rattle.polcert_answer.specs.declared.fault.Fault.TheVariants.{Model, Graph, Vectors}
 use Rattle.polcert_answer.specs.declared.fault.RunFault.{RunFault}
-use Rattle.polcert_answer.specs.declared.fault.RunFault.TheVariants.{Text, ReadModel, ReadGraph, ReadVectors, Write, Lower, Raise, TooLargeToPrint}
-use Rattle.polcert_answer.specs.Run.{IsNamedRightly, RefusesRightly, NamesSourcesRightly, StopsRightly, ReadsInOrder, IsCheckRunFault, IsLowerRunFault, IsRaiseRunFault}
+use Rattle.polcert_answer.specs.declared.fault.RunFault.TheVariants.{Text, ReadModel, ReadGraph, ReadVectors, Write, Lower, Raise}
+use Rattle.polcert_answer.specs.Run.{WritesAnswer, IsNamedRightly, RefusesRightly, NamesSourcesRightly, StopsRightly, ReadsInOrder, IsCheckRunFault, IsLowerRunFault, IsRaiseRunFault}
 use Rattle.polcert_answer.specs.Steps.Reading.{IsReadFault, IsNoReadFault}
 
 pub is_err : {T : Type 0} (r : Result T RunFault) (given : RunFault) → IsErrAnd r (λ f. f ≡ given) → r ≡ Err given
@@ -41,40 +42,14 @@ module _ {T : Type 0} (r : Result T RunFault) (given : RunFault) (e : r ≡ Err 
     passed_over = λ unnamed. h.passed_over (λ named. unnamed (e ∙ ap Err (same_err given x named)));
   }
 
-  -- what is said of a text, or of a source, of which the read said that it was at fault
-  module _ {U M G V : Type 0} {rounding : Rounding}
-      {model_reads : M → ℕ → Option (List ℕ) → M → Type 0} {model model' : M}
-      {graph_reads : G → ℕ → Option (List ℕ) → G → Type 0} {graph graph' : G}
-      {vectors_reads : V → ℕ → Option (List ℕ) → V → Type 0} {vectors vectors' : V} where
-    pub refuses_again : RefusesRightly {T = U} rounding (Err given) model_reads model model' graph_reads
-        graph graph' vectors_reads vectors vectors'
-        → RefusesRightly rounding r model_reads model model' graph_reads graph graph' vectors_reads vectors
-        vectors'
-    refuses_again h = record {
-      of_model = λ fault same. h.of_model fault (of_read (Text (Model fault)) same);
-      of_graph = λ fault same. h.of_graph fault (of_read (Text (Graph fault)) same);
-      of_vectors = λ fault same. h.of_vectors fault (of_read (Text (Vectors fault)) same);
-    }
-
-  module _ {U M G V : Type 0} {model_failures : M → ℕ} {model model' : M} {graph_failures : G → ℕ}
-      {graph graph' : G}
-      {vectors_failures : V → ℕ} {vectors vectors' : V} where
-    pub names_again : NamesSourcesRightly {T = U} (Err given) model_failures model model' graph_failures
-        graph graph' vectors_failures vectors vectors'
-        → NamesSourcesRightly r model_failures model model' graph_failures graph graph' vectors_failures
-        vectors vectors'
-    names_again h = record {
-      of_model = named_again ReadModel _ _ h.of_model;
-      of_graph = named_again ReadGraph _ _ h.of_graph;
-      of_vectors = named_again ReadVectors _ _ h.of_vectors;
-    }
-
   -- and nothing else
-  pub none_else : (P : RunFault → Type 0) → P given → (x : RunFault) → (P x → ⊥) → r ≡ Err x → ⊥
-  none_else P of x other same = other (subst P (same_fault r given x e same) of)
+  pub said : (P : RunFault → Type 0) → P given → (x : RunFault) → r ≡ Err x → P x
+  said P of x same = subst P (same_fault r given x e same) of
 
-  pub not_else : IsReadFault given → (x : RunFault) → (IsReadFault x → ⊥) → r ≡ Err x → ⊥
-  not_else of x other same = none_else IsReadFault of x other same
+  -- nothing was answered, and no write failed
+  pub nothing_written : IsReadFault given → {W : Type 0} {writes : W → Option (List ℕ) → W → Type 0} (Belongs : T → List ℕ → Type 0) (sink sink' : W)
+      → WritesAnswer writes Belongs r sink sink'
+  nothing_written of Belongs sink sink' = record { took = no_ok _; begun = λ failed. absurd (said IsReadFault of Write failed) }
 
   -- how the run stops, then
   module _ {U M G V W : Type 0} {rounding : Rounding}
@@ -92,10 +67,18 @@ module _ {T : Type 0} (r : Result T RunFault) (given : RunFault) (e : r ≡ Err 
         graph' vectors_reads vectors_failures vectors vectors'
         sink_failures sink sink
     stops_again of refused read in_order = record {
-      refused = refuses_again refused;
-      read = names_again read;
+      refused = record {
+        of_model = λ fault same. refused.of_model fault (of_read (Text (Model fault)) same);
+        of_graph = λ fault same. refused.of_graph fault (of_read (Text (Graph fault)) same);
+        of_vectors = λ fault same. refused.of_vectors fault (of_read (Text (Vectors fault)) same);
+      };
+      read = record {
+        of_model = named_again ReadModel _ _ read.of_model;
+        of_graph = named_again ReadGraph _ _ read.of_graph;
+        of_vectors = named_again ReadVectors _ _ read.of_vectors;
+      };
       write = record {
-        failed = λ named. absurd (not_else of Write (λ none. none) named);
+        failed = λ named. absurd (said IsReadFault of Write named);
         passed_over = λ
             unnamed. refl;
       };
@@ -105,14 +88,8 @@ module _ {T : Type 0} (r : Result T RunFault) (given : RunFault) (e : r ≡ Err 
 
 -- ---- the answer of the call that writes
 no_read_fault : (f : RunFault) → IsReadFault f → IsNoReadFault f → ⊥
-no_read_fault (Text fault) of none = none
-no_read_fault ReadModel of none = none
-no_read_fault ReadGraph of none = none
-no_read_fault ReadVectors of none = none
 no_read_fault Write of none = of
-no_read_fault (Lower fault) of none = of
-no_read_fault (Raise fault) of none = of
-no_read_fault TooLargeToPrint of none = of
+no_read_fault _ of none = search (of, none)
 
 module _ {T : Type 0} (r : Result T RunFault) (none : IfErr r IsNoReadFault) where
   pub not_read : (x : RunFault) → IsReadFault x → r ≡ Err x → ⊥
@@ -126,101 +103,40 @@ module _ {T : Type 0} (r : Result T RunFault) (none : IfErr r IsNoReadFault) whe
     passed_over = λ unnamed. h.passed_over (λ named. cc);
   }
 
-  -- and no text is refused behind it
-  module _ {M G V : Type 0} {rounding : Rounding}
-      {model_reads : M → ℕ → Option (List ℕ) → M → Type 0} {model model' : M}
-      {graph_reads : G → ℕ → Option (List ℕ) → G → Type 0} {graph graph' : G}
-      {vectors_reads : V → ℕ → Option (List ℕ) → V → Type 0} {vectors vectors' : V} where
-    pub refuses_nothing : RefusesRightly rounding r model_reads model model' graph_reads graph graph'
-        vectors_reads vectors vectors'
-    refuses_nothing = record {
-      of_model = λ fault same. absurd (not_read (Text (Model fault)) tt same);
-      of_graph = λ fault same. absurd (not_read (Text (Graph fault)) tt same);
-      of_vectors = λ fault same. absurd (not_read (Text (Vectors fault)) tt same);
-    }
-
-  module _ {U M G V : Type 0} {model_failures : M → ℕ} {model model' : M} {graph_failures : G → ℕ}
-      {graph graph' : G}
-      {vectors_failures : V → ℕ} {vectors vectors' : V} where
-    pub names_behind : (u : U)
-        → NamesSourcesRightly (Ok u) model_failures model model' graph_failures graph graph'
-        vectors_failures vectors vectors'
-        → NamesSourcesRightly r model_failures model model' graph_failures graph graph' vectors_failures
-        vectors vectors'
-    names_behind u h = record {
-      of_model = named_behind ReadModel tt u _ _ h.of_model;
-      of_graph = named_behind ReadGraph tt u _ _ h.of_graph;
-      of_vectors = named_behind ReadVectors tt u _ _ h.of_vectors;
-    }
-
 -- the faults of a read are among those of each run
 pub read_in_check : (f : RunFault) → IsReadFault f → IsCheckRunFault f
-read_in_check (Text fault) of = tt
-read_in_check ReadModel of = tt
-read_in_check ReadGraph of = tt
-read_in_check ReadVectors of = tt
 read_in_check Write of = tt
-read_in_check (Lower fault) of = of
-read_in_check (Raise fault) of = of
-read_in_check TooLargeToPrint of = of
+read_in_check _ of = search (rules, of)
 
 pub read_in_lowering : (f : RunFault) → IsReadFault f → IsLowerRunFault f
-read_in_lowering (Text fault) of = tt
-read_in_lowering ReadModel of = tt
-read_in_lowering ReadGraph of = tt
-read_in_lowering ReadVectors of = tt
 read_in_lowering Write of = tt
-read_in_lowering (Lower fault) of = tt
-read_in_lowering (Raise fault) of = of
-read_in_lowering TooLargeToPrint of = of
+read_in_lowering _ of = search (rules, of)
 
 pub read_in_raise : (f : RunFault) → IsReadFault f → IsRaiseRunFault f
-read_in_raise (Text fault) of = tt
-read_in_raise ReadModel of = tt
-read_in_raise ReadGraph of = tt
-read_in_raise ReadVectors of = tt
 read_in_raise Write of = tt
-read_in_raise (Lower fault) of = of
-read_in_raise (Raise fault) of = tt
-read_in_raise TooLargeToPrint of = of
+read_in_raise _ of = search (rules, of)
 
 -- and so are those of the call that writes
 pub written_in_lowering : {T : Type 0} (r : Result T RunFault) → IfErr r IsNoReadFault
     → ((fault : RaiseFault) → r ≡ Err (Raise fault) → ⊥)
     → IfErr r IsLowerRunFault
 written_in_lowering (Ok v) none raises = tt
-written_in_lowering (Err (Text fault)) none raises = tt
-written_in_lowering (Err ReadModel) none raises = tt
-written_in_lowering (Err ReadGraph) none raises = tt
-written_in_lowering (Err ReadVectors) none raises = tt
-written_in_lowering (Err Write) none raises = tt
-written_in_lowering (Err (Lower fault)) none raises = tt
 written_in_lowering (Err (Raise fault)) none raises = raises fault refl
-written_in_lowering (Err TooLargeToPrint) none raises = none
+written_in_lowering (Err _) none raises = search (rules, none)
 
 pub written_in_raise : {T : Type 0} (r : Result T RunFault) → IfErr r IsNoReadFault
     → ((fault : LowerFault) → r ≡ Err (Lower fault) → ⊥)
     → IfErr r IsRaiseRunFault
 written_in_raise (Ok v) none lowers = tt
-written_in_raise (Err (Text fault)) none lowers = tt
-written_in_raise (Err ReadModel) none lowers = tt
-written_in_raise (Err ReadGraph) none lowers = tt
-written_in_raise (Err ReadVectors) none lowers = tt
-written_in_raise (Err Write) none lowers = tt
 written_in_raise (Err (Lower fault)) none lowers = lowers fault refl
-written_in_raise (Err (Raise fault)) none lowers = tt
-written_in_raise (Err TooLargeToPrint) none lowers = none
+written_in_raise (Err _) none lowers = search (rules, none)
 
 -- all sources were read
 behind_all : {G V : Type 0} (f : RunFault) → IsNoReadFault f → (graph graph' : G) (vectors vectors' : V) → ReadsInOrder f graph graph' vectors vectors'
-behind_all (Text fault) none graph graph' vectors vectors' = absurd none
-behind_all ReadModel none graph graph' vectors vectors' = absurd none
-behind_all ReadGraph none graph graph' vectors vectors' = absurd none
-behind_all ReadVectors none graph graph' vectors vectors' = absurd none
 behind_all Write none graph graph' vectors vectors' = tt
 behind_all (Lower fault) none graph graph' vectors vectors' = tt
 behind_all (Raise fault) none graph graph' vectors vectors' = tt
-behind_all TooLargeToPrint none graph graph' vectors vectors' = absurd none
+behind_all _ none graph graph' vectors vectors' = absurd none
 
 pub written_in_order : {T G V : Type 0} (r : Result T RunFault) → IfErr r IsNoReadFault → (graph graph' : G) (vectors vectors' : V)
     → IfErr r (λ fault. ReadsInOrder fault graph graph' vectors vectors')
@@ -243,8 +159,16 @@ module _ {T : Type 0} (r : Result T RunFault) (none : IfErr r IsNoReadFault) {U 
       graph' vectors_reads vectors_failures vectors vectors'
       sink_failures sink sink'
   stops_behind u read write untouched = record {
-    refused = refuses_nothing r none;
-    read = names_behind r none u read;
+    refused = record {
+      of_model = λ fault same. absurd (not_read r none (Text (Model fault)) tt same);
+      of_graph = λ fault same. absurd (not_read r none (Text (Graph fault)) tt same);
+      of_vectors = λ fault same. absurd (not_read r none (Text (Vectors fault)) tt same);
+    };
+    read = record {
+      of_model = named_behind r none ReadModel tt u _ _ read.of_model;
+      of_graph = named_behind r none ReadGraph tt u _ _ read.of_graph;
+      of_vectors = named_behind r none ReadVectors tt u _ _ read.of_vectors;
+    };
     write = write;
     in_order = written_in_order r none graph graph' vectors vectors';
     untouched = untouched;
@@ -255,7 +179,9 @@ module _ {T : Type 0} (r : Result T RunFault) (of_write : IfErr r (λ fault. fau
   pub is_write : (x : RunFault) → r ≡ Err x → x ≡ Write
   is_write x same = subst (λ (y : Result T RunFault). IfErr y (λ fault. fault ≡ Write)) same of_write
 
-pub written_in_check : {T : Type 0} (r : Result T RunFault) → IfErr r (λ fault. fault ≡ Write)
-    → IfErr r IsCheckRunFault
-written_in_check (Ok v) of_write = tt
-written_in_check (Err f) of_write = subst IsCheckRunFault (sym of_write) tt
+  pub of_writing : (P : RunFault → Type 0) → P Write → IfErr r P
+  of_writing P h = at r of_write
+    where
+      at : (r : Result T RunFault) → IfErr r (λ fault. fault ≡ Write) → IfErr r P
+      at (Ok v) of = tt
+      at (Err f) of = subst⁻¹ P of h

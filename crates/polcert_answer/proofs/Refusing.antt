@@ -18,15 +18,13 @@ use Rattle.polcert_answer.specs.Steps.Reading.{IsGraphReadFault}
 
 -- what is promised of a refused text of a model
 pub model_refused : (fault : ModelFault) (text : List ℕ) → IsRefusedModelText fault text → IsModelFault text fault
-model_refused (faults.Item kind item place) text r = record { no_model = r.no_model; refusal = r.refusal; placed = r.placed }
-model_refused (faults.RowSum table action row) text r = record { no_model = r.no_model; refusal = r.refusal; placed = r.placed }
 model_refused faults.Memory text r = tt
+model_refused _ text r = record { no_model = r.no_model; refusal = r.refusal; placed = r.placed }
 
 -- want of memory aside, what is said of a model's refused text is that it is refused
 pub refused_of : (fault : ModelFault) (text : List ℕ) → SaysOfText fault → IsModelFault text fault → IsRefused fault text
-refused_of (faults.Item kind item place) text says refused = refused
-refused_of (faults.RowSum table action row) text says refused = refused
 refused_of faults.Memory text says refused = absurd says
+refused_of _ text says refused = refused
 
 -- what follows for each text follows for those that fit
 pub each_text : {S : Type 0} {reads : S → ℕ → Option (List ℕ) → S → Type 0} {old new : S} {P Q : List ℕ → Type 0}
@@ -47,15 +45,8 @@ named_rightly was named failed = record {
 of_graph_in_order : {G V : Type 0} (given : RunFault) (graph graph' : G) (vectors vectors' : V) → IsGraphReadFault given → vectors' ≡ vectors
     → ReadsInOrder given graph graph' vectors vectors'
 of_graph_in_order (runs.Text (texts.Graph f)) graph graph' vectors vectors' of same = same
-of_graph_in_order (runs.Text (texts.Model f)) graph graph' vectors vectors' of same = absurd of
-of_graph_in_order (runs.Text (texts.Vectors f)) graph graph' vectors vectors' of same = absurd of
 of_graph_in_order runs.ReadGraph graph graph' vectors vectors' of same = same
-of_graph_in_order runs.ReadModel graph graph' vectors vectors' of same = absurd of
-of_graph_in_order runs.ReadVectors graph graph' vectors vectors' of same = absurd of
-of_graph_in_order runs.Write graph graph' vectors vectors' of same = absurd of
-of_graph_in_order (runs.Lower f) graph graph' vectors vectors' of same = absurd of
-of_graph_in_order (runs.Raise f) graph graph' vectors vectors' of same = absurd of
-of_graph_in_order runs.TooLargeToPrint graph graph' vectors vectors' of same = absurd of
+of_graph_in_order _ graph graph' vectors vectors' of same = absurd of
 
 -- behind it the source of the vectors is as it was
 pub graph_in_order : {T G V : Type 0} (r : Result T RunFault) (given : RunFault) (graph graph' : G) (vectors vectors' : V) → IsErrAnd r (λ f. f ≡ given)

@@ -1,5 +1,5 @@
 -- What runs from sources to sinks promise.
-use Rattle.std.specs.Prelude.{◌≡◌, ◌≢◌, ℕ, ℤ, neg_ℤ, List, Option, Result, Ok, IfErr, IsErrOf}
+use Rattle.std.specs.Prelude.{◌≡◌, ◌≢◌, ℕ, ℤ, neg_ℤ, List, Option, Result, Ok, IfOk, IfErr, IsErrOf}
 use Rattle.polcert_text.specs.declared.number.Rounding.{Rounding}
 use Rattle.polcert_text.specs.declared.number.Rounding.TheVariants.{Down}
 use Rattle.polcert_text.specs.Device.{HasFailed}
@@ -76,6 +76,16 @@ module _ {S W : Type 0} (reads : S → ℕ → Option (List ℕ) → S → Type 
     pub accepted : IsModelText text model
     pub too_large : IsPrintable model.preamble → ⊥
     pub untouched : sink' ≡ sink
+
+-- ---- what a run wrote
+
+-- What a run wrote, where this says which texts belong to what it answers.
+pub record WritesAnswer {T W : Type 0} (writes : W → Option (List ℕ) → W → Type 0) (Belongs : T → List ℕ → Type 0)
+    (result : Result T RunFault) (sink sink' : W) : Type 0 where
+  -- the sink took exactly a text that belongs to the answer
+  pub took : IfOk result (λ answer. (text : List ℕ) × Belongs answer text × Takes writes sink text sink')
+  -- where a write failed, what was written before is a beginning of such a text
+  pub begun : IsErrOf result Write → (answer : T) × (text : List ℕ) × Belongs answer text × TakesFront writes sink text sink'
 
 -- ---- devices
 
@@ -253,3 +263,36 @@ module _ (of_model of_graph of_vectors : List ℕ → Type 0) where
   pub record IsNotLowerable (fault : LowerFault) : Type 0 where
     pub texts : AreCertified
     pub reason : (c : Certificate texts.model texts.graph texts.vectors) → IsWhy (controller c) c.values fault
+
+-- ---- a run that tells how far it is
+--
+-- The three sources and the sink, each with its state before and after the call.
+module _ {M G V W : Type 0}
+    (model_reads : M → ℕ → Option (List ℕ) → M → Type 0) (model_failures : M → ℕ) (model model' : M)
+    (graph_reads : G → ℕ → Option (List ℕ) → G → Type 0) (graph_failures : G → ℕ) (graph graph' : G)
+    (vectors_reads : V → ℕ → Option (List ℕ) → V → Type 0) (vectors_failures : V → ℕ) (vectors vectors' : V)
+    (sink_writes : W → Option (List ℕ) → W → Type 0) (sink_failures : W → ℕ) (sink sink' : W) where
+  -- what a check promises: each field is the clause of `run_check` of that name
+  pub record IsCheckRun (result : Result Verdict RunFault) : Type 0 where
+    pub answered : WritesAnswer sink_writes (HasVerdict (text_of model_reads model model') (text_of graph_reads graph graph')
+        (text_of vectors_reads vectors vectors')) result sink sink'
+    pub promise : result ≡ Ok Yes → HavePromise (text_of model_reads model model') (text_of graph_reads graph graph')
+        (text_of vectors_reads vectors vectors')
+    pub start_promise : result ≡ Ok Yes → (line : List ℕ)
+        × HasStartPromise (text_of model_reads model model') (text_of graph_reads graph graph')
+        (text_of vectors_reads vectors vectors') line
+        × Takes sink_writes sink line sink'
+    pub stops : StopsRightly Down result model_reads model_failures model model' graph_reads graph_failures graph graph'
+        vectors_reads vectors_failures vectors vectors' sink_failures sink sink'
+    pub of_a_check : IfErr result IsCheckRunFault
+
+  -- what a lowering promises: each field is the clause of `run_lower` of that name
+  pub record IsLowerRun (result : Result ℤ RunFault) : Type 0 where
+    pub lowered : WritesAnswer sink_writes (HasLowered (text_of model_reads model model') (text_of graph_reads graph graph')
+        (text_of vectors_reads vectors vectors')) result sink sink'
+    pub not_lowered : (fault : LowerFault) → IsErrOf result (Lower fault)
+        → IsNotLowerable (text_of model_reads model model') (text_of graph_reads graph graph')
+        (text_of vectors_reads vectors vectors') fault
+    pub stops : StopsRightly Down result model_reads model_failures model model' graph_reads graph_failures graph graph'
+        vectors_reads vectors_failures vectors vectors' sink_failures sink sink'
+    pub of_a_lowering : IfErr result IsLowerRunFault

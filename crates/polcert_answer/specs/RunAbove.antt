@@ -1,6 +1,7 @@
 -- What runs from above promise, over three sources.
-use Rattle.std.specs.Prelude.{◌≡◌, ℕ, ◌<◌, ℤ, List, Result, Ok}
+use Rattle.std.specs.Prelude.{◌≡◌, ℕ, ◌<◌, ℤ, List, Option, Result, Ok, IfErr, IsErrOf}
 use Rattle.polcert_text.specs.declared.number.Rounding.TheVariants.{Up}
+use Rattle.polcert_text.specs.Sink.{Takes}
 use Rattle.polcert_policy.specs.Graphs.{nodes}
 use Rattle.polcert_policy.specs.Vectors.{PolicyVectors, shifted_by}
 use Rattle.polcert_policy.specs.FullForm.{vectors_text}
@@ -13,11 +14,13 @@ use Rattle.polcert_check.specs.Above.{IsAboveVerdict}
 use Rattle.polcert_check.specs.Raise.{HasLeastRaise, IsLeastRaise, IsNotRaised}
 use Rattle.polcert_check.specs.StartMost.{IsStartMost, StartPromiseAbove}
 use Rattle.polcert_answer.specs.declared.fault.Fault.{Fault}
+use Rattle.polcert_answer.specs.declared.fault.RunFault.{RunFault}
+use Rattle.polcert_answer.specs.declared.fault.RunFault.TheVariants.{Raise}
 use Rattle.polcert_answer.specs.Answer.{IsAnswerAbove, IsButForMemory}
 use Rattle.polcert_answer.specs.Headline.{controller}
 use Rattle.polcert_answer.specs.HeadlineAbove.{CertificateAbove, IsCertifiedAbove, AreRewardsCertifiedAbove}
 use Rattle.polcert_answer.specs.Lines.{yes_above_line, IsAboveVerdictLine}
-use Rattle.polcert_answer.specs.Run.{AreRoundedCertified, HasRoundedVerdict}
+use Rattle.polcert_answer.specs.Run.{WritesAnswer, StopsRightly, IsCheckRunFault, IsRaiseRunFault, text_of, AreRoundedCertified, HasRoundedVerdict}
 
 -- why the vectors aren't raised: a reason of the definition, or want of memory where there is a constant
 abbrev pub IsWhyNotRaised : Controller → PolicyVectors → RaiseFault → Type 0
@@ -66,3 +69,36 @@ module _ (of_model of_graph of_vectors : List ℕ → Type 0) where
   pub record IsNotRaisable (fault : RaiseFault) : Type 0 where
     pub texts : AreCertifiedAbove
     pub reason : (c : CertificateAbove texts.model texts.graph texts.vectors) → IsWhyNotRaised (controller c) c.values fault
+
+-- ---- a run that tells how far it is
+--
+-- The three sources and the sink, each with its state before and after the call.
+module _ {M G V W : Type 0}
+    (model_reads : M → ℕ → Option (List ℕ) → M → Type 0) (model_failures : M → ℕ) (model model' : M)
+    (graph_reads : G → ℕ → Option (List ℕ) → G → Type 0) (graph_failures : G → ℕ) (graph graph' : G)
+    (vectors_reads : V → ℕ → Option (List ℕ) → V → Type 0) (vectors_failures : V → ℕ) (vectors vectors' : V)
+    (sink_writes : W → Option (List ℕ) → W → Type 0) (sink_failures : W → ℕ) (sink sink' : W) where
+  -- what a check from above promises: each field is the clause of `run_check_above` of that name
+  pub record IsCheckRunAbove (result : Result AboveVerdict RunFault) : Type 0 where
+    pub answered : WritesAnswer sink_writes (HasVerdictAbove (text_of model_reads model model') (text_of graph_reads graph graph')
+        (text_of vectors_reads vectors vectors')) result sink sink'
+    pub promise : result ≡ Ok Yes → HavePromiseAbove (text_of model_reads model model') (text_of graph_reads graph graph')
+        (text_of vectors_reads vectors vectors')
+    pub start_promise : result ≡ Ok Yes → (line : List ℕ)
+        × HasStartPromiseAbove (text_of model_reads model model') (text_of graph_reads graph graph')
+        (text_of vectors_reads vectors vectors') line
+        × Takes sink_writes sink line sink'
+    pub stops : StopsRightly Up result model_reads model_failures model model' graph_reads graph_failures graph graph'
+        vectors_reads vectors_failures vectors vectors' sink_failures sink sink'
+    pub of_a_check : IfErr result IsCheckRunFault
+
+  -- what a raise promises: each field is the clause of `run_raise` of that name
+  pub record IsRaiseRun (result : Result ℤ RunFault) : Type 0 where
+    pub raised : WritesAnswer sink_writes (HasRaised (text_of model_reads model model') (text_of graph_reads graph graph')
+        (text_of vectors_reads vectors vectors')) result sink sink'
+    pub not_raised : (fault : RaiseFault) → IsErrOf result (Raise fault)
+        → IsNotRaisable (text_of model_reads model model') (text_of graph_reads graph graph')
+        (text_of vectors_reads vectors vectors') fault
+    pub stops : StopsRightly Up result model_reads model_failures model model' graph_reads graph_failures graph graph'
+        vectors_reads vectors_failures vectors vectors' sink_failures sink sink'
+    pub of_a_raise : IfErr result IsRaiseRunFault

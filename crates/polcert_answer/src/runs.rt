@@ -13,7 +13,7 @@ ghost use Rattle.polcert_check.specs.Verdict.{IsVerdict};
 ghost use Rattle.polcert_answer.specs.Lines.{IsVerdictLine};
 ghost use Rattle.polcert_answer.specs.Answer.{IsRefused, IsModelFault};
 ghost use Rattle.polcert_answer.specs.Steps.Reading.{IsAnswerLine, AreLowered, IsNoReadFault};
-ghost use Rattle.polcert_answer.specs.Run.{SumsUp, BeginsToSumUp, Prints, BeginsToPrint, IsTooLargeToPrint, IsModelRunFault, IsPrintRunFault, IsNamedRightly, StopsRightly, IsCheckRunFault, IsLowerRunFault, text_of, HasVerdict, HavePromise, HasStartPromise, HasLowered, IsWhy, IsNotLowerable};
+ghost use Rattle.polcert_answer.specs.Run.{WritesAnswer, IsCheckRun, IsLowerRun, SumsUp, BeginsToSumUp, Prints, BeginsToPrint, IsTooLargeToPrint, IsModelRunFault, IsPrintRunFault, IsNamedRightly, StopsRightly, IsCheckRunFault, IsLowerRunFault, text_of, HasVerdict, HavePromise, HasStartPromise, HasLowered, IsWhy, IsNotLowerable};
 
 use crate::controller::{Controller, model_of_run, read_controller};
 use crate::fault::{Fault, RunFault};
@@ -134,11 +134,11 @@ pub fn run_check<M: Source, G: Source, V: Source, W: Sink>(
     vectors: &mut V,
     sink: &mut W,
 ) -> Result<Verdict, RunFault>
-    // The sink took exactly the line of the answer to the texts of the three sources.
-    ensures answered { IfOk result (λ verdict. (line : List ℕ)
-        × HasVerdict (text_of M.reads model.old model.new) (text_of G.reads graph.old graph.new)
-        (text_of V.reads vectors.old vectors.new) verdict line
-        × Takes W.writes sink.old line sink.new) }
+    // The sink took exactly the line of the answer to the texts of the three sources; or where a write
+    // failed, a beginning of the line.
+    ensures answered { WritesAnswer W.writes (HasVerdict (text_of M.reads model.old model.new)
+        (text_of G.reads graph.old graph.new) (text_of V.reads vectors.old vectors.new))
+        result sink.old sink.new }
 
     // The headline: a yes is a certificate of the texts that were read, for every number of steps, every
     // node and every state; and for the rewards alone, without the vectors at the end.
@@ -150,12 +150,6 @@ pub fn run_check<M: Source, G: Source, V: Source, W: Sink>(
         × HasStartPromise (text_of M.reads model.old model.new) (text_of G.reads graph.old graph.new)
         (text_of V.reads vectors.old vectors.new) line
         × Takes W.writes sink.old line sink.new }
-
-    // Where a write failed, what was written before is a beginning of the line.
-    ensures begun { IsErrOf result RunFault.Write → (verdict : Verdict) × (line : List ℕ)
-        × HasVerdict (text_of M.reads model.old model.new) (text_of G.reads graph.old graph.new)
-        (text_of V.reads vectors.old vectors.new) verdict line
-        × TakesFront W.writes sink.old line sink.new }
 
     // The first text that is none of its kind is refused, for a right reason. A device is named only where
     // it failed in this call, and no failure of one is passed over. Each source is read to its end before
@@ -173,7 +167,7 @@ pub fn run_check<M: Source, G: Source, V: Source, W: Sink>(
 }
 
 /// The same, and `watch` is told how far the check is: of each node when all of its pairs have passed.
-/// Every clause is that of `run_check`.
+/// What it promises is every clause of `run_check`.
 // (Six parameters: each of the devices is of a type of its own, and whoever calls has them apart.)
 pub fn run_check_watched<M: Source, G: Source, V: Source, W: Sink, O: Watch>(
     alloc: Global,
@@ -183,26 +177,11 @@ pub fn run_check_watched<M: Source, G: Source, V: Source, W: Sink, O: Watch>(
     sink: &mut W,
     watch: &mut O,
 ) -> Result<Verdict, RunFault>
-    ensures answered { IfOk result (λ verdict. (line : List ℕ)
-        × HasVerdict (text_of M.reads model.old model.new) (text_of G.reads graph.old graph.new)
-        (text_of V.reads vectors.old vectors.new) verdict line
-        × Takes W.writes sink.old line sink.new) }
-    ensures promise { result ≡ Ok Yes → HavePromise (text_of M.reads model.old model.new)
-        (text_of G.reads graph.old graph.new) (text_of V.reads vectors.old vectors.new) }
-    ensures start_promise { result ≡ Ok Yes → (line : List ℕ)
-        × HasStartPromise (text_of M.reads model.old model.new) (text_of G.reads graph.old graph.new)
-        (text_of V.reads vectors.old vectors.new) line
-        × Takes W.writes sink.old line sink.new }
-    ensures begun { IsErrOf result RunFault.Write → (verdict : Verdict) × (line : List ℕ)
-        × HasVerdict (text_of M.reads model.old model.new) (text_of G.reads graph.old graph.new)
-        (text_of V.reads vectors.old vectors.new) verdict line
-        × TakesFront W.writes sink.old line sink.new }
-    ensures stops { StopsRightly Rounding.Down result
+    ensures { IsCheckRun
         M.reads M.failures model.old model.new
         G.reads G.failures graph.old graph.new
         V.reads V.failures vectors.old vectors.new
-        W.failures sink.old sink.new }
-    ensures of_a_check { IfErr result IsCheckRunFault }
+        W.writes W.failures sink.old sink.new result }
 {
     let read = read_controller(alloc, Rounding::Down, model, graph, vectors)?;
     write_answer(&read, sink, watch)
@@ -215,18 +194,11 @@ fn write_answer<W: Sink, O: Watch>(
     watch: &mut O,
 ) -> Result<Verdict, RunFault>
     requires fits { Fits (table_of (meaning read.now.model)) read.now.graph read.now.vectors }
-    ensures answered { IfOk result (λ verdict. (line : List ℕ)
-        × IsAnswerLine IsVerdict IsVerdictLine (meaning read.now.model)
-        read.now.graph read.now.vectors verdict line
-        × Takes W.writes sink.old line sink.new) }
-    ensures begun { IsErrOf result RunFault.Write → (verdict : Verdict) × (line : List ℕ)
-        × IsAnswerLine IsVerdict IsVerdictLine (meaning read.now.model)
-        read.now.graph read.now.vectors verdict line
-        × TakesFront W.writes sink.old line sink.new }
+    ensures answered { WritesAnswer W.writes (IsAnswerLine IsVerdict IsVerdictLine (meaning read.now.model)
+        read.now.graph read.now.vectors) result sink.old sink.new }
     ensures write { IsNamedRightly (IsErrOf result RunFault.Write)
         (W.failures sink.old) (W.failures sink.new) }
     ensures of_write { IfErr result (λ fault. fault ≡ RunFault.Write) }
-    ensures no_read { IfErr result IsNoReadFault }
 {
     let verdict = check_watched(&read.model, &read.graph, &read.vectors, watch);
     let line = line_of_verdict(&read.model, &read.graph, &read.vectors, verdict);
@@ -253,23 +225,16 @@ pub fn run_lower<M: Source, G: Source, V: Source, W: Sink>(
     vectors: &mut V,
     sink: &mut W,
 ) -> Result<i64, RunFault>
-    // The sink took exactly the lowered vectors in full form. The answer to the model's text, the graph's
-    // text and this text is yes, and the headline holds of them.
-    ensures lowered { IfOk result (λ by. (text : List ℕ)
-        × HasLowered (text_of M.reads model.old model.new) (text_of G.reads graph.old graph.new)
-        (text_of V.reads vectors.old vectors.new) by text
-        × Takes W.writes sink.old text sink.new) }
+    // The sink took exactly the lowered vectors in full form, or where a write failed, a beginning of them.
+    // The answer to the model's text, the graph's text and this text is yes, and the headline holds of them.
+    ensures lowered { WritesAnswer W.writes (HasLowered (text_of M.reads model.old model.new)
+        (text_of G.reads graph.old graph.new) (text_of V.reads vectors.old vectors.new))
+        result sink.old sink.new }
 
     // Lowering is refused only where all three texts are accepted, for a right reason.
     ensures not_lowered { (fault : _) → IsErrOf result (RunFault.Lower fault)
         → IsNotLowerable (text_of M.reads model.old model.new) (text_of G.reads graph.old graph.new)
         (text_of V.reads vectors.old vectors.new) fault }
-
-    // Where a write failed, what was written before is a beginning of the lowered vectors.
-    ensures begun { IsErrOf result RunFault.Write → (by : ℤ) × (text : List ℕ)
-        × HasLowered (text_of M.reads model.old model.new) (text_of G.reads graph.old graph.new)
-        (text_of V.reads vectors.old vectors.new) by text
-        × TakesFront W.writes sink.old text sink.new }
 
     // The first text that is none of its kind is refused, for a right reason. A device is named only where
     // it failed in this call, and no failure of one is passed over. Each source is read to its end before
@@ -286,7 +251,8 @@ pub fn run_lower<M: Source, G: Source, V: Source, W: Sink>(
     run_lower_watched(alloc, model, graph, vectors, sink, &mut Unwatched)
 }
 
-/// The same, and `watch` is told how far it is: of each node once. Every clause is that of `run_lower`.
+/// The same, and `watch` is told how far it is: of each node once. What it promises is every clause of
+/// `run_lower`.
 // (Six parameters: each of the devices is of a type of its own, and whoever calls has them apart.)
 pub fn run_lower_watched<M: Source, G: Source, V: Source, W: Sink, O: Watch>(
     alloc: Global,
@@ -296,23 +262,11 @@ pub fn run_lower_watched<M: Source, G: Source, V: Source, W: Sink, O: Watch>(
     sink: &mut W,
     watch: &mut O,
 ) -> Result<i64, RunFault>
-    ensures lowered { IfOk result (λ by. (text : List ℕ)
-        × HasLowered (text_of M.reads model.old model.new) (text_of G.reads graph.old graph.new)
-        (text_of V.reads vectors.old vectors.new) by text
-        × Takes W.writes sink.old text sink.new) }
-    ensures not_lowered { (fault : _) → IsErrOf result (RunFault.Lower fault)
-        → IsNotLowerable (text_of M.reads model.old model.new) (text_of G.reads graph.old graph.new)
-        (text_of V.reads vectors.old vectors.new) fault }
-    ensures begun { IsErrOf result RunFault.Write → (by : ℤ) × (text : List ℕ)
-        × HasLowered (text_of M.reads model.old model.new) (text_of G.reads graph.old graph.new)
-        (text_of V.reads vectors.old vectors.new) by text
-        × TakesFront W.writes sink.old text sink.new }
-    ensures stops { StopsRightly Rounding.Down result
+    ensures { IsLowerRun
         M.reads M.failures model.old model.new
         G.reads G.failures graph.old graph.new
         V.reads V.failures vectors.old vectors.new
-        W.failures sink.old sink.new }
-    ensures of_a_lowering { IfErr result IsLowerRunFault }
+        W.writes W.failures sink.old sink.new result }
 {
     let given = read_controller(alloc, Rounding::Down, model, graph, vectors)?;
     write_lower_vectors(alloc, &given, sink, watch)
@@ -326,15 +280,11 @@ fn write_lower_vectors<W: Sink, O: Watch>(
     watch: &mut O,
 ) -> Result<i64, RunFault>
     requires fits { Fits (table_of (meaning given.now.model)) given.now.graph given.now.vectors }
-    ensures lowered { IfOk result (λ by. (text : List ℕ)
-        × AreLowered (meaning given.now.model) given.now.graph given.now.vectors by text
-        × Takes W.writes sink.old text sink.new) }
+    ensures lowered { WritesAnswer W.writes (AreLowered (meaning given.now.model)
+        given.now.graph given.now.vectors) result sink.old sink.new }
     ensures not_lowered { (fault : _) → IsErrOf result (RunFault.Lower fault)
         → IsWhy (controller_of (table_of (meaning given.now.model)) given.now.graph given.now.vectors)
         given.now.vectors fault }
-    ensures begun { IsErrOf result RunFault.Write → (by : ℤ) × (text : List ℕ)
-        × AreLowered (meaning given.now.model) given.now.graph given.now.vectors by text
-        × TakesFront W.writes sink.old text sink.new }
     ensures write { IsNamedRightly (IsErrOf result RunFault.Write)
         (W.failures sink.old) (W.failures sink.new) }
     ensures untouched { (fault : RunFault) → IsErrOf result fault

@@ -7,8 +7,8 @@ ghost use Rattle.polcert_check.specs.Horizon.{Fits, controller_of};
 ghost use Rattle.polcert_check.specs.Above.{IsAboveVerdict};
 ghost use Rattle.polcert_answer.specs.Lines.{IsAboveVerdictLine};
 ghost use Rattle.polcert_answer.specs.Steps.Reading.{IsAnswerLine, AreRaised, IsNoReadFault};
-ghost use Rattle.polcert_answer.specs.Run.{IsNamedRightly, StopsRightly, IsCheckRunFault, IsRaiseRunFault, text_of};
-ghost use Rattle.polcert_answer.specs.RunAbove.{HasVerdictAbove, HavePromiseAbove, HasStartPromiseAbove, HasRaised, IsWhyNotRaised, IsNotRaisable};
+ghost use Rattle.polcert_answer.specs.Run.{WritesAnswer, IsNamedRightly, StopsRightly, IsCheckRunFault, IsRaiseRunFault, text_of};
+ghost use Rattle.polcert_answer.specs.RunAbove.{IsCheckRunAbove, IsRaiseRun, HasVerdictAbove, HavePromiseAbove, HasStartPromiseAbove, HasRaised, IsWhyNotRaised, IsNotRaisable};
 
 use crate::controller::{Controller, read_controller};
 use crate::fault::RunFault;
@@ -34,11 +34,11 @@ pub fn run_check_above<M: Source, G: Source, V: Source, W: Sink>(
     vectors: &mut V,
     sink: &mut W,
 ) -> Result<AboveVerdict, RunFault>
-    // The sink took exactly the line of the answer from above to the texts of the three sources.
-    ensures answered { IfOk result (λ verdict. (line : List ℕ)
-        × HasVerdictAbove (text_of M.reads model.old model.new) (text_of G.reads graph.old graph.new)
-        (text_of V.reads vectors.old vectors.new) verdict line
-        × Takes W.writes sink.old line sink.new) }
+    // The sink took exactly the line of the answer from above to the texts of the three sources; or where a
+    // write failed, a beginning of the line.
+    ensures answered { WritesAnswer W.writes (HasVerdictAbove (text_of M.reads model.old model.new)
+        (text_of G.reads graph.old graph.new) (text_of V.reads vectors.old vectors.new))
+        result sink.old sink.new }
 
     // The headline from above: a yes bounds what the texts that were read denote, for every number of
     // steps, every node and every state; and for the rewards alone, without the vectors at the end.
@@ -50,12 +50,6 @@ pub fn run_check_above<M: Source, G: Source, V: Source, W: Sink>(
         × HasStartPromiseAbove (text_of M.reads model.old model.new) (text_of G.reads graph.old graph.new)
         (text_of V.reads vectors.old vectors.new) line
         × Takes W.writes sink.old line sink.new }
-
-    // Where a write failed, what was written before is a beginning of the line.
-    ensures begun { IsErrOf result RunFault.Write → (verdict : AboveVerdict) × (line : List ℕ)
-        × HasVerdictAbove (text_of M.reads model.old model.new) (text_of G.reads graph.old graph.new)
-        (text_of V.reads vectors.old vectors.new) verdict line
-        × TakesFront W.writes sink.old line sink.new }
 
     // The first text that is none of its kind is refused, for a right reason. A device is named only where
     // it failed in this call, and no failure of one is passed over. Each source is read to its end before
@@ -73,7 +67,7 @@ pub fn run_check_above<M: Source, G: Source, V: Source, W: Sink>(
 }
 
 /// The same, and `watch` is told how far the check is: of each node when all of its pairs have passed.
-/// Every clause is that of `run_check_above`.
+/// What it promises is every clause of `run_check_above`.
 // (Six parameters: each of the devices is of a type of its own, and whoever calls has them apart.)
 pub fn run_check_above_watched<M: Source, G: Source, V: Source, W: Sink, O: Watch>(
     alloc: Global,
@@ -83,26 +77,11 @@ pub fn run_check_above_watched<M: Source, G: Source, V: Source, W: Sink, O: Watc
     sink: &mut W,
     watch: &mut O,
 ) -> Result<AboveVerdict, RunFault>
-    ensures answered { IfOk result (λ verdict. (line : List ℕ)
-        × HasVerdictAbove (text_of M.reads model.old model.new) (text_of G.reads graph.old graph.new)
-        (text_of V.reads vectors.old vectors.new) verdict line
-        × Takes W.writes sink.old line sink.new) }
-    ensures promise { result ≡ Ok AboveVerdict.Yes → HavePromiseAbove (text_of M.reads model.old model.new)
-        (text_of G.reads graph.old graph.new) (text_of V.reads vectors.old vectors.new) }
-    ensures start_promise { result ≡ Ok AboveVerdict.Yes → (line : List ℕ)
-        × HasStartPromiseAbove (text_of M.reads model.old model.new) (text_of G.reads graph.old graph.new)
-        (text_of V.reads vectors.old vectors.new) line
-        × Takes W.writes sink.old line sink.new }
-    ensures begun { IsErrOf result RunFault.Write → (verdict : AboveVerdict) × (line : List ℕ)
-        × HasVerdictAbove (text_of M.reads model.old model.new) (text_of G.reads graph.old graph.new)
-        (text_of V.reads vectors.old vectors.new) verdict line
-        × TakesFront W.writes sink.old line sink.new }
-    ensures stops { StopsRightly Rounding.Up result
+    ensures { IsCheckRunAbove
         M.reads M.failures model.old model.new
         G.reads G.failures graph.old graph.new
         V.reads V.failures vectors.old vectors.new
-        W.failures sink.old sink.new }
-    ensures of_a_check { IfErr result IsCheckRunFault }
+        W.writes W.failures sink.old sink.new result }
 {
     let read = read_controller(alloc, Rounding::Up, model, graph, vectors)?;
     write_answer_above(&read, sink, watch)
@@ -115,18 +94,11 @@ fn write_answer_above<W: Sink, O: Watch>(
     watch: &mut O,
 ) -> Result<AboveVerdict, RunFault>
     requires fits { Fits (table_of (meaning read.now.model)) read.now.graph read.now.vectors }
-    ensures answered { IfOk result (λ verdict. (line : List ℕ)
-        × IsAnswerLine IsAboveVerdict IsAboveVerdictLine (meaning read.now.model)
-        read.now.graph read.now.vectors verdict line
-        × Takes W.writes sink.old line sink.new) }
-    ensures begun { IsErrOf result RunFault.Write → (verdict : AboveVerdict) × (line : List ℕ)
-        × IsAnswerLine IsAboveVerdict IsAboveVerdictLine (meaning read.now.model)
-        read.now.graph read.now.vectors verdict line
-        × TakesFront W.writes sink.old line sink.new }
+    ensures answered { WritesAnswer W.writes (IsAnswerLine IsAboveVerdict IsAboveVerdictLine
+        (meaning read.now.model) read.now.graph read.now.vectors) result sink.old sink.new }
     ensures write { IsNamedRightly (IsErrOf result RunFault.Write)
         (W.failures sink.old) (W.failures sink.new) }
     ensures of_write { IfErr result (λ fault. fault ≡ RunFault.Write) }
-    ensures no_read { IfErr result IsNoReadFault }
 {
     let verdict = check_above_watched(&read.model, &read.graph, &read.vectors, watch);
     let line = line_of_above_verdict(&read.model, &read.graph, &read.vectors, verdict);
@@ -153,23 +125,17 @@ pub fn run_raise<M: Source, G: Source, V: Source, W: Sink>(
     vectors: &mut V,
     sink: &mut W,
 ) -> Result<i64, RunFault>
-    // The sink took exactly the raised vectors in full form. The answer from above to the model's text, the
-    // graph's text and this text is yes, and the headline from above holds of them.
-    ensures raised { IfOk result (λ by. (text : List ℕ)
-        × HasRaised (text_of M.reads model.old model.new) (text_of G.reads graph.old graph.new)
-        (text_of V.reads vectors.old vectors.new) by text
-        × Takes W.writes sink.old text sink.new) }
+    // The sink took exactly the raised vectors in full form, or where a write failed, a beginning of them.
+    // The answer from above to the model's text, the graph's text and this text is yes, and the headline
+    // from above holds of them.
+    ensures raised { WritesAnswer W.writes (HasRaised (text_of M.reads model.old model.new)
+        (text_of G.reads graph.old graph.new) (text_of V.reads vectors.old vectors.new))
+        result sink.old sink.new }
 
     // Raising is refused only where all three texts are accepted, for a right reason.
     ensures not_raised { (fault : _) → IsErrOf result (RunFault.Raise fault)
         → IsNotRaisable (text_of M.reads model.old model.new) (text_of G.reads graph.old graph.new)
         (text_of V.reads vectors.old vectors.new) fault }
-
-    // Where a write failed, what was written before is a beginning of the raised vectors.
-    ensures begun { IsErrOf result RunFault.Write → (by : ℤ) × (text : List ℕ)
-        × HasRaised (text_of M.reads model.old model.new) (text_of G.reads graph.old graph.new)
-        (text_of V.reads vectors.old vectors.new) by text
-        × TakesFront W.writes sink.old text sink.new }
 
     // The first text that is none of its kind is refused, for a right reason. A device is named only where
     // it failed in this call, and no failure of one is passed over. Each source is read to its end before
@@ -186,7 +152,8 @@ pub fn run_raise<M: Source, G: Source, V: Source, W: Sink>(
     run_raise_watched(alloc, model, graph, vectors, sink, &mut Unwatched)
 }
 
-/// The same, and `watch` is told how far it is: of each node once. Every clause is that of `run_raise`.
+/// The same, and `watch` is told how far it is: of each node once. What it promises is every clause of
+/// `run_raise`.
 // (Six parameters: each of the devices is of a type of its own, and whoever calls has them apart.)
 pub fn run_raise_watched<M: Source, G: Source, V: Source, W: Sink, O: Watch>(
     alloc: Global,
@@ -196,23 +163,11 @@ pub fn run_raise_watched<M: Source, G: Source, V: Source, W: Sink, O: Watch>(
     sink: &mut W,
     watch: &mut O,
 ) -> Result<i64, RunFault>
-    ensures raised { IfOk result (λ by. (text : List ℕ)
-        × HasRaised (text_of M.reads model.old model.new) (text_of G.reads graph.old graph.new)
-        (text_of V.reads vectors.old vectors.new) by text
-        × Takes W.writes sink.old text sink.new) }
-    ensures not_raised { (fault : _) → IsErrOf result (RunFault.Raise fault)
-        → IsNotRaisable (text_of M.reads model.old model.new) (text_of G.reads graph.old graph.new)
-        (text_of V.reads vectors.old vectors.new) fault }
-    ensures begun { IsErrOf result RunFault.Write → (by : ℤ) × (text : List ℕ)
-        × HasRaised (text_of M.reads model.old model.new) (text_of G.reads graph.old graph.new)
-        (text_of V.reads vectors.old vectors.new) by text
-        × TakesFront W.writes sink.old text sink.new }
-    ensures stops { StopsRightly Rounding.Up result
+    ensures { IsRaiseRun
         M.reads M.failures model.old model.new
         G.reads G.failures graph.old graph.new
         V.reads V.failures vectors.old vectors.new
-        W.failures sink.old sink.new }
-    ensures of_a_raise { IfErr result IsRaiseRunFault }
+        W.writes W.failures sink.old sink.new result }
 {
     let given = read_controller(alloc, Rounding::Up, model, graph, vectors)?;
     write_raised_vectors(alloc, &given, sink, watch)
@@ -226,16 +181,12 @@ fn write_raised_vectors<W: Sink, O: Watch>(
     watch: &mut O,
 ) -> Result<i64, RunFault>
     requires fits { Fits (table_of (meaning given.now.model)) given.now.graph given.now.vectors }
-    ensures raised { IfOk result (λ by. (text : List ℕ)
-        × AreRaised (meaning given.now.model) given.now.graph given.now.vectors by text
-        × Takes W.writes sink.old text sink.new) }
+    ensures raised { WritesAnswer W.writes (AreRaised (meaning given.now.model)
+        given.now.graph given.now.vectors) result sink.old sink.new }
     ensures not_raised { (fault : _) → IsErrOf result (RunFault.Raise fault)
         → IsWhyNotRaised
         (controller_of (table_of (meaning given.now.model)) given.now.graph given.now.vectors)
         given.now.vectors fault }
-    ensures begun { IsErrOf result RunFault.Write → (by : ℤ) × (text : List ℕ)
-        × AreRaised (meaning given.now.model) given.now.graph given.now.vectors by text
-        × TakesFront W.writes sink.old text sink.new }
     ensures write { IsNamedRightly (IsErrOf result RunFault.Write)
         (W.failures sink.old) (W.failures sink.new) }
     ensures untouched { (fault : RunFault) → IsErrOf result fault

@@ -1,12 +1,12 @@
 -- Helper definitions of private functions: what is read of three sources, and written of it. Nobody has to believe them.
 use Rattle.std.specs.Prelude.{◌≡◌, ℕ, ℤ, List}
 use Rattle.polcert_text.specs.declared.number.Rounding.{Rounding}
-use Rattle.polcert_text.specs.declared.number.Rounding.TheVariants.{Up}
+use Rattle.polcert_text.specs.declared.number.Rounding.TheVariants.{Down, Up}
 use Rattle.polcert_cells.specs.Meaning.{Meaning, states_of}
-use Rattle.polcert_cells.specs.Tables.{table_of}
+use Rattle.polcert_cells.specs.Tables.{CellTable, table_of}
 use Rattle.polcert_policy.specs.Graphs.{PolicyGraph}
 use Rattle.polcert_policy.specs.Vectors.{PolicyVectors}
-use Rattle.polcert_policy.specs.VectorText.{IsVectorsText, IsRoundedVectorsText}
+use Rattle.polcert_policy.specs.VectorText.{IsRoundedVectorsText}
 use Rattle.polcert_policy.specs.FullForm.{vectors_text}
 use Rattle.polcert_check.specs.Horizon.{Controller, controller_of}
 use Rattle.polcert_check.specs.Lower.{IsLowered}
@@ -33,20 +33,21 @@ pub record IsAnswerLine {V : Type 0} (Is : Controller → V → Type 0) (IsLine 
   pub verdict_is : Is (controller_of (table_of m) g v) verdict
   pub line_is : IsLine m (controller_of (table_of m) g v) v verdict line
 
--- this is the least constant by which these vectors can be lowered to pass, and the text is the full form of the lowered ones,
--- which reads back
-pub record AreLowered (m : Meaning) (g : PolicyGraph) (v : PolicyVectors) (by : ℤ) (text : List ℕ) : Type 0 where
-  pub lower : PolicyVectors
-  pub lowered : IsLowered (table_of m) g v (by, lower)
-  pub text_is : text ≡ vectors_text g lower
-  pub reads_back : IsVectorsText g (states_of m) text lower
+-- This is the least constant by which these vectors can be moved to pass, where this says so of it and the moved ones, and the text
+-- is the full form of the moved ones, which reads back with each value rounded this way.
+pub record AreMoved (rounding : Rounding) (Moves : CellTable → PolicyGraph → PolicyVectors → ℤ × PolicyVectors → Type 0)
+    (m : Meaning) (g : PolicyGraph) (v : PolicyVectors) (by : ℤ) (text : List ℕ) : Type 0 where
+  pub other : PolicyVectors
+  pub moved : Moves (table_of m) g v (by, other)
+  pub text_is : text ≡ vectors_text g other
+  pub reads_back : IsRoundedVectorsText rounding g (states_of m) text other
 
--- the same from above, with the vectors raised
-pub record AreRaised (m : Meaning) (g : PolicyGraph) (v : PolicyVectors) (by : ℤ) (text : List ℕ) : Type 0 where
-  pub raise : PolicyVectors
-  pub raised : IsRaised (table_of m) g v (by, raise)
-  pub text_is : text ≡ vectors_text g raise
-  pub reads_back : IsRoundedVectorsText Up g (states_of m) text raise
+-- the same of lowered vectors, and of raised ones
+abbrev pub AreLowered : Meaning → PolicyGraph → PolicyVectors → ℤ → List ℕ → Type 0
+AreLowered m g v by text = AreMoved Down IsLowered m g v by text
+
+abbrev pub AreRaised : Meaning → PolicyGraph → PolicyVectors → ℤ → List ℕ → Type 0
+AreRaised m g v by text = AreMoved Up IsRaised m g v by text
 
 -- a fault of a model's text or of its source
 abbrev pub IsModelReadFault : RunFault → Type 0

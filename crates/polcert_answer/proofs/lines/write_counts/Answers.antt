@@ -1,10 +1,10 @@
-use Rattle.std.proofs.Common.{◌++◌, List, ℕ, codes}
-use Rattle.polcert_text.proofs.Printing.Taking.{wrote_front}
+use Rattle.std.proofs.Common.{◌++◌, List, [], ◌∷◌, ℕ, codes}
+use Rattle.polcert_text.proofs.Printing.Written.{one_more, ends_with}
 use Rattle.polcert_model.specs.Contents.{Contents, meaning}
 use Rattle.polcert_cells.specs.Preamble.{is_mdp}
 use Rattle.polcert_cells.specs.Meaning.{states_of, actions_of}
 use Rattle.polcert_answer.specs.Lines.{counted, kind_word, observations_text}
-use Rattle.polcert_text.proofs.Printing.Written.{wrote, one_more, fails_at, fails_before, ends_with}
+use Rattle.polcert_answer.proofs.Parts.{went, fails_first, fails_next}
 use Rattle.polcert_answer.proofs.lines.write_counts.Goals as goal
 
 abbrev head : Contents → List ℕ
@@ -22,34 +22,27 @@ observations m = observations_text (meaning m)
 pub returns-in_err-write_all : goal.returns-in_err-write_all
 returns-in_err-write_all g c =
     let m = c.args.model.now in
-    let e = c.from_residual.ensures.0 in
-    fails_before (head m ++ states m ++ actions m) (observations m) _ e (fails_before (head m ++ states m) (actions m) _ e
-    (fails_before (head m) (states m) _ e (wrote_front (head m) _ e (rw (c.kind_word.ensures, c.is_mdp.ensures) at c.in_err-write_all.ensures.err) c.in_err-write_all.ensures.count)))
+    fails_first _ c.from_residual.ensures.0 (head m) (states m ∷ actions m ∷ observations m ∷ []) (rw (c.kind_word.ensures, c.is_mdp.ensures) at c.in_err-write_all.ensures)
 
 pub returns-in_err-write_count : goal.returns-in_err-write_count
 returns-in_err-write_count g c =
     let m = c.args.model.now in
-    let e = c.from_residual-in_err-write_count.ensures.0 in
-    fails_before (head m ++ states m ++ actions m) (observations m) _ e (fails_before (head m ++ states m) (actions m) _ e
-    (fails_at (head m) (states m) _ e (wrote (rw (c.kind_word.ensures, c.is_mdp.ensures) at c.in_ok-write_all.ensures.ok) c.in_ok-write_all.ensures.same_count)
-    (rw c.states.ensures.elements at c.in_err-write_count.ensures.err) c.in_err-write_count.ensures.count))
+    let first = went (rw (c.kind_word.ensures, c.is_mdp.ensures) at c.in_ok-write_all.ensures) in
+    fails_next _ c.from_residual-in_err-write_count.ensures.0 (head m) (states m) (actions m ∷ observations m ∷ []) first (rw c.states.ensures.elements at c.in_err-write_count.ensures)
 
 pub returns-in_err-write_count-2 : goal.returns-in_err-write_count-2
 returns-in_err-write_count-2 g c =
     let m = c.args.model.now in
-    let e = c.from_residual-in_err-write_count-2.ensures.0 in
-    fails_before (head m ++ states m ++ actions m) (observations m) _ e
-    (fails_at (head m ++ states m) (actions m) _ e
-    (one_more (head m) (states m) (wrote (rw (c.kind_word.ensures, c.is_mdp.ensures) at c.in_ok-write_all.ensures.ok) c.in_ok-write_all.ensures.same_count)
-    (wrote (rw c.states.ensures.elements at c.in_ok-write_count.ensures.ok) c.in_ok-write_count.ensures.same_count))
-    (rw c.actions.ensures.elements at c.in_err-write_count-2.ensures.err) c.in_err-write_count-2.ensures.count)
+    let first = went (rw (c.kind_word.ensures, c.is_mdp.ensures) at c.in_ok-write_all.ensures) in
+    let second = went (rw c.states.ensures.elements at c.in_ok-write_count.ensures) in
+    fails_next _ c.from_residual-in_err-write_count-2.ensures.0 (head m ++ states m) (actions m) (observations m ∷ [])
+    (one_more (head m) (states m) first second) (rw c.actions.ensures.elements at c.in_err-write_count-2.ensures)
 
 pub returns : goal.returns
 returns g c =
     let m = c.args.model.now in
-    ends_with (head m ++ states m ++ actions m) (observations m) _
-    (one_more (head m ++ states m) (actions m)
-    (one_more (head m) (states m) (wrote (rw (c.kind_word.ensures, c.is_mdp.ensures) at c.in_ok-write_all.ensures.ok) c.in_ok-write_all.ensures.same_count)
-    (wrote (rw c.states.ensures.elements at c.in_ok-write_count.ensures.ok) c.in_ok-write_count.ensures.same_count))
-    (wrote (rw c.actions.ensures.elements at c.in_ok-write_count-2.ensures.ok) c.in_ok-write_count-2.ensures.same_count))
+    let first = went (rw (c.kind_word.ensures, c.is_mdp.ensures) at c.in_ok-write_all.ensures) in
+    let second = went (rw c.states.ensures.elements at c.in_ok-write_count.ensures) in
+    let third = went (rw c.actions.ensures.elements at c.in_ok-write_count-2.ensures) in
+    ends_with (head m ++ states m ++ actions m) (observations m) _ (one_more (head m ++ states m) (actions m) (one_more (head m) (states m) first second) third)
     c.write_observations.ensures
