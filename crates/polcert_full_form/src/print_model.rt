@@ -28,6 +28,18 @@ enum StartForm {
     Each,
 }
 
+impl StartForm {
+    /// The word that the line begins with.
+    fn word(self) -> &'static [u8]
+        ensures { result.now ≡ start_word self }
+    {
+        match self {
+            StartForm::Chosen => b"start include:",
+            StartForm::Each => b"start:",
+        }
+    }
+}
+
 /// Writes the full form of a model: the preamble, the start, each row of T and O, and the rewards that are
 /// not all 0, with numbers in their shortest decimal form. Equal models have the same full form. `printable`
 /// tells whether a model may be written.
@@ -87,17 +99,18 @@ fn write_settings<W: Sink>(model: &Model, out: &mut W) -> Result<(), SinkFailed>
 {
     write_all(out, b"discount: ")?;
     write_scaled(model.discount() as i64, out)?;
+    write_all(out, b"\n")?;
     write_all(out, values_line(model.is_cost()))
 }
 
-/// The end of the discount's line, and the line of the kind of values.
+/// The line of the kind of values.
 fn values_line(is_cost: bool) -> &'static [u8]
     ensures { result.now ≡ values_line is_cost }
 {
     if is_cost {
-        b"\nvalues: cost\n"
+        b"values: cost\n"
     } else {
-        b"\nvalues: reward\n"
+        b"values: reward\n"
     }
 }
 
@@ -196,18 +209,9 @@ fn write_start_line<W: Sink>(model: &Model, form: StartForm, out: &mut W) -> Res
         (start_part form (meaning model.now).start) ++ codes "\n")
         result out.new }
 {
-    write_all(out, start_word(form))?;
+    write_all(out, form.word())?;
     write_start_parts(model, form, out)?;
     write_all(out, b"\n")
-}
-
-fn start_word(form: StartForm) -> &'static [u8]
-    ensures { result.now ≡ start_word form }
-{
-    match form {
-        StartForm::Chosen => b"start include:",
-        StartForm::Each => b"start:",
-    }
 }
 
 fn write_start_parts<W: Sink>(model: &Model, form: StartForm, out: &mut W) -> Result<(), SinkFailed>

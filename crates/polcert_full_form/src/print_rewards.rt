@@ -7,7 +7,7 @@ ghost use Rattle.polcert_tables.specs.Contents.{meaning};
 ghost use Rattle.polcert_cells.specs.Meaning.{states_of, actions_of};
 ghost use Rattle.polcert_format.specs.FullForm.{for_each, written, rewards_from, rewards_text};
 ghost use Rattle.polcert_full_form.specs.Steps.Printing.{reward_head, block_text, reward_rows, rewards_at};
-ghost use Rattle.polcert_full_form.specs.Steps.Printing.{IsFilled, IsPaidFrom};
+ghost use Rattle.polcert_full_form.specs.Steps.Printing.{IsFilled};
 ghost use Rattle.polcert_full_form.specs.Steps.PrintedRows.{row_width, row_rewards, rewarded_text, paid_row_text};
 
 use crate::print_words::{write_head, write_number_at, write_zeros};
@@ -35,11 +35,10 @@ pub(crate) fn write_rewards<W: Sink>(model: &Model, out: &mut W) -> Result<(), S
 fn write_rewards_at<W: Sink>(
     model: &Model,
     action: usize,
-    block: &mut [i64],
+    block: &mut [i64; BLOCK],
     out: &mut W,
 ) -> Result<(), SinkFailed>
     requires action { action < actions_of (meaning model.now) }
-    requires room { 0 < length block.old }
     ensures { WritesText W.writes W.failures out.old (rewards_at (meaning model.now) action) result out.new }
 {
     for start in 0..model.states() {
@@ -53,12 +52,11 @@ fn write_rewards_from<W: Sink>(
     model: &Model,
     action: usize,
     start: usize,
-    block: &mut [i64],
+    block: &mut [i64; BLOCK],
     out: &mut W,
 ) -> Result<(), SinkFailed>
     requires action { action < actions_of (meaning model.now) }
     requires start { start < states_of (meaning model.now) }
-    requires room { 0 < length block.old }
     ensures { WritesText W.writes W.failures out.old
         (rewards_from (meaning model.now) action start) result out.new }
 {
@@ -81,10 +79,9 @@ fn write_rewards_from<W: Sink>(
 /// Writes the rows of rewards of the same action in the same state, by end state.
 fn write_reward_rows<W: Sink>(
     whole: &RewardRow<'_>,
-    block: &mut [i64],
+    block: &mut [i64; BLOCK],
     out: &mut W,
 ) -> Result<(), SinkFailed>
-    requires { 0 < length block.old }
     ensures { WritesText W.writes W.failures out.old
         (reward_rows (meaning whole.now.model.now) whole.now.action whole.now.start) result out.new }
 {
@@ -103,31 +100,14 @@ fn write_reward_rows<W: Sink>(
 /// Writes a row of rewards, if they are not all 0.
 fn write_reward_row<W: Sink>(
     row: &RewardRow<'_>,
-    block: &mut [i64],
+    block: &mut [i64; BLOCK],
     out: &mut W,
 ) -> Result<(), SinkFailed>
-    requires { 0 < length block.old }
     ensures { WritesText W.writes W.failures out.old (paid_row_text row.now) result out.new }
 {
-    match row.first_paid(block) {
-        Some(first) => write_paid_row(row, first, block, out),
-        None => Ok(()),
-    }
-}
-
-/// Writes a row of rewards whose block from column `first` on is read, and is the first with one other than
-/// 0.
-fn write_paid_row<W: Sink>(
-    row: &RewardRow<'_>,
-    first: usize,
-    block: &mut [i64],
-    out: &mut W,
-) -> Result<(), SinkFailed>
-    requires room { 0 < length block.old }
-    requires paid { IsPaidFrom (row_rewards row.now) (row_width row.now) first }
-    requires filled { IsFilled (row_rewards row.now) (row_width row.now) first block.old }
-    ensures { WritesText W.writes W.failures out.old (paid_row_text row.now) result out.new }
-{
+    let Some(first) = row.first_paid(block) else {
+        return Ok(());
+    };
     write_reward_head(row, out)?;
     write_zeros(0, first, out)?;
     write_blocks(row, first, block, out)?;

@@ -71,7 +71,7 @@ pub preamble_is : (m : Meaning) → settings_text m ++ elements_line (codes "sta
 preamble_is m = λ i. settings m.preamble.costs i ++ elements_is (codes "states:") m.preamble.states i ++ elements_is (codes "actions:") m.preamble.actions i
     ++ observations_line m.preamble.observations
   where
-    settings : (costs : Bool) → codes "discount: " ++ millionths_text m.preamble.discount ++ values_line costs
+    settings : (costs : Bool) → codes "discount: " ++ millionths_text m.preamble.discount ++ codes "\n" ++ values_line costs
         ≡ line (codes "discount:" ∷ millionths_text m.preamble.discount ∷ []) ++ line (codes "values:" ∷ (if costs then codes "cost" else codes "reward") ∷ [])
     settings true = simp append_assoc
     settings false = simp append_assoc

@@ -22,12 +22,12 @@ abbrev pub behind_blank : List ℕ → List ℕ
 behind_blank word = codes " " ++ word
 
 abbrev pub values_line : Bool → List ℕ
-values_line false = codes "\nvalues: reward\n"
-values_line true = codes "\nvalues: cost\n"
+values_line false = codes "values: reward\n"
+values_line true = codes "values: cost\n"
 
 -- the lines of the discount and of the kind of values
 abbrev pub settings_text : Meaning → List ℕ
-settings_text m = codes "discount: " ++ scaled_text (pos m.preamble.discount) ++ values_line m.preamble.costs
+settings_text m = codes "discount: " ++ scaled_text (pos m.preamble.discount) ++ codes "\n" ++ values_line m.preamble.costs
 
 abbrev pub name_text : List (List ℕ) → ℕ → List ℕ
 name_text names i = behind_blank (slice_index_or names i [])
