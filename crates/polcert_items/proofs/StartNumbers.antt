@@ -10,6 +10,8 @@ use Rattle.polcert_text.specs.declared.number.NumberFault.{NumberFault}
 use Rattle.polcert_cells.specs.declared.entry.Body.TheVariants as bodies
 use Rattle.polcert_items.specs.declared.entry_reader.Numbers.{Numbers}
 use Rattle.polcert_format.specs.declared.fault.ItemFault.{ItemFault}
+use Rattle.polcert_format.specs.declared.fault.ItemFault.TheVariants.{Number}
+use Rattle.polcert_items.specs.declared.signed_number.Refusal.{Refusal}
 use Rattle.polcert_items.specs.declared.signed_number.Sign.{Sign}
 use Rattle.polcert_items.specs.declared.start_numbers.FirstNumber.{FirstNumber}
 use Rattle.polcert_items.specs.declared.start_numbers.Digits.{Digits}
@@ -24,7 +26,7 @@ use Rattle.polcert_cells.specs.declared.shares.Shares.{Shares}
 use Rattle.polcert_cells.specs.Start.{all_states, shares_of}
 use Rattle.polcert_items.specs.Steps.Lines.{Takes, CannotTake}
 use Rattle.polcert_items.specs.Steps.Entries.{ProbabilitiesGo, IsFull, one_number}
-use Rattle.polcert_items.specs.Steps.Start.{only_state, probabilities, alone, each, AreGiven, NumbersGo, DigitsGo, state_number, first_of_more, AreWhole, SharesGo, StartGoes, StartGives, Begins, IsOutside, IsDueNumber, IsDueValue, IsStop, due, at_once}
+use Rattle.polcert_items.specs.Steps.Start.{only_state, probabilities, alone, each, AreGiven, NumbersGo, DigitsGo, state_number, first_of_more, AreWhole, SharesGo, StartGoes, StartGives, Begins, IsOutside, IsDueNumber, IsDueValue, IsStop, due, at_once, first_of, refused}
 use Rattle.polcert_format.specs.Misfits.{Wanted}
 use Rattle.polcert_cells.proofs.Basics.{true≢false, cons≢nil, same_head, same_tail}
 use Rattle.polcert_items.proofs.ListLaws.{all_none, fractions_in_range, small_fractions}
@@ -217,6 +219,16 @@ number_stuck states f p old l e small more is none = λ ls v g.
 
 -- ---- digits alone
 
+-- where something follows them, they are a number of this value and place
+pub first_is : (v : Result ℤ NumberFault) (place : ℕ) (f : FirstNumber) → Ok f ≡ first_of v place → (v ≡ Ok f.value) × (f.place ≡ place)
+first_is (Ok h) place f is = (cc, cc)
+first_is (Err fault) place f is = cc
+
+-- or they are refused, since they have none
+pub none_is : (v : Result ℤ NumberFault) (place : ℕ) (r : Refusal) → Err r ≡ first_of v place → (fault : NumberFault) × (v ≡ Err fault) × (r ≡ refused (Number fault) place)
+none_is (Ok h) place r is = cc
+none_is (Err fault) place r is = (fault, refl, cc)
+
 same_value : (h k : ℤ) (r : Result ℤ NumberFault) → r ≡ Ok h → r ≡ Ok k → h ≡ k
 same_value h k r e f = cc
 
@@ -234,6 +246,10 @@ module _ (states : Elements) (digits : Digits) (l : Lexeme) where
 
   pub digits_stuck : (f : FirstNumber) → digits.value ≡ Ok f.value → CannotTake (StartGoes states) (reader.Number f) l → CannotTake (StartGoes states) (reader.Digits digits) l
   digits_stuck f is none = λ ls v g. none ls v (on_digits f.value is ls v g)
+
+  pub valueless_stuck : (fault : NumberFault) → digits.value ≡ Err fault → CannotTake (StartGoes states) (reader.Digits digits) l
+  valueless_stuck fault is ls v (state_number s none e f) = cons≢nil none
+  valueless_stuck fault is ls v (first_of_more k e g) = cc
 
 -- ---- where the item ends
 

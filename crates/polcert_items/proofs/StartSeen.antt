@@ -38,9 +38,11 @@ use Rattle.polcert_text.specs.Lexemes.{are_digits}
 use Rattle.polcert_cells.proofs.Basics.{cons≢nil, same_head, same_tail, true≢false}
 use Rattle.polcert_items.specs.declared.chosen.Chosen.{Chosen}
 use Rattle.polcert_items.specs.declared.entry_reader.Numbers.{Numbers}
+use Rattle.polcert_items.proofs.PatternLaws.{if_err_map, refused_map, each_refused_map}
 use Rattle.polcert_items.proofs.StartForms.{test_different}
+use Rattle.polcert_items.proofs.StartNumbers.{digits_stop, digits_stuck, first_is, none_is, valueless_stuck}
 use Rattle.polcert_items.specs.Steps.Entries.{IfRefused, IsListReason, no_number, no_further}
-use Rattle.polcert_items.specs.Steps.Start.{start_sign, pending_of, pending, IsValue, AreDigits, IsFormed, IsKept, IsNumberKept, IsBehindColon, IsListBegun, IsWordBody, IsFraction, IsStartSeen, IsReasonAt, IsInside, IsOutside, IsDueNumber, IsDueValue, IsStop, due, at_once, IsReasonIn, IsStartReason, IsStartEndKind, IfNotMemory, StartGoes, StartGives, IsStartWithin}
+use Rattle.polcert_items.specs.Steps.Start.{start_sign, pending_of, pending, IsValue, AreDigits, IsFormed, IsKept, IsNumberKept, IsBehindColon, IsListBegun, IsWordBody, IsFraction, IsStartSeen, IsReasonAt, IsOutside, IsDueNumber, IsDueValue, IsStop, due, at_once, IsReasonIn, IsStartReason, IsStartEndKind, IfNotMemory, StartGoes, StartGives, IsStartWithin, first_of}
 
 none≢some : {A : Type 0} {x : A} → None ≡ Some x → ⊥
 none≢some e = cc
@@ -244,14 +246,10 @@ pub number_seen : (count : ℕ) (body : List Lexeme) (l : Lexeme) (f : FirstNumb
     → IsStartSeen count (body ++ l ∷ []) (reader.Probabilities n)
 number_seen count body l f n s inside sign = first_further count body l f.place n (begins_map body f.place _ IsFraction [] (fraction_of f.value inside) s.body_is.number) sign
 
-inside_value : (v : Result ℤ NumberFault) (l : Lexeme) → IsInside v → IsValue v false l → IsFraction false l
-inside_value (Ok h) l inside is = (h, is, inside)
-inside_value (Err f) l inside is = absurd inside
-
-pub digits_go_on : (count : ℕ) (body : List Lexeme) (l : Lexeme) (d : Digits) (n : Numbers ℕ) → IsStartSeen count body (reader.Digits d) → IsInside d.value → SignIs n.sign l
-    → IsStartSeen count (body ++ l ∷ []) (reader.Probabilities n)
-digits_go_on count body l d n s inside sign =
-    first_further count body l d.place n (digits_begin count body d.place _ IsFraction [] (λ x k. inside_value d.value x inside k.value) s.body_is) sign
+pub digits_go_on : (count : ℕ) (body : List Lexeme) (l : Lexeme) (d : Digits) (f : FirstNumber) (n : Numbers ℕ) → IsStartSeen count body (reader.Digits d) → d.value ≡ Ok f.value → (IsOutside f.value → ⊥)
+    → SignIs n.sign l → IsStartSeen count (body ++ l ∷ []) (reader.Probabilities n)
+digits_go_on count body l d f n s is inside sign =
+    first_further count body l d.place n (digits_begin count body d.place _ IsFraction [] (λ x k. (f.value, subst (λ v. IsValue v false x) is k.value, inside)) s.body_is) sign
 
 pub further_seen : (count : ℕ) (body : List Lexeme) (l : Lexeme) (m n : Numbers ℕ) → IsStartSeen count body (reader.Probabilities m) → SignIs n.sign l
     → IsStartSeen count (body ++ l ∷ []) (reader.Probabilities n)
@@ -370,12 +368,28 @@ number_refused (Err (stops.Refused x)) states f l stuck stop =
     record { stuck = stuck; reason = λ body seen. number_reason (count_of states) body f _ l x.kind x.place seen stop; stops = stop }
 number_refused (Err stops.Memory) states f l stuck stop = tt
 
-pub digits_refused : {T : Type 0} (result : Result T Stop) (states : Elements) (d : Digits) (l : Lexeme) → On result (λ x. CannotTake (StartGoes states) (reader.Digits d) l)
+digits_refused : {T : Type 0} (result : Result T Stop) (states : Elements) (d : Digits) (l : Lexeme) → On result (λ x. CannotTake (StartGoes states) (reader.Digits d) l)
     → On result (λ x. IsStop (IsDueValue d.value d.place l) None NumberOrEnd l x.kind x.place) → On result (RefusesInStart states (reader.Digits d) l)
 digits_refused (Ok v) states d l stuck stop = tt
 digits_refused (Err (stops.Refused x)) states d l stuck stop =
     record { stuck = stuck; reason = λ body seen. digits_reason (count_of states) body d _ l x.kind x.place seen stop; stops = stop }
 digits_refused (Err stops.Memory) states d l stuck stop = tt
+
+-- digits that are the first of more numbers, but these do not go on
+pub first_refused : {T : Type 0} (result : Result T Stop) (states : Elements) (d : Digits) (f : FirstNumber) (l : Lexeme) → Ok f ≡ first_of d.value d.place
+    → On result (λ x. CannotTake (StartGoes states) (reader.Number f) l) → On result (λ x. IsStop (IsDueNumber f.value f.place l) None NumberOrEnd l x.kind x.place)
+    → On result (RefusesInStart states (reader.Digits d) l)
+first_refused result states d f l first stuck stop =
+    let is = first_is d.value d.place f first in
+    digits_refused result states d l (if_err_map _ _ _ (λ stop g. refused_map stop (digits_stuck states d l f is.0) g) stuck)
+    (if_err_map _ _ _ (λ stop g. each_refused_map stop (λ r n. digits_stop d f _ l r.kind r.place is.0 is.1 n) g) stop)
+
+-- digits without a value
+pub valueless_refused : (states : Elements) (d : Digits) (r : Refusal) (l : Lexeme) → Err r ≡ first_of d.value d.place → RefusesInStart states (reader.Digits d) l r
+valueless_refused states d r l none =
+    let is = none_is d.value d.place r none in
+    digits_refused {T = Unit {0}} (Err (stops.Refused r)) states d l (valueless_stuck states d l is.0 is.1)
+    (due (subst (λ v. IsDueValue v d.place l r.kind r.place) (sym is.1) (ap (λ (x : Refusal). x.kind) is.2, ap (λ (x : Refusal). x.place) is.2)))
 
 -- why a list of numbers cannot end
 pub end_kind : (kind : ItemFault) → IsEndReason Start kind → IsStartEndKind kind

@@ -1,10 +1,9 @@
 //! An item behind its word, read token by token.
-ghost use Rattle.std.specs.Prelude.{◌≡◌, true, None, List, [], IfOk, OnOk, IfErr};
+ghost use Rattle.std.specs.Prelude.{◌≡◌, true, None, List, [], IfOk, IfErr};
 ghost use Rattle.polcert_text.specs.Cut.{Lexeme};
 ghost use Rattle.polcert_text.specs.Reading.{lexeme_of};
 ghost use Rattle.polcert_items.specs.Steps.Elements.{IsText};
-ghost use Rattle.polcert_items.specs.Steps.Entries.{IfRefused};
-ghost use Rattle.polcert_items.specs.Steps.Items.{ItemGoes, IsItemWithin, IsItemFed, RefusesInItem, IsItemEndReason, topic_in, IsSeen, new_item, HasElements, pending_in};
+ghost use Rattle.polcert_items.specs.Steps.Items.{ItemGoes, IsItemWithin, FeedsItem, IsItemEndReason, topic_in, IsSeen, new_item, HasElements, pending_in};
 ghost use Rattle.polcert_items.specs.Steps.Known.{learned, AreContentsOf, AreContentsWithin};
 ghost use Rattle.polcert_items.specs.Steps.Lines.{CannotEnd};
 ghost use Rattle.polcert_format.specs.Misfits.{misfit};
@@ -69,10 +68,7 @@ impl ItemReader {
     pub fn feed(&mut self, alloc: Global, known: &Known, token: Token<'_>) -> Result<(), Stop>
         requires within { IsItemWithin known.now self.old }
         requires text { IsText (lexeme_of token) }
-        ensures topic { topic_in self.new ≡ topic_in self.old }
-        ensures fed { OnOk result (IsItemFed known.now self.old (lexeme_of token.entry) self.new) }
-        ensures refused { IfErr result (λ stop. IfRefused stop
-            (RefusesInItem known.now self.old (lexeme_of token.entry))) }
+        ensures { FeedsItem known.now self.old (lexeme_of token.entry) self.new result }
     {
         match self {
             ItemReader::Entry(reader) => reader.feed(alloc, known, token),
@@ -85,10 +81,7 @@ impl ItemReader {
     fn feed_any(&mut self, alloc: Global, known: &Known, token: Token<'_>) -> Result<(), Stop>
         requires within { IsItemWithin known.now self.old }
         requires text { IsText (lexeme_of token) }
-        ensures topic { topic_in self.new ≡ topic_in self.old }
-        ensures fed { OnOk result (IsItemFed known.now self.old (lexeme_of token.entry) self.new) }
-        ensures refused { IfErr result (λ stop. IfRefused stop
-            (RefusesInItem known.now self.old (lexeme_of token.entry))) }
+        ensures { FeedsItem known.now self.old (lexeme_of token.entry) self.new result }
     {
         match self {
             ItemReader::Discount(reader) => Ok(reader.feed(token)?),

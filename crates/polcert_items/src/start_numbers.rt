@@ -11,8 +11,8 @@ ghost use Rattle.polcert_items.specs.Steps.Entries.{IfRefused};
 ghost use Rattle.polcert_items.specs.Steps.Lines.{Takes, CannotTake, CannotEnd};
 ghost use Rattle.polcert_items.specs.Steps.Numbers.{SignIs};
 ghost use Rattle.polcert_items.specs.Steps.Start.{StartGoes, StartGives, IsStartWithin, IsStartSeen};
-ghost use Rattle.polcert_items.specs.Steps.Start.{IsStartEndReason, IfNotMemory, IsInside, IsOutside};
-ghost use Rattle.polcert_items.specs.Steps.Start.{IsDueNumber, IsDueValue, IsAtEnd, IsEndDue, IsStop, refused};
+ghost use Rattle.polcert_items.specs.Steps.Start.{IsStartEndReason, IfNotMemory, IsOutside};
+ghost use Rattle.polcert_items.specs.Steps.Start.{IsDueNumber, IsAtEnd, IsEndDue, IsStop, first_of, refused};
 ghost use Rattle.polcert_items.specs.Steps.Wants.{Leads, list_wants, IfAtEnd};
 
 use crate::chosen::{every_state, one_state};
@@ -112,49 +112,19 @@ impl FirstNumber {
 }
 
 impl Digits {
-    /// The numbers, where one more token follows the digits.
-    pub(crate) fn go_on(
-        self,
-        alloc: Global,
-        states: &Elements,
-        token: Token<'_>,
-    ) -> Result<Numbers<u32>, Stop>
-        requires { IsCount most_states (count_of states.now) }
-        ensures takes { IfOk result (λ n. Takes (StartGoes states.now)
-            (reader.Digits self) (lexeme_of token.entry) (reader.Probabilities n)) }
-        ensures within { IfOk result (λ n. IsStartWithin states.now (reader.Probabilities n)) }
-        ensures refused { IfErr result (λ stop. IfRefused stop (λ r.
-            CannotTake (StartGoes states.now) (reader.Digits self) (lexeme_of token.entry))) }
-        ensures kept { IfOk result (λ n. SignIs n.sign (lexeme_of token.entry)) }
-        ensures inside { IfOk result (λ n. IsInside self.value) }
-        ensures leads { IfOk result (λ n. Leads
-            (numbers_want false (count_of states.now - 1)) (lexeme_of token.entry) (list_wants n)) }
-        ensures stops { IfErr result (λ stop. IfRefused stop (λ r.
-            IsStop (IsDueValue self.value self.place (lexeme_of token.entry)) None
-            (number_end false (count_of states.now - 1)) (lexeme_of token.entry) r.kind r.place)) }
-        ensures late { (r : Refusal) →
-            IsDueValue self.value self.place (lexeme_of token.entry) r.kind r.place →
-            result ≡ Err (Stop.Refused r) }
+    /// The first number, where something follows the digits; or its refusal, where they have no value.
+    pub(crate) fn first_number(self) -> Result<FirstNumber, Refusal>
+        ensures { result ≡ first_of self.value self.place }
     {
         match self.value {
-            Ok(value) => {
-                let first = FirstNumber {
-                    value,
-                    place: self.place,
-                };
-                first.go_on(alloc, states, token)
-            }
-            Err(fault) => Err(Stop::Refused(self.without_value(fault))),
-        }
-    }
-
-    /// The refusal of the digits where something follows them, and they have no value, for this reason.
-    pub(crate) fn without_value(self, fault: NumberFault) -> Refusal
-        ensures { result ≡ refused (ItemFault.Number fault) self.place }
-    {
-        Refusal {
-            kind: ItemFault::Number(fault),
-            place: self.place,
+            Ok(value) => Ok(FirstNumber {
+                value,
+                place: self.place,
+            }),
+            Err(fault) => Err(Refusal {
+                kind: ItemFault::Number(fault),
+                place: self.place,
+            }),
         }
     }
 

@@ -108,7 +108,8 @@ impl StartReader {
                 Ok(())
             }
             StartReader::Digits(digits) => {
-                *self = StartReader::Probabilities(digits.go_on(alloc, states, token)?);
+                let first = digits.first_number()?;
+                *self = StartReader::Probabilities(first.go_on(alloc, states, token)?);
                 Ok(())
             }
             StartReader::Probabilities(numbers) => numbers.feed(token),
@@ -121,10 +122,7 @@ impl StartReader {
         ensures { result ≡ pending self.now }
     {
         match self {
-            StartReader::Digits(digits) => match digits.value {
-                Ok(_) => None,
-                Err(fault) => Some(digits.without_value(fault)),
-            },
+            StartReader::Digits(digits) => digits.first_number().err(),
             _ => None,
         }
     }

@@ -10,9 +10,9 @@ use crate::Rule;
 use crate::newest::{first_at, later, next_place};
 use crate::part::{between, from};
 
-/// Notes, for each of so many numbers from `first` on as the last index behind these, the newest rule that fits, where it is later
-/// than what is noted. The places of the rules follow those of the key `low`.
-// (Seven parameters: it goes on with a part of the rules and of the indices, so that a struct of them would be
+/// Notes, for as many numbers from `first` on as there is room for, each as the last index behind these, the newest rule that fits,
+/// where it is later than what is noted. The places of the rules follow those of the key `low`.
+// (Six parameters: it goes on with a part of the rules and of the indices, so that a struct of them would be
 // made anew at each step.)
 pub(crate) fn note(
     rules: &[Rule],
@@ -20,7 +20,6 @@ pub(crate) fn note(
     levels: usize,
     indices: &[usize],
     first: usize,
-    count: usize,
     noted: &mut [Option<usize>],
 )
     requires rising { IsRising rules.now }
@@ -29,53 +28,36 @@ pub(crate) fn note(
     requires last { levels ≡ length indices.now + 1 }
     requires room { low + key_base ^ levels < 2 ^ 64 }
     requires indices { AreIndices levels indices.now }
-    requires within { count ≤ length noted.old }
-    requires small { first + count + 2 ≤ key_base }
-    ensures { AreNoted rules.now levels low indices.now first count noted.old noted.new }
+    requires small { first + length noted.old + 2 ≤ key_base }
+    ensures { AreNoted rules.now levels low indices.now first noted.old noted.new }
 {
     if rules.is_empty() {
         return;
     }
-    note_all(noted, count, first_at(rules, low));
+    note_all(noted, first_at(rules, low));
     match indices.split_first() {
-        None => note_last(rules, low, first, count, noted),
+        None => note_last(rules, low, first, noted),
         Some((index, rest)) => {
             let next = next_place(rules, low, levels, *index);
-            note(
-                next.of_every,
-                next.every,
-                next.levels,
-                rest,
-                first,
-                count,
-                noted,
-            );
-            note(
-                next.of_only,
-                next.only,
-                next.levels,
-                rest,
-                first,
-                count,
-                noted,
-            );
+            note(next.of_every, next.every, next.levels, rest, first, noted);
+            note(next.of_only, next.only, next.levels, rest, first, noted);
         }
     }
 }
 
 /// Notes the rules that have one place more.
-fn note_last(rules: &[Rule], low: u64, first: usize, count: usize, noted: &mut [Option<usize>])
+fn note_last(rules: &[Rule], low: u64, first: usize, noted: &mut [Option<usize>])
     requires rising { IsRising rules.now }
-    requires room { low + (first + count + 2) < 2 ^ 64 }
-    requires within { count ≤ length noted.old }
-    ensures { (i : ℕ) → i < count →
+    requires room { low + (first + length noted.old + 2) < 2 ^ 64 }
+    ensures { (i : ℕ) → i < length noted.old →
         IsNoted rules.now (IsLastPlace low (first + i)) (slice_index_or noted.old i None)
         (slice_index_or noted.new i None) }
 {
     let every = low + 1;
-    note_all(noted, count, first_at(from(rules, every), every));
+    note_all(noted, first_at(from(rules, every), every));
     let start = low + 2 + first as u64;
-    note_each(between(rules, start, start + count as u64), start, noted);
+    let end = start + noted.len() as u64;
+    note_each(between(rules, start, end), start, noted);
 }
 
 /// Notes each of these rules at the number by which its key is greater than `start`.
@@ -104,16 +86,15 @@ fn note_rule(rule: Rule, start: u64, noted: &mut [Option<usize>])
     noted[place] = later(noted[place], Some(rule.number));
 }
 
-/// Notes a number, if one, for each of so many.
-pub(crate) fn note_all(noted: &mut [Option<usize>], count: usize, number: Option<usize>)
-    requires { count ≤ length noted.old }
-    ensures { (z : ℕ) → z < count
+/// Notes a number, if one, for each.
+pub(crate) fn note_all(noted: &mut [Option<usize>], number: Option<usize>)
+    ensures { (z : ℕ) → z < length noted.old
         → slice_index_or noted.new z None ≡ later (slice_index_or noted.old z None) number }
 {
     if number.is_none() {
         return;
     }
-    for z in 0..count {
+    for z in 0..noted.len() {
         noted[z] = later(noted[z], number);
     }
 }

@@ -15,19 +15,16 @@ ghost use Rattle.polcert_rules.specs.Steps.Newest.{AreKeyed, IsIndexOf, IsNewest
 ghost use Rattle.polcert_rules.specs.Steps.Rewards.{IsShapeOf, IsSmall, AreRewardsOf};
 ghost use Rattle.polcert_rules.specs.Steps.RewardSearch.{AreFilled, AreWithin, IsLastBody, IsSingle};
 
-use crate::keys::{KEY_BASE, MOST_PLACES, TABLE};
+use crate::keys::{KEY_BASE, MOST_PLACES};
 use crate::newest::newest;
 use crate::reward_bodies::{RewardBodies, behind, cell_in};
 use crate::reward_parts::{Outcome, RewardBody, RewardShape};
 use crate::reward_search::some_begins;
-use crate::row_rules::RowRules;
+use crate::row_rules::{LOW, RowRules};
 use crate::{Index, Rule};
 use polcert_cells::{Entries, Table};
 use std::alloc::{AllocError, Global};
 use std::marker::Model;
-
-/// The key that those of R follow.
-const LOW: u64 = 2 * TABLE;
 
 /// What a key goes on with, at least, where its last place is an index.
 const AN_INDEX: u64 = 2;
@@ -82,7 +79,7 @@ impl Rewards {
     {
         let rules = rules_of(alloc, index)?;
         let bodies = RewardBodies::of(alloc, costs, entries, rules.as_slice())?;
-        let rules = RowRules::of(alloc, shape, LOW, rules)?;
+        let rules = RowRules::of(alloc, shape, rules)?;
         Ok(Rewards {
             shape,
             rules,
@@ -178,8 +175,8 @@ impl Rewards {
         ensures { AreFilled self.now at first count rewards.new }
     {
         let Outcome { action, start, end } = at;
-        self.rules
-            .note(LOW, action, start, &[end], first, count + 1, noted);
+        let noted = &mut noted[..count + 1];
+        self.rules.note(at, first, noted);
         let shared = noted[count];
         let shared_body = self.body_of(shared);
         let single = self.single(shared_body);
@@ -205,7 +202,7 @@ impl Rewards {
             ForSome result (λ h. (z : ℕ) → z < self.now.shape.observations →
             reward p entries (action ∷ start ∷ end ∷ z ∷ []) ≡ h) }
     {
-        if self.rules.some_begins(LOW, action, start, &[end], AN_INDEX) {
+        if self.rules.some_begins(action, start, &[end], AN_INDEX) {
             return None;
         }
         self.single(self.newest_body(action, start, &[end, 0]))
@@ -224,7 +221,7 @@ impl Rewards {
     {
         if self
             .rules
-            .some_begins(LOW, action, start, &[], AN_END_OR_OBSERVATION)
+            .some_begins(action, start, &[], AN_END_OR_OBSERVATION)
         {
             return None;
         }
@@ -336,7 +333,7 @@ impl Rewards {
         ensures { (p : Preamble) (entries : List E) → AreRewardsOf p entries self.now →
             IsLastBody p.costs entries self.now.numbers (action ∷ start ∷ rest.now) result }
     {
-        self.body_of(self.rules.newest(LOW, action, start, rest))
+        self.body_of(self.rules.newest(action, start, rest))
     }
 
     /// The body of the rule of this number.

@@ -1,19 +1,24 @@
 //! The rules of R, in which those whose first two places are known are found without a search.
-ghost use Rattle.std.specs.Prelude.{◌≡◌, ◌+◌, ◌<◌, ◌≤◌, ◌^◌, ◌↔◌, ◌∷◌, Contains, length, IfOk};
+ghost use Rattle.std.specs.Prelude.{◌≡◌, ◌+◌, ◌<◌, ◌≤◌, ◌^◌, ◌↔◌, ◌∷◌, [], Contains, length, IfOk};
+ghost use Rattle.polcert_cells.specs.declared.entry.Table.TheVariants.{Reward};
 ghost use Rattle.polcert_rules.specs.declared.rule.Rule.{Rule as R};
 ghost use Rattle.polcert_rules.specs.Steps.Newest.{IsRising, IsNewest};
-ghost use Rattle.polcert_rules.specs.Keys.{key_base, AreIndices, Fits};
+ghost use Rattle.polcert_rules.specs.Keys.{key_base, AreIndices, Fits, most_places, table_key};
 ghost use Rattle.polcert_rules.specs.Steps.Noting.{AreNoted};
 ghost use Rattle.polcert_rules.specs.Steps.RewardSearch.{Begins, IsAnswer};
 ghost use Rattle.polcert_rules.specs.Steps.Rewards.{IsSmall};
 
 use crate::Rule;
+use crate::keys::TABLE;
 use crate::newest::{first_at, later, newest, span};
 use crate::noting::{note, note_all};
 use crate::part::{RuleSpan, between, between_at, place_of, span_of};
-use crate::reward_parts::RewardShape;
+use crate::reward_parts::{Outcome, RewardShape};
 use crate::reward_search::some_begins;
 use std::alloc::{AllocError, Global};
+
+/// The key that those of R follow.
+pub(crate) const LOW: u64 = 2 * TABLE;
 
 /// The digits of places in a key: none, `*`, and behind these the indices.
 const NO_PLACE: usize = 0;
@@ -38,16 +43,14 @@ pub(crate) struct RowRules {
 }
 
 impl RowRules {
-    /// The rules, in a model of this shape, whose keys follow `low`.
+    /// The rules, in a model of this shape.
     pub(crate) fn of(
         alloc: Global,
         shape: RewardShape,
-        low: u64,
         rules: Vec<Rule>,
     ) -> Result<RowRules, AllocError>
         requires shape { IsSmall shape }
         requires rising { IsRising rules.items }
-        requires room { low + key_base ^ 4 < 2 ^ 64 }
         ensures { IfOk result (λ kept. kept.rules.items ≡ rules.items) }
     {
         if rules.len() <= FEW_RULES {
@@ -63,7 +66,7 @@ impl RowRules {
         let mut place = 0;
         for first in 0..firsts {
             for second in 0..seconds {
-                let key = low + first as u64 * span(3) + second as u64 * span(PLACES_LEFT);
+                let key = LOW + first as u64 * span(3) + second as u64 * span(PLACES_LEFT);
                 let start = place_of(rules.as_slice(), place, key);
                 place = place_of(rules.as_slice(), start, key + span(PLACES_LEFT));
                 spans.push(span_of(start, place)?)?;
@@ -76,24 +79,17 @@ impl RowRules {
         })
     }
 
-    /// The newest of the rules, whose places follow those of the key `low`, that fit an action, a start state and the indices
-    /// behind them.
-    pub(crate) fn newest(
-        &self,
-        low: u64,
-        action: usize,
-        start: usize,
-        rest: &[usize],
-    ) -> Option<usize>
+    /// The newest of the rules that fit an action, a start state and the indices behind them.
+    pub(crate) fn newest(&self, action: usize, start: usize, rest: &[usize]) -> Option<usize>
         requires rising { IsRising self.now.rules.items }
-        requires room { low + key_base ^ 4 < 2 ^ 64 }
-        requires indices { AreIndices 4 (action ∷ start ∷ rest.now) }
-        ensures { IsNewest self.now.rules.items (Fits 4 low (action ∷ start ∷ rest.now)) result }
+        requires indices { AreIndices most_places (action ∷ start ∷ rest.now) }
+        ensures { IsNewest self.now.rules.items
+            (Fits most_places (table_key Reward) (action ∷ start ∷ rest.now)) result }
     {
         let step = span(3);
-        let only = low + (action as u64 + 2) * step;
-        let here = first_at(self.part(NO_PLACE, NO_PLACE, low), low);
-        let of_every = self.newest_behind(EVERY, low + step, start, rest);
+        let only = LOW + (action as u64 + 2) * step;
+        let here = first_at(self.part(NO_PLACE, NO_PLACE, LOW), LOW);
+        let of_every = self.newest_behind(EVERY, LOW + step, start, rest);
         let of_only = self.newest_behind(action + INDICES, only, start, rest);
         later(here, later(of_every, of_only))
     }
@@ -119,101 +115,66 @@ impl RowRules {
         later(here, later(of_every, of_only))
     }
 
-    /// Notes, for each of so many numbers from `first` on as the last index behind an action, a start state and an end state, the
-    /// newest rule that fits, where it is later than what is noted. The places of the rules follow those of the key `low`.
-    // (Seven parameters: those of `note` of a list of rules, where the first two indices are digits of their own.)
-    pub(crate) fn note(
-        &self,
-        low: u64,
-        action: usize,
-        start: usize,
-        rest: &[usize],
-        first: usize,
-        count: usize,
-        noted: &mut [Option<usize>],
-    )
+    /// Notes, for as many observations from `first` on as there is room for, the newest rule that fits an outcome and each of them,
+    /// where it is later than what is noted.
+    pub(crate) fn note(&self, at: Outcome, first: usize, noted: &mut [Option<usize>])
         requires rising { IsRising self.now.rules.items }
-        requires room { low + key_base ^ 4 < 2 ^ 64 }
-        requires indices { AreIndices 4 (action ∷ start ∷ rest.now) }
-        requires last { length rest.now ≡ 1 }
-        requires within { count ≤ length noted.old }
-        requires small { first + count + 2 ≤ key_base }
-        ensures { AreNoted self.now.rules.items 4 low (action ∷ start ∷ rest.now) first count noted.old
-            noted.new }
+        requires indices { AreIndices most_places (at.action ∷ at.start ∷ at.end ∷ []) }
+        requires small { first + length noted.old + 2 ≤ key_base }
+        ensures { AreNoted self.now.rules.items most_places (table_key Reward)
+            (at.action ∷ at.start ∷ at.end ∷ []) first noted.old noted.new }
     {
         let step = span(3);
-        let only = low + (action as u64 + 2) * step;
-        note_all(
-            noted,
-            count,
-            first_at(self.part(NO_PLACE, NO_PLACE, low), low),
-        );
-        self.note_behind(EVERY, low + step, start, rest, first, count, noted);
-        self.note_behind(action + INDICES, only, start, rest, first, count, noted);
+        let only = LOW + (at.action as u64 + 2) * step;
+        note_all(noted, first_at(self.part(NO_PLACE, NO_PLACE, LOW), LOW));
+        self.note_behind(EVERY, LOW + step, at, first, noted);
+        self.note_behind(at.action + INDICES, only, at, first, noted);
     }
 
     /// The same behind a first place, which has this digit.
-    // (Seven parameters: those of `note`, but a digit in place of the action.)
     fn note_behind(
         &self,
         digit: usize,
         low: u64,
-        start: usize,
-        rest: &[usize],
+        at: Outcome,
         first: usize,
-        count: usize,
         noted: &mut [Option<usize>],
     )
         requires rising { IsRising self.now.rules.items }
         requires room { low + key_base ^ 3 < 2 ^ 64 }
-        requires indices { AreIndices 3 (start ∷ rest.now) }
-        requires last { length rest.now ≡ 1 }
-        requires within { count ≤ length noted.old }
-        requires small { first + count + 2 ≤ key_base }
-        ensures { AreNoted self.now.rules.items 3 low (start ∷ rest.now) first count noted.old noted.new }
+        requires indices { AreIndices 3 (at.start ∷ at.end ∷ []) }
+        requires small { first + length noted.old + 2 ≤ key_base }
+        ensures { AreNoted self.now.rules.items 3 low (at.start ∷ at.end ∷ []) first noted.old noted.new }
     {
         let step = span(PLACES_LEFT);
         let every = low + step;
-        let only = low + (start as u64 + 2) * step;
-        note_all(noted, count, first_at(self.part(digit, NO_PLACE, low), low));
-        note(
-            self.part(digit, EVERY, every),
-            every,
-            PLACES_LEFT,
-            rest,
-            first,
-            count,
-            noted,
-        );
-        note(
-            self.part(digit, start + INDICES, only),
-            only,
-            PLACES_LEFT,
-            rest,
-            first,
-            count,
-            noted,
-        );
+        let only = low + (at.start as u64 + 2) * step;
+        let rest = [at.end];
+        note_all(noted, first_at(self.part(digit, NO_PLACE, low), low));
+        let rules_of_every = self.part(digit, EVERY, every);
+        note(rules_of_every, every, PLACES_LEFT, &rest, first, noted);
+        let rules_of_only = self.part(digit, at.start + INDICES, only);
+        note(rules_of_only, only, PLACES_LEFT, &rest, first, noted);
     }
 
-    /// Whether one of the rules, whose places follow those of the key `low`, begins with a place for an action, one for a start
-    /// state and one for each of the indices behind them that fits it, and goes on with a key of at least `least`.
+    /// Whether one of the rules begins with a place for an action, one for a start state and one for each of the indices behind them
+    /// that fits it, and goes on with a key of at least `least`.
     pub(crate) fn some_begins(
         &self,
-        low: u64,
         action: usize,
         start: usize,
         rest: &[usize],
         least: u64,
     ) -> bool
         requires rising { IsRising self.now.rules.items }
-        requires room { low + key_base ^ 4 + least < 2 ^ 64 }
-        requires indices { AreIndices 4 (action ∷ start ∷ rest.now) }
-        ensures { IsAnswer self.now.rules.items (Begins 4 low (action ∷ start ∷ rest.now) least) result }
+        requires room { table_key Reward + key_base ^ most_places + least < 2 ^ 64 }
+        requires indices { AreIndices most_places (action ∷ start ∷ rest.now) }
+        ensures { IsAnswer self.now.rules.items
+            (Begins most_places (table_key Reward) (action ∷ start ∷ rest.now) least) result }
     {
         let step = span(3);
-        let only = low + (action as u64 + 2) * step;
-        self.some_begins_behind(EVERY, low + step, start, rest, least)
+        let only = LOW + (action as u64 + 2) * step;
+        self.some_begins_behind(EVERY, LOW + step, start, rest, least)
             || self.some_begins_behind(action + INDICES, only, start, rest, least)
     }
 

@@ -1,6 +1,6 @@
 -- An item, token by token: what is still to come of an item that was read so far.
 -- Nobody has to believe this: only contracts of private functions cite it.
-use Rattle.std.specs.Prelude.{◌≡◌, ℕ, Bool, true, false, Option, Some, None, List, [], ◌∷◌, ◌++◌}
+use Rattle.std.specs.Prelude.{◌≡◌, ℕ, Bool, true, false, Option, Some, None, List, [], ◌∷◌, ◌++◌, Result, OnOk, IfErr}
 use Rattle.polcert_text.specs.Cut.{Lexeme}
 use Rattle.polcert_format.specs.declared.fault.ItemFault.{ItemFault}
 use Rattle.polcert_format.specs.declared.fault.ItemFault.TheVariants.{BadShape, BadCount, DuplicateName, WrongNumberCount, ProbabilityRange, DiscountRange, StartSum, StartEmpty}
@@ -18,6 +18,7 @@ use Rattle.polcert_items.specs.declared.signed_number.Refusal.{Refusal}
 use Rattle.polcert_items.specs.declared.signed_number.Sign.{Sign}
 use Rattle.polcert_items.specs.declared.stop.ItemEnd.{ItemEnd}
 use Rattle.polcert_items.specs.declared.stop.ItemEnd.TheVariants as ends
+use Rattle.polcert_items.specs.declared.stop.Stop.{Stop}
 use Rattle.polcert_cells.specs.declared.words.Topic.{Topic}
 use Rattle.polcert_cells.specs.declared.words.Topic.TheVariants.{Discount, Values, States, Actions, Observations, Start, Cells}
 use Rattle.polcert_cells.specs.declared.elements.Elements.{Elements}
@@ -30,7 +31,7 @@ use Rattle.polcert_items.specs.Steps.Lines.{Takes, CannotTake, DiscountGoes, dis
 use Rattle.polcert_items.specs.Steps.Elements.{ElementsGo, IsElementsRead, AreElementsSeen}
 use Rattle.polcert_format.specs.FirstNumber.{IsLate, states_known}
 use Rattle.polcert_format.specs.KnownPreamble.{preamble_in, indices_in}
-use Rattle.polcert_items.specs.Steps.Entries.{EntryGoes, IsWithinIndices, entry_sign, AreSome}
+use Rattle.polcert_items.specs.Steps.Entries.{EntryGoes, IfRefused, IsWithinIndices, entry_sign, AreSome}
 use Rattle.polcert_items.specs.Steps.Start.{StartGoes, StartGives, new_start, pending, IsStartWithin, IsStartSeen, IsReasonAt, IsStartReason, StopsStart}
 use Rattle.polcert_items.specs.Steps.Known.{learned}
 use Rattle.polcert_items.specs.Steps.Wants.{Leads, item_wants, IfNotStart, IfStart}
@@ -152,3 +153,9 @@ pub record RefusesInItem (k : Known) (old : ItemReader) (l : Lexeme) (r : Refusa
       → IfStart (topic_in old) (StopsStart (pending_in old) (states_known k) body (item_wants k old []) l r.kind r.place)
   pub late : (body more : List Lexeme) (ends : Bool) (late : Refusal) → IsSeen (states_known k) body old → topic_in old ≡ Start
       → IsLate (states_known k) (body ++ l ∷ more) ends late.kind late.place → (r.kind ≡ late.kind) × (r.place ≡ late.place)
+
+-- One more lexeme: an item's reader keeps its topic, and takes it or refuses it.
+pub record FeedsItem (k : Known) (old : ItemReader) (l : Lexeme) (new : ItemReader) (result : Result Unit Stop) : Type 0 where
+  pub topic : topic_in new ≡ topic_in old
+  pub fed : OnOk result (IsItemFed k old l new)
+  pub refused : IfErr result (λ stop. IfRefused stop (RefusesInItem k old l))

@@ -159,6 +159,11 @@ start_sign (reader.Sign sign) = Some sign
 start_sign (reader.Probabilities n) = n.sign
 start_sign _ = None
 
+-- the first number that digits of this value are, where something follows them; or its refusal, where they have none
+abbrev pub first_of : Result ℤ NumberFault → ℕ → Result FirstNumber Refusal
+first_of (Ok h) place = Ok (record { value = h; place = place })
+first_of (Err fault) place = Err (record { kind = Number fault; place = place })
+
 -- the refusal of a number without a value
 abbrev pub pending_of : Result ℤ NumberFault → ℕ → Option Refusal
 pending_of (Ok h) place = None
@@ -209,11 +214,6 @@ IsKept count l r = (may_be_state count l.kind l.bytes ≡ false) × IsNumberKept
 -- a number below 0 or above one
 abbrev pub IsOutside : ℤ → Type 0
 IsOutside h = (p : ℕ) → h ≡ pos p → p ≤ one → ⊥
-
--- a number with a value that isn't
-abbrev pub IsInside : Result ℤ NumberFault → Type 0
-IsInside (Ok h) = IsOutside h → ⊥
-IsInside (Err fault) = ⊥
 
 -- the body is a colon, and the first number's sign, if it has one
 abbrev pub IsBehindColon : Option Sign → List Lexeme → Type 0

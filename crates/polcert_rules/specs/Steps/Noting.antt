@@ -1,6 +1,6 @@
 -- The newest rules of cells that have all indices but the last in common.
 -- Nobody has to believe this file: only private functions cite it.
-use Rattle.std.specs.Prelude.{◌≡◌, ℕ, ◌+◌, ◌<◌, ◌⊎◌, List, [], ◌∷◌, ◌++◌, Option, None, slice_index_or}
+use Rattle.std.specs.Prelude.{◌≡◌, ℕ, ◌+◌, ◌<◌, ◌⊎◌, List, [], ◌∷◌, ◌++◌, length, Option, None, slice_index_or}
 use Rattle.polcert_rules.specs.declared.rule.Rule.{Rule}
 use Rattle.polcert_rules.specs.Keys.{Fits}
 use Rattle.polcert_rules.specs.Steps.Newest.{IsNewest}
@@ -12,10 +12,10 @@ pub record IsNoted (rules : List Rule) (P : ℕ → Type 0) (before after : Opti
   pub newest : IsNewest rules P found
   pub is : after ≡ later before found
 
--- the same for each of so many numbers from `first` on as the last index
-abbrev pub AreNoted : List Rule → ℕ → ℕ → List ℕ → ℕ → ℕ → List (Option ℕ) → List (Option ℕ) → Type 0
-AreNoted rules levels low indices first count old new =
-    (i : ℕ) → i < count → IsNoted rules (Fits levels low (indices ++ (first + i) ∷ [])) (slice_index_or old i None) (slice_index_or new i None)
+-- the same for each number from `first` on as the last index
+abbrev pub AreNoted : List Rule → ℕ → ℕ → List ℕ → ℕ → List (Option ℕ) → List (Option ℕ) → Type 0
+AreNoted rules levels low indices first old new =
+    (i : ℕ) → i < length old → IsNoted rules (Fits levels low (indices ++ (first + i) ∷ [])) (slice_index_or old i None) (slice_index_or new i None)
 
 -- behind the key `low` the key has one place more, that fits z
 abbrev pub IsLastPlace : ℕ → ℕ → ℕ → Type 0

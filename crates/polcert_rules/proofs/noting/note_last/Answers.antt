@@ -1,4 +1,4 @@
-use Rattle.std.proofs.Common.{◌+◌, arith}
+use Rattle.std.proofs.Common.{◌+◌, length, arith}
 use Rattle.polcert_rules.proofs.Indexes.NotedLaws.{noted_last}
 use Rattle.polcert_rules.proofs.noting.note_last.Goals as goal
 
@@ -11,9 +11,9 @@ note_each-requires-clause-from c = λ r among. ((c.between.ensures.kept r).0 amo
 pub note_each-requires-clause-to : goal.note_each-requires-clause-to
 note_each-requires-clause-to c = λ r among.
     let below = ((c.between.ensures.kept r).0 among).2 in
-    omega (arith, below, c.requires.within, c.note_all.auto.noted)
+    omega (arith, below, c.note_all.auto.noted)
 
 pub returns : goal.returns
 returns c = λ i l.
-    noted_last c.args.rules.now c.from.result.now c.between.result.now c.args.low c.args.first c.args.count i (c.args.low + 2 + c.args.first) c.first_at.result _ _ _ l (omega arith)
-    c.from.ensures.kept c.first_at.ensures (c.note_all.ensures i l) c.between.ensures.kept (c.note_each.ensures i (omega (arith, l, c.requires.within, c.note_all.auto.noted)))
+    noted_last c.args.rules.now c.from.result.now c.between.result.now c.args.low c.args.first (length c.note_all.new.noted) i (c.args.low + 2 + c.args.first) c.first_at.result _ _ _ (omega (arith, l, c.note_all.auto.noted)) (omega arith)
+    c.from.ensures.kept c.first_at.ensures (c.note_all.ensures i l) c.between.ensures.kept (c.note_each.ensures i (omega (arith, l, c.note_all.auto.noted)))

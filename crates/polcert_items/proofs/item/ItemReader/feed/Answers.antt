@@ -7,13 +7,13 @@ use Rattle.polcert_items.proofs.StartSeen.{sign_ends}
 use Rattle.polcert_items.proofs.ItemReading.{all_fed, all_refused}
 use Rattle.polcert_items.proofs.item.ItemReader.feed.Goals as goal
 
-pub returns-in-Entry-clause-fed : goal.returns-in-Entry-clause-fed
-returns-in-Entry-clause-fed c =
+pub returns-in-Entry : goal.returns-in-Entry
+returns-in-Entry c =
     let l = lexeme_of c.args.token in
-    all_fed c.feed.result c.args.known.now c.args.self.now (items.Entry c.feed.new.self) l (search rules) (search rules) (search rules)
-    (λ body s. on_ok_map _ (sign_ends (entry_sign c.feed.new.self.state) body l) c.feed.ensures.sign) (search rules)
-
-pub returns-in-Entry-clause-refused : goal.returns-in-Entry-clause-refused
-returns-in-Entry-clause-refused c =
-    all_refused c.feed.result c.args.known.now c.args.self.now (lexeme_of c.args.token) (search rules) (search rules)
-    (λ body s. search rules) (search rules) (λ body s. search rules) (λ body more ends late s start due. search rules)
+    record {
+      topic = search rules;
+      fed = all_fed c.feed.result c.args.known.now c.args.self.now (items.Entry c.feed.new.self) l (search rules) (search rules) (search rules)
+          (λ body s. on_ok_map _ (sign_ends (entry_sign c.feed.new.self.state) body l) c.feed.ensures.sign) (search rules);
+      refused = all_refused c.feed.result c.args.known.now c.args.self.now l (search rules) (search rules)
+          (λ body s. search rules) (search rules) (λ body s. search rules) (λ body more ends late s start due. search rules);
+    }

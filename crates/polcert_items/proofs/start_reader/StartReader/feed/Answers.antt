@@ -6,9 +6,9 @@ use Rattle.polcert_format.specs.Reasons.{is_sign}
 use Rattle.polcert_items.specs.Steps.Start.{IsStartWithin}
 use Rattle.polcert_items.specs.declared.start_reader.StartReader.TheVariants as reader
 use Rattle.polcert_items.proofs.PatternLaws.{if_err_map, refused_map, each_refused_map}
-use Rattle.polcert_items.proofs.StartNumbers.{sign_takes, shares_stuck}
+use Rattle.polcert_items.proofs.StartNumbers.{sign_takes, shares_stuck, digits_take, first_is}
 use Rattle.polcert_items.proofs.StartReading.{shares_fed}
-use Rattle.polcert_items.proofs.StartSeen.{fed_as, form_seen, list_seen, body_seen, numeral_seen, number_seen, digits_go_on, list_reason, refused_as, token_refused, number_refused, digits_refused}
+use Rattle.polcert_items.proofs.StartSeen.{fed_as, form_seen, list_seen, body_seen, numeral_seen, number_seen, digits_go_on, list_reason, refused_as, token_refused, number_refused, first_refused, valueless_refused}
 use Rattle.polcert_items.proofs.start_reader.StartReader.feed.Goals as goal
 
 pub returns-in_err-self-in-Body-clause-refused : goal.returns-in_err-self-in-Body-clause-refused
@@ -29,11 +29,17 @@ returns-in_err-go_on-in-Number-clause-refused c =
     refused_as result c.args.states.now _ _ _ c.in-Number.is
     (number_refused result c.args.states.now c.in-Number.first (lexeme_of c.args.token) (search rules) (search rules))
 
+pub returns-in_err-first-in-Digits-clause-refused : goal.returns-in_err-first-in-Digits-clause-refused
+returns-in_err-first-in-Digits-clause-refused c =
+    let result = c.from_residual-in_err-first-in-Digits.result in
+    let refused = valueless_refused c.args.states.now c.in-Digits.digits _ (lexeme_of c.args.token) c.in_err-first-in-Digits.ensures in
+    refused_as result c.args.states.now _ _ _ c.in-Digits.is (search rules)
+
 pub returns-in_err-go_on-in-Digits-clause-refused : goal.returns-in_err-go_on-in-Digits-clause-refused
 returns-in_err-go_on-in-Digits-clause-refused c =
     let result = c.from_residual-in_err-go_on-in-Digits.result in
     refused_as result c.args.states.now _ _ _ c.in-Digits.is
-    (digits_refused result c.args.states.now c.in-Digits.digits (lexeme_of c.args.token) (search rules) (search rules))
+    (first_refused result c.args.states.now c.in-Digits.digits _ (lexeme_of c.args.token) c.in_ok-first-in-Digits.ensures (search rules) (search rules))
 
 pub returns-in_ok-self-in-Form-clause-fed : goal.returns-in_ok-self-in-Form-clause-fed
 returns-in_ok-self-in-Form-clause-fed c =
@@ -70,8 +76,13 @@ returns-in_ok-go_on-in-Number-clause-fed c =
 
 pub returns-in_ok-go_on-in-Digits-clause-fed : goal.returns-in_ok-go_on-in-Digits-clause-fed
 returns-in_ok-go_on-in-Digits-clause-fed c =
-    fed_as c.args.states.now _ _ _ _ c.in-Digits.is (search rules) (c.in_ok-go_on-in-Digits.ensures.takes) (search rules)
-    (λ body seen. digits_go_on _ body _ c.in-Digits.digits c.in_ok-go_on-in-Digits.field-0 seen c.in_ok-go_on-in-Digits.ensures.inside c.in_ok-go_on-in-Digits.ensures.kept)
+    let e = c.in_ok-go_on-in-Digits.ensures in
+    let d = c.in-Digits.digits in
+    let l = lexeme_of c.args.token in
+    let f = c.in_ok-first-in-Digits.first in
+    let is = first_is d.value d.place f c.in_ok-first-in-Digits.ensures in
+    fed_as c.args.states.now _ _ _ _ c.in-Digits.is (search rules) (digits_take c.args.states.now d l f c.in_ok-go_on-in-Digits.field-0 is.0 e.takes) (search rules)
+    (λ body seen. digits_go_on _ body l d f c.in_ok-go_on-in-Digits.field-0 seen is.0 e.inside e.kept)
 
 pub returns-in-Probabilities-clause-fed : goal.returns-in-Probabilities-clause-fed
 returns-in-Probabilities-clause-fed c =

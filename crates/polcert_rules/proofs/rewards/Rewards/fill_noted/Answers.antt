@@ -1,5 +1,6 @@
-use Rattle.std.proofs.Common.{◌≡◌, ◌∙◌, ◌≢◌, ◌+◌, ◌<◌, ℕ, List, [], ◌∷◌, None, Option, map, length, get_or, set, pos, FitsSigned, to_z, w64, ap, subst, arith, rules, below_more, get_or-set_other, get_or-set_same}
+use Rattle.std.proofs.Common.{◌≡◌, ◌∙◌, ◌≢◌, ◌+◌, ◌<◌, ℕ, List, [], ◌∷◌, None, Option, map, length, get_or, set, take, pos, FitsSigned, to_z, w64, ap, subst, arith, rules, below_more, get_or-set_other, get_or-set_same}
 use Rattle.std.proofs.lemmas.Int.{to_z-of_z}
+use Rattle.std.proofs.lemmas.List.{get_or-take, length-take-le}
 use Rattle.polcert_cells.specs.Elements.{count_of}
 use Rattle.polcert_cells.specs.Preamble.{dimensions}
 use Rattle.polcert_cells.specs.Cells.{reward}
@@ -26,7 +27,10 @@ loop-i-preserved c = λ p entries are.
     let lt : i < length c.loop-i.rewards = omega (arith, c.loop-i-test.true, c.requires.room, c.loop-i.auto.rewards) in
     let within : AreWithin (map count_of (dimensions p Reward)) (cell z) = search rules in
     let small : AreIndices most_places (cell z) = search rules in
-    let first = noted_first _ (Fits most_places (table_key Reward) (cell z)) _ (get_or c.note.new.noted i None) (c.requires.nothing i few) (c.note.ensures i (omega (arith, c.loop-i-test.true))) in
+    let before : i < c.args.count + 1 = omega (arith, c.loop-i-test.true) in
+    let among : i < length (take (c.args.count + 1) c.args.noted.now) = rw (length-take-le (c.args.count + 1) c.args.noted.now (omega (arith, c.requires.room_to_note))) before in
+    let none : get_or (take (c.args.count + 1) c.args.noted.now) i None ≡ None = get_or-take (c.args.count + 1) c.args.noted.now i None before ∙ c.requires.nothing i few in
+    let first = noted_first _ (Fits most_places (table_key Reward) (cell z)) _ (get_or c.note.new.noted i None) none (c.note.ensures i among) in
     let newest : IsHere (get_or c.note.new.noted i None) = subst (λ (xs : List Rule). IsNewest xs (Fits most_places (table_key Reward) (cell z)) (get_or c.note.new.noted i None)) (ap (λ (rewards : RewardRules). rewards.rules) c.self.view_is) first in
     let is : to_z w64 c.if-is_same.reward-bits ≡ reward p entries (cell z) = elim c.if-is_same.branch [
       | then-is_same w ↦

@@ -1,7 +1,8 @@
 use Rattle.std.proofs.Common.{◌∙◌, ◌+◌, ◌*◌, ◌^◌, ◌∷◌, sym, ap, subst, arith}
+use Rattle.polcert_cells.specs.declared.entry.Table.TheVariants.{Reward}
 use Rattle.polcert_rules.specs.Steps.Newest.{IsNewest}
 use Rattle.polcert_rules.specs.Matching.{later}
-use Rattle.polcert_rules.specs.Keys.{key_base, Fits}
+use Rattle.polcert_rules.specs.Keys.{key_base, Fits, table_key}
 use Rattle.polcert_rules.proofs.Indexes.Newer.{newest_of_three, newest_here}
 use Rattle.polcert_rules.proofs.row_rules.RowRules.newest.Goals as goal
 
@@ -11,9 +12,10 @@ first_at-here-requires-clause-from c r among = ((c.part.ensures.kept r).0 among)
 pub returns : goal.returns
 returns c =
     let rules = c.args.self.now.rules.items in
+    let low = table_key Reward in
     let indices = c.args.start ∷ c.args.rest.now in
-    let here = newest_here rules c.part.result.now c.args.low (key_base ^ 2) c.first_at-here.result (omega arith) c.part.ensures.kept c.first_at-here.ensures in
-    let every = subst (λ s. IsNewest rules (Fits 3 (c.args.low + s) indices) c.newest_behind-of_every.result) c.span-step.ensures c.newest_behind-of_every.ensures in
-    let only = subst (λ s. IsNewest rules (Fits 3 (c.args.low + (c.args.action + 2) * s) indices) c.newest_behind-of_only.result) c.span-step.ensures c.newest_behind-of_only.ensures in
-    subst (IsNewest rules (Fits 4 c.args.low (c.args.action ∷ indices))) (sym (c.later-2.ensures ∙ ap (later c.first_at-here.result) c.later.ensures))
-    (newest_of_three rules 3 c.args.low c.args.action indices c.first_at-here.result c.newest_behind-of_every.result c.newest_behind-of_only.result here every only)
+    let here = newest_here rules c.part.result.now low (key_base ^ 2) c.first_at-here.result (omega arith) c.part.ensures.kept c.first_at-here.ensures in
+    let every = subst (λ s. IsNewest rules (Fits 3 (low + s) indices) c.newest_behind-of_every.result) c.span-step.ensures c.newest_behind-of_every.ensures in
+    let only = subst (λ s. IsNewest rules (Fits 3 (low + (c.args.action + 2) * s) indices) c.newest_behind-of_only.result) c.span-step.ensures c.newest_behind-of_only.ensures in
+    subst (IsNewest rules (Fits 4 low (c.args.action ∷ indices))) (sym (c.later-2.ensures ∙ ap (later c.first_at-here.result) c.later.ensures))
+    (newest_of_three rules 3 low c.args.action indices c.first_at-here.result c.newest_behind-of_every.result c.newest_behind-of_only.result here every only)

@@ -1,5 +1,6 @@
-use Rattle.std.proofs.Common.{◌+◌, ◌*◌, ◌^◌, ◌∷◌, ◌++◌, [], None, get_or, subst, arith}
-use Rattle.polcert_rules.specs.Keys.{key_base, Fits}
+use Rattle.std.proofs.Common.{◌+◌, ◌*◌, ◌^◌, ◌∷◌, [], None, get_or, subst, arith}
+use Rattle.polcert_cells.specs.declared.entry.Table.TheVariants.{Reward}
+use Rattle.polcert_rules.specs.Keys.{key_base, Fits, table_key}
 use Rattle.polcert_rules.specs.Steps.Noting.{IsNoted}
 use Rattle.polcert_rules.proofs.Indexes.Newer.{newest_here}
 use Rattle.polcert_rules.proofs.Indexes.NotedLaws.{noted_of_three}
@@ -12,11 +13,12 @@ pub returns : goal.returns
 returns c = λ i l.
     let z = c.args.first + i in
     let rules = c.args.self.now.rules.items in
-    let indices = c.args.start ∷ (c.args.rest.now ++ z ∷ []) in
+    let low = table_key Reward in
+    let indices = c.args.at.start ∷ c.args.at.end ∷ z ∷ [] in
     let first = get_or c.note_all.new.noted i None in
     let second = get_or c.note_behind.new.noted i None in
     let third = get_or c.note_behind-2.new.noted i None in
-    let here = newest_here rules c.part.result.now c.args.low (key_base ^ 2) c.first_at.result (omega arith) c.part.ensures.kept c.first_at.ensures in
-    let every = subst (λ s. IsNoted rules (Fits 3 (c.args.low + s) indices) first second) c.span-step.ensures (c.note_behind.ensures i l) in
-    let only = subst (λ s. IsNoted rules (Fits 3 (c.args.low + (c.args.action + 2) * s) indices) second third) c.span-step.ensures (c.note_behind-2.ensures i l) in
-    noted_of_three rules 3 c.args.low c.args.action indices c.first_at.result (get_or c.args.noted.now i None) first second third here (c.note_all.ensures i l) every only
+    let here = newest_here rules c.part.result.now low (key_base ^ 2) c.first_at.result (omega arith) c.part.ensures.kept c.first_at.ensures in
+    let every = subst (λ s. IsNoted rules (Fits 3 (low + s) indices) first second) c.span-step.ensures (c.note_behind.ensures i (omega (arith, l, c.note_all.auto.noted))) in
+    let only = subst (λ s. IsNoted rules (Fits 3 (low + (c.args.at.action + 2) * s) indices) second third) c.span-step.ensures (c.note_behind-2.ensures i (omega (arith, l, c.note_all.auto.noted, c.note_behind.auto.noted))) in
+    noted_of_three rules 3 low c.args.at.action indices c.first_at.result (get_or c.args.noted.now i None) first second third here (c.note_all.ensures i l) every only

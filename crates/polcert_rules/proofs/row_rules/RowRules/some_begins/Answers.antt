@@ -1,4 +1,6 @@
 use Rattle.std.proofs.Common.{◌+◌, ◌*◌, ◌∷◌, subst}
+use Rattle.polcert_cells.specs.declared.entry.Table.TheVariants.{Reward}
+use Rattle.polcert_rules.specs.Keys.{table_key}
 use Rattle.polcert_rules.specs.Steps.RewardSearch.{Begins, IsAnswer}
 use Rattle.polcert_rules.proofs.RewardLaws.RewardKeys.{begins_first_of_all, begins_second_of_all}
 use Rattle.polcert_rules.proofs.row_rules.RowRules.some_begins.Goals as goal
@@ -6,15 +8,17 @@ use Rattle.polcert_rules.proofs.row_rules.RowRules.some_begins.Goals as goal
 pub returns-then-some_begins_behind : goal.returns-then-some_begins_behind
 returns-then-some_begins_behind c =
     let rules = c.args.self.now.rules.items in
+    let low = table_key Reward in
     let indices = c.args.start ∷ c.args.rest.now in
-    let every = subst (λ s. IsAnswer rules (Begins 3 (c.args.low + s) indices c.args.least) c.some_begins_behind.result) c.span-step.ensures c.some_begins_behind.ensures in
-    begins_first_of_all rules 3 c.args.low c.args.action indices c.args.least c.some_begins_behind.result c.if-some_begins_behind.true every
+    let every = subst (λ s. IsAnswer rules (Begins 3 (low + s) indices c.args.least) c.some_begins_behind.result) c.span-step.ensures c.some_begins_behind.ensures in
+    begins_first_of_all rules 3 low c.args.action indices c.args.least c.some_begins_behind.result c.if-some_begins_behind.true every
 
 pub returns-else-some_begins_behind : goal.returns-else-some_begins_behind
 returns-else-some_begins_behind c =
     let rules = c.args.self.now.rules.items in
+    let low = table_key Reward in
     let indices = c.args.start ∷ c.args.rest.now in
     let answer = c.some_begins_behind-else-some_begins_behind.result in
-    let every = subst (λ s. IsAnswer rules (Begins 3 (c.args.low + s) indices c.args.least) c.some_begins_behind.result) c.span-step.ensures c.some_begins_behind.ensures in
-    let only = subst (λ s. IsAnswer rules (Begins 3 (c.args.low + (c.args.action + 2) * s) indices c.args.least) answer) c.span-step.ensures c.some_begins_behind-else-some_begins_behind.ensures in
-    begins_second_of_all rules 3 c.args.low c.args.action indices c.args.least c.some_begins_behind.result answer c.if-some_begins_behind.false every only
+    let every = subst (λ s. IsAnswer rules (Begins 3 (low + s) indices c.args.least) c.some_begins_behind.result) c.span-step.ensures c.some_begins_behind.ensures in
+    let only = subst (λ s. IsAnswer rules (Begins 3 (low + (c.args.action + 2) * s) indices c.args.least) answer) c.span-step.ensures c.some_begins_behind-else-some_begins_behind.ensures in
+    begins_second_of_all rules 3 low c.args.action indices c.args.least c.some_begins_behind.result answer c.if-some_begins_behind.false every only
