@@ -1,13 +1,13 @@
 -- The steps of a walk over a row that is lent.
-use Rattle.std.proofs.Common.{◌≡◌, ◌∙◌, ℕ, zero, suc, ◌+◌, ◌<◌, ◌≤◌, Some, None, List, [], ◌∷◌, length, get_or, refl, sym, ap, arith, add-one, subst, Bor}
+use Rattle.std.proofs.Common.{◌≡◌, ◌∙◌, ℕ, zero, suc, ◌+◌, ◌<◌, ◌≤◌, Option, Some, None, List, [], ◌∷◌, length, get_or, refl, sym, ap, arith, add-one, subst, Bor}
 use Rattle.std.specs.List.{slice_get}
 use Rattle.polcert_cells.specs.declared.cell.Cell.{Cell}
 use Rattle.polcert_cells.specs.declared.row.Row.{Row}
-use Rattle.polcert_cells.specs.declared.row.Row.TheVariants.{Sparse, Single}
+use Rattle.polcert_cells.specs.declared.row.Row.TheVariants.{Sparse, Filled, Single}
 use Rattle.polcert_cells.specs.declared.row.Step.{Step}
 use Rattle.polcert_cells.specs.Cursors.{IsNext}
 use Rattle.polcert_cells.specs.Sparse.{weight_at, IsRow}
-use Rattle.polcert_cells.specs.LentRows.{AreWeights, IsRowOf, IsStep, behind_cells, IsFilledStep}
+use Rattle.polcert_cells.specs.LentRows.{AreWeights, IsRowOf, IsStep, behind_cells}
 use Rattle.polcert_cells.proofs.SparseLaws.{Climbs, climbs_from, weight_head, weight_tail, weight_below}
 
 behind_low : (low n : ℕ) (xs : List Cell) (k : ℕ) → Climbs low n xs → low ≤ behind_cells low xs k
@@ -68,15 +68,6 @@ module _ (f : ℕ → ℕ) (n : ℕ) (xs : List Cell) (row : IsRow n f xs) where
   pub sparse_none : (k : ℕ) → slice_get xs k ≡ None → IsNext f n (behind_cells 0 xs k) None
   sparse_none k e i m l = sym (row.each i l) ∙ climbs_none 0 n xs k (climbs_from n xs row.sparse) e i m
 
-module _ (f : ℕ → ℕ) (n : ℕ) (weights : List ℕ) (are : AreWeights f n weights) where
-  pub filled_some : (from : ℕ) (s : Step) → IsFilledStep weights from (Some s) → IsNext f n from (Some (s.column, s.weight)) × (s.next ≡ s.column + 1)
-  filled_some from s (next, behind) =
-      let high : s.column < n = rw (sym are.size) next.1 in
-      ((next.0, high, next.2 ∙ are.each s.column high, next.3, λ i m l. sym (are.each i (omega arith)) ∙ next.4 i m l), behind)
-
-  pub filled_none : (from : ℕ) → IsFilledStep weights from None → IsNext f n from None
-  filled_none from none i m l = sym (are.each i l) ∙ none i m (rw are.size l)
-
 -- ---- the same of a row, by what it is
 module _ (f : ℕ → ℕ) (n : ℕ) (row : Row) (is : IsRowOf f n row) (at : ℕ) where
   pub step_sparse : (cells : Bor (List Cell)) (x : Cell) (s : Step) → row ≡ Sparse cells → slice_get cells.now at ≡ Some x → s ≡ record { column = x.column; weight = x.weight; next = at + 1 } → IsStep f n (Some row) at (Some s)
@@ -88,6 +79,16 @@ module _ (f : ℕ → ℕ) (n : ℕ) (row : Row) (is : IsRowOf f n row) (at : �
   pub end_sparse : (cells : Bor (List Cell)) → row ≡ Sparse cells → slice_get cells.now at ≡ None → IsStep f n (Some row) at None
   end_sparse cells e none =
       subst (λ (r : Row). IsRowOf f n r → IsStep f n (Some r) at None) (sym e) (λ h. sparse_none f n cells.now h at none) is
+
+  -- (a filled row is walked by its columns)
+  pub step_filled : (weights : Bor (List ℕ)) (s : Option Step) → row ≡ Filled weights → (AreWeights f n weights.now → IsStep f (length weights.now) None at s) → IsStep f n (Some row) at s
+  step_filled weights s e step =
+      subst (λ (r : Row). IsRowOf f n r → IsStep f n (Some r) at s) (sym e)
+      (λ are. by_columns s (subst (λ (count : ℕ). IsStep f count None at s) are.size (step are))) is
+    where
+      by_columns : (s : Option Step) → IsStep f n None at s → IsStep f n (Some (Filled weights)) at s
+      by_columns None h = h
+      by_columns (Some step) h = h
 
   pub end_single : (x : Cell) → row ≡ Single x → (at ≡ 0 → ⊥) → IsStep f n (Some row) at None
   end_single x e apart =

@@ -35,8 +35,3 @@ reached (Some (Single cell)) at = behind_cells 0 (cell ∷ []) at
 abbrev pub IsStep : (ℕ → ℕ) → ℕ → Option Row → ℕ → Option Step → Type 0
 IsStep f count row at None = IsNext f count (reached row at) None
 IsStep f count row at (Some step) = IsNext f count (reached row at) (Some (step.column, step.weight)) × (reached row step.next ≡ step.column + 1)
-
--- the same of the weights of all columns
-abbrev pub IsFilledStep : List ℕ → ℕ → Option Step → Type 0
-IsFilledStep weights from None = IsNext (slice_index weights) (length weights) from None
-IsFilledStep weights from (Some step) = IsNext (slice_index weights) (length weights) from (Some (step.column, step.weight)) × (step.next ≡ step.column + 1)

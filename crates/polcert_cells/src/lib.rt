@@ -17,7 +17,7 @@ pub use elements::{Elements, Kind, MOST_ACTIONS, MOST_ELEMENTS, MOST_OBSERVATION
 pub use entries::{BodyRef, Entries, EntryRef};
 pub use entry::{Body, Entry, Place, Places, Sequence, Table};
 pub use names::Names;
-pub use row::{Row, Step};
+pub use row::{Row, Step, first_weight};
 pub use shares::Shares;
 pub use table::Cells;
 pub use words::{Topic, begun_topic, is_reserved, is_word};

@@ -1,6 +1,6 @@
 //! Rows that are lent, to be walked from one weight above 0 to the next.
-ghost use Rattle.std.specs.Prelude.{◌≡◌, ℕ, ◌+◌, ◌<◌, ◌≤◌, slice_index};
-ghost use Rattle.polcert_cells.specs.LentRows.{IsRowOf, IsStep, IsFilledStep};
+ghost use Rattle.std.specs.Prelude.{◌≡◌, ℕ, ◌<◌, None};
+ghost use Rattle.polcert_cells.specs.LentRows.{IsRowOf, IsStep};
 
 use crate::Cell;
 
@@ -35,7 +35,7 @@ impl Row<'_> {
                 Some(cell) => Some(step_of(*cell, at + 1)),
                 None => None,
             },
-            Row::Filled(weights) => filled_step(weights, at),
+            Row::Filled(weights) => first_weight(at, weights.len(), move |column| weights[column]),
             Row::Single(cell) => if at == 0 {
                 Some(step_of(*cell, 1))
             } else {
@@ -56,13 +56,15 @@ fn step_of(cell: Cell, next: usize) -> Step
     }
 }
 
-/// The first weight above 0 of a filled row from a column on.
+/// The first weight above 0 of the columns from this one on, asked for column by column.
 #[inline(never)]
-fn filled_step(weights: &[u64], from: usize) -> Option<Step>
-    ensures { IsFilledStep weights.now from result }
+pub fn first_weight<F: Fn(usize) -> u64>(from: usize, columns: usize, weight_at: F) -> Option<Step>
+    requires callable { (k : ℕ) → k < columns → F.pre weight_at k }
+    ensures { (f : ℕ → ℕ) → ((k : ℕ) (weight : _) → k < columns → F.post weight_at k weight → weight ≡ f k)
+        → IsStep f columns None from result }
 {
-    for column in from..weights.len() {
-        let weight = weights[column];
+    for column in from..columns {
+        let weight = weight_at(column);
         if weight > 0 {
             return Some(Step {
                 column,

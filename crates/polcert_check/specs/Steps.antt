@@ -5,5 +5,6 @@ pub mod Findings
 pub mod Followed
 pub mod Leasts
 pub mod Mirrored
+pub mod Node
 pub mod Ranges
 pub mod Walks

@@ -4,8 +4,7 @@ ghost use Rattle.polcert_check.specs.Steps.Ranges.{most_sum};
 ghost use Rattle.polcert_check.specs.Steps.Factored.{reward_behind, reward_ahead, AreFilled};
 
 use crate::blocks::OBSERVATIONS_AT_ONCE;
-use crate::ends::Sight;
-use crate::filled::Filled;
+use crate::filled::{Filled, Sight};
 use crate::walk::{next_end, next_seen};
 use polcert_cells::{Cells, Row};
 
@@ -52,7 +51,6 @@ fn each_reward<C: Cells>(cells: &C, a: usize, s: usize, e: usize, filled: &mut F
         let sight = Sight {
             end: e,
             observation: seen.column,
-            weight: seen.weight,
         };
         let reward = filled.reward(cells, a, s, sight);
         sum += weighed(seen.weight, reward as i128);

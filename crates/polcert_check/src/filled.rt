@@ -6,7 +6,6 @@ ghost use Rattle.polcert_check.specs.declared.blocks.TheConstants.{OBSERVATIONS_
 
 use crate::blocks::OBSERVATIONS_AT_ONCE;
 use crate::earned::weighed;
-use crate::ends::Sight;
 use crate::walk::next_seen;
 use polcert_cells::Cells;
 
@@ -22,6 +21,13 @@ pub(crate) struct Filled {
     pub rewards: [i64; OBSERVATIONS_AT_ONCE],
     ghost few: { count ≤ OBSERVATIONS_AT_ONCE },
     ghost room: { length rewards ≡ OBSERVATIONS_AT_ONCE },
+}
+
+/// An observation made in an end state.
+#[derive(Clone, Copy)]
+pub(crate) struct Sight {
+    pub end: usize,
+    pub observation: usize,
 }
 
 impl Filled {

@@ -4,8 +4,8 @@ ghost use Rattle.polcert_check.specs.declared.blocks.TheConstants.{ENDS_AT_ONCE}
 
 use crate::asked::Asked;
 use crate::blocks::{ENDS_AT_ONCE, EndBlock};
-use crate::certificate::Certificate;
 use crate::ends::{Steps, end_of};
+use crate::node::Node;
 use polcert_model::Cells;
 
 /// What is known of what a node expects behind an end state.
@@ -46,8 +46,8 @@ impl Known {
 
 impl Ends {
     ghost use Rattle.std.specs.Prelude.{◌<◌, ◌≤◌, ℕ, IsTrue};
-    ghost use Rattle.polcert_check.specs.Steps.Certificate.{controller};
     ghost use Rattle.polcert_check.specs.Horizon.{Controller};
+    ghost use Rattle.polcert_check.specs.Steps.Node.{around};
     ghost use Rattle.polcert_check.specs.Steps.Walks.{AreFollowed, AreKnown, AreStepsBehind, CanAsk};
 
     /// Room for a block of which nothing is known.
@@ -71,39 +71,32 @@ impl Ends {
         }
     }
 
-    /// Goes on to the block of end states that begins with this one. What node `n` expects behind those that the nodes before asked for is
+    /// Goes on to the block of end states that begins with this one. What a node expects behind those that the nodes before asked for is
     /// found ahead: in their order, since what it is found from stands in that order.
-    pub(crate) fn begin<C: Cells>(
-        &mut self,
-        certificate: &Certificate<'_, C>,
-        n: usize,
-        first: usize,
-    )
-        requires node { n < (controller certificate.now).nodes }
-        requires end { first < (controller certificate.now).cells.states }
+    pub(crate) fn begin<C: Cells>(&mut self, node: &Node<'_, C>, first: usize)
+        requires end { first < (around node.now).cells.states }
         ensures first { self.new.block.first ≡ first }
-        ensures within { self.new.block.until ≤ (controller certificate.now).cells.states }
-        ensures known { AreKnown (controller certificate.now) n self.new }
+        ensures within { self.new.block.until ≤ (around node.now).cells.states }
+        ensures known { AreKnown (around node.now) node.now.n self.new }
     {
-        let block = EndBlock::from(first, certificate.cells.states());
+        let block = EndBlock::from(first, node.certificate.cells.states());
         self.clear(block);
         for e in block.first..block.until {
             if self.asked.has(e) {
-                self.find(certificate, n, e);
+                self.find(node, e);
             }
         }
     }
 
-    /// Finds what node `n` expects behind every end state, where these are one block, unless an observation that can be made behind one
+    /// Finds what a node expects behind every end state, where these are one block, unless an observation that can be made behind one
     /// of them has no successor. Whether none is such.
-    pub(crate) fn fill<C: Cells>(&mut self, certificate: &Certificate<'_, C>, n: usize) -> bool
-        requires node { n < (controller certificate.now).nodes }
-        requires few { (controller certificate.now).cells.states ≤ ENDS_AT_ONCE }
-        ensures { IsTrue result → AreFollowed (controller certificate.now) n
-            (controller certificate.now).cells.states self.new.worths }
+    pub(crate) fn fill<C: Cells>(&mut self, node: &Node<'_, C>) -> bool
+        requires few { (around node.now).cells.states ≤ ENDS_AT_ONCE }
+        ensures { IsTrue result → AreFollowed (around node.now) node.now.n
+            (around node.now).cells.states self.new.worths }
     {
-        for e in 0..certificate.cells.states() {
-            let end = end_of(certificate, n, e);
+        for e in 0..node.certificate.cells.states() {
+            let end = end_of(node, e);
             if end.missing.is_some() {
                 return false;
             }
@@ -112,23 +105,18 @@ impl Ends {
         true
     }
 
-    /// What node `n` expects behind end state `e`, without the weight of reaching it.
+    /// What a node expects behind end state `e`, without the weight of reaching it.
     #[inline(always)]
-    pub(crate) fn behind<C: Cells>(
-        &mut self,
-        certificate: &Certificate<'_, C>,
-        n: usize,
-        e: usize,
-    ) -> Steps
-        requires asked { CanAsk (controller certificate.now) n self.old.block e }
-        requires known { AreKnown (controller certificate.now) n self.old }
-        ensures steps { AreStepsBehind (controller certificate.now) n e result }
+    pub(crate) fn behind<C: Cells>(&mut self, node: &Node<'_, C>, e: usize) -> Steps
+        requires asked { CanAsk (around node.now) self.old.block e }
+        requires known { AreKnown (around node.now) node.now.n self.old }
+        ensures steps { AreStepsBehind (around node.now) node.now.n e result }
         ensures block { self.new.block ≡ self.old.block }
-        ensures known { AreKnown (controller certificate.now) n self.new }
+        ensures known { AreKnown (around node.now) node.now.n self.new }
     {
         let i = e - self.block.first;
         match self.known[i] {
-            Known::Nothing => self.find(certificate, n, e),
+            Known::Nothing => self.find(node, e),
             Known::Followed => Steps {
                 worth: self.worths[i],
                 missing: None,
@@ -142,15 +130,15 @@ impl Ends {
 
     /// The same, where it is not known yet.
     #[inline(never)]
-    fn find<C: Cells>(&mut self, certificate: &Certificate<'_, C>, n: usize, e: usize) -> Steps
-        requires asked { CanAsk (controller certificate.now) n self.old.block e }
-        requires known { AreKnown (controller certificate.now) n self.old }
-        ensures steps { AreStepsBehind (controller certificate.now) n e result }
+    fn find<C: Cells>(&mut self, node: &Node<'_, C>, e: usize) -> Steps
+        requires asked { CanAsk (around node.now) self.old.block e }
+        requires known { AreKnown (around node.now) node.now.n self.old }
+        ensures steps { AreStepsBehind (around node.now) node.now.n e result }
         ensures block { self.new.block ≡ self.old.block }
-        ensures known { AreKnown (controller certificate.now) n self.new }
+        ensures known { AreKnown (around node.now) node.now.n self.new }
     {
         self.asked.note(e);
-        let end = end_of(certificate, n, e);
+        let end = end_of(node, e);
         let i = e - self.block.first;
         self.worths[i] = end.worth;
         self.known[i] = Known::of(end.missing);

@@ -18,6 +18,7 @@ mod known;
 mod laws;
 mod laws_above;
 mod lower;
+mod node;
 mod pairs;
 mod parts;
 mod raises;

@@ -1,15 +1,16 @@
 //! Whether a pair of a node and a state passes, from what was added up for its action and its node.
 ghost use Rattle.std.specs.Prelude.{◌≡◌, ◌*◌, ◌<◌, ◌≤◌, pos, ◌+ℤ◌, ◌-ℤ◌, ◌*ℤ◌, unsigned_abs};
 ghost use Rattle.polcert_text.specs.Numbers.{largest};
-ghost use Rattle.polcert_check.specs.Steps.Certificate.{controller, judged};
+ghost use Rattle.polcert_check.specs.Steps.Certificate.{judged};
 ghost use Rattle.polcert_check.specs.Horizon.{one};
 ghost use Rattle.polcert_check.specs.Steps.Ranges.{most_scales};
 ghost use Rattle.polcert_check.specs.Steps.Factored.{reward_ahead, IsPairVerdict};
+ghost use Rattle.polcert_check.specs.Steps.Node.{around};
 ghost use Rattle.polcert_check.specs.Steps.Walks.{AreSteps};
 
-use crate::certificate::Certificate;
 use crate::earned::weighed;
 use crate::ends::Steps;
+use crate::node::Node;
 use crate::verdict::Verdict;
 use polcert_model::Cells;
 
@@ -37,35 +38,27 @@ pub(crate) fn amount_above<C: Cells>(cells: &C, value: i64, earned: i128, expect
     scaled_value(cells.t_scale(), cells.o_scale(), value) - backing
 }
 
-/// Whether node `n` passes at state `s`; else why it doesn't.
-pub(crate) fn at_pair<C: Cells>(
-    certificate: &Certificate<'_, C>,
-    n: usize,
-    s: usize,
-    earned: i128,
-    steps: Steps,
-) -> Verdict
-    requires node { n < (controller certificate.now).nodes }
-    requires start { s < (controller certificate.now).cells.states }
-    requires earned { earned ≡ reward_ahead (controller certificate.now).cells
-        ((controller certificate.now).action n) s }
-    requires steps { AreSteps (controller certificate.now) n s (controller certificate.now).cells.states
-        steps }
-    ensures { IsPairVerdict (judged certificate.now) n s result }
+/// Whether a node passes at state `s`; else why it doesn't.
+pub(crate) fn at_pair<C: Cells>(node: &Node<'_, C>, s: usize, earned: i128, steps: Steps) -> Verdict
+    requires start { s < (around node.now).cells.states }
+    requires earned { earned ≡ reward_ahead (around node.now).cells ((around node.now).action node.now.n) s }
+    requires steps { AreSteps (around node.now) node.now.n s (around node.now).cells.states steps }
+    ensures { IsPairVerdict (judged node.now.certificate) node.now.n s result }
 {
     if let Some(observation) = steps.missing {
         return Verdict::NoSuccessor {
-            node: n,
+            node: node.n,
             state: s,
             observation,
         };
     }
-    let value = certificate.vectors.at(n, s);
+    let certificate = &node.certificate;
+    let value = certificate.vectors.at(node.n, s);
     let above = amount_above(certificate.cells, value, earned, steps.worth);
     let amount = certificate.side.turned(above);
     if amount > 0 {
         return Verdict::Short {
-            node: n,
+            node: node.n,
             state: s,
             amount,
         };

@@ -1,11 +1,11 @@
 //! How far a value is above what the next step backs.
 ghost use Rattle.std.specs.Prelude.{◌≡◌, ◌<◌, ◌≤◌, unsigned_abs};
 ghost use Rattle.polcert_policy.specs.Graphs.{nodes};
-ghost use Rattle.polcert_check.specs.Steps.Certificate.{controller};
 ghost use Rattle.polcert_check.specs.Horizon.{Fits, controller_of};
 ghost use Rattle.polcert_check.specs.Shortfall.{most_short, short};
 ghost use Rattle.polcert_check.specs.Steps.Factored.{reward_ahead};
 ghost use Rattle.polcert_check.specs.Steps.Followed.{followed};
+ghost use Rattle.polcert_check.specs.Steps.Node.{around};
 
 use crate::certificate::Certificate;
 use crate::earned::reward_ahead;
@@ -13,36 +13,35 @@ use crate::ends::end_of;
 use crate::expected::value_ahead;
 use crate::filled::Filled;
 use crate::followed::Followed;
+use crate::node::Node;
 use crate::pairs::amount_above;
 use crate::side::Side;
 use polcert_cells::Cells;
 use polcert_policy::{Graph, Vectors};
 
-/// What the action of node `n` earns in state `s`, without the observations for which the node has no successor.
-fn followed_reward<C: Cells>(certificate: &Certificate<'_, C>, n: usize, s: usize) -> i128
-    requires node { n < (controller certificate.now).nodes }
-    requires start { s < (controller certificate.now).cells.states }
-    ensures { result ≡ reward_ahead (followed (controller certificate.now) n)
-        ((controller certificate.now).action n) s }
+/// What the action of a node earns in state `s`, without the observations for which the node has no successor.
+fn followed_reward<C: Cells>(node: &Node<'_, C>, s: usize) -> i128
+    requires start { s < (around node.now).cells.states }
+    ensures { result ≡ reward_ahead (followed (around node.now) node.now.n)
+        ((around node.now).action node.now.n) s }
 {
-    reward_ahead(
-        &Followed { certificate, n },
-        certificate.graph.action(n),
-        s,
-        &mut Filled::new(),
-    )
+    let cells = Followed {
+        certificate: &node.certificate,
+        n: node.n,
+    };
+    reward_ahead(&cells, node.action(), s, &mut Filled::new())
 }
 
-/// How far the value of node `n` at state `s` is above what the next step backs.
-fn amount_at<C: Cells>(certificate: &Certificate<'_, C>, n: usize, s: usize) -> i128
-    requires node { n < (controller certificate.now).nodes }
-    requires start { s < (controller certificate.now).cells.states }
-    ensures is { result ≡ short (controller certificate.now) n s }
-    ensures small { unsigned_abs result ≤ most_short (controller certificate.now) }
+/// How far the value of a node at state `s` is above what the next step backs.
+fn amount_at<C: Cells>(node: &Node<'_, C>, s: usize) -> i128
+    requires start { s < (around node.now).cells.states }
+    ensures is { result ≡ short (around node.now) node.now.n s }
+    ensures small { unsigned_abs result ≤ most_short (around node.now) }
 {
-    let expected = value_ahead(certificate, n, s, |e| end_of(certificate, n, e).worth);
-    let earned = followed_reward(certificate, n, s);
-    let value = certificate.vectors.at(n, s);
+    let expected = value_ahead(node, s, |e| end_of(node, e).worth);
+    let earned = followed_reward(node, s);
+    let certificate = &node.certificate;
+    let value = certificate.vectors.at(node.n, s);
     amount_above(certificate.cells, value, earned, expected)
 }
 
@@ -64,5 +63,6 @@ pub fn amount_short<C: Cells>(
     ensures small { unsigned_abs result ≤ most_short
         (controller_of (C.table cells.now) graph.now vectors.now) }
 {
-    amount_at(&Certificate::new(Side::Below, cells, graph, vectors), n, s)
+    let certificate = Certificate::new(Side::Below, cells, graph, vectors);
+    amount_at(&Node { certificate, n }, s)
 }

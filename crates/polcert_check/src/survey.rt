@@ -3,11 +3,13 @@ ghost use Rattle.std.specs.Prelude.{◌≡◌, ◌+◌, ◌<◌, ◌≤◌};
 ghost use Rattle.polcert_check.specs.Steps.Certificate.{controller, judged};
 ghost use Rattle.polcert_check.specs.Steps.Factored.{AreKept};
 ghost use Rattle.polcert_check.specs.Steps.Findings.{IsFound, IsFoundBefore, IsFoundUpTo, IsPair};
+ghost use Rattle.polcert_check.specs.Steps.Node.{around};
 
 use crate::blocks::StartBlock;
 use crate::certificate::Certificate;
 use crate::earnings::Earnings;
 use crate::findings::{Aim, Findings};
+use crate::node::Node;
 use crate::pairs::at_pair;
 use crate::walks::Walks;
 use crate::watch::Watch;
@@ -22,43 +24,42 @@ struct Surveyed {
     findings: Findings,
 }
 
-/// Notes what is found at each pair of node `n` and a state of a block, unless none of them can be the first that is sought. With the
+/// Notes what is found at each pair of a node and a state of a block, unless none of them can be the first that is sought. With the
 /// last block all pairs of the node have been walked.
 fn survey_node<C: Cells, W: Watch>(
-    certificate: &Certificate<'_, C>,
-    n: usize,
+    node: &Node<'_, C>,
     block: StartBlock,
     survey: &mut Surveyed,
     watch: &mut W,
 )
-    requires node { n < (controller certificate.now).nodes }
-    requires within { block.until ≤ (controller certificate.now).cells.states }
+    requires within { block.until ≤ (around node.now).cells.states }
     requires first { survey.old.earnings.first ≡ block.first }
-    requires kept { AreKept (controller certificate.now).cells ((controller certificate.now).action n)
+    requires kept { AreKept (around node.now).cells ((around node.now).action node.now.n)
         block.first survey.old.earnings.sums survey.old.earnings.count }
-    requires found { IsFoundBefore (judged certificate.now) ((controller certificate.now).action n)
-        block.first block.until n block.first survey.old.findings }
+    requires found { IsFoundBefore (judged node.now.certificate) ((around node.now).action node.now.n)
+        block.first block.until node.now.n block.first survey.old.findings }
     ensures first { survey.new.earnings.first ≡ block.first }
-    ensures kept { AreKept (controller certificate.now).cells ((controller certificate.now).action n)
+    ensures kept { AreKept (around node.now).cells ((around node.now).action node.now.n)
         block.first survey.new.earnings.sums survey.new.earnings.count }
-    ensures found { IsFoundBefore (judged certificate.now) ((controller certificate.now).action n)
-        block.first block.until (n + 1) block.first survey.new.findings }
+    ensures found { IsFoundBefore (judged node.now.certificate) ((around node.now).action node.now.n)
+        block.first block.until (node.now.n + 1) block.first survey.new.findings }
     ensures aim { survey.new.findings.aim ≡ survey.old.findings.aim }
 {
-    if survey.findings.is_settled(n) {
+    if survey.findings.is_settled(node.n) {
         return;
     }
-    let a = certificate.graph.action(n);
-    survey.walks.walk(certificate, n, block);
+    let cells = node.certificate.cells;
+    let a = node.action();
+    survey.walks.walk(node, block);
     for s in block.first..block.until {
-        let earned = survey.earnings.earned(certificate.cells, a, s);
+        let earned = survey.earnings.earned(cells, a, s);
         let steps = survey.walks.walks[s - block.first].steps;
-        let found = at_pair(certificate, n, s, earned, steps);
-        if survey.findings.note(n, found) {
+        let found = at_pair(node, s, earned, steps);
+        if survey.findings.note(node.n, found) {
             return;
         }
     }
-    if block.until == certificate.cells.states() {
+    if block.until == cells.states() {
         watch.node_done();
     }
 }
@@ -80,7 +81,18 @@ fn survey_block<C: Cells, W: Watch>(
     survey.earnings.begin(block.first);
     for n in 0..certificate.graph.nodes() {
         if certificate.graph.action(n) == a {
-            survey_node(certificate, n, block, survey, watch);
+            // (A copy of its own, so that where the parts stand is not looked up again at each step.)
+            let own = Certificate {
+                cells: certificate.cells,
+                graph: certificate.graph,
+                vectors: certificate.vectors,
+                side: certificate.side,
+            };
+            let node = Node {
+                certificate: own,
+                n,
+            };
+            survey_node(&node, block, survey, watch);
         }
     }
 }
@@ -115,22 +127,15 @@ pub(crate) fn survey<C: Cells, W: Watch>(
     ensures found { IsFound (judged certificate.now) (IsPair (judged certificate.now)) result }
     ensures aim { result.aim ≡ aim }
 {
-    // (A copy of its own, so that where the parts stand is not looked up again at each step.)
-    let own = Certificate {
-        cells: certificate.cells,
-        graph: certificate.graph,
-        vectors: certificate.vectors,
-        side: certificate.side,
-    };
-    watch.begin(own.graph.nodes());
+    watch.begin(certificate.graph.nodes());
     let findings = Findings::new(aim);
     let mut survey = Surveyed {
         earnings: Earnings::new(),
         walks: Walks::new(),
         findings,
     };
-    for a in 0..own.cells.actions() {
-        survey_action(&own, a, &mut survey, watch);
+    for a in 0..certificate.cells.actions() {
+        survey_action(certificate, a, &mut survey, watch);
     }
     watch.end();
     survey.findings

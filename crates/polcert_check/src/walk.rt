@@ -4,7 +4,7 @@ ghost use Rattle.std.specs.Option.{ForSome, option_copied};
 ghost use Rattle.polcert_cells.specs.LentRows.{IsRowOf, IsStep};
 ghost use Rattle.polcert_check.specs.Steps.Walks.{IsPlace};
 
-use polcert_cells::{Cells, Row, Step};
+use polcert_cells::{Cells, Row, Step, first_weight};
 
 /// The place where a walk over a row begins that goes over the columns from this one on. Where no row is lent, places are columns.
 pub(crate) fn place_from(row: Option<Row<'_>>, column: usize) -> usize
@@ -46,28 +46,8 @@ pub(crate) fn next_end<C: Cells>(
 {
     match row {
         Some(row) => row.step(at),
-        None => end_from(cells, a, s, at),
+        None => first_weight(at, cells.states(), move |e| cells.t(a, s, e)),
     }
-}
-
-/// The same, asked for state by state.
-#[inline(never)]
-fn end_from<C: Cells>(cells: &C, a: usize, s: usize, from: usize) -> Option<Step>
-    requires action { a < (C.table cells.now).actions }
-    requires start { s < (C.table cells.now).states }
-    ensures { IsStep ((C.table cells.now).t a s) (C.table cells.now).states None from result }
-{
-    for e in from..cells.states() {
-        let weight = cells.t(a, s, e);
-        if weight > 0 {
-            return Some(Step {
-                column: e,
-                weight,
-                next: e + 1,
-            });
-        }
-    }
-    None
 }
 
 /// The next observation of a weight above 0 where action `a` ends in state `e`, from a place of the row on. Where no row is
@@ -87,26 +67,6 @@ pub(crate) fn next_seen<C: Cells>(
 {
     match row {
         Some(row) => row.step(at),
-        None => seen_from(cells, a, e, at),
+        None => first_weight(at, cells.observations(), move |z| cells.o(a, e, z)),
     }
-}
-
-/// The same, asked for observation by observation.
-#[inline(never)]
-fn seen_from<C: Cells>(cells: &C, a: usize, e: usize, from: usize) -> Option<Step>
-    requires action { a < (C.table cells.now).actions }
-    requires end { e < (C.table cells.now).states }
-    ensures { IsStep ((C.table cells.now).o a e) (C.table cells.now).observations None from result }
-{
-    for z in from..cells.observations() {
-        let weight = cells.o(a, e, z);
-        if weight > 0 {
-            return Some(Step {
-                column: z,
-                weight,
-                next: z + 1,
-            });
-        }
-    }
-    None
 }

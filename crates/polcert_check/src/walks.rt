@@ -1,15 +1,15 @@
 //! Walks over the end states that a node may reach: from all states of a block, over one block of end states after another.
 ghost use Rattle.std.specs.Prelude.{◌≡◌, ℕ, ◌+◌, ◌<◌, ◌≤◌, length};
-ghost use Rattle.polcert_check.specs.Steps.Certificate.{controller};
+ghost use Rattle.polcert_check.specs.Steps.Node.{around};
 ghost use Rattle.polcert_check.specs.Steps.Walks.{AreFollowed, AreKnown, AreWalks, IsWalk, begun, value_before, walk_at};
 ghost use Rattle.polcert_check.specs.declared.blocks.TheConstants.{ENDS_AT_ONCE, STARTS_AT_ONCE};
 
 use crate::blocks::{ENDS_AT_ONCE, STARTS_AT_ONCE, StartBlock};
-use crate::certificate::Certificate;
 use crate::earned::weighed;
 use crate::ends::{Steps, lesser};
 use crate::expected::value_ahead;
 use crate::known::Ends;
+use crate::node::Node;
 use crate::walk::{next_end, place_from};
 use polcert_model::Cells;
 
@@ -39,28 +39,21 @@ pub(crate) struct Walks {
 }
 
 /// Goes on with the walk from state `s` over a block of end states, which it does not stand before.
-fn go_on<C: Cells>(
-    certificate: &Certificate<'_, C>,
-    n: usize,
-    s: usize,
-    ends: &mut Ends,
-    walk: Walk,
-) -> Walk
-    requires node { n < (controller certificate.now).nodes }
-    requires start { s < (controller certificate.now).cells.states }
-    requires within { ends.old.block.until ≤ (controller certificate.now).cells.states }
-    requires known { AreKnown (controller certificate.now) n ends.old }
-    requires walk { IsWalk (controller certificate.now) n s ends.old.block.first walk }
+fn go_on<C: Cells>(node: &Node<'_, C>, s: usize, ends: &mut Ends, walk: Walk) -> Walk
+    requires start { s < (around node.now).cells.states }
+    requires within { ends.old.block.until ≤ (around node.now).cells.states }
+    requires known { AreKnown (around node.now) node.now.n ends.old }
+    requires walk { IsWalk (around node.now) node.now.n s ends.old.block.first walk }
     ensures block { ends.new.block ≡ ends.old.block }
-    ensures known { AreKnown (controller certificate.now) n ends.new }
-    ensures walk { IsWalk (controller certificate.now) n s ends.new.block.until result }
+    ensures known { AreKnown (around node.now) node.now.n ends.new }
+    ensures walk { IsWalk (around node.now) node.now.n s ends.new.block.until result }
 {
     let until = ends.block.until;
     if until <= walk.from {
         return walk;
     }
-    let cells = certificate.cells;
-    let a = certificate.graph.action(n);
+    let cells = node.certificate.cells;
+    let a = node.action();
     let row = cells.t_row(a, s);
     let mut at = place_from(row, walk.from);
     let mut worth = walk.steps.worth;
@@ -72,7 +65,7 @@ fn go_on<C: Cells>(
                 steps: Steps { worth, missing },
             };
         }
-        let step = ends.behind(certificate, n, end.column);
+        let step = ends.behind(node, end.column);
         worth += weighed(end.weight, step.worth);
         missing = lesser(missing, step.missing);
         at = end.next;
@@ -83,22 +76,14 @@ fn go_on<C: Cells>(
     }
 }
 
-/// What node `n` expects at state `s`, over what was found behind every end state.
-fn worth_ahead<C: Cells>(
-    certificate: &Certificate<'_, C>,
-    n: usize,
-    s: usize,
-    worths: &[i128],
-) -> i128
-    requires node { n < (controller certificate.now).nodes }
-    requires start { s < (controller certificate.now).cells.states }
-    requires room { (controller certificate.now).cells.states ≤ length worths.now }
-    requires followed { AreFollowed (controller certificate.now) n (controller certificate.now).cells.states
-        worths.now }
-    ensures { result ≡ value_before (controller certificate.now) n s
-        (controller certificate.now).cells.states }
+/// What a node expects at state `s`, over what was found behind every end state.
+fn worth_ahead<C: Cells>(node: &Node<'_, C>, s: usize, worths: &[i128]) -> i128
+    requires start { s < (around node.now).cells.states }
+    requires room { (around node.now).cells.states ≤ length worths.now }
+    requires followed { AreFollowed (around node.now) node.now.n (around node.now).cells.states worths.now }
+    ensures { result ≡ value_before (around node.now) node.now.n s (around node.now).cells.states }
 {
-    value_ahead(certificate, n, s, |e| worths[e])
+    value_ahead(node, s, |e| worths[e])
 }
 
 impl Walks {
@@ -127,26 +112,19 @@ impl Walks {
 
     /// Goes on with all walks over the block of end states that begins with this one, before which none of them stands. Answers the
     /// next one before which none of them stands.
-    fn through<C: Cells>(
-        &mut self,
-        certificate: &Certificate<'_, C>,
-        n: usize,
-        block: StartBlock,
-        first: usize,
-    ) -> usize
-        requires node { n < (controller certificate.now).nodes }
-        requires within { block.until ≤ (controller certificate.now).cells.states }
-        requires end { first < (controller certificate.now).cells.states }
-        requires walks { AreWalks (controller certificate.now) n block first self.old.walks }
+    fn through<C: Cells>(&mut self, node: &Node<'_, C>, block: StartBlock, first: usize) -> usize
+        requires within { block.until ≤ (around node.now).cells.states }
+        requires end { first < (around node.now).cells.states }
+        requires walks { AreWalks (around node.now) node.now.n block first self.old.walks }
         ensures further { first < result }
-        ensures walks { AreWalks (controller certificate.now) n block result self.new.walks }
+        ensures walks { AreWalks (around node.now) node.now.n block result self.new.walks }
     {
-        let states = certificate.cells.states();
-        self.ends.begin(certificate, n, first);
+        let states = node.certificate.cells.states();
+        self.ends.begin(node, first);
         let mut nearest = states;
         for s in block.first..block.until {
             let i = s - block.first;
-            let walk = go_on(certificate, n, s, &mut self.ends, self.walks[i]);
+            let walk = go_on(node, s, &mut self.ends, self.walks[i]);
             nearest = nearest.min(walk.from);
             self.walks[i] = walk;
         }
@@ -154,23 +132,16 @@ impl Walks {
     }
 
     /// Walks from each state of a block over all end states, over what was found behind each of them.
-    fn walk_at_once<C: Cells>(
-        &mut self,
-        certificate: &Certificate<'_, C>,
-        n: usize,
-        block: StartBlock,
-    )
-        requires node { n < (controller certificate.now).nodes }
-        requires within { block.until ≤ (controller certificate.now).cells.states }
-        requires few { (controller certificate.now).cells.states ≤ ENDS_AT_ONCE }
-        requires followed { AreFollowed (controller certificate.now) n
-            (controller certificate.now).cells.states self.old.ends.worths }
-        ensures { AreWalks (controller certificate.now) n block (controller certificate.now).cells.states
-            self.new.walks }
+    fn walk_at_once<C: Cells>(&mut self, node: &Node<'_, C>, block: StartBlock)
+        requires within { block.until ≤ (around node.now).cells.states }
+        requires few { (around node.now).cells.states ≤ ENDS_AT_ONCE }
+        requires followed { AreFollowed (around node.now) node.now.n
+            (around node.now).cells.states self.old.ends.worths }
+        ensures { AreWalks (around node.now) node.now.n block (around node.now).cells.states self.new.walks }
     {
-        let states = certificate.cells.states();
+        let states = node.certificate.cells.states();
         for s in block.first..block.until {
-            let worth = worth_ahead(certificate, n, s, &self.ends.worths);
+            let worth = worth_ahead(node, s, &self.ends.worths);
             self.walks[s - block.first] = Walk {
                 from: states,
                 steps: Steps {
@@ -181,28 +152,21 @@ impl Walks {
         }
     }
 
-    /// Walks from all states of a block over all end states that node `n` may reach. Mostly the states are one block, and no successor is
+    /// Walks from all states of a block over all end states that a node may reach. Mostly the states are one block, and no successor is
     /// missing: then the sums are added up without asking for either.
-    pub(crate) fn walk<C: Cells>(
-        &mut self,
-        certificate: &Certificate<'_, C>,
-        n: usize,
-        block: StartBlock,
-    )
-        requires node { n < (controller certificate.now).nodes }
-        requires within { block.until ≤ (controller certificate.now).cells.states }
-        ensures { AreWalks (controller certificate.now) n block (controller certificate.now).cells.states
-            self.new.walks }
+    pub(crate) fn walk<C: Cells>(&mut self, node: &Node<'_, C>, block: StartBlock)
+        requires within { block.until ≤ (around node.now).cells.states }
+        ensures { AreWalks (around node.now) node.now.n block (around node.now).cells.states self.new.walks }
     {
-        let states = certificate.cells.states();
-        if states <= ENDS_AT_ONCE && self.ends.fill(certificate, n) {
-            self.walk_at_once(certificate, n, block);
+        let states = node.certificate.cells.states();
+        if states <= ENDS_AT_ONCE && self.ends.fill(node) {
+            self.walk_at_once(node, block);
             return;
         }
         self.begin(block.until - block.first);
         let mut first = 0;
         while first < states {
-            first = self.through(certificate, n, block, first);
+            first = self.through(node, block, first);
         }
     }
 }

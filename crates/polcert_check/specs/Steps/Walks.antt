@@ -30,9 +30,8 @@ IsKnown c n e (Missing z) worth = (worth ≡ value_behind c n e) × IsLeastOf (M
 pub record AreKnown (c : Controller) (n : ℕ) (ends : Ends) : Type 0 where
   pub each : (i : ℕ) → ends.block.first + i < ends.block.until → IsKnown c n (ends.block.first + i) (slice_index_or ends.known i Nothing) (slice_index_or ends.worths i (pos 0))
 
--- node n may be asked what it expects behind end state e, which is one of the block
-pub record CanAsk (c : Controller) (n : ℕ) (block : Block ENDS_AT_ONCE) (e : ℕ) : Type 0 where
-  pub node : n < c.nodes
+-- a node may be asked what it expects behind end state e, which is one of the block
+pub record CanAsk (c : Controller) (block : Block ENDS_AT_ONCE) (e : ℕ) : Type 0 where
   pub within : block.until ≤ c.cells.states
   pub from : block.first ≤ e
   pub until : e < block.until

@@ -1,7 +1,8 @@
 use Rattle.std.proofs.Common.{rules, arith, ◌≡◌, ◌≤◌, ◌<◌, ◌^◌, None, ℕ, to_z, of_z, w64, refl, sym, ap, ◌∙◌}
 use mir.Syntax.{w128}
 use Rattle.std.proofs.lemmas.Int.{to_z-of_z}
-use Rattle.polcert_check.specs.Steps.Certificate.{controller, judged}
+use Rattle.polcert_check.specs.Steps.Certificate.{judged}
+use Rattle.polcert_check.specs.Steps.Node.{around}
 use Rattle.polcert_check.specs.Horizon.{Controller}
 use Rattle.polcert_check.specs.Shortfall.{short, largest_amount}
 use Rattle.polcert_check.specs.Steps.Mirrored.{turned}
@@ -22,43 +23,43 @@ small_enough : (x most : ℕ) → x ≤ most → most ≤ largest_amount → x <
 small_enough x most a b = omega (arith, a, b, amount_fits_128)
 
 pub returns-in-Some : goal.returns-in-Some
-returns-in-Some g c = (refl, refl, rw c.in-Some.is at (pair_lacking (controller c.args.certificate.now) c.args.n c.args.s c.args.steps.missing c.requires.steps.missing))
+returns-in-Some g c = (refl, refl, rw c.in-Some.is at (pair_lacking (around c.args.node.now) c.args.node.now.n c.args.s c.args.steps.missing c.requires.steps.missing))
 
 pub amount_above-above-requires-clause-earned : goal.amount_above-above-requires-clause-earned
 amount_above-above-requires-clause-earned g c =
-    let k : Controller = controller c.args.certificate.now in
-    let same : to_z w128 (of_z w128 c.args.earned) ≡ reward_ahead k.cells (k.action c.args.n) c.args.s = to_z-of_z w128 c.args.earned c.ranges.earned ∙ c.requires.earned in
-    rw same (reward_ahead_le k.cells c.args.certificate.now.proper.cells (g.met.C.Cells.is_within_limits c.args.certificate.now.cells.now) (k.action c.args.n) c.args.s (c.args.certificate.now.proper.closed.actions_in_range c.args.n c.requires.node) c.requires.start)
+    let k : Controller = around c.args.node.now in
+    let same : to_z w128 (of_z w128 c.args.earned) ≡ reward_ahead k.cells (k.action c.args.node.now.n) c.args.s = to_z-of_z w128 c.args.earned c.ranges.earned ∙ c.requires.earned in
+    rw same (reward_ahead_le k.cells c.args.node.now.certificate.proper.cells (g.met.C.Cells.is_within_limits c.args.node.now.certificate.cells.now) (k.action c.args.node.now.n) c.args.s (c.args.node.now.certificate.proper.closed.actions_in_range c.args.node.now.n c.args.node.now.within) c.requires.start)
 
 pub amount_above-above-requires-clause-expected : goal.amount_above-above-requires-clause-expected
 amount_above-above-requires-clause-expected g c =
-    let k : Controller = controller c.args.certificate.now in
+    let k : Controller = around c.args.node.now in
     let same = to_z-of_z w128 c.args.steps.worth (search rules) ∙ c.requires.steps.worth in
-    rw same (value_ahead_le k c.args.certificate.now.proper (g.met.C.Cells.is_within_limits c.args.certificate.now.cells.now) c.args.certificate.now.values c.args.n c.args.s c.requires.node c.requires.start)
+    rw same (value_ahead_le k c.args.node.now.certificate.proper (g.met.C.Cells.is_within_limits c.args.node.now.certificate.cells.now) c.args.node.now.certificate.values c.args.node.now.n c.args.s c.args.node.now.within c.requires.start)
 
 pub turned-amount-requires : goal.turned-amount-requires
 turned-amount-requires g c =
-    let k : Controller = controller c.args.certificate.now in
-    let lacks : IsLeastLacking k c.args.n c.args.s None = rw c.in_default.is at (pair_lacking k c.args.n c.args.s c.args.steps.missing c.requires.steps.missing) in
-    let above : to_z w128 (of_z w128 c.amount_above-above.result) ≡ short k c.args.n c.args.s = to_z-of_z w128 c.amount_above-above.result (search rules) ∙ amount_is k c.args.n c.args.s _ _ (backing_split k c.args.n c.args.s lacks) c.amount_above-above.result _ _ _ c.amount_above-above.ensures (to_z-of_z w64 c.at-value.result (search rules) ∙ c.at-value.ensures.value) (to_z-of_z w128 c.args.earned c.ranges.earned ∙ c.requires.earned) (to_z-of_z w128 c.args.steps.worth (search rules) ∙ c.requires.steps.worth) in
-    let limits = g.met.C.Cells.is_within_limits c.args.certificate.now.cells.now in
-    rw above (small_enough _ _ (short_le k c.args.certificate.now.proper limits c.args.certificate.now.values c.args.n c.args.s c.requires.node c.requires.start) (most_amount k limits))
+    let k : Controller = around c.args.node.now in
+    let lacks : IsLeastLacking k c.args.node.now.n c.args.s None = rw c.in_default.is at (pair_lacking k c.args.node.now.n c.args.s c.args.steps.missing c.requires.steps.missing) in
+    let above : to_z w128 (of_z w128 c.amount_above-above.result) ≡ short k c.args.node.now.n c.args.s = to_z-of_z w128 c.amount_above-above.result (search rules) ∙ amount_is k c.args.node.now.n c.args.s _ _ (backing_split k c.args.node.now.n c.args.s lacks) c.amount_above-above.result _ _ _ c.amount_above-above.ensures (to_z-of_z w64 c.at-value.result (search rules) ∙ c.at-value.ensures.value) (to_z-of_z w128 c.args.earned c.ranges.earned ∙ c.requires.earned) (to_z-of_z w128 c.args.steps.worth (search rules) ∙ c.requires.steps.worth) in
+    let limits = g.met.C.Cells.is_within_limits c.args.node.now.certificate.cells.now in
+    rw above (small_enough _ _ (short_le k c.args.node.now.certificate.proper limits c.args.node.now.certificate.values c.args.node.now.n c.args.s c.args.node.now.within c.requires.start) (most_amount k limits))
 
 pub returns-then-amount-gt0 : goal.returns-then-amount-gt0
 returns-then-amount-gt0 g c =
-    let k : Controller = controller c.args.certificate.now in
-    let lacks : IsLeastLacking k c.args.n c.args.s None = rw c.in_default.is at (pair_lacking k c.args.n c.args.s c.args.steps.missing c.requires.steps.missing) in
-    let above : to_z w128 (of_z w128 c.amount_above-above.result) ≡ short k c.args.n c.args.s = to_z-of_z w128 c.amount_above-above.result (search rules) ∙ amount_is k c.args.n c.args.s _ _ (backing_split k c.args.n c.args.s lacks) c.amount_above-above.result _ _ _ c.amount_above-above.ensures (to_z-of_z w64 c.at-value.result (search rules) ∙ c.at-value.ensures.value) (to_z-of_z w128 c.args.earned c.ranges.earned ∙ c.requires.earned) (to_z-of_z w128 c.args.steps.worth (search rules) ∙ c.requires.steps.worth) in
-    let j : Controller = judged c.args.certificate.now in
-    let is : c.turned-amount.result ≡ short j c.args.n c.args.s = c.turned-amount.ensures ∙ ap (turned c.args.certificate.now.side) above ∙ sym (sided_short c.args.certificate.now.side k c.args.n c.args.s) in
-    let a = amount_positive c.turned-amount.result (short j c.args.n c.args.s) (search rules) is c.if-amount-gt0.true in
+    let k : Controller = around c.args.node.now in
+    let lacks : IsLeastLacking k c.args.node.now.n c.args.s None = rw c.in_default.is at (pair_lacking k c.args.node.now.n c.args.s c.args.steps.missing c.requires.steps.missing) in
+    let above : to_z w128 (of_z w128 c.amount_above-above.result) ≡ short k c.args.node.now.n c.args.s = to_z-of_z w128 c.amount_above-above.result (search rules) ∙ amount_is k c.args.node.now.n c.args.s _ _ (backing_split k c.args.node.now.n c.args.s lacks) c.amount_above-above.result _ _ _ c.amount_above-above.ensures (to_z-of_z w64 c.at-value.result (search rules) ∙ c.at-value.ensures.value) (to_z-of_z w128 c.args.earned c.ranges.earned ∙ c.requires.earned) (to_z-of_z w128 c.args.steps.worth (search rules) ∙ c.requires.steps.worth) in
+    let j : Controller = judged c.args.node.now.certificate in
+    let is : c.turned-amount.result ≡ short j c.args.node.now.n c.args.s = c.turned-amount.ensures ∙ ap (turned c.args.node.now.certificate.side) above ∙ sym (sided_short c.args.node.now.certificate.side k c.args.node.now.n c.args.s) in
+    let a = amount_positive c.turned-amount.result (short j c.args.node.now.n c.args.s) (search rules) is c.if-amount-gt0.true in
     (refl, refl, lacks, a.0, a.1)
 
 pub returns : goal.returns
 returns g c =
-    let k : Controller = controller c.args.certificate.now in
-    let lacks : IsLeastLacking k c.args.n c.args.s None = rw c.in_default.is at (pair_lacking k c.args.n c.args.s c.args.steps.missing c.requires.steps.missing) in
-    let above : to_z w128 (of_z w128 c.amount_above-above.result) ≡ short k c.args.n c.args.s = to_z-of_z w128 c.amount_above-above.result (search rules) ∙ amount_is k c.args.n c.args.s _ _ (backing_split k c.args.n c.args.s lacks) c.amount_above-above.result _ _ _ c.amount_above-above.ensures (to_z-of_z w64 c.at-value.result (search rules) ∙ c.at-value.ensures.value) (to_z-of_z w128 c.args.earned c.ranges.earned ∙ c.requires.earned) (to_z-of_z w128 c.args.steps.worth (search rules) ∙ c.requires.steps.worth) in
-    let j : Controller = judged c.args.certificate.now in
-    let is : c.turned-amount.result ≡ short j c.args.n c.args.s = c.turned-amount.ensures ∙ ap (turned c.args.certificate.now.side) above ∙ sym (sided_short c.args.certificate.now.side k c.args.n c.args.s) in
-    record { lacks_none = lacks; not_short = amount_at_most c.turned-amount.result (short j c.args.n c.args.s) (search rules) is c.if-amount-gt0.false }
+    let k : Controller = around c.args.node.now in
+    let lacks : IsLeastLacking k c.args.node.now.n c.args.s None = rw c.in_default.is at (pair_lacking k c.args.node.now.n c.args.s c.args.steps.missing c.requires.steps.missing) in
+    let above : to_z w128 (of_z w128 c.amount_above-above.result) ≡ short k c.args.node.now.n c.args.s = to_z-of_z w128 c.amount_above-above.result (search rules) ∙ amount_is k c.args.node.now.n c.args.s _ _ (backing_split k c.args.node.now.n c.args.s lacks) c.amount_above-above.result _ _ _ c.amount_above-above.ensures (to_z-of_z w64 c.at-value.result (search rules) ∙ c.at-value.ensures.value) (to_z-of_z w128 c.args.earned c.ranges.earned ∙ c.requires.earned) (to_z-of_z w128 c.args.steps.worth (search rules) ∙ c.requires.steps.worth) in
+    let j : Controller = judged c.args.node.now.certificate in
+    let is : c.turned-amount.result ≡ short j c.args.node.now.n c.args.s = c.turned-amount.ensures ∙ ap (turned c.args.node.now.certificate.side) above ∙ sym (sided_short c.args.node.now.certificate.side k c.args.node.now.n c.args.s) in
+    record { lacks_none = lacks; not_short = amount_at_most c.turned-amount.result (short j c.args.node.now.n c.args.s) (search rules) is c.if-amount-gt0.false }

@@ -5,6 +5,6 @@ use Rattle.polcert_check.proofs.survey.survey.Given as goal
 
 abbrev pub invariant-loop-a : goal.invariant-loop-a
 invariant-loop-a g l = record {
-  found : IsFoundUpTo (judged l.own) l.a 0 l.survey.findings;
+  found : IsFoundUpTo (judged l.certificate) l.a 0 l.survey.findings;
   aim : l.survey.findings.aim ≡ l.fn.aim;
 }

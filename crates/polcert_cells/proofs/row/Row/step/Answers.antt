@@ -1,4 +1,5 @@
-use Rattle.polcert_cells.proofs.RowSteps.{step_sparse, end_sparse, end_single, found_at, none_at}
+use Rattle.std.proofs.Common.{◌≡◌, ◌∙◌, ◌<◌, rules, subst, slice_index}
+use Rattle.polcert_cells.proofs.RowSteps.{step_sparse, end_sparse, step_filled, end_single, found_at, none_at}
 use Rattle.polcert_cells.proofs.row.Row.step.Goals as goal
 
 pub returns-in-Some : goal.returns-in-Some
@@ -13,3 +14,10 @@ returns-in-None c = λ f count is.
 
 pub returns-else-at-eq0 : goal.returns-else-at-eq0
 returns-else-at-eq0 c = λ f count is. end_single f count c.args.self.now is c.args.at c.in-Single.cell c.in-Single.is c.if-at-eq0.false
+
+pub returns-in-Filled : goal.returns-in-Filled
+returns-in-Filled c = λ f count is.
+    step_filled f count c.args.self.now is c.args.at c.in-Filled.weights c.first_weight.result c.in-Filled.is
+    (λ are. c.first_weight.ensures f (λ k weight l post.
+    let here : weight ≡ slice_index c.in-Filled.weights.now k = search rules in
+    here ∙ are.each k (subst (λ n. k < n) are.size l)))

@@ -1,5 +1,5 @@
 use Rattle.std.proofs.Common.{◌≡◌, ◌≤◌}
-use Rattle.polcert_check.specs.Steps.Certificate.{controller}
+use Rattle.polcert_check.specs.Steps.Node.{around}
 use Rattle.polcert_check.specs.Steps.Walks.{AreKnown}
 use Rattle.polcert_check.proofs.known.Ends.begin.Given as goal
 
@@ -8,6 +8,6 @@ invariant-loop-e g l = record {
   first : l.self.block.first ≡ l.fn.first;
   from : l.self.block.first ≤ l.e;
   until : l.self.block.until ≡ l.e-end;
-  within : l.self.block.until ≤ (controller l.certificate).cells.states;
-  known : AreKnown (controller l.certificate) l.n l.self;
+  within : l.self.block.until ≤ (around l.node).cells.states;
+  known : AreKnown (around l.node) l.node.n l.self;
 }

@@ -1,5 +1,5 @@
 use Rattle.std.proofs.Common.{◌≡◌, ℕ, ◌+◌, ◌<◌, ◌≤◌}
-use Rattle.polcert_check.specs.Steps.Certificate.{controller}
+use Rattle.polcert_check.specs.Steps.Node.{around}
 use Rattle.polcert_check.specs.Steps.Walks.{AreKnown, IsWalk, walk_at}
 use Rattle.polcert_check.proofs.walks.Walks.through.Given as goal
 
@@ -7,9 +7,9 @@ use Rattle.polcert_check.proofs.walks.Walks.through.Given as goal
 abbrev pub invariant-loop-s : goal.invariant-loop-s
 invariant-loop-s g l = record {
   further : l.self.ends.block.until ≤ l.nearest;
-  within : l.self.ends.block.until ≤ (controller l.certificate).cells.states;
+  within : l.self.ends.block.until ≤ (around l.node).cells.states;
   first : l.self.ends.block.first ≡ l.first;
-  known : AreKnown (controller l.certificate) l.n l.self.ends;
-  before : (i : ℕ) → l.block.first + i < l.s → IsWalk (controller l.certificate) l.n (l.block.first + i) l.nearest (walk_at l.self.walks i);
-  behind : (i : ℕ) → l.s ≤ l.block.first + i → l.block.first + i < l.block.until → IsWalk (controller l.certificate) l.n (l.block.first + i) l.first (walk_at l.self.walks i);
+  known : AreKnown (around l.node) l.node.n l.self.ends;
+  before : (i : ℕ) → l.block.first + i < l.s → IsWalk (around l.node) l.node.n (l.block.first + i) l.nearest (walk_at l.self.walks i);
+  behind : (i : ℕ) → l.s ≤ l.block.first + i → l.block.first + i < l.block.until → IsWalk (around l.node) l.node.n (l.block.first + i) l.first (walk_at l.self.walks i);
 }
