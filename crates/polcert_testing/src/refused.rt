@@ -43,7 +43,7 @@ const REFUSED_MODELS: [RefusedModel; 10] = [
     ),
 ];
 
-/// Texts that are refused, each at another kind of fault. (A function, so that a test is proved without the table.)
+/// Texts that are refused, at faults of many kinds. (A function, so that a test is proved without the table.)
 pub fn refused_models() -> [RefusedModel; 10] {
     REFUSED_MODELS
 }
