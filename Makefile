@@ -1,35 +1,41 @@
-# `make run`: builds the program before any proof, and checks a shipped model, policy graph and vectors: its last line on standard
-# output is that of the verdict. Nothing is proved by it.
-# `make program`: proves the program and all that it rests on, builds crates/polcert/out/polcert, and checks the same files with it.
-# `make install`: puts the proved program and its man page below PREFIX (/usr/local where none is named), and all that below DESTDIR.
-# `make test`: each test of each crate, each allocation refused, and each case of the program, in minutes, before any proof. The last line
-# is `N passed, M failed`.
-# `make gate`: the gate of the proofs: every proof from nothing, the tests, the must-fail edits, bodies that the tests have to refuse, and
-# the cases over the proved program. The last line is `N passed, M failed`.
-# `make edits CRATE=polcert_text`: the must-fail edits of one crate, or of each, over what the tree has proved before.
-.PHONY: run program install test gate edits
+.PHONY: help run program install uninstall test gate
+.DEFAULT_GOAL := help
 
 PREFIX ?= /usr/local
 program = crates/polcert/out/polcert
+unproved = build/polcert-unproved
+bindir = $(DESTDIR)$(PREFIX)/bin
+mandir = $(DESTDIR)$(PREFIX)/share/man/man1
+tiger = check examples/tiger.POMDP examples/tiger.pg examples/tiger.lowered.alpha
+sources = crates.txt $(shell find crates -name '*.rt' -path '*/src/*')
 
-run:
-	@echo 'Nothing is proved by make run; make program proves what it builds.' >&2
-	@cd crates/polcert && rt try -- check "$(CURDIR)/examples/tiger.POMDP" "$(CURDIR)/examples/tiger.pg" "$(CURDIR)/examples/tiger.lowered.alpha"
+help: ## list the targets
+	@sed -n 's/^\([a-z]*\):.*## \(.*\)/make \1\t\2/p' $(MAKEFILE_LIST) | expand -t 16
 
-program:
-	@cd crates/polcert && rt run -- check ../../examples/tiger.POMDP ../../examples/tiger.pg ../../examples/tiger.lowered.alpha
+run: $(unproved) ## first answer in minutes: build the program unproved and check a shipped model
+	@$(unproved) $(tiger)
+	@echo 'This program is not proved, and slow: $(CURDIR)/$(unproved). Call it as: $(unproved) --help' >&2
+	@echo 'make program builds the proved one.' >&2
 
-install:
-	@test -x $(program) || { echo '$(program) is not there: make program first' >&2; exit 1; }
-	install -d "$(DESTDIR)$(PREFIX)/bin" "$(DESTDIR)$(PREFIX)/share/man/man1"
-	install -m 755 $(program) "$(DESTDIR)$(PREFIX)/bin/polcert"
-	install -m 644 docs/polcert.1 "$(DESTDIR)$(PREFIX)/share/man/man1/polcert.1"
+$(unproved): $(sources)
+	@echo 'Building the program without proofs, one to three minutes.' >&2
+	@mkdir -p build
+	@tools/build-unproved $@
 
-test:
+program: ## prove and build the program, and check a shipped model with it
+	@tools/prove-program $(tiger)
+
+install: ## install the proved program and its man page below PREFIX (/usr/local), under DESTDIR
+	@tools/is-proved $(program)
+	install -d "$(bindir)" "$(mandir)"
+	install -m 755 $(program) "$(bindir)/polcert"
+	install -m 644 docs/polcert.1 "$(mandir)/polcert.1"
+
+uninstall: ## remove what install put there
+	rm -f "$(bindir)/polcert" "$(mandir)/polcert.1"
+
+test: ## run each test and each case in minutes, before any proof; last line: N passed, M failed
 	@tests/run
 
-gate:
+gate: ## prove everything, try the must-fail edits, run all tests and cases; last line: N passed, M failed
 	@tests/gate
-
-edits:
-	@tests/edits $(CRATE)
