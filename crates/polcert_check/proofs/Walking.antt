@@ -3,10 +3,9 @@ pub mod Answering
 pub mod Earning
 pub mod Expecting
 pub mod Found
+pub mod Marking
 pub mod Missing
 pub mod Outcomes
-pub mod Places
-pub mod StartWalks
 pub mod Verdicts
 pub mod Walked
 pub mod Weighed

@@ -7,4 +7,5 @@ pub mod Leasts
 pub mod Mirrored
 pub mod Node
 pub mod Ranges
-pub mod Walks
+pub mod Survey
+pub mod Values

@@ -85,10 +85,9 @@ impl Findings {
     /// is sought.
     pub(crate) fn note(&mut self, n: usize, found: Verdict) -> bool
         ensures aim { self.new.aim ≡ self.old.aim }
-        ensures found { (c : Controller) (first until s : ℕ) → IsPair c n s → first ≤ s →
-            IsPairVerdict c n s found →
-            IsFoundBefore c (c.action n) first until n s self.old
-            → IsFoundBefore c (c.action n) first until n (s + 1) self.new }
+        ensures found { (c : Controller) (s : ℕ) → IsPair c n s → IsPairVerdict c n s found →
+            IsFoundBefore c (c.action n) n s self.old
+            → IsFoundBefore c (c.action n) n (s + 1) self.new }
         ensures settled { IsTrue result → NamesUntil self.new.first n }
     {
         match found {
@@ -103,10 +102,9 @@ impl Findings {
     /// Takes in what is found at the next pair, which is one of node `n`.
     fn keep(&mut self, n: usize, found: Verdict)
         ensures aim { self.new.aim ≡ self.old.aim }
-        ensures found { (c : Controller) (first until s : ℕ) → IsPair c n s → first ≤ s →
-            IsPairVerdict c n s found →
-            IsFoundBefore c (c.action n) first until n s self.old
-            → IsFoundBefore c (c.action n) first until n (s + 1) self.new }
+        ensures found { (c : Controller) (s : ℕ) → IsPair c n s → IsPairVerdict c n s found →
+            IsFoundBefore c (c.action n) n s self.old
+            → IsFoundBefore c (c.action n) n (s + 1) self.new }
     {
         match found {
             Verdict::Yes => {}

@@ -2,26 +2,25 @@
 #![tactic(auto)]
 
 mod above;
-mod asked;
-mod blocks;
 mod certificate;
-mod earned;
 mod earnings;
-mod ends;
+mod end_values;
 mod examples;
-mod expected;
+mod expected_reward;
+mod expected_value;
 mod fault;
-mod filled;
 mod findings;
 mod followed;
-mod known;
 mod laws;
 mod laws_above;
 mod lower;
 mod node;
 mod pairs;
+mod partial_value;
 mod parts;
 mod raises;
+mod reached_states;
+mod reward_buffer;
 mod rounded;
 mod shortfall;
 mod side;
@@ -30,7 +29,6 @@ mod start_above;
 mod survey;
 mod verdict;
 mod walk;
-mod walks;
 mod watch;
 
 pub use above::{AboveVerdict, check_above, check_above_watched};

@@ -3,33 +3,33 @@ ghost use Rattle.std.specs.Prelude.{◌≡◌, ◌<◌, ◌≤◌, unsigned_abs}
 ghost use Rattle.polcert_policy.specs.Graphs.{nodes};
 ghost use Rattle.polcert_check.specs.Horizon.{Fits, controller_of};
 ghost use Rattle.polcert_check.specs.Shortfall.{most_short, short};
-ghost use Rattle.polcert_check.specs.Steps.Factored.{reward_ahead};
+ghost use Rattle.polcert_check.specs.Steps.Factored.{expected_reward};
 ghost use Rattle.polcert_check.specs.Steps.Followed.{followed};
 ghost use Rattle.polcert_check.specs.Steps.Node.{around};
 
 use crate::certificate::Certificate;
-use crate::earned::reward_ahead;
-use crate::ends::end_of;
-use crate::expected::value_ahead;
-use crate::filled::Filled;
+use crate::expected_reward::expected_reward;
+use crate::expected_value::expected_value;
 use crate::followed::Followed;
 use crate::node::Node;
-use crate::pairs::amount_above;
+use crate::pairs::shortfall;
+use crate::partial_value::end_value;
+use crate::reward_buffer::RewardBuffer;
 use crate::side::Side;
 use polcert_cells::Cells;
 use polcert_policy::{Graph, Vectors};
 
-/// What the action of a node earns in state `s`, without the observations for which the node has no successor.
+/// Returns the reward that a node expects at state `s`, without the observations for which it has no successor.
 fn followed_reward<C: Cells>(node: &Node<'_, C>, s: usize) -> i128
     requires start { s < (around node.now).cells.states }
-    ensures { result ≡ reward_ahead (followed (around node.now) node.now.n)
+    ensures { result ≡ expected_reward (followed (around node.now) node.now.n)
         ((around node.now).action node.now.n) s }
 {
     let cells = Followed {
         certificate: &node.certificate,
         n: node.n,
     };
-    reward_ahead(&cells, node.action(), s, &mut Filled::new())
+    expected_reward(&cells, node.action(), s, &mut RewardBuffer::new())
 }
 
 /// How far the value of a node at state `s` is above what the next step backs.
@@ -38,11 +38,11 @@ fn amount_at<C: Cells>(node: &Node<'_, C>, s: usize) -> i128
     ensures is { result ≡ short (around node.now) node.now.n s }
     ensures small { unsigned_abs result ≤ most_short (around node.now) }
 {
-    let expected = value_ahead(node, s, |e| end_of(node, e).worth);
-    let earned = followed_reward(node, s);
+    let expected = expected_value(node, s, |e| end_value(node, e));
+    let reward = followed_reward(node, s);
     let certificate = &node.certificate;
     let value = certificate.vectors.at(node.n, s);
-    amount_above(certificate.cells, value, earned, expected)
+    shortfall(certificate.cells, value, reward, expected.value)
 }
 
 /// How far the value of node `n` at state `s` is above what the next step backs: above 0 where it is short.

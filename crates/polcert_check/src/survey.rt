@@ -1,48 +1,37 @@
-//! The walk over all pairs of a node and a state, action by action: nodes that take the same action have its rewards in common.
-ghost use Rattle.std.specs.Prelude.{◌≡◌, ◌+◌, ◌<◌, ◌≤◌};
+//! The walk over all pairs of a node and a state, action by action, since nodes that take the same action share its rewards.
+ghost use Rattle.std.specs.Prelude.{◌≡◌, ◌+◌, ◌<◌};
 ghost use Rattle.polcert_check.specs.Steps.Certificate.{controller, judged};
-ghost use Rattle.polcert_check.specs.Steps.Factored.{AreKept};
-ghost use Rattle.polcert_check.specs.Steps.Findings.{IsFound, IsFoundBefore, IsFoundUpTo, IsPair};
+ghost use Rattle.polcert_check.specs.Steps.Findings.{IsFound, IsFoundBefore, IsPair};
 ghost use Rattle.polcert_check.specs.Steps.Node.{around};
+ghost use Rattle.polcert_check.specs.Steps.Survey.{IsOfAction};
 
-use crate::blocks::StartBlock;
 use crate::certificate::Certificate;
 use crate::earnings::Earnings;
+use crate::end_values::EndValues;
 use crate::findings::{Aim, Findings};
 use crate::node::Node;
-use crate::pairs::at_pair;
-use crate::walks::Walks;
+use crate::pairs::pair_verdict;
+use crate::reached_states::ReachedStates;
 use crate::watch::Watch;
 use polcert_model::Cells;
 
-/// What is found at the pairs so far, and room for what is known at the states of a block, made once for all blocks: what the action
-/// earns, and what a node expects.
+/// The state of the walk: what it has found, and buffers that are reused for every action and node.
 #[derive(Drop)]
-struct Surveyed {
+struct SurveyState {
     earnings: Earnings,
-    walks: Walks,
+    reached: ReachedStates,
+    ends: EndValues,
     findings: Findings,
 }
 
-/// Notes what is found at each pair of a node and a state of a block, unless none of them can be the first that is sought. With the
-/// last block all pairs of the node have been walked.
-fn survey_node<C: Cells, W: Watch>(
-    node: &Node<'_, C>,
-    block: StartBlock,
-    survey: &mut Surveyed,
-    watch: &mut W,
-)
-    requires within { block.until ≤ (around node.now).cells.states }
-    requires first { survey.old.earnings.first ≡ block.first }
-    requires kept { AreKept (around node.now).cells ((around node.now).action node.now.n)
-        block.first survey.old.earnings.sums survey.old.earnings.count }
+/// Checks the pairs of a node, until none of the rest can be the first that is looked for.
+fn survey_node<C: Cells, W: Watch>(node: &Node<'_, C>, survey: &mut SurveyState, watch: &mut W)
+    requires of_action { IsOfAction (around node.now).cells ((around node.now).action node.now.n) survey.old }
     requires found { IsFoundBefore (judged node.now.certificate) ((around node.now).action node.now.n)
-        block.first block.until node.now.n block.first survey.old.findings }
-    ensures first { survey.new.earnings.first ≡ block.first }
-    ensures kept { AreKept (around node.now).cells ((around node.now).action node.now.n)
-        block.first survey.new.earnings.sums survey.new.earnings.count }
+        node.now.n 0 survey.old.findings }
+    ensures of_action { IsOfAction (around node.now).cells ((around node.now).action node.now.n) survey.new }
     ensures found { IsFoundBefore (judged node.now.certificate) ((around node.now).action node.now.n)
-        block.first block.until (node.now.n + 1) block.first survey.new.findings }
+        (node.now.n + 1) 0 survey.new.findings }
     ensures aim { survey.new.findings.aim ≡ survey.old.findings.aim }
 {
     if survey.findings.is_settled(node.n) {
@@ -50,38 +39,35 @@ fn survey_node<C: Cells, W: Watch>(
     }
     let cells = node.certificate.cells;
     let a = node.action();
-    survey.walks.walk(node, block);
-    for s in block.first..block.until {
-        let earned = survey.earnings.earned(cells, a, s);
-        let steps = survey.walks.walks[s - block.first].steps;
-        let found = at_pair(node, s, earned, steps);
-        if survey.findings.note(node.n, found) {
+    survey.reached.find(cells, a);
+    survey.ends.fill(node, &survey.reached);
+    for s in 0..cells.states() {
+        let reward = survey.earnings.reward_at(cells, a, s);
+        let verdict = pair_verdict(node, s, reward, survey.ends.expected_value(node, s));
+        if survey.findings.note(node.n, verdict) {
             return;
         }
     }
-    if block.until == cells.states() {
-        watch.node_done();
-    }
+    watch.node_done();
 }
 
-/// Notes what is found at the pairs of the nodes that take action `a` and the states of a block.
-fn survey_block<C: Cells, W: Watch>(
+/// Checks the pairs of the nodes that take action `a`.
+#[inline(never)]
+fn survey_action<C: Cells, W: Watch>(
     certificate: &Certificate<'_, C>,
     a: usize,
-    block: StartBlock,
-    survey: &mut Surveyed,
+    survey: &mut SurveyState,
     watch: &mut W,
 )
-    requires within { block.until ≤ (controller certificate.now).cells.states }
-    requires found { IsFoundUpTo (judged certificate.now) a block.first survey.old.findings }
-    ensures found { IsFoundUpTo (judged certificate.now) a block.until survey.new.findings }
+    requires found { IsFoundBefore (judged certificate.now) a 0 0 survey.old.findings }
+    ensures found { IsFoundBefore (judged certificate.now) (a + 1) 0 0 survey.new.findings }
     ensures aim { survey.new.findings.aim ≡ survey.old.findings.aim }
 {
-    survey.walks.forget(certificate.cells.states());
-    survey.earnings.begin(block.first);
+    survey.earnings.clear();
+    survey.reached.clear();
     for n in 0..certificate.graph.nodes() {
         if certificate.graph.action(n) == a {
-            // (A copy of its own, so that where the parts stand is not looked up again at each step.)
+            // (The node has a copy of its own, so that its parts are not looked up again at each step.)
             let own = Certificate {
                 cells: certificate.cells,
                 graph: certificate.graph,
@@ -92,33 +78,13 @@ fn survey_block<C: Cells, W: Watch>(
                 certificate: own,
                 n,
             };
-            survey_node(&node, block, survey, watch);
+            survey_node(&node, survey, watch);
         }
     }
 }
 
-/// Notes what is found at the pairs of the nodes that take action `a`, block by block.
-fn survey_action<C: Cells, W: Watch>(
-    certificate: &Certificate<'_, C>,
-    a: usize,
-    survey: &mut Surveyed,
-    watch: &mut W,
-)
-    requires found { IsFoundUpTo (judged certificate.now) a 0 survey.old.findings }
-    ensures found { IsFoundUpTo (judged certificate.now) (a + 1) 0 survey.new.findings }
-    ensures aim { survey.new.findings.aim ≡ survey.old.findings.aim }
-{
-    let states = certificate.cells.states();
-    let mut first = 0;
-    while first < states {
-        let block = StartBlock::from(first, states);
-        survey_block(certificate, a, block, survey, watch);
-        first = block.until;
-    }
-}
-
-/// What is found at the pairs of all nodes and states. `watch` is told of each node when all of its pairs have been walked, and none
-/// of them is the first that is sought.
+/// Checks the pairs of all nodes and states, and returns what it finds. `watch` is notified of each node when all of its pairs have been
+/// checked, and none of them is the first that is looked for.
 pub(crate) fn survey<C: Cells, W: Watch>(
     certificate: &Certificate<'_, C>,
     aim: Aim,
@@ -129,9 +95,10 @@ pub(crate) fn survey<C: Cells, W: Watch>(
 {
     watch.begin(certificate.graph.nodes());
     let findings = Findings::new(aim);
-    let mut survey = Surveyed {
+    let mut survey = SurveyState {
         earnings: Earnings::new(),
-        walks: Walks::new(),
+        reached: ReachedStates::new(),
+        ends: EndValues::new(),
         findings,
     };
     for a in 0..certificate.cells.actions() {

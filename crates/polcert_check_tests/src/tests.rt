@@ -181,17 +181,17 @@ fn lowered_vectors(rt: HostRuntime) -> Result<(), Fail> {
 #[test]
 fn shortfalls(rt: HostRuntime) -> Result<(), Fail> {
     let (graph, vectors) = read(rt.alloc(), b"0 0 0 -", b"0 -3 2")?;
-    if fits(&HALF, &graph, &vectors) && graph.nodes() == 1 {
-        assert_eq!(rt;
-            amount_short(&HALF, &graph, &vectors, 0, 0),
-            -7_000_000_000_000_000_000_000_000
-        );
-        assert_eq!(rt;
-            amount_short(&HALF, &graph, &vectors, 0, 1),
-            13_000_000_000_000_000_000_000_000
-        );
-        assert_eq!(rt; least_constant(&HALF, &graph, &vectors), Ok(6_500_000));
-    }
+    assert!(rt; fits(&HALF, &graph, &vectors));
+    assert!(rt; graph.nodes() == 1);
+    assert_eq!(rt;
+        amount_short(&HALF, &graph, &vectors, 0, 0),
+        -7_000_000_000_000_000_000_000_000
+    );
+    assert_eq!(rt;
+        amount_short(&HALF, &graph, &vectors, 0, 1),
+        13_000_000_000_000_000_000_000_000
+    );
+    assert_eq!(rt; least_constant(&HALF, &graph, &vectors), Ok(6_500_000));
     Ok(())
 }
 

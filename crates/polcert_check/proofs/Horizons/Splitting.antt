@@ -4,7 +4,7 @@ use Rattle.std.proofs.Math.IntN.{zero-*ℤ, *ℤ-zero}
 use Rattle.polcert_check.specs.Horizon.{Controller, one, total_below, step_weight}
 use Rattle.polcert_check.specs.Shortfall.{at_node, backing}
 use Rattle.polcert_check.specs.Verdict.{IsLeastLacking}
-use Rattle.polcert_check.specs.Steps.Factored.{reward_ahead, value_term, value_behind, value_ahead}
+use Rattle.polcert_check.specs.Steps.Factored.{expected_reward, value_term, value_at_end, expected_value}
 use Rattle.polcert_check.specs.Steps.Followed.{followed}
 use Rattle.polcert_check.proofs.Sums.Ring.{products, *ℤ_assoc}
 use Rattle.polcert_check.proofs.Sums.SumLaws.{sum_below_same, sum_below_scale, sum_below_add}
@@ -41,7 +41,7 @@ module _ (c : Controller) (n s : ℕ) (rewards : ℕ → ℕ → ℤ) (counted :
       rw is (term_algebra (pos (c.cells.t (c.action n) s e)) (pos (c.cells.o (c.action n) e z)) (pos one) (pos c.cells.discount) (c.cells.r (c.action n) s e z) (c.value m e))
 
   row_split : (e : ℕ) → e < c.cells.states
-      → total_below (λ z. backing_term c n s e z (c.next n z)) c.cells.observations ≡ pos one *ℤ (pos (c.cells.t (c.action n) s e) *ℤ total_below (λ z. pos (c.cells.o (c.action n) e z) *ℤ rewards e z) c.cells.observations) +ℤ pos c.cells.discount *ℤ (pos (c.cells.t (c.action n) s e) *ℤ value_behind c n e)
+      → total_below (λ z. backing_term c n s e z (c.next n z)) c.cells.observations ≡ pos one *ℤ (pos (c.cells.t (c.action n) s e) *ℤ total_below (λ z. pos (c.cells.o (c.action n) e z) *ℤ rewards e z) c.cells.observations) +ℤ pos c.cells.discount *ℤ (pos (c.cells.t (c.action n) s e) *ℤ value_at_end c n e)
   row_split e el =
       let t : ℤ = pos (c.cells.t (c.action n) s e) in
       let earns = λ (z : ℕ). pos (c.cells.o (c.action n) e z) *ℤ rewards e z in
@@ -51,17 +51,17 @@ module _ (c : Controller) (n s : ℕ) (rewards : ℕ → ℕ → ℤ) (counted :
       ∙ ap (λ (k : ℤ). pos one *ℤ k +ℤ pos c.cells.discount *ℤ total_below (λ z. t *ℤ expected z) c.cells.observations) (sum_below_scale t earns c.cells.observations)
       ∙ ap (λ (k : ℤ). pos one *ℤ (t *ℤ total_below earns c.cells.observations) +ℤ pos c.cells.discount *ℤ k) (sum_below_scale t expected c.cells.observations)
 
-  counted_split : backing c n s ≡ pos one *ℤ earned c n s rewards +ℤ pos c.cells.discount *ℤ value_ahead c n s
+  counted_split : backing c n s ≡ pos one *ℤ earned c n s rewards +ℤ pos c.cells.discount *ℤ expected_value c n s
   counted_split =
-      sum_below_same _ (λ e. pos one *ℤ (pos (c.cells.t (c.action n) s e) *ℤ total_below (λ z. pos (c.cells.o (c.action n) e z) *ℤ rewards e z) c.cells.observations) +ℤ pos c.cells.discount *ℤ (pos (c.cells.t (c.action n) s e) *ℤ value_behind c n e)) c.cells.states (λ e el. row_split e el)
-      ∙ sum_split (pos one) (pos c.cells.discount) (λ e. pos (c.cells.t (c.action n) s e) *ℤ total_below (λ z. pos (c.cells.o (c.action n) e z) *ℤ rewards e z) c.cells.observations) (λ e. pos (c.cells.t (c.action n) s e) *ℤ value_behind c n e) c.cells.states
+      sum_below_same _ (λ e. pos one *ℤ (pos (c.cells.t (c.action n) s e) *ℤ total_below (λ z. pos (c.cells.o (c.action n) e z) *ℤ rewards e z) c.cells.observations) +ℤ pos c.cells.discount *ℤ (pos (c.cells.t (c.action n) s e) *ℤ value_at_end c n e)) c.cells.states (λ e el. row_split e el)
+      ∙ sum_split (pos one) (pos c.cells.discount) (λ e. pos (c.cells.t (c.action n) s e) *ℤ total_below (λ z. pos (c.cells.o (c.action n) e z) *ℤ rewards e z) c.cells.observations) (λ e. pos (c.cells.t (c.action n) s e) *ℤ value_at_end c n e) c.cells.states
 
 -- ---- of a pair that lacks nothing every reward counts
 all_counted : (c : Controller) (n s : ℕ) → IsLeastLacking c n s None → (e z : ℕ) → e < c.cells.states → z < c.cells.observations → (at : Option ℕ) → c.next n z ≡ at → IsCounted c n s e z (c.cells.r (c.action n) s e z) at
 all_counted c n s lacks e z el zl None is = ap (λ (w : ℕ). pos w *ℤ c.cells.r (c.action n) s e z) (no_weight c n s e z (lacks z zl) el is) ∙ zero-*ℤ (c.cells.r (c.action n) s e z)
 all_counted c n s lacks e z el zl (Some m) is = refl
 
-pub backing_split : (c : Controller) (n s : ℕ) → IsLeastLacking c n s None → backing c n s ≡ pos one *ℤ reward_ahead c.cells (c.action n) s +ℤ pos c.cells.discount *ℤ value_ahead c n s
+pub backing_split : (c : Controller) (n s : ℕ) → IsLeastLacking c n s None → backing c n s ≡ pos one *ℤ expected_reward c.cells (c.action n) s +ℤ pos c.cells.discount *ℤ expected_value c n s
 backing_split c n s lacks = counted_split c n s (λ e z. c.cells.r (c.action n) s e z) (all_counted c n s lacks)
 
 -- ---- of any pair those count that are followed
@@ -69,5 +69,5 @@ followed_counted : (c : Controller) (n s e z : ℕ) (at : Option ℕ) → c.next
 followed_counted c n s e z None is = rw is (*ℤ-zero (pos (step_weight c n s e z)))
 followed_counted c n s e z (Some m) is = rw is refl
 
-pub followed_split : (c : Controller) (n s : ℕ) → backing c n s ≡ pos one *ℤ reward_ahead (followed c n) (c.action n) s +ℤ pos c.cells.discount *ℤ value_ahead c n s
+pub followed_split : (c : Controller) (n s : ℕ) → backing c n s ≡ pos one *ℤ expected_reward (followed c n) (c.action n) s +ℤ pos c.cells.discount *ℤ expected_value c n s
 followed_split c n s = counted_split c n s (λ e z. at_node (λ m. c.cells.r (c.action n) s e z) (c.next n z)) (λ e z el zl at is. followed_counted c n s e z at is)

@@ -7,12 +7,12 @@ use Rattle.polcert_cells.specs.Tables.{IsWithinLimits}
 use Rattle.polcert_check.specs.Horizon.{Controller, one, step_scale}
 use Rattle.polcert_check.specs.Shortfall.{backing, short, most_short}
 use Rattle.polcert_check.specs.Steps.Ranges.{IsController, ValuesAreWithin, most_scales, most_sum}
-use Rattle.polcert_check.specs.Steps.Factored.{reward_ahead, value_ahead}
+use Rattle.polcert_check.specs.Steps.Factored.{expected_reward, expected_value}
 use Rattle.polcert_check.specs.Steps.Followed.{followed, followed_is_proper, followed_is_within}
 use Rattle.polcert_check.proofs.Sums.Bounds.{abs-*ℤ_le}
 use Rattle.polcert_check.proofs.Sums.Scales.{scales_le, discount_le}
-use Rattle.polcert_check.proofs.Walking.Earning.{reward_ahead_le}
-use Rattle.polcert_check.proofs.Walking.Expecting.{value_ahead_le}
+use Rattle.polcert_check.proofs.Walking.Earning.{expected_reward_le}
+use Rattle.polcert_check.proofs.Walking.Expecting.{expected_value_le}
 use Rattle.polcert_check.proofs.Horizons.Splitting.{followed_split}
 
 -- in figures
@@ -43,12 +43,12 @@ part_le t o u x ul xl =
 backing_le : (c : Controller) → IsController c → IsWithinLimits c.cells → ValuesAreWithin c → (n s : ℕ) → n < c.nodes → s < c.cells.states → unsigned_abs (backing c n s) ≤ 2 * (step_scale c * one * largest)
 backing_le c p limits values n s nl sl =
     let al : c.action n < c.cells.actions = p.closed.actions_in_range n nl in
-    let earned : unsigned_abs (reward_ahead (followed c n) (c.action n) s) ≤ c.cells.t_scale * (c.cells.o_scale * largest) =
-    reward_ahead_le (followed c n) (followed_is_proper c n p.cells) (followed_is_within c n limits) (c.action n) s al sl in
-    let expected : unsigned_abs (value_ahead c n s) ≤ c.cells.t_scale * (c.cells.o_scale * largest) = value_ahead_le c p limits values n s nl sl in
-    rw (followed_split c n s) (sum_le (pos one *ℤ reward_ahead (followed c n) (c.action n) s) (pos c.cells.discount *ℤ value_ahead c n s) (step_scale c * one * largest)
-    (part_le c.cells.t_scale c.cells.o_scale one (reward_ahead (followed c n) (c.action n) s) (omega arith) earned)
-    (part_le c.cells.t_scale c.cells.o_scale c.cells.discount (value_ahead c n s) (discount_le c.cells limits) expected))
+    let earned : unsigned_abs (expected_reward (followed c n) (c.action n) s) ≤ c.cells.t_scale * (c.cells.o_scale * largest) =
+    expected_reward_le (followed c n) (followed_is_proper c n p.cells) (followed_is_within c n limits) (c.action n) s al sl in
+    let expected : unsigned_abs (expected_value c n s) ≤ c.cells.t_scale * (c.cells.o_scale * largest) = expected_value_le c p limits values n s nl sl in
+    rw (followed_split c n s) (sum_le (pos one *ℤ expected_reward (followed c n) (c.action n) s) (pos c.cells.discount *ℤ expected_value c n s) (step_scale c * one * largest)
+    (part_le c.cells.t_scale c.cells.o_scale one (expected_reward (followed c n) (c.action n) s) (omega arith) earned)
+    (part_le c.cells.t_scale c.cells.o_scale c.cells.discount (expected_value c n s) (discount_le c.cells limits) expected))
 
 pub short_le : (c : Controller) → IsController c → IsWithinLimits c.cells → ValuesAreWithin c → (n s : ℕ) → n < c.nodes → s < c.cells.states → unsigned_abs (short c n s) ≤ most_short c
 short_le c p limits values n s nl sl =

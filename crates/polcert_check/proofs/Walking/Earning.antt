@@ -5,7 +5,7 @@ use Rattle.std.proofs.Math.Nat.{mul-le-mul}
 use Rattle.polcert_text.specs.Numbers.{largest}
 use Rattle.polcert_cells.specs.Tables.{CellTable, IsProper, IsWithinLimits}
 use Rattle.polcert_check.specs.Steps.Ranges.{most_sum}
-use Rattle.polcert_check.specs.Steps.Factored.{reward_behind, reward_ahead}
+use Rattle.polcert_check.specs.Steps.Factored.{reward_at_end, expected_reward}
 use Rattle.polcert_check.proofs.Sums.SumLaws.{sum_below_same, sum_below_scale}
 use Rattle.polcert_check.proofs.Sums.RowTotals.{t_rows, o_rows}
 use Rattle.polcert_check.proofs.Sums.Bounds.{abs-*ℤ_le}
@@ -13,14 +13,14 @@ use Rattle.polcert_check.proofs.Sums.Scales.{ahead_room}
 use Rattle.polcert_check.proofs.Walking.Weighed.{ends_weighed, seen_weighed, part_le}
 
 module _ (m : CellTable) (p : IsProper m) (limits : IsWithinLimits m) where
-  pub reward_behind_le : (a s e : ℕ) → a < m.actions → s < m.states → e < m.states → unsigned_abs (reward_behind m a s e) ≤ m.o_scale * largest
-  reward_behind_le a s e al sl el = part_le (seen_weighed m p limits a e al el) (m.r a s e) (λ z zl. limits.r a s e z al sl el zl) m.observations (omega arith)
+  pub reward_at_end_le : (a s e : ℕ) → a < m.actions → s < m.states → e < m.states → unsigned_abs (reward_at_end m a s e) ≤ m.o_scale * largest
+  reward_at_end_le a s e al sl el = part_le (seen_weighed m p limits a e al el) (m.r a s e) (λ z zl. limits.r a s e z al sl el zl) m.observations (omega arith)
 
-  pub reward_ahead_le : (a s : ℕ) → a < m.actions → s < m.states → unsigned_abs (reward_ahead m a s) ≤ m.t_scale * (m.o_scale * largest)
-  reward_ahead_le a s al sl = part_le (ends_weighed m p limits a s al sl) (reward_behind m a s) (λ e el. reward_behind_le a s e al sl el) m.states (omega arith)
+  pub expected_reward_le : (a s : ℕ) → a < m.actions → s < m.states → unsigned_abs (expected_reward m a s) ≤ m.t_scale * (m.o_scale * largest)
+  expected_reward_le a s al sl = part_le (ends_weighed m p limits a s al sl) (reward_at_end m a s) (λ e el. reward_at_end_le a s e al sl el) m.states (omega arith)
 
   -- every observation earns the same
-  pub alike : (a s e : ℕ) (h : ℤ) → a < m.actions → e < m.states → ((z : ℕ) → z < m.observations → m.r a s e z ≡ h) → pos m.o_scale *ℤ h ≡ reward_behind m a s e
+  pub alike : (a s e : ℕ) (h : ℤ) → a < m.actions → e < m.states → ((z : ℕ) → z < m.observations → m.r a s e z ≡ h) → pos m.o_scale *ℤ h ≡ reward_at_end m a s e
   alike a s e h al el same =
       *ℤ_comm (pos m.o_scale) h
       ∙ ap (λ (x : ℤ). h *ℤ x) (sym (o_rows m p a e al el))
@@ -29,7 +29,7 @@ module _ (m : CellTable) (p : IsProper m) (limits : IsWithinLimits m) where
 
   -- every end state and observation earns the same
   pub common : (a s : ℕ) (h : ℤ) → a < m.actions → s < m.states → ((e z : ℕ) → e < m.states → z < m.observations → m.r a s e z ≡ h)
-      → pos m.t_scale *ℤ (pos m.o_scale *ℤ h) ≡ reward_ahead m a s
+      → pos m.t_scale *ℤ (pos m.o_scale *ℤ h) ≡ expected_reward m a s
   common a s h al sl same =
       let x = pos m.o_scale *ℤ h in
       *ℤ_comm (pos m.t_scale) x

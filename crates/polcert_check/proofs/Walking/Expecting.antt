@@ -5,7 +5,7 @@ use Rattle.polcert_text.specs.Numbers.{largest}
 use Rattle.polcert_cells.specs.Tables.{IsWithinLimits}
 use Rattle.polcert_check.specs.Horizon.{Controller, total_below}
 use Rattle.polcert_check.specs.Steps.Ranges.{IsController, ValuesAreWithin, most_sum}
-use Rattle.polcert_check.specs.Steps.Factored.{value_term, value_behind, value_ahead}
+use Rattle.polcert_check.specs.Steps.Factored.{value_term, value_at_end, expected_value}
 use Rattle.polcert_check.proofs.Sums.RowTotals.{o_rows}
 use Rattle.polcert_check.proofs.Sums.Bounds.{abs-*ℤ_le, abs_part_le}
 use Rattle.polcert_check.proofs.Sums.Scales.{behind_room}
@@ -34,14 +34,14 @@ value_step c p limits values n e from z sum x nl el fl zl none before fx xe =
     cursor_step (λ z. value_term c n e z (c.next n z)) (most_sum) from z sum x fl (λ k kl kh. no_value c n e k (c.next n k) (none k kl kh)) before fx xe
     (let le : unsigned_abs (total_below (λ z. value_term c n e z (c.next n z)) (suc z)) ≤ c.cells.o_scale * largest = value_part_le c p values n e (suc z) nl el (omega arith) in omega (arith, le, behind_room c.cells limits)) (lit< tt)
 
-pub value_done : (c : Controller) (n e from : ℕ) (sum : ℤ) → from ≤ c.cells.observations → ((k : ℕ) → from ≤ k → k < c.cells.observations → c.cells.o (c.action n) e k ≡ 0) → sum ≡ total_below (λ z. value_term c n e z (c.next n z)) from → sum ≡ value_behind c n e
+pub value_done : (c : Controller) (n e from : ℕ) (sum : ℤ) → from ≤ c.cells.observations → ((k : ℕ) → from ≤ k → k < c.cells.observations → c.cells.o (c.action n) e k ≡ 0) → sum ≡ total_below (λ z. value_term c n e z (c.next n z)) from → sum ≡ value_at_end c n e
 value_done c n e from sum fl none before =
     before ∙ sym (gap (λ z. value_term c n e z (c.next n z)) from c.cells.observations fl (λ k kl kh. no_value c n e k (c.next n k) (none k kl kh)))
 
 -- what is behind an end state is small
-pub value_behind_le : (c : Controller) → IsController c → ValuesAreWithin c → (n e : ℕ) → n < c.nodes → e < c.cells.states → unsigned_abs (value_behind c n e) ≤ c.cells.o_scale * largest
-value_behind_le c p values n e nl el = value_part_le c p values n e c.cells.observations nl el (omega arith)
+pub value_at_end_le : (c : Controller) → IsController c → ValuesAreWithin c → (n e : ℕ) → n < c.nodes → e < c.cells.states → unsigned_abs (value_at_end c n e) ≤ c.cells.o_scale * largest
+value_at_end_le c p values n e nl el = value_part_le c p values n e c.cells.observations nl el (omega arith)
 
-pub value_ahead_le : (c : Controller) → IsController c → IsWithinLimits c.cells → ValuesAreWithin c → (n s : ℕ) → n < c.nodes → s < c.cells.states → unsigned_abs (value_ahead c n s) ≤ c.cells.t_scale * (c.cells.o_scale * largest)
-value_ahead_le c p limits values n s nl sl =
-    part_le (ends_weighed c.cells p.cells limits (c.action n) s (p.closed.actions_in_range n nl) sl) (value_behind c n) (λ e el. value_behind_le c p values n e nl el) c.cells.states (omega arith)
+pub expected_value_le : (c : Controller) → IsController c → IsWithinLimits c.cells → ValuesAreWithin c → (n s : ℕ) → n < c.nodes → s < c.cells.states → unsigned_abs (expected_value c n s) ≤ c.cells.t_scale * (c.cells.o_scale * largest)
+expected_value_le c p limits values n s nl sl =
+    part_le (ends_weighed c.cells p.cells limits (c.action n) s (p.closed.actions_in_range n nl) sl) (value_at_end c n) (λ e el. value_at_end_le c p values n e nl el) c.cells.states (omega arith)

@@ -3,16 +3,16 @@ use Rattle.std.proofs.Common.{◌≡◌, ℕ, ◌+◌, ◌*◌, ◌<◌, ◌≤�
 use Rattle.polcert_check.specs.Horizon.{Controller}
 use Rattle.polcert_check.specs.Shortfall.{Lacks}
 use Rattle.polcert_check.specs.Verdict.{IsLeastLacking}
-use Rattle.polcert_check.specs.Steps.Factored.{IsLeastOf, Misses, IsMissedAt, IsLesser}
-use Rattle.polcert_check.specs.Steps.Walks.{IsMissedBefore}
+use Rattle.polcert_check.specs.Steps.Factored.{IsLeastOf, Misses, IsMissedAt, IsMinOption}
+use Rattle.polcert_check.specs.Steps.Values.{IsMissedBefore}
 use Rattle.polcert_check.proofs.Walking.Verdicts.{positive_product}
 
--- ---- the lesser of two least numbers
+-- ---- the least of two least numbers
 least_same : (P R : ℕ → Type 0) (x : Option ℕ) → IsLeastOf P x → ((z : ℕ) → R z → P z) → ((z : ℕ) → P z → R z) → IsLeastOf R x
 least_same P R None p from to = λ z r. p z (from z r)
 least_same P R (Some a) p from to = (to a p.0, λ z l r. p.1 z l (from z r))
 
-least_or : (P Q R : ℕ → Type 0) (x y r : Option ℕ) → IsLeastOf P x → IsLeastOf Q y → IsLesser x y r → ((z : ℕ) → R z → P z ⊎ Q z) → ((z : ℕ) → P z → R z) → ((z : ℕ) → Q z → R z) → IsLeastOf R r
+least_or : (P Q R : ℕ → Type 0) (x y r : Option ℕ) → IsLeastOf P x → IsLeastOf Q y → IsMinOption x y r → ((z : ℕ) → R z → P z ⊎ Q z) → ((z : ℕ) → P z → R z) → ((z : ℕ) → Q z → R z) → IsLeastOf R r
 least_or P Q R None y r p q is split left right =
     subst (IsLeastOf R) (sym is) (least_same Q R y q (λ z h. ⊎_elim (λ (k : P z). absurd (p z k)) (λ (k : Q z). k) (split z h)) right)
 least_or P Q R (Some a) None r p q is split left right =
@@ -22,7 +22,7 @@ least_or P Q R (Some a) (Some b) r p q (inl h) split left right =
 least_or P Q R (Some a) (Some b) r p q (inr h) split left right =
     subst (IsLeastOf R) (sym h.1) (right b q.0, λ z l k. ⊎_elim (λ (u : P z). p.1 z (omega (arith, l, h.0)) u) (λ (u : Q z). q.1 z l u) (split z k))
 
--- ---- behind one end state
+-- ---- at one end state
 abbrev MissesAt : Controller → ℕ → ℕ → ℕ → ℕ → Type 0
 MissesAt c n e z y = (y ≡ z) × (c.next n y ≡ None) × (0 < c.cells.o (c.action n) e y)
 
@@ -35,18 +35,18 @@ missed_least c n e z missing some (inr h) =
 split_at : (c : Controller) (n e from z : ℕ) → ((k : ℕ) → from ≤ k → k < z → c.cells.o (c.action n) e k ≡ 0) → (y : ℕ) → Misses c n e (z + 1) y → Misses c n e from y ⊎ MissesAt c n e z y
 split_at c n e from z none y misses = grind arith
 
-pub end_more : (c : Controller) (n e from z w : ℕ) (x y r : Option ℕ) → from ≤ z → ((k : ℕ) → from ≤ k → k < z → c.cells.o (c.action n) e k ≡ 0) → w ≡ c.cells.o (c.action n) e z → 0 < w → IsLeastOf (Misses c n e from) x → IsMissedAt c n z y → IsLesser x y r → IsLeastOf (Misses c n e (z + 1)) r
+pub end_more : (c : Controller) (n e from z w : ℕ) (x y r : Option ℕ) → from ≤ z → ((k : ℕ) → from ≤ k → k < z → c.cells.o (c.action n) e k ≡ 0) → w ≡ c.cells.o (c.action n) e z → 0 < w → IsLeastOf (Misses c n e from) x → IsMissedAt c n z y → IsMinOption x y r → IsLeastOf (Misses c n e (z + 1)) r
 end_more c n e from z w x y r fl none we some least here is =
     let some' : 0 < c.cells.o (c.action n) e z = omega (arith, we, some) in
     least_or (Misses c n e from) (MissesAt c n e z) (Misses c n e (z + 1)) x y r least (missed_least c n e z y some' here) is (split_at c n e from z none)
     (λ y k. let l : y < from = k.0 in (omega (arith, l, fl), k.1, k.2))
     (λ y k. let l : y ≡ z = k.0 in (omega (arith, l), k.1, k.2))
 
--- ---- ahead of one start state
+-- ---- at one start state
 split_before : (c : Controller) (n s from e : ℕ) → ((k : ℕ) → from ≤ k → k < e → c.cells.t (c.action n) s k ≡ 0) → (z : ℕ) → IsMissedBefore c n s (e + 1) z → IsMissedBefore c n s from z ⊎ Misses c n e c.cells.observations z
 split_before c n s from e none z missed = grind arith
 
-pub before_more : (c : Controller) (n s from e w : ℕ) (x y r : Option ℕ) → from ≤ e → ((k : ℕ) → from ≤ k → k < e → c.cells.t (c.action n) s k ≡ 0) → w ≡ c.cells.t (c.action n) s e → 0 < w → IsLeastOf (IsMissedBefore c n s from) x → IsLeastOf (Misses c n e c.cells.observations) y → IsLesser x y r → IsLeastOf (IsMissedBefore c n s (e + 1)) r
+pub before_more : (c : Controller) (n s from e w : ℕ) (x y r : Option ℕ) → from ≤ e → ((k : ℕ) → from ≤ k → k < e → c.cells.t (c.action n) s k ≡ 0) → w ≡ c.cells.t (c.action n) s e → 0 < w → IsLeastOf (IsMissedBefore c n s from) x → IsLeastOf (Misses c n e c.cells.observations) y → IsMinOption x y r → IsLeastOf (IsMissedBefore c n s (e + 1)) r
 before_more c n s from e w x y r fl none we some least here is =
     let some' : 0 < c.cells.t (c.action n) s e = omega (arith, we, some) in
     least_or (IsMissedBefore c n s from) (Misses c n e c.cells.observations) (IsMissedBefore c n s (e + 1)) x y r least here is (split_before c n s from e none)
@@ -63,9 +63,6 @@ module _ (c : Controller) (n s from to : ℕ) (fl : from ≤ to) (none : (k : �
 
   pub before_on : (x : Option ℕ) → IsLeastOf (IsMissedBefore c n s from) x → IsLeastOf (IsMissedBefore c n s to) x
   before_on x least = least_same (IsMissedBefore c n s from) (IsMissedBefore c n s to) x least nearer further
-
-  pub before_back : (x : Option ℕ) → IsLeastOf (IsMissedBefore c n s to) x → IsLeastOf (IsMissedBefore c n s from) x
-  before_back x least = least_same (IsMissedBefore c n s to) (IsMissedBefore c n s from) x least further nearer
 
 -- ---- a pair
 factors : (a b : ℕ) → 0 < a * b → (0 < a) × (0 < b)

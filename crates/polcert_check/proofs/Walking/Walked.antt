@@ -1,8 +1,8 @@
--- The places of a walk over all pairs: by action, then by block of states, then by node, then by state.
+-- The places of a walk over all pairs: by action, then by node, then by state.
 use Rattle.std.proofs.Common.{◌≡◌, ℕ, ◌+◌, ◌<◌, ◌≤◌, ◌⊎◌, inl, inr, ⊎_elim, subst, arith}
 use Rattle.polcert_check.specs.Horizon.{Controller}
 use Rattle.polcert_check.specs.Steps.Ranges.{IsClosed}
-use Rattle.polcert_check.specs.Steps.Findings.{IsPair, IsWalked, IsVerdictFor, IsFirstOf, NamesUntil, IsFound, IsFoundBefore, IsFoundUpTo}
+use Rattle.polcert_check.specs.Steps.Findings.{IsPair, IsWalked, IsVerdictFor, IsFirstOf, NamesUntil, IsFound, IsFoundBefore}
 use Rattle.polcert_check.specs.declared.findings.Findings.{Findings}
 use Rattle.polcert_check.specs.declared.verdict.Verdict.{Verdict}
 use Rattle.polcert_check.specs.declared.verdict.Verdict.TheVariants.{Yes, Short, NoSuccessor}
@@ -10,8 +10,8 @@ use Rattle.polcert_check.proofs.Walking.Found.{IsNext, IsBehind, found_wider, no
 
 module _ (c : Controller) where
   -- ---- one pair more
-  pub next_pair : (first until n s : ℕ) → IsPair c n s → first ≤ s → IsNext (IsWalked c (c.action n) first until n s) (IsWalked c (c.action n) first until n (s + 1)) n s
-  next_pair first until n s pair above = record {
+  pub next_pair : (n s : ℕ) → IsPair c n s → IsNext (IsWalked c (c.action n) n s) (IsWalked c (c.action n) n (s + 1)) n s
+  next_pair n s pair = record {
     into = λ m t p. grind arith;
     here = grind arith;
     from = λ m t p. grind arith;
@@ -24,49 +24,40 @@ module _ (c : Controller) where
   behind_first Of P (Short i j amount) n m t is until l rows = not_before P m t i j is.0 rows (omega (arith, l, until))
   behind_first Of P (NoSuccessor i j z) n m t is until l rows = not_before P m t i j is.0 rows (omega (arith, l, until))
 
-  -- ---- the states of a block are done at a node
-  -- what is walked with the whole node was walked before, or is one of the block's states from s on
-  abbrev IsLeft : ℕ → ℕ → ℕ → ℕ → ℕ → ℕ → Type 0
-  IsLeft a until n s m t = (m ≡ n) × (c.action m ≡ a) × (s ≤ t) × (t < until)
+  -- ---- the states are done at a node
+  -- what is walked with the whole node was walked before, or is one of its pairs from s on
+  abbrev IsLeft : ℕ → ℕ → ℕ → ℕ → ℕ → Type 0
+  IsLeft a n s m t = (m ≡ n) × (c.action m ≡ a) × (s ≤ t) × (t < c.cells.states)
 
-  from_node : (a first until n s m t : ℕ) → IsWalked c a first until (n + 1) first m t → IsWalked c a first until n s m t ⊎ IsLeft a until n s m t
-  from_node a first until n s m t p = grind arith
+  from_node : (a n s m t : ℕ) → IsWalked c a (n + 1) 0 m t → IsWalked c a n s m t ⊎ IsLeft a n s m t
+  from_node a n s m t p = grind arith
 
-  node_over : (a first until n s : ℕ) (f : Findings) → s ≤ until → IsFoundBefore c a first until n s f → ((m t : ℕ) → IsLeft a until n s m t → IsBehind f.first m t) → IsFoundBefore c a first until (n + 1) first f
-  node_over a first until n s f within is left =
-      found_wider c (IsWalked c a first until n s) (IsWalked c a first until (n + 1) first) f is
+  node_over : (a n s : ℕ) (f : Findings) → IsFoundBefore c a n s f → ((m t : ℕ) → IsLeft a n s m t → IsBehind f.first m t) → IsFoundBefore c a (n + 1) 0 f
+  node_over a n s f is left =
+      found_wider c (IsWalked c a n s) (IsWalked c a (n + 1) 0) f is
       (λ m t p. grind arith)
-      (λ m t q. ⊎_elim (λ (p : IsWalked c a first until n s m t). inl p) (λ (k : IsLeft a until n s m t). inr (left m t k)) (from_node a first until n s m t q))
+      (λ m t q. ⊎_elim (λ (p : IsWalked c a n s m t). inl p) (λ (k : IsLeft a n s m t). inr (left m t k)) (from_node a n s m t q))
 
-  pub node_done : (a first until n s : ℕ) (f : Findings) → IsFoundBefore c a first until n s f → s ≡ until → IsFoundBefore c a first until (n + 1) first f
-  node_done a first until n s f is all =
-      node_over a first until n s f (omega (arith, all)) is (λ m t k. let l : s ≤ t = k.2 in let h : t < until = k.3 in absurd (omega (arith, l, h, all)))
+  pub node_done : (a n s : ℕ) (f : Findings) → IsFoundBefore c a n s f → c.cells.states ≤ s → IsFoundBefore c a (n + 1) 0 f
+  node_done a n s f is all =
+      node_over a n s f is (λ m t k. let l : s ≤ t = k.2 in let h : t < c.cells.states = k.3 in absurd (omega (arith, l, h, all)))
 
-  pub node_settled : (first until n s : ℕ) (f : Findings) → IsFoundBefore c (c.action n) first until n s f → first ≤ s → s ≤ until → NamesUntil f.first n → IsFoundBefore c (c.action n) first until (n + 1) first f
-  node_settled first until n s f is above within until_n =
-      node_over (c.action n) first until n s f within is (λ m t k.
-      let same : m ≡ n = k.0 in behind_first (IsVerdictFor f.aim c) (IsWalked c (c.action n) first until n s) f.first n m t is.first until_n (omega (arith, same)) (λ j p. grind arith))
+  pub node_settled : (n s : ℕ) (f : Findings) → IsFoundBefore c (c.action n) n s f → NamesUntil f.first n → IsFoundBefore c (c.action n) (n + 1) 0 f
+  node_settled n s f is until_n =
+      node_over (c.action n) n s f is (λ m t k.
+      let same : m ≡ n = k.0 in behind_first (IsVerdictFor f.aim c) (IsWalked c (c.action n) n s) f.first n m t is.first until_n (omega (arith, same)) (λ j p. grind arith))
 
-  pub node_passed : (a first until n : ℕ) (f : Findings) → first ≤ until → IsFoundBefore c a first until n first f → (c.action n ≡ a → ⊥) → IsFoundBefore c a first until (n + 1) first f
-  node_passed a first until n f within is other =
-      node_over a first until n first f within is (λ m t k. absurd (other (subst (λ (j : ℕ). c.action j ≡ a) k.0 k.1)))
+  pub node_passed : (a n : ℕ) (f : Findings) → IsFoundBefore c a n 0 f → (c.action n ≡ a → ⊥) → IsFoundBefore c a (n + 1) 0 f
+  node_passed a n f is other =
+      node_over a n 0 f is (λ m t k. absurd (other (subst (λ (j : ℕ). c.action j ≡ a) k.0 k.1)))
 
-  -- ---- the nodes are done over a block
-  pub block_done : (a first until n : ℕ) (f : Findings) → first ≤ until → IsFoundBefore c a first until n first f → c.nodes ≤ n → IsFoundUpTo c a until f
-  block_done a first until n f within is all =
-      found_wider c (IsWalked c a first until n first) (IsWalked c a until until 0 until) f is (λ m t p. grind arith) (λ m t q. inl (grind arith))
-
-  pub block_begun : (a first until : ℕ) (f : Findings) → IsFoundUpTo c a first f → IsFoundBefore c a first until 0 first f
-  block_begun a first until f is =
-      found_wider c (IsWalked c a first first 0 first) (IsWalked c a first until 0 first) f is (λ m t p. grind arith) (λ m t q. inl (grind arith))
-
-  -- ---- the blocks of an action are done
-  pub action_done : (a first : ℕ) (f : Findings) → IsFoundUpTo c a first f → c.cells.states ≤ first → IsFoundUpTo c (a + 1) 0 f
-  action_done a first f is all =
-      found_wider c (IsWalked c a first first 0 first) (IsWalked c (a + 1) 0 0 0 0) f is (λ m t p. grind arith) (λ m t q. inl (grind arith))
+  -- ---- the nodes of an action are done
+  pub action_done : (a n : ℕ) (f : Findings) → IsFoundBefore c a n 0 f → c.nodes ≤ n → IsFoundBefore c (a + 1) 0 0 f
+  action_done a n f is all =
+      found_wider c (IsWalked c a n 0) (IsWalked c (a + 1) 0 0) f is (λ m t p. grind arith) (λ m t q. inl (grind arith))
 
   -- ---- the beginning and the end
-  pub nothing_found : (f : Findings) → f.first ≡ Yes → f.short ≡ Yes → f.worst ≡ 0 → IsFoundUpTo c 0 0 f
+  pub nothing_found : (f : Findings) → f.first ≡ Yes → f.short ≡ Yes → f.worst ≡ 0 → IsFoundBefore c 0 0 0 f
   nothing_found f first short worst = record {
     first = rw first (λ m t p. absurd (grind arith));
     measured = λ aim passed. record {
@@ -75,6 +66,6 @@ module _ (c : Controller) where
     };
   }
 
-  pub all_walked : IsClosed c → (a : ℕ) (f : Findings) → IsFoundUpTo c a 0 f → c.cells.actions ≤ a → IsFound c (IsPair c) f
+  pub all_walked : IsClosed c → (a : ℕ) (f : Findings) → IsFoundBefore c a 0 0 f → c.cells.actions ≤ a → IsFound c (IsPair c) f
   all_walked closed a f is all =
-      found_wider c (IsWalked c a 0 0 0 0) (IsPair c) f is (λ m t p. p.0) (λ m t q. inl (q, inl (let l : c.action m < c.cells.actions = closed.actions_in_range m q.0 in omega (arith, l, all))))
+      found_wider c (IsWalked c a 0 0) (IsPair c) f is (λ m t p. p.0) (λ m t q. inl (q, inl (let l : c.action m < c.cells.actions = closed.actions_in_range m q.0 in omega (arith, l, all))))

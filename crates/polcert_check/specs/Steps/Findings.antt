@@ -18,17 +18,11 @@ use Rattle.polcert_check.specs.declared.verdict.Verdict.TheVariants.{Yes, Short,
 abbrev pub IsPair : Controller → ℕ → ℕ → Type 0
 IsPair c m t = (m < c.nodes) × (t < c.cells.states)
 
--- The walk goes on by action, then by block of states, then by node and then by state. Its place is an action, the first state of
--- a block and the one behind its last, a node and a state.
-
--- the pair was walked with its action: its state is before the block, or one of the block and its node before n, or its state is
--- before s and its node n
-abbrev pub IsReached : ℕ → ℕ → ℕ → ℕ → ℕ → ℕ → Type 0
-IsReached first until n s m t = (t < first) ⊎ ((m < n) × (t < until)) ⊎ ((m ≡ n) × (t < s))
+-- The walk goes by action, then by node and then by state. Its place is an action, a node and a state.
 
 -- the pairs before this place
-abbrev pub IsWalked : Controller → ℕ → ℕ → ℕ → ℕ → ℕ → ℕ → ℕ → Type 0
-IsWalked c a first until n s m t = IsPair c m t × ((c.action m < a) ⊎ ((c.action m ≡ a) × IsReached first until n s m t))
+abbrev pub IsWalked : Controller → ℕ → ℕ → ℕ → ℕ → ℕ → Type 0
+IsWalked c a n s m t = IsPair c m t × ((c.action m < a) ⊎ ((c.action m ≡ a) × IsBefore m t n s))
 
 -- ---- the first of them
 
@@ -81,12 +75,8 @@ pub record IsFound (c : Controller) (P : ℕ → ℕ → Type 0) (f : Findings) 
   pub measured : f.aim ≡ Lowering → f.first ≡ Yes → IsMeasured c P f
 
 -- the pairs before this place were walked
-abbrev pub IsFoundBefore : Controller → ℕ → ℕ → ℕ → ℕ → ℕ → Findings → Type 0
-IsFoundBefore c a first until n s f = IsFound c (IsWalked c a first until n s) f
-
--- the same between two blocks: of this action the pairs of the states before `first`
-abbrev pub IsFoundUpTo : Controller → ℕ → ℕ → Findings → Type 0
-IsFoundUpTo c a first f = IsFoundBefore c a first first 0 first f
+abbrev pub IsFoundBefore : Controller → ℕ → ℕ → ℕ → Findings → Type 0
+IsFoundBefore c a n s f = IsFound c (IsWalked c a n s) f
 
 -- ---- why vectors with this verdict are not lowered
 

@@ -130,8 +130,12 @@ fn constant(
     read_parts(alloc, model, graph, vectors)?.constant()
 }
 
+/// The first action leads to the first state from both, and the second stays; each state has an observation of its own.
+const ONE_WAY: &[u8] =
+    b"discount: 0.5 values: reward states: 2 actions: 2 observations: 2 T: 0 1 0 1 0 T: 1 identity O: * 1 0 0 1";
+
 /// The texts of a model, a graph and vectors, and the verdict.
-const VERDICTS: [(&[u8], &[u8], &[u8], Verdict); 17] = [
+const VERDICTS: [(&[u8], &[u8], &[u8], Verdict); 19] = [
     (TIGER, b"0 0 0 0", b"0 -20 -20", Verdict::Yes),
     (
         TIGER,
@@ -235,6 +239,18 @@ const VERDICTS: [(&[u8], &[u8], &[u8], Verdict); 17] = [
         Verdict::NoSuccessor {
             node: 0,
             state: 0,
+            observation: 1,
+        },
+    ),
+    // the first action never reaches the state that has the missing observation, the second does
+    (ONE_WAY, b"0 0 0 -", b"0 0 0", Verdict::Yes),
+    (
+        ONE_WAY,
+        b"0 0 0 - 1 1 0 -",
+        b"0 0 0 1 0 0",
+        Verdict::NoSuccessor {
+            node: 1,
+            state: 1,
             observation: 1,
         },
     ),

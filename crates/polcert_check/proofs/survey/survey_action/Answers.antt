@@ -1,8 +1,40 @@
-use Rattle.std.proofs.Common.{arith}
-use Rattle.polcert_check.specs.Steps.Certificate.{judged}
-use Rattle.polcert_check.proofs.Walking.Walked.{action_done}
+use Rattle.std.proofs.Common.{arith, ◌≡◌, ◌+◌, ◌∙◌, ℕ, refl, sym, subst}
+use Rattle.polcert_check.specs.Steps.Certificate.{controller, judged}
+use Rattle.polcert_check.specs.Horizon.{Controller}
+use Rattle.polcert_check.specs.Steps.Findings.{IsFoundBefore}
+use Rattle.polcert_check.specs.Steps.Survey.{IsOfAction}
+use Rattle.polcert_check.proofs.Walking.Walked.{node_passed, action_done}
+use Rattle.polcert_check.proofs.survey.survey_action.Goals.{then-action-a, else-action-a}
 use Rattle.polcert_check.proofs.survey.survey_action.Goals as goal
+
+pub loop-n-init : goal.loop-n-init
+loop-n-init g c = record {
+  of_action = record { rewards = record { each = λ s l. absurd (omega (arith, l, c.clear.ensures)) }; marks = λ known. absurd (cc) };
+  found = c.requires.found;
+  aim = refl;
+}
+
+pub loop-n-preserved : goal.loop-n-preserved
+loop-n-preserved g c =
+    let k : Controller = controller c.args.certificate.now in
+    let j : Controller = judged c.args.certificate.now in
+    elim c.if-action-a.branch [
+      | then-action-a w ↦
+          let same : k.action c.loop-n.n ≡ c.args.a = sym c.action.ensures.value ∙ w.if-action-a.true in
+          let after = w.survey_node in
+          rw w.survey-is (record {
+            of_action = subst (λ (a : ℕ). IsOfAction k.cells a after.new.survey) same after.ensures.of_action;
+            found = subst (λ (a : ℕ). IsFoundBefore j a (c.loop-n.n + 1) 0 after.new.survey.findings) same after.ensures.found;
+            aim = after.ensures.aim ∙ c.loop-n.invariant.aim;
+          })
+      | else-action-a w ↦
+          rw w.survey-is (record {
+            of_action = c.loop-n.invariant.of_action;
+            found = node_passed j c.args.a c.loop-n.n c.loop-n.survey.findings c.loop-n.invariant.found (λ same. w.if-action-a.false (c.action.ensures.value ∙ same));
+            aim = c.loop-n.invariant.aim;
+          })
+    ]
 
 pub returns-clause-found : goal.returns-clause-found
 returns-clause-found g c =
-    action_done (judged c.args.certificate.now) c.args.a c.loop-first.first c.loop-first.survey.findings c.loop-first.invariant.found (omega (arith, c.states-states.ensures, c.loop-first-test.false))
+    action_done (judged c.args.certificate.now) c.args.a c.loop-n.n c.loop-n.survey.findings c.loop-n.invariant.found (omega (arith, c.nodes-n-end.ensures.count))

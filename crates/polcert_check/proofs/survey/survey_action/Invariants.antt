@@ -1,13 +1,12 @@
-use Rattle.std.proofs.Common.{◌≡◌, ◌-◌}
-use Rattle.polcert_check.specs.Steps.Certificate.{judged}
-use Rattle.polcert_check.specs.Steps.Findings.{IsFoundUpTo}
+use Rattle.std.proofs.Common.{◌≡◌}
+use Rattle.polcert_check.specs.Steps.Certificate.{controller, judged}
+use Rattle.polcert_check.specs.Steps.Findings.{IsFoundBefore}
+use Rattle.polcert_check.specs.Steps.Survey.{IsOfAction}
 use Rattle.polcert_check.proofs.survey.survey_action.Given as goal
 
-abbrev pub invariant-loop-first : goal.invariant-loop-first
-invariant-loop-first g l = record {
-  found : IsFoundUpTo (judged l.certificate) l.a l.first l.survey.findings;
+abbrev pub invariant-loop-n : goal.invariant-loop-n
+invariant-loop-n g l = record {
+  of_action : IsOfAction (controller l.certificate).cells l.a l.survey;
+  found : IsFoundBefore (judged l.certificate) l.a l.n 0 l.survey.findings;
   aim : l.survey.findings.aim ≡ l.fn.survey.findings.aim;
 }
-
-abbrev pub decreases-loop-first : goal.decreases-loop-first
-decreases-loop-first g l = l.states - l.first

@@ -5,6 +5,6 @@ use Rattle.polcert_check.proofs.Walking.Walked.{next_pair}
 use Rattle.polcert_check.proofs.findings.Findings.note.Goals as goal
 
 pub returns-in-Yes-clause-found : goal.returns-in-Yes-clause-found
-returns-in-Yes-clause-found c = λ k first until s pair above judged is.
-    noted_pass k (IsWalked k (k.action c.args.n) first until c.args.n s) (IsWalked k (k.action c.args.n) first until c.args.n (s + 1)) c.args.n s (next_pair k first until c.args.n s pair above) c.args.self.now is
+returns-in-Yes-clause-found c = λ k s pair judged is.
+    noted_pass k (IsWalked k (k.action c.args.n) c.args.n s) (IsWalked k (k.action c.args.n) c.args.n (s + 1)) c.args.n s (next_pair k c.args.n s pair) c.args.self.now is
     (rw c.in-Yes.is at judged)

@@ -1,0 +1,27 @@
+-- Helper definitions of private functions: the values of a node at end states, and what it expects at a start state. Nobody has to
+-- believe them.
+use Rattle.std.specs.Prelude.{◌≡◌, ℕ, ◌<◌, pos, false, None, slice_index_or}
+use Rattle.polcert_check.specs.Horizon.{Controller}
+use Rattle.polcert_check.specs.Steps.Factored.{expected_value, value_at_end, IsLeastOf, Misses}
+use Rattle.polcert_check.specs.declared.partial_value.PartialValue.{PartialValue}
+use Rattle.polcert_check.specs.declared.end_values.EndValues.{EndValues}
+
+-- the value of node n at end state e, and the least observation there for which it has no successor
+pub record IsEndValue (c : Controller) (n e : ℕ) (part : PartialValue) : Type 0 where
+  pub value : part.value ≡ value_at_end c n e
+  pub missing : IsLeastOf (Misses c n e c.cells.observations) part.missing
+
+-- the values of node n at the first end states, as far as a state reaches them, and whether n lacks a successor there
+pub record AreEndValues (c : Controller) (n count : ℕ) (ends : EndValues) : Type 0 where
+  pub value : (s e : ℕ) → s < c.cells.states → e < count → 0 < c.cells.t (c.action n) s e → slice_index_or ends.values e (pos 0) ≡ value_at_end c n e
+  pub missing : (s e : ℕ) → s < c.cells.states → e < count → 0 < c.cells.t (c.action n) s e → slice_index_or ends.lacks_successor e false ≡ false → IsLeastOf (Misses c n e c.cells.observations) None
+  pub none : ends.lacks_any ≡ false → (s e : ℕ) → s < c.cells.states → e < count → 0 < c.cells.t (c.action n) s e → slice_index_or ends.lacks_successor e false ≡ false
+
+-- observation z can be received in one of the end states before `count`, and n has no successor for it
+abbrev pub IsMissedBefore : Controller → ℕ → ℕ → ℕ → ℕ → Type 0
+IsMissedBefore c n s count z = (e : ℕ) × (e < count) × (0 < c.cells.t (c.action n) s e) × Misses c n e c.cells.observations z
+
+-- what node n expects at state s, and the least observation there for which it has no successor
+pub record IsExpectedValue (c : Controller) (n s : ℕ) (sum : PartialValue) : Type 0 where
+  pub value : sum.value ≡ expected_value c n s
+  pub missing : IsLeastOf (IsMissedBefore c n s c.cells.states) sum.missing
