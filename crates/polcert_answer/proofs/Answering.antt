@@ -16,12 +16,13 @@ use Rattle.polcert_check.specs.Lower.{HasLeastConstant, IsNotLowered}
 use Rattle.polcert_check.specs.StartWorth.{IsBestStart}
 use Rattle.polcert_check.specs.Verdict.{IsVerdict}
 use Rattle.polcert_check.proofs.Agreements.OneAnswer as checks
+use Rattle.polcert_check.proofs.Walking.Answering.{meets_horizon}
 use Rattle.polcert_answer.specs.Headline.{Certificate, controller}
 use Rattle.polcert_answer.specs.Lines.{IsVerdictLine}
 use Rattle.polcert_answer.specs.Steps.Reading.{AreDenoted, IsAnswerLine, AreLowered}
 use Rattle.polcert_answer.specs.Answer.{IsAnswer}
-use Rattle.polcert_answer.specs.Run.{HasVerdict, HavePromise, HasStartPromise, HasLowered, IsNotLowerable, IsWhy}
-use Rattle.polcert_answer.proofs.Denoted.{of_parts, certificate_of, verdict_of_each, line_of_each, best_of_each, worth_of_each, constant_of_each, reason_of_each, text_of_each, yes_certified, yes_rewarded, yes_started}
+use Rattle.polcert_answer.specs.Run.{HasVerdict, HavePromise, HasStartPromise, HasHorizon, HasLowered, IsNotLowerable, IsWhy}
+use Rattle.polcert_answer.proofs.Denoted.{of_parts, certificate_of, verdict_of_each, line_of_each, best_of_each, worth_of_each, constant_of_each, reason_of_each, text_of_each, controller_proper, yes_certified, yes_rewarded, yes_started}
 use Rattle.polcert_answer.proofs.OfSources.{texts_of, rounded_verdict}
 use Rattle.polcert_answer.proofs.OneAnswer.{but_for_memory}
 
@@ -53,6 +54,12 @@ module _ (of_model of_graph of_vectors : List ℕ → Type 0) (m : Meaning) (g :
         promise = yes_certified d.first d.second d.third answer;
         rewards = yes_rewarded d.first d.second d.third answer;
       }
+
+  pub has_horizon : (verdict : Verdict) (line : List ℕ) → IsLineOf verdict line → HasHorizon of_model of_graph of_vectors verdict
+  has_horizon verdict line is = record {
+    texts = texts_of of_model of_graph of_vectors m g v d;
+    horizon = λ c. meets_horizon (controller c) (controller_proper c) verdict ((answer_is verdict line is).1 c);
+  }
 
   -- the line of a yes, and what is promised from the start
   pub has_start_promise : (line : List ℕ) → IsLineOf Yes line → HasStartPromise of_model of_graph of_vectors line

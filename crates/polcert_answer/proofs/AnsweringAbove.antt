@@ -17,12 +17,13 @@ use Rattle.polcert_check.specs.Above.{IsAboveVerdict}
 use Rattle.polcert_check.proofs.Mirrors.OneAbove.{one_above_verdict}
 use Rattle.polcert_answer.specs.Headline.{controller}
 use Rattle.polcert_answer.specs.HeadlineAbove.{CertificateAbove}
+use Rattle.polcert_check.proofs.Mirrors.HorizonsAbove.{meets_horizon_above}
 use Rattle.polcert_answer.specs.Lines.{IsAboveVerdictLine}
 use Rattle.polcert_answer.specs.Steps.Reading.{AreDenoted, IsAnswerLine, AreRaised}
 use Rattle.polcert_answer.specs.Answer.{IsAnswerAbove}
-use Rattle.polcert_answer.specs.RunAbove.{HasVerdictAbove, HavePromiseAbove, HasStartPromiseAbove, HasRaised, IsNotRaisable, IsWhyNotRaised}
-use Rattle.polcert_answer.proofs.Denoted.{of_parts, certificate_of, text_of_each}
-use Rattle.polcert_answer.proofs.DenotedAbove.{verdict_of_each, line_of_each, most_of_each, constant_of_each, reason_of_each, yes_certified, yes_rewarded, yes_started}
+use Rattle.polcert_answer.specs.RunAbove.{HasVerdictAbove, HavePromiseAbove, HasStartPromiseAbove, HasHorizonAbove, HasRaised, IsNotRaisable, IsWhyNotRaised}
+use Rattle.polcert_answer.proofs.Denoted.{of_parts, certificate_of, text_of_each, controller_proper}
+use Rattle.polcert_answer.proofs.DenotedAbove.{verdict_of_each, line_of_each, most_of_each, constant_of_each, reason_of_each, yes_certified, yes_rewarded, yes_bounds_lower, yes_started}
 use Rattle.polcert_answer.proofs.OfSources.{texts_of, rounded_verdict}
 use Rattle.polcert_answer.proofs.OneAnswer.{but_for_memory}
 
@@ -49,7 +50,14 @@ module _ (of_model of_graph of_vectors : List ℕ → Type 0) (m : Meaning) (g :
         texts = texts_of of_model of_graph of_vectors m g v d;
         promise = yes_certified d.first d.second d.third answer;
         rewards = yes_rewarded d.first d.second d.third answer;
+        interval = yes_bounds_lower d.first d.second d.third answer;
       }
+
+  pub has_horizon : (verdict : AboveVerdict) (line : List ℕ) → IsLineOf verdict line → HasHorizonAbove of_model of_graph of_vectors verdict
+  has_horizon verdict line is = record {
+    texts = texts_of of_model of_graph of_vectors m g v d;
+    horizon = λ c. meets_horizon_above (controller c) (controller_proper c) verdict ((answer_is verdict line is).1 c);
+  }
 
   -- the line of a yes, and what is promised from the start
   pub has_start_promise : (line : List ℕ) → IsLineOf Yes line → HasStartPromiseAbove of_model of_graph of_vectors line

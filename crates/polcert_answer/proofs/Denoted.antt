@@ -20,14 +20,14 @@ use Rattle.polcert_policy.proofs.LimitLaws.{graph_proper}
 use Rattle.polcert_policy.proofs.OneText as texts
 use Rattle.polcert_check.specs.declared.verdict.Verdict.{Verdict}
 use Rattle.polcert_check.specs.declared.verdict.Verdict.TheVariants.{Yes, Short, NoSuccessor}
-use Rattle.polcert_check.specs.Horizon.{Controller, controller_of, Fits, MeetsHorizon, one, step_scale}
+use Rattle.polcert_check.specs.Horizon.{Controller, controller_of, Fits, MeetsHorizon, Promise, one, step_scale}
 use Rattle.polcert_check.specs.Lower.{IsLeastConstant, IsNotLowered}
 use Rattle.polcert_check.specs.declared.fault.LowerFault.{LowerFault}
 use Rattle.polcert_check.specs.StartWorth.{IsCeilQuotient, IsBestStart, IsStartWorth, StartPromise}
 use Rattle.polcert_check.specs.Steps.Ranges.{IsController}
 use Rattle.polcert_check.specs.Verdict.{IsVerdict}
 use Rattle.polcert_check.proofs.Certificates.{controller_is}
-use Rattle.polcert_check.proofs.Horizons.EveryHorizon.{promised}
+use Rattle.polcert_check.proofs.Horizons.EveryHorizon.{promised, passes_if_promised}
 use Rattle.polcert_check.proofs.Agreements.SameAnswers as answers
 use Rattle.polcert_check.proofs.Agreements.SameModels as models_same
 use Rattle.polcert_check.proofs.Horizons.StartSums.{start_promise}
@@ -211,3 +211,12 @@ pub yes_started : (model graph vectors : List ℕ) → IsAnswer model graph vect
     (k n : ℕ) (worth : ℤ) → n < nodes c.policy → IsStartWorth c.meaning c.values n worth → StartPromise c.meaning (controller c) k n worth
 yes_started model graph vectors answer c k n worth nl is =
     start_promise c.meaning (controller c) refl (controller_proper c) (answer.1 c) n worth nl is k
+
+-- the converse: where the promise of one step holds, the answer is yes
+pub yes_if_one_step : (model graph vectors : List ℕ) → Certificate model graph vectors
+    → ((c : Certificate model graph vectors) (n s : ℕ) → n < nodes c.policy → s < states_of c.meaning → Promise (controller c) 1 n s)
+    → IsAnswer model graph vectors (Ok Yes)
+yes_if_one_step model graph vectors some holds = (some, λ c n s nl sl. passes_if_promised (controller c) n s (holds c n s nl sl))
+
+pub yes_if_certified : (model graph vectors : List ℕ) → IsCertified model graph vectors → IsAnswer model graph vectors (Ok Yes)
+yes_if_certified model graph vectors certified = yes_if_one_step model graph vectors certified.certificate (λ c. certified.promise c 1)

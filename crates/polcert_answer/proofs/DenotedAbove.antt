@@ -13,11 +13,11 @@ use Rattle.polcert_check.specs.declared.above.AboveVerdict.TheVariants.{Yes, Lon
 use Rattle.polcert_check.specs.declared.fault.RaiseFault.{RaiseFault}
 use Rattle.polcert_check.specs.declared.verdict.Verdict.TheVariants as verdicts
 use Rattle.polcert_check.specs.Horizon.{one, step_scale}
-use Rattle.polcert_check.specs.Above.{IsAboveVerdict, MeetsHorizonAbove}
+use Rattle.polcert_check.specs.Above.{IsAboveVerdict, MeetsHorizonAbove, PromiseAbove}
 use Rattle.polcert_check.specs.Raise.{IsLeastRaise, IsNotRaised}
 use Rattle.polcert_check.specs.StartMost.{IsStartMost, StartPromiseAbove}
 use Rattle.polcert_check.specs.StartWorth.{IsCeilQuotient}
-use Rattle.polcert_check.proofs.Mirrors.FromAbove.{horizons_above}
+use Rattle.polcert_check.proofs.Mirrors.FromAbove.{horizons_above, passes_if_promised_above}
 use Rattle.polcert_check.proofs.Mirrors.Interval.{never_above}
 use Rattle.polcert_check.proofs.Mirrors.SameAbove as answers
 use Rattle.polcert_check.proofs.Agreements.SameModels as models_same
@@ -25,7 +25,7 @@ use Rattle.polcert_check.proofs.Sums.Scales.{scales}
 use Rattle.polcert_check.proofs.Mirrors.StartMosts.{start_above}
 use Rattle.polcert_check.proofs.Walking.Verdicts.{positive_product}
 use Rattle.polcert_answer.specs.Headline.{Certificate, controller}
-use Rattle.polcert_answer.specs.HeadlineAbove.{CertificateAbove, IsCertifiedAbove, AreRewardsCertifiedAbove}
+use Rattle.polcert_answer.specs.HeadlineAbove.{CertificateAbove, IsCertifiedAbove, AreRewardsCertifiedAbove, BoundLowerVectors}
 use Rattle.polcert_answer.specs.Lines.{IsAboveVerdictLine}
 use Rattle.polcert_answer.specs.Answer.{HasGraph, IsAnswer, IsAnswerAbove}
 use Rattle.polcert_answer.proofs.Denoted.{of_each, of_parts, proper_graph, fits_of, same_states, same_graph, graph_is, fits_is, controller_proper}
@@ -67,23 +67,6 @@ pub line_of_each : {model graph vectors : List ℕ} (m : Meaning) (g : PolicyGra
     → (c : CertificateAbove model graph vectors) → IsAboveVerdictLine c.meaning (controller c) c.values verdict line
 line_of_each m g v has are verdict line is = of_each m g v has are (λ n h w. IsAboveVerdictLine n (of_parts n h w) w verdict line) (λ n same. line_for m n same g v verdict line is)
 
--- ---- a yes from above certifies the texts, with the vectors at the end and for the rewards alone
-module _ (model graph vectors : List ℕ) (answer : IsAnswerAbove model graph vectors (Ok Yes)) where
-  horizons : (c : CertificateAbove model graph vectors) → MeetsHorizonAbove (controller c) Yes
-  horizons c = horizons_above (controller c) (controller_proper c) (answer.1 c)
-
-  pub yes_certified : IsCertifiedAbove model graph vectors
-  yes_certified = record { certificate = answer.0; promise = λ d k n s nl sl. (horizons d k n s nl sl).0 }
-
-  pub yes_rewarded : AreRewardsCertifiedAbove model graph vectors
-  yes_rewarded = λ d k n s nl sl. (horizons d k n s nl sl).1
-
-  -- and from the start no more is expected than any node is worth there
-  pub yes_started : (c : CertificateAbove model graph vectors) (k n : ℕ) (most : ℤ) → n < nodes c.policy → IsStartMost c.meaning c.values most
-      → StartPromiseAbove c.meaning (controller c) k n most
-  yes_started c k n most nl is = start_above c.meaning c.policy c.values (fits_is c) (controller_proper c) (answer.1 c) most is k n nl
-
--- ---- two yeses are an interval
 some_scale : {model graph vectors : List ℕ} (c : CertificateAbove model graph vectors) → 0 < step_scale (controller c)
 some_scale c =
     let limits = within_limits c.is_model.lexemes c.meaning c.is_model.denotes in
@@ -101,6 +84,37 @@ some_scale c =
     let both = scales x of_table in
     positive_product x.t_scale x.o_scale both.0 both.1
 
+-- ---- a yes from above certifies the texts, with the vectors at the end and for the rewards alone
+module _ (model graph vectors : List ℕ) (answer : IsAnswerAbove model graph vectors (Ok Yes)) where
+  horizons : (c : CertificateAbove model graph vectors) → MeetsHorizonAbove (controller c) Yes
+  horizons c = horizons_above (controller c) (controller_proper c) (answer.1 c)
+
+  pub yes_certified : IsCertifiedAbove model graph vectors
+  yes_certified = record { certificate = answer.0; promise = λ d k n s nl sl. (horizons d k n s nl sl).0 }
+
+  pub yes_rewarded : AreRewardsCertifiedAbove model graph vectors
+  yes_rewarded = λ d k n s nl sl. (horizons d k n s nl sl).1
+
+  -- no vectors that pass from below are above these
+  pub yes_bounds_lower : BoundLowerVectors model graph vectors
+  yes_bounds_lower = λ c less low fits below n s nl sl.
+      never_above (controller c) (controller_proper c) (answer.1 c) (value_of low) below less (some_scale c) n s nl sl
+
+  -- and from the start no more is expected than any node is worth there
+  pub yes_started : (c : CertificateAbove model graph vectors) (k n : ℕ) (most : ℤ) → n < nodes c.policy → IsStartMost c.meaning c.values most
+      → StartPromiseAbove c.meaning (controller c) k n most
+  yes_started c k n most nl is = start_above c.meaning c.policy c.values (fits_is c) (controller_proper c) (answer.1 c) most is k n nl
+
+-- ---- the converse: where the promise of one step from above holds, the answer from above is yes
+pub yes_if_one_step : (model graph vectors : List ℕ) → CertificateAbove model graph vectors
+    → ((c : CertificateAbove model graph vectors) (n s : ℕ) → n < nodes c.policy → s < states_of c.meaning → PromiseAbove (controller c) 1 n s)
+    → IsAnswerAbove model graph vectors (Ok Yes)
+yes_if_one_step model graph vectors some holds = (some, λ c n s nl sl. passes_if_promised_above (controller c) n s (holds c n s nl sl))
+
+pub yes_if_certified : (model graph vectors : List ℕ) → IsCertifiedAbove model graph vectors → IsAnswerAbove model graph vectors (Ok Yes)
+yes_if_certified model graph vectors certified = yes_if_one_step model graph vectors certified.certificate (λ c. certified.promise c 1)
+
+-- ---- two yeses are an interval
 pub interval : (model graph low high : List ℕ) → IsAnswer model graph low (Ok verdicts.Yes) → IsAnswerAbove model graph high (Ok Yes)
     → (c : Certificate model graph low) (d : CertificateAbove model graph high) → c.meaning.preamble.discount < one
     → (n s : ℕ) → n < nodes c.policy → s < states_of c.meaning → value_of c.values n s ≤ℤ value_of d.values n s

@@ -33,6 +33,12 @@ module _ {T W : Type 0} {writes : W → Option (List ℕ) → W → Type 0} {sin
   pub text_of_answer : (r : Result T RunFault) (answer : T) → WritesAnswer writes P r sink sink' → r ≡ Ok answer → (text : List ℕ) × P answer text × Takes writes sink text sink'
   text_of_answer r answer wrote same = subst (λ (x : Result T RunFault). IfOk x (λ a. (text : List ℕ) × P a text × Takes writes sink text sink')) same wrote.took
 
+  -- what follows of each answer and its text holds of the answer
+  pub answered_with : (Q : T → Type 0) → ((answer : T) (text : List ℕ) → P answer text → Q answer) → (r : Result T RunFault)
+      → WritesAnswer writes P r sink sink' → IfOk r Q
+  answered_with Q follows (Ok answer) wrote = follows answer wrote.took.0 wrote.took.1
+  answered_with Q follows (Err fault) wrote = tt
+
 module _ {rounding : Rounding} (of_model of_graph of_vectors : List ℕ → Type 0) (m : Meaning) (g : PolicyGraph) (v : PolicyVectors)
     (d : AreDenoted rounding of_model of_graph of_vectors m g v) where
   abbrev pub texts_of : AreRoundedCertified rounding of_model of_graph of_vectors

@@ -4,7 +4,8 @@ use Rattle.std.specs.Prelude.{ℕ, ◌<◌, List}
 use Rattle.polcert_text.specs.declared.number.Rounding.TheVariants.{Up}
 use Rattle.polcert_cells.specs.Meaning.{states_of}
 use Rattle.polcert_policy.specs.Graphs.{nodes}
-use Rattle.polcert_check.specs.Above.{PromiseAbove, RewardPromiseAbove}
+use Rattle.polcert_cells.specs.Tables.{table_of}
+use Rattle.polcert_check.specs.Above.{PromiseAbove, RewardPromiseAbove, AreNowhereExceeded}
 use Rattle.polcert_answer.specs.Headline.{RoundedCertificate, controller}
 
 -- three texts and what they denote, with each value rounded up
@@ -22,3 +23,7 @@ pub record IsCertifiedAbove (model graph vectors : List ℕ) : Type 0 where
 -- is below m, the expected discounted reward of k steps is at most the vector's value less discount ^ k times m.
 abbrev pub AreRewardsCertifiedAbove : List ℕ → List ℕ → List ℕ → Type 0
 AreRewardsCertifiedAbove model graph vectors = (c : CertificateAbove model graph vectors) (k n s : ℕ) → n < nodes c.policy → s < states_of c.meaning → RewardPromiseAbove (controller c) k n s
+
+-- An interval: where the discount is below 1, no vectors of the graph that pass from below are above these anywhere.
+abbrev pub BoundLowerVectors : List ℕ → List ℕ → List ℕ → Type 0
+BoundLowerVectors model graph vectors = (c : CertificateAbove model graph vectors) → AreNowhereExceeded (table_of c.meaning) c.policy c.values

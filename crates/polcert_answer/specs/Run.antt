@@ -18,7 +18,7 @@ use Rattle.polcert_check.specs.declared.fault.LowerFault.{LowerFault}
 use Rattle.polcert_check.specs.declared.fault.LowerFault.TheVariants.{Memory}
 use Rattle.polcert_check.specs.declared.verdict.Verdict.{Verdict}
 use Rattle.polcert_check.specs.declared.verdict.Verdict.TheVariants.{Yes}
-use Rattle.polcert_check.specs.Horizon.{Controller}
+use Rattle.polcert_check.specs.Horizon.{Controller, MeetsHorizon}
 use Rattle.polcert_check.specs.Lower.{HasLeastConstant, IsLeastConstant, IsNotLowered}
 use Rattle.polcert_check.specs.Verdict.{IsVerdict}
 use Rattle.polcert_check.specs.StartWorth.{IsBestStart, IsStartWorth, StartPromise}
@@ -234,6 +234,12 @@ module _ (of_model of_graph of_vectors : List ℕ → Type 0) where
     pub promise : IsCertified texts.model texts.graph texts.vectors
     pub rewards : AreRewardsCertified texts.model texts.graph texts.vectors
 
+  -- Whatever controller the texts of the three sources denote, this is what the verdict says of the promise: a yes, that it
+  -- holds for every number of steps; a no, that the promise of one step fails at the pair that it names.
+  pub record HasHorizon (verdict : Verdict) : Type 0 where
+    pub texts : AreCertified
+    pub horizon : (c : Certificate texts.model texts.graph texts.vectors) → MeetsHorizon (controller c) verdict
+
   -- What the line of a yes says of the start is promised. The line names a node and a worth; and of whatever controller the
   -- texts of the three sources denote: that node is worth most from the model's start, this is its worth there, rounded
   -- down, and for every number of steps no less is expected from the start.
@@ -282,6 +288,8 @@ module _ {M G V W : Type 0}
         × HasStartPromise (text_of model_reads model model') (text_of graph_reads graph graph')
         (text_of vectors_reads vectors vectors') line
         × Takes sink_writes sink line sink'
+    pub horizon : IfOk result (HasHorizon (text_of model_reads model model') (text_of graph_reads graph graph')
+        (text_of vectors_reads vectors vectors'))
     pub stops : StopsRightly Down result model_reads model_failures model model' graph_reads graph_failures graph graph'
         vectors_reads vectors_failures vectors vectors' sink_failures sink sink'
     pub of_a_check : IfErr result IsCheckRunFault

@@ -1,5 +1,5 @@
 -- What runs from above promise, over three sources.
-use Rattle.std.specs.Prelude.{◌≡◌, ℕ, ◌<◌, ℤ, List, Option, Result, Ok, IfErr, IsErrOf}
+use Rattle.std.specs.Prelude.{◌≡◌, ℕ, ◌<◌, ℤ, List, Option, Result, Ok, IfOk, IfErr, IsErrOf}
 use Rattle.polcert_text.specs.declared.number.Rounding.TheVariants.{Up}
 use Rattle.polcert_text.specs.Sink.{Takes}
 use Rattle.polcert_policy.specs.Graphs.{nodes}
@@ -10,7 +10,7 @@ use Rattle.polcert_check.specs.declared.fault.RaiseFault.TheVariants.{Memory}
 use Rattle.polcert_check.specs.declared.above.AboveVerdict.{AboveVerdict}
 use Rattle.polcert_check.specs.declared.above.AboveVerdict.TheVariants.{Yes}
 use Rattle.polcert_check.specs.Horizon.{Controller}
-use Rattle.polcert_check.specs.Above.{IsAboveVerdict}
+use Rattle.polcert_check.specs.Above.{IsAboveVerdict, MeetsHorizonAbove}
 use Rattle.polcert_check.specs.Raise.{HasLeastRaise, IsLeastRaise, IsNotRaised}
 use Rattle.polcert_check.specs.StartMost.{IsStartMost, StartPromiseAbove}
 use Rattle.polcert_answer.specs.declared.fault.Fault.{Fault}
@@ -18,7 +18,7 @@ use Rattle.polcert_answer.specs.declared.fault.RunFault.{RunFault}
 use Rattle.polcert_answer.specs.declared.fault.RunFault.TheVariants.{Raise}
 use Rattle.polcert_answer.specs.Answer.{IsAnswerAbove, IsButForMemory}
 use Rattle.polcert_answer.specs.Headline.{controller}
-use Rattle.polcert_answer.specs.HeadlineAbove.{CertificateAbove, IsCertifiedAbove, AreRewardsCertifiedAbove}
+use Rattle.polcert_answer.specs.HeadlineAbove.{CertificateAbove, IsCertifiedAbove, AreRewardsCertifiedAbove, BoundLowerVectors}
 use Rattle.polcert_answer.specs.Lines.{yes_above_line, IsAboveVerdictLine}
 use Rattle.polcert_answer.specs.Run.{WritesAnswer, StopsRightly, IsCheckRunFault, IsRaiseRunFault, text_of, AreRoundedCertified, HasRoundedVerdict}
 
@@ -36,11 +36,19 @@ module _ (of_model of_graph of_vectors : List ℕ → Type 0) where
   abbrev pub HasVerdictAbove : AboveVerdict → List ℕ → Type 0
   HasVerdictAbove verdict line = HasRoundedVerdict Up of_model of_graph of_vectors IsAboveVerdict IsAboveVerdictLine verdict line
 
-  -- The headline from above holds of the texts of the three sources, with the vectors at the end and for the rewards alone.
+  -- The headline from above holds of the texts of the three sources, with the vectors at the end and for the rewards alone;
+  -- and no vectors that pass from below are above these.
   pub record HavePromiseAbove : Type 0 where
     pub texts : AreCertifiedAbove
     pub promise : IsCertifiedAbove texts.model texts.graph texts.vectors
     pub rewards : AreRewardsCertifiedAbove texts.model texts.graph texts.vectors
+    pub interval : BoundLowerVectors texts.model texts.graph texts.vectors
+
+  -- Whatever controller the texts of the three sources denote, this is what the verdict says of the promise from above: a
+  -- yes, that it holds for every number of steps; a no, that the promise of one step fails at the pair that it names.
+  pub record HasHorizonAbove (verdict : AboveVerdict) : Type 0 where
+    pub texts : AreCertifiedAbove
+    pub horizon : (c : CertificateAbove texts.model texts.graph texts.vectors) → MeetsHorizonAbove (controller c) verdict
 
   -- What the line of a yes from above says of the start is promised. The line names a number; and of whatever controller the texts
   -- of the three sources denote: no node is worth more from the model's start, rounded up, and from every node and for every number
@@ -88,6 +96,8 @@ module _ {M G V W : Type 0}
         × HasStartPromiseAbove (text_of model_reads model model') (text_of graph_reads graph graph')
         (text_of vectors_reads vectors vectors') line
         × Takes sink_writes sink line sink'
+    pub horizon : IfOk result (HasHorizonAbove (text_of model_reads model model') (text_of graph_reads graph graph')
+        (text_of vectors_reads vectors vectors'))
     pub stops : StopsRightly Up result model_reads model_failures model model' graph_reads graph_failures graph graph'
         vectors_reads vectors_failures vectors vectors' sink_failures sink sink'
     pub of_a_check : IfErr result IsCheckRunFault

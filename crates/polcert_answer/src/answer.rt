@@ -5,7 +5,7 @@ ghost use Rattle.polcert_check.specs.Above.{MeetsHorizonAbove};
 ghost use Rattle.polcert_check.specs.declared.verdict.Verdict.TheVariants.{Yes};
 ghost use Rattle.polcert_answer.specs.Answer.{IsAnswer, IsAnswerAbove};
 ghost use Rattle.polcert_answer.specs.Headline.{Certificate, controller, IsCertified, AreRewardsCertified};
-ghost use Rattle.polcert_answer.specs.HeadlineAbove.{CertificateAbove, IsCertifiedAbove, AreRewardsCertifiedAbove};
+ghost use Rattle.polcert_answer.specs.HeadlineAbove.{CertificateAbove, IsCertifiedAbove, AreRewardsCertifiedAbove, BoundLowerVectors};
 
 use crate::controller::read_texts;
 use crate::fault::Fault;
@@ -64,6 +64,9 @@ pub fn check_texts_above(
     // And for the rewards alone, without the vectors at the end.
     ensures rewards { result ≡ Ok AboveVerdict.Yes
         → AreRewardsCertifiedAbove model.now graph.now vectors.now }
+
+    // And no vectors that pass from below are above these, where the discount is below 1.
+    ensures interval { result ≡ Ok AboveVerdict.Yes → BoundLowerVectors model.now graph.now vectors.now }
 
     // A no is refuted by one step: at the pair that it names the promise of one step is false, and a
     // missing successor is a run of one step that is cut and weighs more than 0.

@@ -1,13 +1,17 @@
 //! Laws of the definitions, each the contract of a function with nothing to do.
-ghost use Rattle.std.specs.Prelude.{◌<◌, ◌≤ℤ◌, ℕ, ℤ, List, Ok};
+ghost use Rattle.std.specs.Prelude.{◌<◌, ◌≤ℤ◌, ℕ, ℤ, List, Result, Ok};
 ghost use Rattle.polcert_cells.specs.Meaning.{states_of};
 ghost use Rattle.polcert_policy.specs.Graphs.{nodes};
 ghost use Rattle.polcert_policy.specs.Vectors.{value_of};
+ghost use Rattle.polcert_check.specs.declared.above.AboveVerdict.{AboveVerdict};
+ghost use Rattle.polcert_check.specs.declared.verdict.Verdict.{Verdict};
 ghost use Rattle.polcert_check.specs.declared.verdict.Verdict.TheVariants.{Yes};
-ghost use Rattle.polcert_check.specs.Horizon.{one};
+ghost use Rattle.polcert_check.specs.Horizon.{Promise, one};
+ghost use Rattle.polcert_check.specs.Above.{PromiseAbove};
+ghost use Rattle.polcert_answer.specs.declared.fault.Fault.{Fault};
 ghost use Rattle.polcert_check.specs.StartWorth.{IsStartWorth, StartPromise};
 ghost use Rattle.polcert_check.specs.StartMost.{IsStartMost, StartPromiseAbove};
-ghost use Rattle.polcert_answer.specs.Answer.{IsAnswer, IsAnswerAbove};
+ghost use Rattle.polcert_answer.specs.Answer.{IsAnswer, IsAnswerAbove, IsButForMemory};
 ghost use Rattle.polcert_answer.specs.OneAnswer.{HasOneVerdict, RefusesTheFirst, HasOneRefusal};
 ghost use Rattle.polcert_answer.specs.Headline.{Certificate, controller, IsCertified, AreRewardsCertified};
 ghost use Rattle.polcert_answer.specs.HeadlineAbove.{CertificateAbove, IsCertifiedAbove, AreRewardsCertifiedAbove};
@@ -28,6 +32,19 @@ pub fn yes_is_a_certificate()
     ensures start { (model graph vectors : List ℕ) → IsAnswer model graph vectors (Ok Yes) →
         (c : Certificate model graph vectors) (k n : ℕ) (worth : ℤ) → n < nodes c.policy →
         IsStartWorth c.meaning c.values n worth → StartPromise c.meaning (controller c) k n worth }
+{}
+
+/// The converse of the headline: texts that are certified are answered yes, and nothing else but out of memory
+/// answers them. The promise of one step is enough.
+pub fn certified_texts_are_answered_yes()
+    ensures one_step { (model graph vectors : List ℕ) → Certificate model graph vectors
+        → ((c : Certificate model graph vectors) (n s : ℕ) → n < nodes c.policy → s < states_of c.meaning
+        → Promise (controller c) 1 n s)
+        → IsAnswer model graph vectors (Ok Yes) }
+    ensures answered { (model graph vectors : List ℕ)
+        → IsCertified model graph vectors → IsAnswer model graph vectors (Ok Yes) }
+    ensures no_other { (model graph vectors : List ℕ) → IsCertified model graph vectors
+        → (result : Result Verdict Fault) → IsAnswer model graph vectors result → IsButForMemory Yes result }
 {}
 
 /// Three texts have one answer, want of memory aside: one verdict, or a refusal of one of them. The refusal
@@ -59,6 +76,20 @@ pub fn yes_above_is_a_certificate()
     ensures start { (model graph vectors : List ℕ) → IsAnswerAbove model graph vectors (Ok AboveVerdict.Yes) →
         (c : CertificateAbove model graph vectors) (k n : ℕ) (most : ℤ) → n < nodes c.policy →
         IsStartMost c.meaning c.values most → StartPromiseAbove c.meaning (controller c) k n most }
+{}
+
+/// The converse from above: texts that are certified from above are answered yes from above, and nothing else
+/// but out of memory answers them. The promise of one step is enough.
+pub fn certified_texts_above_are_answered_yes()
+    ensures one_step { (model graph vectors : List ℕ) → CertificateAbove model graph vectors
+        → ((c : CertificateAbove model graph vectors) (n s : ℕ) → n < nodes c.policy → s < states_of c.meaning
+        → PromiseAbove (controller c) 1 n s)
+        → IsAnswerAbove model graph vectors (Ok AboveVerdict.Yes) }
+    ensures answered { (model graph vectors : List ℕ)
+        → IsCertifiedAbove model graph vectors → IsAnswerAbove model graph vectors (Ok AboveVerdict.Yes) }
+    ensures no_other { (model graph vectors : List ℕ) → IsCertifiedAbove model graph vectors
+        → (result : Result AboveVerdict Fault) → IsAnswerAbove model graph vectors result
+        → IsButForMemory AboveVerdict.Yes result }
 {}
 
 /// Two yeses to one model and graph, one from below and one from above, are an interval where the discount

@@ -15,7 +15,8 @@ mod status;
 pub use answer::{check_texts, check_texts_above};
 pub use fault::{Fault, RunFault};
 pub use laws::{
-    bounds_of_texts_are_an_interval, one_answer, one_answer_above, yes_above_is_a_certificate,
+    bounds_of_texts_are_an_interval, certified_texts_above_are_answered_yes,
+    certified_texts_are_answered_yes, one_answer, one_answer_above, yes_above_is_a_certificate,
     yes_is_a_certificate,
 };
 pub use runs::{run_check, run_check_watched, run_lower, run_lower_watched, run_model, run_print};

@@ -13,7 +13,7 @@ ghost use Rattle.polcert_check.specs.Verdict.{IsVerdict};
 ghost use Rattle.polcert_answer.specs.Lines.{IsVerdictLine};
 ghost use Rattle.polcert_answer.specs.Answer.{IsRefused, IsModelFault};
 ghost use Rattle.polcert_answer.specs.Steps.Reading.{IsAnswerLine, AreLowered, IsNoReadFault};
-ghost use Rattle.polcert_answer.specs.Run.{WritesAnswer, IsCheckRun, IsLowerRun, SumsUp, BeginsToSumUp, Prints, BeginsToPrint, IsTooLargeToPrint, IsModelRunFault, IsPrintRunFault, IsNamedRightly, StopsRightly, IsCheckRunFault, IsLowerRunFault, text_of, HasVerdict, HavePromise, HasStartPromise, HasLowered, IsWhy, IsNotLowerable};
+ghost use Rattle.polcert_answer.specs.Run.{WritesAnswer, IsCheckRun, IsLowerRun, SumsUp, BeginsToSumUp, Prints, BeginsToPrint, IsTooLargeToPrint, IsModelRunFault, IsPrintRunFault, IsNamedRightly, StopsRightly, IsCheckRunFault, IsLowerRunFault, text_of, HasVerdict, HavePromise, HasStartPromise, HasHorizon, HasLowered, IsWhy, IsNotLowerable};
 
 use crate::controller::{Controller, model_of_run, read_controller};
 use crate::fault::{Fault, RunFault};
@@ -150,6 +150,11 @@ pub fn run_check<M: Source, G: Source, V: Source, W: Sink>(
         × HasStartPromise (text_of M.reads model.old model.new) (text_of G.reads graph.old graph.new)
         (text_of V.reads vectors.old vectors.new) line
         × Takes W.writes sink.old line sink.new }
+
+    // A no refutes the promise of one step at the pair that it names, and a missing successor is reached by a
+    // run of one step of positive probability.
+    ensures horizon { IfOk result (HasHorizon (text_of M.reads model.old model.new)
+        (text_of G.reads graph.old graph.new) (text_of V.reads vectors.old vectors.new)) }
 
     // The first text that is none of its kind is refused, for a right reason. A device is named only where
     // it failed in this call, and no failure of one is passed over. Each source is read to its end before

@@ -8,7 +8,7 @@ ghost use Rattle.polcert_check.specs.Above.{IsAboveVerdict};
 ghost use Rattle.polcert_answer.specs.Lines.{IsAboveVerdictLine};
 ghost use Rattle.polcert_answer.specs.Steps.Reading.{IsAnswerLine, AreRaised, IsNoReadFault};
 ghost use Rattle.polcert_answer.specs.Run.{WritesAnswer, IsNamedRightly, StopsRightly, IsCheckRunFault, IsRaiseRunFault, text_of};
-ghost use Rattle.polcert_answer.specs.RunAbove.{IsCheckRunAbove, IsRaiseRun, HasVerdictAbove, HavePromiseAbove, HasStartPromiseAbove, HasRaised, IsWhyNotRaised, IsNotRaisable};
+ghost use Rattle.polcert_answer.specs.RunAbove.{IsCheckRunAbove, IsRaiseRun, HasVerdictAbove, HavePromiseAbove, HasStartPromiseAbove, HasHorizonAbove, HasRaised, IsWhyNotRaised, IsNotRaisable};
 
 use crate::controller::{Controller, read_controller};
 use crate::fault::RunFault;
@@ -50,6 +50,11 @@ pub fn run_check_above<M: Source, G: Source, V: Source, W: Sink>(
         × HasStartPromiseAbove (text_of M.reads model.old model.new) (text_of G.reads graph.old graph.new)
         (text_of V.reads vectors.old vectors.new) line
         × Takes W.writes sink.old line sink.new }
+
+    // A no refutes the promise of one step at the pair that it names, and a missing successor is reached by a
+    // run of one step of positive probability.
+    ensures horizon { IfOk result (HasHorizonAbove (text_of M.reads model.old model.new)
+        (text_of G.reads graph.old graph.new) (text_of V.reads vectors.old vectors.new)) }
 
     // The first text that is none of its kind is refused, for a right reason. A device is named only where
     // it failed in this call, and no failure of one is passed over. Each source is read to its end before

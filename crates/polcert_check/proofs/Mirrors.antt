@@ -6,3 +6,4 @@ pub mod OneAbove
 pub mod SameAbove
 pub mod Sides
 pub mod StartMosts
+pub mod HorizonsAbove

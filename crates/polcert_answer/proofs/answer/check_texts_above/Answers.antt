@@ -5,7 +5,7 @@ use Rattle.polcert_check.specs.Above.{IsAboveVerdict}
 use Rattle.polcert_answer.specs.Answer.{IsAnswerAbove}
 use Rattle.polcert_answer.proofs.OfTexts.{refused_answer}
 use Rattle.polcert_answer.proofs.Denoted.{certificate_of, fits_of}
-use Rattle.polcert_answer.proofs.DenotedAbove.{verdict_of_each, horizon_of_each, yes_certified, yes_rewarded}
+use Rattle.polcert_answer.proofs.DenotedAbove.{verdict_of_each, horizon_of_each, yes_certified, yes_rewarded, yes_bounds_lower}
 use Rattle.polcert_answer.proofs.answer.check_texts_above.Goals as goal
 
 pub check_above-requires : goal.check_above-requires
@@ -32,5 +32,6 @@ returns c =
       answer = answer;
       promise = λ yes. yes_certified _ _ _ (subst (λ r. IsAnswerAbove c.args.model.now c.args.graph.now c.args.vectors.now r) yes answer);
       rewards = λ yes. yes_rewarded _ _ _ (subst (λ r. IsAnswerAbove c.args.model.now c.args.graph.now c.args.vectors.now r) yes answer);
+      interval = λ yes. yes_bounds_lower _ _ _ (subst (λ r. IsAnswerAbove c.args.model.now c.args.graph.now c.args.vectors.now r) yes answer);
       horizon = horizon_of_each m g v has are verdict c.check_above.ensures.verdict c.check_above.ensures.horizon;
     }

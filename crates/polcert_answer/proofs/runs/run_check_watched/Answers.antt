@@ -3,9 +3,9 @@ use Rattle.polcert_check.specs.declared.verdict.Verdict.TheVariants.{Yes}
 use Rattle.polcert_answer.specs.Run.{IsCheckRunFault}
 use Rattle.polcert_answer.specs.Steps.Reading.{IsNoReadFault}
 use Rattle.polcert_answer.proofs.Denoted.{fits_of}
-use Rattle.polcert_answer.proofs.OfSources.{wrote_mapped, text_of_answer}
-use Rattle.polcert_answer.proofs.Answering.{has_verdict, has_promise, has_start_promise}
-use Rattle.polcert_answer.proofs.Passing.{is_err, not_ok, of_fault, nothing_written, stops_again, stops_behind, read_in_check, of_writing, is_write}
+use Rattle.polcert_answer.proofs.OfSources.{wrote_mapped, text_of_answer, answered_with}
+use Rattle.polcert_answer.proofs.Answering.{has_verdict, has_promise, has_start_promise, has_horizon}
+use Rattle.polcert_answer.proofs.Passing.{is_err, not_ok, no_ok, of_fault, nothing_written, stops_again, stops_behind, read_in_check, of_writing, is_write}
 use Rattle.polcert_answer.proofs.runs.run_check_watched.Goals as goal
 
 pub write_answer-requires : goal.write_answer-requires
@@ -22,6 +22,7 @@ returns-in_err-read g c =
       answered = nothing_written _ _ same read.of_reading _ _ _;
       promise = λ yes. absurd (not_ok _ _ same _ yes);
       start_promise = λ yes. absurd (not_ok _ _ same _ yes);
+      horizon = no_ok _ _ same _;
       stops = stops_again _ _ same read.of_reading read.refused read.read read.in_order;
       of_a_check = of_fault _ _ same _ (read_in_check _ read.of_reading);
     }
@@ -38,6 +39,7 @@ returns g c =
       answered = wrote_mapped _ _ (has_verdict _ _ _ m graph v d) _ wrote.answered;
       promise = λ yes. let (line, is, took) = text_of_answer _ _ Yes wrote.answered yes in has_promise _ _ _ m graph v d line is;
       start_promise = λ yes. let (line, is, took) = text_of_answer _ _ Yes wrote.answered yes in (line, has_start_promise _ _ _ m graph v d line is, took);
+      horizon = answered_with _ _ (has_horizon _ _ _ m graph v d) _ wrote.answered;
       stops = stops_behind _ (of_writing _ wrote.of_write IsNoReadFault tt) _ c.in_ok-read.ensures.read wrote.write
           (λ fault same other. absurd (other (is_write _ wrote.of_write fault same)));
       of_a_check = of_writing _ wrote.of_write IsCheckRunFault tt;
