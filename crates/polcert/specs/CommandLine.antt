@@ -12,9 +12,13 @@ use Rattle.std.specs.Option.{option_map_or}
 use Rattle.std.specs.Str.{bytes_eq}
 use Rattle.clap.specs.Words.{App, Rule, Row, Text, new_app, new_rule, with_rule, with_subcommand, first_of}
 use Rattle.clap.specs.declared.builder.action.ArgAction.TheVariants.{Set, SetTrue}
+use Rattle.polcert_answer.specs.declared.task.Task.{Task}
+use Rattle.polcert_answer.specs.declared.task.Task.TheVariants as tasks
 use Rattle.polcert.specs.declared.choice.Names.{Names}
 use Rattle.polcert.specs.declared.choice.Choice.{Choice}
 use Rattle.polcert.specs.declared.choice.Choice.TheVariants.{Model, Print, Check, CheckAbove, Lower, Raise}
+use Rattle.polcert.specs.declared.choice.Job.{Job}
+use Rattle.polcert.specs.declared.choice.Job.TheVariants as jobs
 
 -- an argument that takes one value
 abbrev pub file_rule : Text → Rule
@@ -68,6 +72,26 @@ view_of (Check names) = check (names_view names)
 view_of (CheckAbove names) = check_above (names_view names)
 view_of (Lower names) = lower (names_view names)
 view_of (Raise names) = raise (names_view names)
+
+-- what the program does, with the texts of the names
+pub data JobView : Type 0 where
+  summarize : Option Text → JobView
+  print_in_full : Text → JobView
+  run : Task → Texts → JobView
+
+abbrev pub job_view : Job → JobView
+job_view (jobs.Summarize file) = summarize (option_map (λ name. name.now) file)
+job_view (jobs.Print file) = print_in_full file.now
+job_view (jobs.Run task names) = run task (names_view names)
+
+-- each choice has its own job
+abbrev pub job_of : Chosen → JobView
+job_of (model file) = summarize file
+job_of (print file) = print_in_full file
+job_of (check names) = run tasks.Check names
+job_of (check_above names) = run tasks.CheckAbove names
+job_of (lower names) = run tasks.Lower names
+job_of (raise names) = run tasks.Raise names
 
 -- the three names among the matches of a subcommand
 abbrev pub names_in : List Row → Option Texts

@@ -2,9 +2,10 @@
 ghost use Rattle.std.specs.Prelude.{◌≡◌, ℕ, List, false, IfOk, map, option_map};
 ghost use Rattle.clap.specs.Words.{FailsBy, app_of, fault_of, found_of, first_of, rows_of, rule_of, subcommand_of, subcommand_rows_of};
 ghost use Rattle.clap.specs.declared.builder.Command.TheViews.{out-Command};
-ghost use Rattle.polcert.specs.CommandLine.{the_app, at_most_rule, check_app, file_rule, one_file, three_files, bounds_above, chosen, chosen_of, names_in, names_view, view_of};
+ghost use Rattle.polcert.specs.CommandLine.{the_app, at_most_rule, check_app, file_rule, one_file, three_files, bounds_above, chosen, chosen_of, names_in, names_view, view_of, job_of, job_view};
 
 use clap::{Arg, ArgAction, ArgMatches, Command, Error};
+use polcert_answer::Task;
 use std::alloc::{AllocError, Global};
 
 /// The names of the files of a model, of a policy graph, and of its vectors.
@@ -30,6 +31,33 @@ pub enum Choice<'a> {
     Lower(Names<'a>),
     /// Raise the vectors so that they pass the check from above.
     Raise(Names<'a>),
+}
+
+/// What a choice has the program do.
+#[derive(Clone, Copy, Debug)]
+pub enum Job<'a> {
+    /// Summarize the model of this file, or of standard input.
+    Summarize(Option<&'a str>),
+    /// Print the model of this file in full form.
+    Print(&'a str),
+    /// Do this task with the files of a model, a graph and vectors.
+    Run(Task, Names<'a>),
+}
+
+impl<'a> Choice<'a> {
+    /// Returns what the program does for this choice.
+    pub fn job(self) -> Job<'a>
+        ensures { job_view result ≡ job_of (view_of self.entry) }
+    {
+        match self {
+            Choice::Model(name) => Job::Summarize(name),
+            Choice::Print(name) => Job::Print(name),
+            Choice::Check(names) => Job::Run(Task::Check, names),
+            Choice::CheckAbove(names) => Job::Run(Task::CheckAbove, names),
+            Choice::Lower(names) => Job::Run(Task::Lower, names),
+            Choice::Raise(names) => Job::Run(Task::Raise, names),
+        }
+    }
 }
 
 /// What the words ask for, of which the first is the program's name. None where a file's name isn't there.

@@ -8,6 +8,11 @@ mod refusal;
 #[cfg(test)]
 mod tests;
 
+pub use choice::{Choice, choose};
+pub use polcert_answer::{
+    Fault, Outcome, RunFault, Task, check_texts, check_texts_above, run_check, run_check_above,
+    run_lower, run_model, run_print, run_raise, run_task, status_of,
+};
 use std::io::IsTerminal;
 use std::process::ExitCode;
 

@@ -1,13 +1,12 @@
 //! What the program does, over the runtime that it is given.
 ghost use Rattle.std.specs.Prelude.{◌≡◌};
 
-use crate::choice::{Choice, Names, choose};
+use crate::choice::{Choice, Job, Names, choose};
 use crate::progress::Progress;
 use crate::refusal::{LoweredLine, RaisedLine, RefusalLine};
 use clap::error::ErrorKind;
 use polcert_answer::{
-    RunFault, run_check_above_watched, run_check_watched, run_lower_watched, run_model, run_print,
-    run_raise_watched, status_of, status_of_above_verdict, status_of_verdict,
+    Outcome, RunFault, Task, run_model, run_print, run_task, status_of, status_of_outcome,
 };
 use polcert_text::{ReaderSource, WriterSink};
 use std::alloc::AllocError;
@@ -81,14 +80,11 @@ fn run_choice<R: Files + Clock + AllocGlobal + Input + Print + Eprint>(
     shows_progress: bool,
     choice: Choice<'_>,
 ) -> u8 {
-    let done = match choice {
-        Choice::Model(None) => sum_up_input(rt),
-        Choice::Model(Some(name)) => sum_up_file(rt, name),
-        Choice::Print(name) => print_file(rt, name),
-        Choice::Check(names) => run_over_files(rt, shows_progress, Task::Check, names),
-        Choice::CheckAbove(names) => run_over_files(rt, shows_progress, Task::CheckAbove, names),
-        Choice::Lower(names) => run_over_files(rt, shows_progress, Task::Lower, names),
-        Choice::Raise(names) => run_over_files(rt, shows_progress, Task::Raise, names),
+    let done = match choice.job() {
+        Job::Summarize(None) => sum_up_input(rt),
+        Job::Summarize(Some(name)) => sum_up_file(rt, name),
+        Job::Print(name) => print_file(rt, name),
+        Job::Run(task, names) => run_over_files(rt, shows_progress, task, names),
     };
     match done {
         Ok(status) => status,
@@ -123,20 +119,8 @@ fn print_file<R: Files + AllocGlobal + Print>(rt: &R, name: &str) -> Result<u8, 
     Ok(DONE)
 }
 
-/// What is done with a model, a graph and its vectors.
-#[derive(Clone, Copy)]
-enum Task {
-    /// The vectors are checked.
-    Check,
-    /// It is checked that they bound from above what the graph earns.
-    CheckAbove,
-    /// They are lowered so that they pass the check, and by how much is said.
-    Lower,
-    /// They are raised so that they pass the check from above, and by how much is said.
-    Raise,
-}
-
-/// Does this with three files.
+/// Does the task with three files, prints by how much vectors were lowered or raised, and returns the exit
+/// status.
 fn run_over_files<R: Files + Clock + AllocGlobal + Print + Eprint>(
     rt: &R,
     shows_progress: bool,
@@ -147,27 +131,17 @@ fn run_over_files<R: Files + Clock + AllocGlobal + Print + Eprint>(
     let (model, graph, vectors) = (&mut files.model, &mut files.graph, &mut files.vectors);
     let sink = &mut WriterSink::new(io::writer(rt));
     let progress = &mut Progress::new(rt, shows_progress);
-    let alloc = rt.alloc();
-    match task {
-        Task::Check => {
-            let verdict = run_check_watched(alloc, model, graph, vectors, sink, progress)?;
-            Ok(status_of_verdict(verdict))
-        }
-        Task::CheckAbove => {
-            let verdict = run_check_above_watched(alloc, model, graph, vectors, sink, progress)?;
-            Ok(status_of_above_verdict(verdict))
-        }
-        Task::Lower => {
-            let by = run_lower_watched(alloc, model, graph, vectors, sink, progress)?;
+    let outcome = run_task(rt.alloc(), task, model, graph, vectors, sink, progress)?;
+    match outcome {
+        Outcome::Checked(_) | Outcome::CheckedAbove(_) => {}
+        Outcome::Lowered(by) => {
             let _ = rt.eprintln(LoweredLine(by));
-            Ok(DONE)
         }
-        Task::Raise => {
-            let by = run_raise_watched(alloc, model, graph, vectors, sink, progress)?;
+        Outcome::Raised(by) => {
             let _ = rt.eprintln(RaisedLine(by));
-            Ok(DONE)
         }
     }
+    Ok(status_of_outcome(outcome))
 }
 
 /// The sources of a model, a graph and its vectors.

@@ -6,4 +6,5 @@ pub mod Lines
 pub mod Status
 pub mod Run
 pub mod RunAbove
+pub mod Task
 pub mod Steps

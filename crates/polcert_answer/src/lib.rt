@@ -11,6 +11,7 @@ mod lines;
 mod runs;
 mod runs_above;
 mod status;
+mod task;
 
 pub use answer::{check_texts, check_texts_above};
 pub use fault::{Fault, RunFault};
@@ -22,3 +23,4 @@ pub use laws::{
 pub use runs::{run_check, run_check_watched, run_lower, run_lower_watched, run_model, run_print};
 pub use runs_above::{run_check_above, run_check_above_watched, run_raise, run_raise_watched};
 pub use status::{status_of, status_of_above_verdict, status_of_verdict};
+pub use task::{Outcome, Task, run_task, status_of_outcome};

@@ -1,0 +1,117 @@
+//! What a run notifies its progress of.
+use polcert_answer::{Outcome, Task, run_task, status_of_outcome};
+use polcert_check::{AboveVerdict, Verdict, Watch};
+use polcert_testing::TIGER;
+use polcert_text::{SliceSink, SliceSource};
+use std::alloc::Global;
+
+/// The calls of one run, and the nodes that it said to begin with.
+#[derive(Clone, Copy, Debug, PartialEq)]
+struct Calls {
+    begin: usize,
+    nodes: usize,
+    node_done: usize,
+    end: usize,
+}
+
+impl Watch for Calls {
+    fn begin(&mut self, nodes: usize) {
+        self.begin = self.begin.saturating_add(1);
+        self.nodes = nodes;
+    }
+
+    fn node_done(&mut self) {
+        self.node_done = self.node_done.saturating_add(1);
+    }
+
+    fn end(&mut self) {
+        self.end = self.end.saturating_add(1);
+    }
+}
+
+/// Node 0 listens for good, which costs 1 at each step: 20 in all. Node 1 opens the left door, for -100 or 10, and goes on as node 0.
+const GRAPH: &[u8] = b"0 0 0 0 1 1 0 0";
+
+/// What the nodes are worth, exactly.
+const VALUES: &[u8] = b"0 -20 -20 1 -119 -9";
+
+/// A millionth too much in the last state.
+const HIGH: &[u8] = b"0 -20 -20 1 -119 -8.999999";
+
+/// A millionth too little there.
+const LOW: &[u8] = b"0 -20 -20 1 -119 -9.000001";
+
+/// The outcome of a task with the tiger, the graph and these vectors, and its calls.
+fn calls_of(alloc: Global, task: Task, vectors: &[u8]) -> Option<(Outcome, Calls)> {
+    let mut calls = Calls {
+        begin: 0,
+        nodes: 0,
+        node_done: 0,
+        end: 0,
+    };
+    let mut written = [0u8; 200];
+    let mut sink = SliceSink::new(&mut written);
+    let outcome = run_task(
+        alloc,
+        task,
+        &mut SliceSource::new(TIGER),
+        &mut SliceSource::new(GRAPH),
+        &mut SliceSource::new(vectors),
+        &mut sink,
+        &mut calls,
+    );
+    Some((outcome.ok()?, calls))
+}
+
+/// A task, vectors, its outcome, the exit status, and the nodes that are done. A constant is a millionth over one minus the discount. A no
+/// ends the walk at its node, while lowering and raising go over all nodes.
+const ROWS: [(Task, &[u8], Outcome, u8, usize); 8] = [
+    (Task::Check, VALUES, Outcome::Checked(Verdict::Yes), 0, 2),
+    (
+        Task::Check,
+        HIGH,
+        Outcome::Checked(Verdict::Short {
+            node: 1,
+            state: 1,
+            amount: 4_000_000_000_000_000_000,
+        }),
+        1,
+        1,
+    ),
+    (
+        Task::CheckAbove,
+        VALUES,
+        Outcome::CheckedAbove(AboveVerdict::Yes),
+        0,
+        2,
+    ),
+    (
+        Task::CheckAbove,
+        LOW,
+        Outcome::CheckedAbove(AboveVerdict::Long {
+            node: 1,
+            state: 1,
+            amount: 4_000_000_000_000_000_000,
+        }),
+        1,
+        1,
+    ),
+    (Task::Lower, VALUES, Outcome::Lowered(0), 0, 2),
+    (Task::Lower, HIGH, Outcome::Lowered(20), 0, 2),
+    (Task::Raise, VALUES, Outcome::Raised(0), 0, 2),
+    (Task::Raise, LOW, Outcome::Raised(20), 0, 2),
+];
+
+#[test]
+fn each_node_is_told_once(rt: HostRuntime) {
+    for (task, vectors, outcome, status, node_done) in ROWS {
+        let calls = Calls {
+            begin: 1,
+            nodes: 2,
+            node_done,
+            end: 1,
+        };
+        assert_eq!(rt; calls_of(rt.alloc(), task, vectors), Some((outcome, calls)));
+        assert_eq!(rt; status_of_outcome(outcome), status);
+    }
+}
