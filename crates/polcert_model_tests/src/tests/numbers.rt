@@ -149,9 +149,14 @@ pub fn counts_and_printable(alloc: Global, text: &[u8]) -> Option<([usize; 3], b
     Some((counts, model.printable()))
 }
 
-/// Why the text is refused, where it is: from a slice, and just so from a source in pieces of any size.
+/// Why the text is refused, if it is, read from memory alone.
+pub fn refusal_in_memory(alloc: Global, text: &[u8]) -> Option<ModelFault> {
+    read_model(alloc, text).err()
+}
+
+/// Why the text is refused, if it is: from memory, and the same from a source in pieces of several sizes.
 pub fn refusal(alloc: Global, text: &[u8]) -> Option<ModelFault> {
-    let fault = read_model(alloc, text).err()?;
+    let fault = refusal_in_memory(alloc, text)?;
     for most in [1usize, 7, 4096] {
         if refusal_in_pieces(alloc, text, most) != Some(fault) {
             return None;
