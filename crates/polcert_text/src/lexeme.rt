@@ -226,7 +226,7 @@ pub struct LexemeScan {
 }
 
 impl LexemeScan {
-    ghost use Rattle.polcert_text.specs.Steps.ScanOf.{IsScanOf, is_stuck, front_len, scan_at};
+    ghost use Rattle.polcert_text.specs.Steps.ScanOf.{IsScanOf, is_over, is_stuck, front_len, scan_at};
 
     pub fn new() -> LexemeScan
         ensures { IsScanOf [] result }
@@ -331,12 +331,12 @@ impl LexemeScan {
         self.longest
     }
 
-    /// Whether what follows changes nothing: no lexeme goes on, or one was found that is too long.
+    /// Whether no byte that follows changes the lexeme: nothing prolongs it, or it is too long already.
     pub fn is_known(self) -> bool
-        ensures known { result ≡ true → (is_stuck self.state ≡ true) ⊎ (400 < front_len self.longest) }
-        ensures not_known { result ≡ false → (is_stuck self.state ≡ false) × (front_len self.longest ≤ 400) }
+        ensures known { result ≡ true → (is_over self.state ≡ true) ⊎ (400 < front_len self.longest) }
+        ensures not_known { result ≡ false → (is_over self.state ≡ false) × (front_len self.longest ≤ 400) }
     {
-        if self.is_stuck() {
+        if matches!(self.state, State::Single(_) | State::Stuck) {
             return true;
         }
         match self.longest {

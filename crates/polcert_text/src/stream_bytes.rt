@@ -2,7 +2,7 @@
 ghost use Rattle.std.specs.Prelude.{◌≡◌, ◌+◌, ◌<◌, ◌≤◌, ◌-◌, ◌^◌, ◌∷◌, [], ℕ, List, Bool, Option, true, false, length, take, slice_index, IfOk, OnErr};
 ghost use Rattle.polcert_text.specs.Bytes.{class_of};
 ghost use Rattle.polcert_text.specs.Steps.Scan.{gap_after, gap_through};
-ghost use Rattle.polcert_text.specs.Steps.ScanOf.{is_stuck, front_len};
+ghost use Rattle.polcert_text.specs.Steps.ScanOf.{is_over, front_len};
 ghost use Rattle.polcert_text.specs.Stream.{Ahead, visible, skip};
 ghost use Rattle.polcert_text.specs.Steps.Streaming.{end_of, Fills, FailsAt, SkipsGapOrFails, ScansLexemeOrFails, IsComplete};
 
@@ -156,9 +156,9 @@ impl StreamBytes {
     fn lacks_lexeme(&self, scan: LexemeScan) -> bool
         ensures lacks { result ≡ true → (self.now.is_whole ≡ false)
             × (self.now.place + length self.now.kept < self.now.limit)
-            × (is_stuck scan.state ≡ false) × (front_len scan.longest ≤ 400) }
+            × (is_over scan.state ≡ false) × (front_len scan.longest ≤ 400) }
         ensures has { result ≡ false
-            → IsComplete self.now ⊎ ((is_stuck scan.state ≡ true) ⊎ (400 < front_len scan.longest)) }
+            → IsComplete self.now ⊎ ((is_over scan.state ≡ true) ⊎ (400 < front_len scan.longest)) }
     {
         if self.is_whole {
             return false;

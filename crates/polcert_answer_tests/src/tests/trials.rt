@@ -401,20 +401,68 @@ fn refused(fault: Fault) -> Text {
     }
 }
 
-/// How often this text is read until it is refused for this fault.
-fn reads_until_refused(
-    alloc: Global,
-    run: Run,
-    texts: Texts<'_>,
+/// How often the text that a row of REFUSED refuses is read before the answer, a byte at a read. Each count is typed from the format, not
+/// taken from a run: a mark, and a byte that begins no token, is known with its byte; any other token with the byte after it; and the end of
+/// the text by one read more than it has bytes.
+const READS_OF_REFUSED: [u64; 20] = [
+    12, // `discount: 2`: the number ends with the text, 11 bytes and the end
+    1, // no node: the end of the empty graph
+    7, // `0 0 -1`: the numeral after `-` ends at byte 6
+    8, // `0 0 0 1`: how many nodes there are is known at the end
+    10, // `0 0 0 0 0`: the node at byte 8 ends at byte 9
+    6, // `0 0 0`: 5 bytes and the end
+    4, // `0 3`: the action at byte 2 ends at byte 3
+    7, // `0 0 0 ;`: no token begins with byte 6
+    12, // `0 -20 -20 0`: the action at byte 10 ends at byte 11
+    1, // no vector: the end of the empty text
+    2, // `1`: the action at byte 0 ends at byte 1
+    8, // `0 -20 x`: the name ends with the text, 7 bytes and the end
+    7, // `0 -20 ;`: no token begins with byte 6
+    11, // `0 -20 -1e8`: the numeral ends with the text, 10 bytes and the end
+    8, // `0 -20 -`: a number is missing at the end, after 7 bytes
+    6, // `0 -20`: a number is missing at the end, after 5 bytes
+    8, // `0 0 0 0`, one observation: the node at byte 6 ends with the text
+    2, // `0`: the action at byte 0 ends at byte 1
+    7, // `0 -20 -`, one state: the mark at byte 6 begins a vector too many
+    6, // `0 1 1`: a vector is missing at the end, after 5 bytes
+];
+
+/// The same of the texts of `refused_models`.
+const READS_OF_MODELS: [u64; 10] = [
+    1, // the end of the empty text
+    6, // `hello`: the name ends at byte 5
+    37, // `.. states: 0`: the count ends with the text, 36 bytes and the end
+    12, // `discount: 2`: 11 bytes and the end
+    21, // `discount: 1 discount`: the second name ends at byte 20
+    14, // `discount: 1.2.`: the point at byte 13 is glued to the numeral
+    20, // `discount: 0.1234567`: 19 bytes and the end
+    16, // `discount: 1e400`: 15 bytes and the end
+    16, // `discount: 0e400`: 15 bytes and the end, where a line is missing
+    75, // `.. reset`: the name ends with the text, 74 bytes and the end
+];
+
+/// Models that are refused at a mark, and how often they are read: so many bytes as there are up to the mark and with it.
+const AT_MARKS: [(&[u8], ItemFault, u64, u64); 4] = [
+    (b"discount:: 1", ItemFault::BadShape, 1, 9),
+    (b"discount: * 1", ItemFault::BadShape, 1, 10),
+    (b"discount: 1 + 1", ItemFault::WrongNumberCount, 1, 12),
+    (b"discount: 1 - 1", ItemFault::WrongNumberCount, 1, 12),
+];
+
+const READS_AT_MARKS: [u64; 4] = [10, 11, 13, 13];
+
+/// A text that is refused, its fault, and how often it is read before.
+#[derive(Clone, Copy)]
+struct Refusal {
     text: Text,
     fault: RunFault,
-) -> Option<u64> {
+    reads: u64,
+}
+
+/// Whether the run refuses its texts so.
+fn is_refused_so(alloc: Global, run: Run, texts: Texts<'_>, refusal: Refusal) -> bool {
     let outcome = over_devices(alloc, run, texts, SOUND);
-    if outcome.answer == Err(fault) {
-        Some(text.reads(&outcome))
-    } else {
-        None
-    }
+    outcome.answer == Err(refusal.fault) && refusal.text.reads(&outcome) == refusal.reads
 }
 
 /// Whether the run stops with this fault before it writes.
@@ -429,18 +477,13 @@ fn stops_unwritten(
     outcome.writes == 0 && outcome.answer == Err(fault)
 }
 
-/// Of a text that is refused for this fault, the first read whose failure is answered otherwise: where it comes before what is refused, the
-/// source is named; behind that the text is refused as ever.
-fn first_wrong_read(
-    alloc: Global,
-    run: Run,
-    texts: Texts<'_>,
-    text: Text,
-    fault: RunFault,
-) -> Option<u64> {
-    let Some(reads) = reads_until_refused(alloc, run, texts, text, fault) else {
+/// The first read of a refused text whose failure is answered wrongly. Up to the read that decides, the source is named; after it the
+/// text is refused as ever. A text that is not refused so is wrong at its first read.
+fn first_wrong_read(alloc: Global, run: Run, texts: Texts<'_>, refusal: Refusal) -> Option<u64> {
+    if !is_refused_so(alloc, run, texts, refusal) {
         return Some(0);
-    };
+    }
+    let Refusal { text, fault, reads } = refusal;
     for read in 0..=text.of(texts).len() as u64 {
         let wanted = if read < reads { text.fault() } else { fault };
         if !stops_unwritten(alloc, run, texts, text.failing(read), wanted) {
@@ -451,12 +494,19 @@ fn first_wrong_read(
 }
 
 /// The first row of which a failing read is answered otherwise in a check, and the read.
-fn first_wrong_in_a_check(alloc: Global, rows: &[(Texts<'static>, Fault)]) -> Option<(usize, u64)> {
-    for row in 0..rows.len() {
+fn first_wrong_in_a_check(
+    alloc: Global,
+    rows: &[(Texts<'static>, Fault)],
+    reads: &[u64],
+) -> Option<(usize, u64)> {
+    for row in 0..rows.len().min(reads.len()) {
         let (texts, fault) = rows[row];
-        let text = refused(fault);
-        let stopped = RunFault::Text(fault);
-        if let Some(read) = first_wrong_read(alloc, Run::Check, texts, text, stopped) {
+        let refusal = Refusal {
+            text: refused(fault),
+            fault: RunFault::Text(fault),
+            reads: reads[row],
+        };
+        if let Some(read) = first_wrong_read(alloc, Run::Check, texts, refusal) {
             return Some((row, read));
         }
     }
@@ -467,12 +517,17 @@ fn first_wrong_in_a_check(alloc: Global, rows: &[(Texts<'static>, Fault)]) -> Op
 fn first_wrong_in_print(
     alloc: Global,
     rows: &[(&'static [u8], ItemFault, u64, u64)],
+    reads: &[u64],
 ) -> Option<(usize, u64)> {
-    for row in 0..rows.len() {
+    for row in 0..rows.len().min(reads.len()) {
         let (model, kind, number, place) = rows[row];
         let texts = (model, b"".as_slice(), b"".as_slice());
-        let fault = item(kind, number, place);
-        if let Some(read) = first_wrong_read(alloc, Run::Print, texts, Text::Model, fault) {
+        let refusal = Refusal {
+            text: Text::Model,
+            fault: item(kind, number, place),
+            reads: reads[row],
+        };
+        if let Some(read) = first_wrong_read(alloc, Run::Print, texts, refusal) {
             return Some((row, read));
         }
     }
@@ -481,8 +536,18 @@ fn first_wrong_in_print(
 
 #[test]
 fn refused_or_failed(rt: HostRuntime) {
-    assert_eq!(rt; first_wrong_in_a_check(rt.alloc(), &refused_rows()), None);
-    assert_eq!(rt; first_wrong_in_print(rt.alloc(), &refused_models()), None);
+    assert_eq!(rt;
+        first_wrong_in_a_check(rt.alloc(), &refused_rows(), &READS_OF_REFUSED),
+        None
+    );
+    assert_eq!(rt;
+        first_wrong_in_print(rt.alloc(), &refused_models(), &READS_OF_MODELS),
+        None
+    );
+    assert_eq!(rt;
+        first_wrong_in_print(rt.alloc(), &AT_MARKS, &READS_AT_MARKS),
+        None
+    );
 }
 
 /// Runs, and the text of theirs that is cut at every length.

@@ -1,6 +1,6 @@
 -- Reading a lexeme byte by byte tells what kind of lexeme each front is.
 use Rattle.std.proofs.Common.{◌≡◌, ◌∙◌, ℕ, ◌+◌, Bool, true, false, not, ◌&&◌, ◌||◌, cond, Option, Some, None, List, [], ◌∷◌, ◌++◌, take, drop, refl, sym, ap, append-nil, arith}
-use Rattle.std.proofs.Common.{◌<◌, ◌≤◌, length, get_or, ◌⊎◌, ⊎_elim, take_all}
+use Rattle.std.proofs.Common.{◌<◌, ◌≤◌, length, get_or, ◌⊎◌, ⊎_elim, take_all, append_assoc, subst}
 use Rattle.std.proofs.lemmas.List.{take_more, take-take, take-append-drop, take-append-le, take_at, length-append}
 use Rattle.polcert_text.specs.Steps.ScanOf.{is_stuck, IsFrontOf}
 use Rattle.std.specs.List.{list_all, list_any}
@@ -197,6 +197,12 @@ front_whatever_follows read tail front was stuck = go front was
       lexeme = ap kind_of (take-append-le front.len read tail was.within) ∙ was.lexeme;
       longest = λ k more _. none (front.len + 1) k (λ k from h. was.longest k (omega arith) h) (omega arith);
     }
+
+-- nor do bytes that follow one with which no lexeme goes on
+pub front_before : (read : List ℕ) (b : ℕ) (tail : List ℕ) (front : Option Front) → IsFrontOf read front → state_through Start (read ++ b ∷ []) ≡ Stuck → IsFrontOf (read ++ b ∷ tail) front
+front_before read b tail front was stuck =
+    let keeps = front_keeps read b front was (kind_of-through (read ++ b ∷ []) ∙ ap kind_at stuck) in
+    subst (λ xs. IsFrontOf xs front) (append_assoc read (b ∷ []) tail) (front_whatever_follows (read ++ b ∷ []) tail front keeps stuck)
 
 pub stuck_state : (state : State) → is_stuck state ≡ true → state ≡ Stuck
 stuck_state Stuck h = refl

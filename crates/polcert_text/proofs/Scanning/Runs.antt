@@ -20,7 +20,7 @@ use Rattle.polcert_text.specs.declared.lexeme.Gap.TheVariants.{Between, Comment,
 use Rattle.polcert_text.specs.declared.lexeme.State.{State}
 use Rattle.polcert_text.specs.declared.lexeme.State.TheVariants.{Start, Name, Whole, Fraction, Single, Stuck}
 use Rattle.polcert_text.proofs.Scanning.GapLaws.{longest_gap_at, gap_until_open, gap_through-append}
-use Rattle.polcert_text.proofs.Scanning.LexemeLaws.{kind_of-through, front_keeps, front_whatever_follows, state_step}
+use Rattle.polcert_text.proofs.Scanning.LexemeLaws.{kind_of-through, front_before, state_step}
 use Rattle.polcert_text.proofs.Streams.StreamLaws.{skipped_step}
 use Rattle.polcert_text.proofs.Scanning.Classes.{line_end_at_10}
 
@@ -106,13 +106,12 @@ ends_within bs n state kind h read is none ends =
     let stuck : state_through Start (take (n + 1) bs) ≡ Stuck = state_step bs n state (class_of b) Stuck h read refl (sym ends) in
     let more : take (n + 1) bs ≡ take n bs ++ b ∷ [] = take_more bs n 0 h in
     let dead : state_through Start (take n bs ++ b ∷ []) ≡ Stuck = ap (state_through Start) (sym more) ∙ stuck in
-    let keeps : IsFrontOf (take n bs ++ b ∷ []) (Some front) = front_keeps (take n bs) b (Some front) whole.longest (kind_of-through (take n bs ++ b ∷ []) ∙ ap kind_at dead) in
     let joined : (take n bs ++ b ∷ []) ++ drop (n + 1) bs ≡ bs = ap (λ xs. xs ++ drop (n + 1) bs) (sym more) ∙ take-append-drop (n + 1) bs in
     record {
       within = h;
       longest = λ tail.
-          let on : IsFrontOf ((take n bs ++ b ∷ []) ++ (drop (n + 1) bs ++ tail)) (Some front) = front_whatever_follows (take n bs ++ b ∷ []) (drop (n + 1) bs ++ tail) (Some front) keeps dead in
-          let all : (take n bs ++ b ∷ []) ++ (drop (n + 1) bs ++ tail) ≡ bs ++ tail = sym (append_assoc (take n bs ++ b ∷ []) (drop (n + 1) bs) tail) ∙ ap (λ xs. xs ++ tail) joined in
+          let on : IsFrontOf (take n bs ++ b ∷ (drop (n + 1) bs ++ tail)) (Some front) = front_before (take n bs) b (drop (n + 1) bs ++ tail) (Some front) whole.longest dead in
+          let all : take n bs ++ b ∷ (drop (n + 1) bs ++ tail) ≡ bs ++ tail = sym (append_assoc (take n bs) (b ∷ drop (n + 1) bs) tail) ∙ ap (λ xs. xs ++ tail) (sym (append_assoc (take n bs) (b ∷ []) (drop (n + 1) bs)) ∙ joined) in
           subst (λ xs. IsLongestLexeme xs kind n) all on;
     }
 

@@ -1,15 +1,20 @@
 -- A lexeme that was seen at the front of some bytes, whatever follows them.
-use Rattle.std.proofs.Common.{◌≡◌, ◌∙◌, ◌<◌, ◌≤◌, ◌⊎◌, inl, inr, ℕ, true, false, Option, Some, None, List, [], ◌++◌, length, take, drop, refl, sym, ap, subst, append-nil, append_assoc, take_all, ⊎_elim, ◌∷◌, arith}
+use Rattle.std.proofs.Common.{◌≡◌, ◌∙◌, ◌<◌, ◌≤◌, ◌⊎◌, inl, inr, ℕ, Bool, true, false, Option, Some, None, List, [], ◌++◌, length, take, drop, refl, sym, ap, subst, append-nil, append_assoc, take_all, ⊎_elim, ◌∷◌, arith}
 use Rattle.std.proofs.lemmas.List.{take-append-drop, take-append-le, length-append, length-take}
 use Rattle.polcert_text.specs.Lexemes.{kind_of}
-use Rattle.polcert_text.specs.Steps.Scan.{state_through, kind_at}
-use Rattle.polcert_text.specs.Steps.ScanOf.{front_len, is_stuck, IsFrontOf, IsScanOf}
+use Rattle.polcert_text.specs.Bytes.{class_of}
+use Rattle.polcert_text.specs.Steps.Scan.{state_after, state_through, kind_at, is_numeral_kind}
+use Rattle.polcert_text.specs.Steps.ScanOf.{front_len, front_kind, is_over, is_stuck, pending, IsFrontOf, IsScanOf}
 use Rattle.polcert_text.specs.Steps.Streaming.{IsFrontOrLong, IsSeen}
 use Rattle.polcert_text.specs.declared.lexeme.Front.{Front}
 use Rattle.polcert_text.specs.declared.lexeme.LexemeScan.{LexemeScan}
-use Rattle.polcert_text.specs.declared.lexeme.State.TheVariants.{Start, Stuck}
+use Rattle.polcert_text.specs.declared.bytes.ByteClass.{ByteClass}
+use Rattle.polcert_text.specs.declared.bytes.ByteClass.TheVariants as classes
+use Rattle.polcert_text.specs.declared.lexeme.TokenKind.{TokenKind}
+use Rattle.polcert_text.specs.declared.lexeme.State.{State}
+use Rattle.polcert_text.specs.declared.lexeme.State.TheVariants.{Start, Single, Stuck}
 use Rattle.polcert_text.proofs.Scanning.LexemeEnds.{scanned}
-use Rattle.polcert_text.proofs.Scanning.LexemeLaws.{front_whatever_follows, stuck_state, kind_of-through}
+use Rattle.polcert_text.proofs.Scanning.LexemeLaws.{front_whatever_follows, front_before, state_fed, stuck_state, kind_of-through}
 
 pub front_or_long : (bs : List ℕ) (front : Option Front) → IsFrontOf bs front → IsFrontOrLong bs front
 front_or_long bs None was = was
@@ -19,7 +24,7 @@ front_or_long bs (Some f) was = inl was
 pub seen_whole : (bs : List ℕ) (front : Option Front) → IsFrontOf bs front → IsSeen bs [] front
 seen_whole bs front was = record {
   front_is = subst (λ xs. IsFrontOrLong xs front) (sym (append-nil bs)) (front_or_long bs front was);
-  apart = λ _. inl refl;
+  apart = λ _ _. inl refl;
 }
 
 -- a front is no longer than the bytes
@@ -28,6 +33,9 @@ front_within bs None was = omega arith
 front_within bs (Some f) was = was.within
 
 -- where no lexeme goes on, the last byte is none of the longest
+true≢false : {b : Bool} → b ≡ true → b ≡ false → ⊥
+true≢false e f = cc
+
 some≢none : {A : Type 0} {o : Option A} {x : A} → o ≡ Some x → o ≡ None → ⊥
 some≢none a b = cc
 
@@ -47,7 +55,7 @@ front_short read (Some f) was stuck some =
     none = kind_of-through read ∙ ap kind_at stuck
 
 -- the bytes that a scan went through tell the lexeme, where none goes on
-pub seen_stuck : (bs tail : List ℕ) (scan : LexemeScan) → IsScanOf (take scan.len bs) scan → is_stuck scan.state ≡ true → IsSeen bs tail scan.longest
+seen_stuck : (bs tail : List ℕ) (scan : LexemeScan) → IsScanOf (take scan.len bs) scan → is_stuck scan.state ≡ true → IsSeen bs tail scan.longest
 seen_stuck bs tail scan was stuck =
     let read = take scan.len bs in
     let at_stuck : state_through Start read ≡ Stuck = was.state ∙ stuck_state scan.state stuck in
@@ -56,8 +64,54 @@ seen_stuck bs tail scan was stuck =
     let short = front_short read scan.longest was.longest at_stuck some in
     record {
       front_is = front_or_long (bs ++ tail) scan.longest (subst (λ xs. IsFrontOf xs scan.longest) joined (front_whatever_follows read (drop scan.len bs ++ tail) scan.longest was.longest at_stuck));
-      apart = λ _. inr (omega (arith, length-take scan.len bs));
+      apart = λ _ _. inr (omega (arith, length-take scan.len bs));
     }
+
+-- bytes that follow a mark change nothing
+front_at_mark : (read tail : List ℕ) (front : Option Front) (kind : TokenKind) → IsFrontOf read front → state_through Start read ≡ Single kind → IsFrontOf (read ++ tail) front
+front_at_mark read [] front kind was mark = subst (λ xs. IsFrontOf xs front) (sym (append-nil read)) was
+front_at_mark read (b ∷ tail) front kind was mark = front_before read b tail front was (state_fed read b (Single kind) Stuck (class_of b) mark refl refl)
+
+-- no mark is a numeral
+abbrev is_numeral_mark : State → Bool
+is_numeral_mark (Single kind) = is_numeral_kind (Some kind)
+is_numeral_mark _ = false
+
+no_numeral_after : (state : State) (c : ByteClass) → is_numeral_mark (state_after state c) ≡ false
+no_numeral_after Start classes.Digit = refl
+no_numeral_after _ classes.Digit = refl
+no_numeral_after _ _ = refl
+
+no_numeral_mark : (state : State) (bs : List ℕ) → is_numeral_mark state ≡ false → is_numeral_mark (state_through state bs) ≡ false
+no_numeral_mark state [] before = before
+no_numeral_mark state (b ∷ bs) before = no_numeral_mark (state_after state (class_of b)) bs (no_numeral_after state (class_of b))
+
+mark_kind : (read : List ℕ) (front : Option Front) (kind : TokenKind) → IsFrontOf read front → front_len front ≡ length read → state_through Start read ≡ Single kind
+    → is_numeral_kind (front_kind front) ≡ false
+mark_kind read None kind was len mark = refl
+mark_kind read (Some f) kind was len mark =
+    let same : Some f.kind ≡ Some kind = sym was.lexeme ∙ ap kind_of (take_all f.len read (omega (arith, len))) ∙ kind_of-through read ∙ ap kind_at mark in
+    ap is_numeral_kind same ∙ sym (ap is_numeral_mark mark) ∙ no_numeral_mark Start read refl
+
+-- or a mark
+seen_mark : (bs tail : List ℕ) (scan : LexemeScan) (kind : TokenKind) → IsScanOf (take scan.len bs) scan → scan.state ≡ Single kind → IsSeen bs tail scan.longest
+seen_mark bs tail scan kind was mark =
+    let read = take scan.len bs in
+    let at_mark : state_through Start read ≡ Single kind = was.state ∙ mark in
+    let whole : front_len scan.longest ≡ length read = omega (arith, was.len, was.behind (ap is_stuck mark), ap pending mark) in
+    let joined : read ++ (drop scan.len bs ++ tail) ≡ bs ++ tail = sym (append_assoc read (drop scan.len bs) tail) ∙ ap (λ xs. xs ++ tail) (take-append-drop scan.len bs) in
+    record {
+      front_is = front_or_long (bs ++ tail) scan.longest (subst (λ xs. IsFrontOf xs scan.longest) joined (front_at_mark read (drop scan.len bs ++ tail) scan.longest kind was.longest at_mark));
+      apart = λ numeral _. absurd (true≢false numeral (mark_kind read scan.longest kind was.longest whole at_mark));
+    }
+
+pub seen_over : (bs tail : List ℕ) (scan : LexemeScan) → IsScanOf (take scan.len bs) scan → is_over scan.state ≡ true → IsSeen bs tail scan.longest
+seen_over bs tail scan was over = go scan.state refl
+  where
+    go : (state : State) → scan.state ≡ state → IsSeen bs tail scan.longest
+    go Stuck e = seen_stuck bs tail scan was (ap is_stuck e)
+    go (Single kind) e = seen_mark bs tail scan kind was e
+    go _ e = absurd (cc)
 
 -- or where a lexeme was found that is too long
 pub seen_long : (bs tail : List ℕ) (front : Option Front) (n : ℕ) → IsFrontOf (take n bs) front → 400 < front_len front → IsSeen bs tail front
@@ -67,7 +121,7 @@ seen_long bs tail (Some f) n was long =
     let same : take f.len (bs ++ tail) ≡ take f.len (take n bs) = ap (take f.len) (sym joined) ∙ take-append-le f.len (take n bs) (drop n bs ++ tail) was.within in
     record {
       front_is = inr (long, omega (arith, was.within, length-take n bs, length-append bs tail), ap kind_of same ∙ was.lexeme);
-      apart = λ short. absurd (omega arith);
+      apart = λ _ short. absurd (omega arith);
     }
 
 -- or where nothing follows

@@ -1,13 +1,13 @@
 -- The lexeme that a stream scans, in pieces.
 use Rattle.std.proofs.Common.{◌≡◌, ◌∙◌, ◌-◌, ◌<◌, ◌≤◌, ◌⊎◌, inl, inr, ℕ, true, false, Option, Some, List, [], ◌++◌, length, take, refl, sym, ap, subst, append-nil, Bool, arith}
 use Rattle.std.proofs.lemmas.List.{take-append-le, take-take, length-take}
-use Rattle.polcert_text.specs.Steps.ScanOf.{IsScanOf, is_stuck, front_len, EndsWithin}
+use Rattle.polcert_text.specs.Steps.ScanOf.{IsScanOf, is_over, is_stuck, front_len, EndsWithin}
 use Rattle.polcert_text.specs.Stream.{Ahead, visible}
 use Rattle.polcert_text.specs.Steps.Streaming.{with_read, IsComplete, IsSeen, Fills, ReadsOn, ScansLexeme}
 use Rattle.polcert_text.specs.Lexemes.{is_empty}
 use Rattle.polcert_text.specs.declared.lexeme.Front.{Front}
 use Rattle.polcert_text.specs.declared.lexeme.LexemeScan.{LexemeScan}
-use Rattle.polcert_text.proofs.Scanning.SeenLaws.{seen_stuck, seen_long, seen_all, seen_within}
+use Rattle.polcert_text.proofs.Scanning.SeenLaws.{seen_over, seen_long, seen_all, seen_within}
 use Rattle.polcert_text.proofs.Streams.StreamLaws.{visible_len, reads_nothing, reads_fill}
 
 -- a front of the bytes below the limit stays so
@@ -32,7 +32,7 @@ module _ {S : Type 0} (reads : S → ℕ → Option (List ℕ) → S → Type 0)
     given = [];
     reads_on = reads_nothing reads failures old s below;
     within = omega (arith, ends.within);
-    seen = λ tail none. record { front_is = inl (ends.longest tail); apart = λ _. inr ends.within };
+    seen = λ tail none. record { front_is = inl (ends.longest tail); apart = λ _ _. inr ends.within };
   }
 
   -- within a lexeme
@@ -58,7 +58,7 @@ module _ {S : Type 0} (reads : S → ℕ → Option (List ℕ) → S → Type 0)
 
   -- the lexeme is known
   pub lexeme_ends : (old : Ahead) (s : S) (scan : LexemeScan) (now : Ahead) (t : S) → InLexeme old s scan now t
-      → IsComplete now ⊎ ((is_stuck scan.state ≡ true) ⊎ (400 < front_len scan.longest)) → ScansLexeme reads failures old s scan.longest now t
+      → IsComplete now ⊎ ((is_over scan.state ≡ true) ⊎ (400 < front_len scan.longest)) → ScansLexeme reads failures old s scan.longest now t
   lexeme_ends old s scan now t was known = record {
     given = was.given;
     reads_on = was.on;
@@ -66,9 +66,9 @@ module _ {S : Type 0} (reads : S → ℕ → Option (List ℕ) → S → Type 0)
     seen = λ tail none. at known tail none;
   }
     where
-      at : IsComplete now ⊎ ((is_stuck scan.state ≡ true) ⊎ (400 < front_len scan.longest)) → (tail : List ℕ) → (IsComplete now → tail ≡ []) → IsSeen (visible now) tail scan.longest
+      at : IsComplete now ⊎ ((is_over scan.state ≡ true) ⊎ (400 < front_len scan.longest)) → (tail : List ℕ) → (IsComplete now → tail ≡ []) → IsSeen (visible now) tail scan.longest
       at (inl complete) tail none = seen_all (visible now) tail scan was.scan_is was.all (none complete)
-      at (inr (inl stuck)) tail none = seen_stuck (visible now) tail scan was.scan_is stuck
+      at (inr (inl over)) tail none = seen_over (visible now) tail scan was.scan_is over
       at (inr (inr long)) tail none = seen_long (visible now) tail scan.longest scan.len was.scan_is.longest long
 
   -- the true end comes next

@@ -13,13 +13,18 @@ use Rattle.polcert_text.specs.Steps.Scan.{state_through}
 use Rattle.polcert_text.specs.declared.lexeme.State.{State}
 use Rattle.polcert_text.specs.declared.lexeme.TokenKind.{TokenKind}
 use Rattle.polcert_text.specs.declared.lexeme.TokenKind.TheVariants.{Numeral}
-use Rattle.polcert_text.specs.declared.lexeme.State.TheVariants.{Start, Point, Mark, Sign, Stuck}
+use Rattle.polcert_text.specs.declared.lexeme.State.TheVariants.{Start, Point, Mark, Sign, Single, Stuck}
 use Rattle.polcert_text.specs.declared.lexeme.Front.{Front}
 use Rattle.polcert_text.specs.declared.lexeme.LexemeScan.{LexemeScan}
 
 abbrev pub is_stuck : State → Bool
 is_stuck Stuck = true
 is_stuck _ = false
+
+-- no byte prolongs what the state has read
+abbrev pub is_over : State → Bool
+is_over (Single kind) = true
+is_over state = is_stuck state
 
 -- the longest lexeme at the front of the bytes, or none
 abbrev pub IsFrontOf : List ℕ → Option Front → Type 0
@@ -35,6 +40,10 @@ pending _ = 0
 abbrev pub front_len : Option Front → ℕ
 front_len None = 0
 front_len (Some front) = front.len
+
+abbrev pub front_kind : Option Front → Option TokenKind
+front_kind None = None
+front_kind (Some front) = Some front.kind
 
 -- the scan was fed these bytes
 pub record IsScanOf (read : List ℕ) (scan : LexemeScan) : Type 0 where

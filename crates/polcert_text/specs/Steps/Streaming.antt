@@ -5,7 +5,8 @@ use Rattle.polcert_text.specs.Cut.{Lexeme}
 use Rattle.polcert_text.specs.Device.{HasFailed}
 use Rattle.polcert_text.specs.Fronts.{IsLongestGap, IsLongestLexeme, NoLexeme}
 use Rattle.polcert_text.specs.Lexemes.{is_empty, kind_of}
-use Rattle.polcert_text.specs.Steps.ScanOf.{front_len}
+use Rattle.polcert_text.specs.Steps.Scan.{is_numeral_kind}
+use Rattle.polcert_text.specs.Steps.ScanOf.{front_len, front_kind}
 use Rattle.polcert_text.specs.Stream.{Ahead, Stream, rest_with, CanFollow, ReadsFrom, IsAtEnd, Fails, GivesToken, GivesEnd, visible}
 use Rattle.polcert_text.specs.declared.lexeme.Front.{Front}
 use Rattle.polcert_text.specs.declared.lexeme.TokenKind.{TokenKind}
@@ -45,11 +46,11 @@ IsFrontOrLong bytes None = NoLexeme bytes
 IsFrontOrLong bytes (Some f) = IsLongestLexeme bytes f.kind f.len
     ⊎ ((400 < f.len) × (f.len ≤ length bytes) × (kind_of (take f.len bytes) ≡ Some f.kind))
 
--- The lexeme at the front of these bytes, where the tail follows them. If it is not too long, the byte behind it is one
--- of them, or there is no tail.
+-- The lexeme at the front of these bytes, where the tail follows them. If it is a numeral and not too long, the byte after it
+-- is one of them, or there is no tail.
 pub record IsSeen (bytes tail : List ℕ) (front : Option Front) : Type 0 where
   pub front_is : IsFrontOrLong (bytes ++ tail) front
-  pub apart : front_len front ≤ 400 → (tail ≡ []) ⊎ (front_len front < length bytes)
+  pub apart : is_numeral_kind (front_kind front) ≡ true → front_len front ≤ 400 → (tail ≡ []) ⊎ (front_len front < length bytes)
 
 module _ {S : Type 0} (reads : S → ℕ → Option (List ℕ) → S → Type 0) (failures : S → ℕ) where
   -- one read

@@ -139,6 +139,29 @@ fn reads_no_further_than_it_must(rt: HostRuntime) {
     assert_eq!(rt; source.failures, 0);
 }
 
+const MARKS: [(&[u8], TokenKind); 4] = [
+    (b":", TokenKind::Colon),
+    (b"*", TokenKind::Star),
+    (b"+", TokenKind::Plus),
+    (b"-", TokenKind::Minus),
+];
+
+/// Nothing prolongs a mark: it is given with its byte, and the read after it, which fails, comes with the next call.
+#[test]
+fn a_mark_is_given_with_its_byte(rt: HostRuntime) {
+    for (text, kind) in MARKS {
+        let mut found = StreamTokens::new(TEXT_LIMIT);
+        let mut source = Pieces::new(text, 1, true);
+        match found.next_token(&mut source) {
+            Ok(Some(token)) => assert_eq!(rt; token.kind, kind),
+            _ => panic!(rt; "a mark"),
+        }
+        assert_eq!(rt; (source.reads, source.failures), (1, 0));
+        assert_end(&rt, &mut found, &mut source, Some(StreamFault::Device));
+        assert_eq!(rt; (source.reads, source.failures), (2, 1));
+    }
+}
+
 /// 4,095 blanks and a name of so many bytes, and a line end behind it.
 fn long_name(count: usize) -> [u8; 4500] {
     let mut text = [b' '; 4500];
