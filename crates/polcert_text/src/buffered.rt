@@ -15,7 +15,7 @@ use crate::{Sink, SinkFailed, write_all};
 pub struct BufferedSink<'a, W> {
     pub sink: &'a mut W,
     pub held: Buffer,
-    pub failures: u64,
+    failures: u64,
 }
 
 impl<'a, W> BufferedSink<'a, W> {
@@ -31,6 +31,15 @@ impl<'a, W> BufferedSink<'a, W> {
             held: Buffer::new(),
             failures: 0,
         }
+    }
+}
+
+impl<W> BufferedSink<'_, W> {
+    /// Returns how many calls have failed, at most `u64::MAX`.
+    pub fn failures(&self) -> u64
+        ensures { result ≡ self.now.failures }
+    {
+        self.failures
     }
 }
 

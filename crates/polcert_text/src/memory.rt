@@ -37,7 +37,7 @@ impl Source for SliceSource<'_> {
 pub struct SliceSink<'a> {
     pub buffer: &'a mut [u8],
     pub len: usize,
-    pub failures: u64,
+    failures: u64,
     ghost in_range: { len ≤ length buffer.now },
 }
 
@@ -62,6 +62,13 @@ impl SliceSink<'_> {
         ensures { result.now ≡ take self.now.len self.now.buffer.now }
     {
         &self.buffer[..self.len]
+    }
+
+    /// Returns how many writes have failed, at most `u64::MAX`.
+    pub fn failures(&self) -> u64
+        ensures { result ≡ self.now.failures }
+    {
+        self.failures
     }
 }
 

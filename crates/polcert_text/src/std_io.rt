@@ -9,17 +9,25 @@ use std::io::{Read, Write};
 #[derive(Drop)]
 pub struct ReaderSource<R> {
     pub reader: R,
-    pub failures: u64,
+    failures: u64,
 }
 
 impl<R> ReaderSource<R> {
     pub fn new(reader: R) -> ReaderSource<R>
-        ensures { result ≡ record { reader = reader; failures = 0 } }
+        ensures reader { result.reader ≡ reader }
+        ensures failures { result.failures ≡ 0 }
     {
         ReaderSource {
             reader,
             failures: 0,
         }
+    }
+
+    /// Returns how many reads have failed, at most `u64::MAX`.
+    pub fn failures(&self) -> u64
+        ensures { result ≡ self.now.failures }
+    {
+        self.failures
     }
 }
 
@@ -43,17 +51,25 @@ impl<R: Read> Source for ReaderSource<R> {
 #[derive(Drop)]
 pub struct WriterSink<W> {
     pub writer: W,
-    pub failures: u64,
+    failures: u64,
 }
 
 impl<W> WriterSink<W> {
     pub fn new(writer: W) -> WriterSink<W>
-        ensures { result ≡ record { writer = writer; failures = 0 } }
+        ensures writer { result.writer ≡ writer }
+        ensures failures { result.failures ≡ 0 }
     {
         WriterSink {
             writer,
             failures: 0,
         }
+    }
+
+    /// Returns how many writes have failed, at most `u64::MAX`.
+    pub fn failures(&self) -> u64
+        ensures { result ≡ self.now.failures }
+    {
+        self.failures
     }
 }
 

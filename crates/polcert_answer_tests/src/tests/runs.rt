@@ -130,10 +130,10 @@ pub fn over_devices(alloc: Global, run: Run, texts: Texts<'_>, devices: Devices)
     let mut sink = WriterSink::new(Taker::new(alloc, devices.sink));
     let answer = run.over(alloc, &mut model, &mut graph, &mut vectors, &mut sink);
     let failures = model
-        .failures
-        .saturating_add(graph.failures)
-        .saturating_add(vectors.failures)
-        .saturating_add(sink.failures);
+        .failures()
+        .saturating_add(graph.failures())
+        .saturating_add(vectors.failures())
+        .saturating_add(sink.failures());
     Outcome {
         answer,
         reads: (model.reader.reads, graph.reader.reads, vectors.reader.reads),
@@ -156,7 +156,7 @@ pub fn over_slices(alloc: Global, run: Run, texts: Texts<'_>) -> Outcome {
         answer,
         reads: (0, 0, 0),
         writes: sink.writer.writes,
-        failures: sink.failures,
+        failures: sink.failures(),
         written: sink.writer.taken,
     }
 }

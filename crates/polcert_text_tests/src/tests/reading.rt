@@ -9,7 +9,7 @@ fn reads_in_pieces(rt: HostRuntime) -> Result<(), Fail> {
         let mut source = ReaderSource::new(Giver::new(b"discount: 1", most, None));
         let bytes = read_all(rt.alloc(), &mut source, 100)?;
         assert_eq!(rt; bytes.as_slice(), b"discount: 1".as_slice());
-        assert_eq!(rt; source.failures, 0);
+        assert_eq!(rt; source.failures(), 0);
         assert_eq!(rt; source.reader.reads, reads);
     }
     Ok(())
@@ -25,7 +25,7 @@ fn fails_at_each_read(rt: HostRuntime) {
             Err(fault) => assert_eq!(rt; fault, ReadFault::Device),
             Ok(_) => panic!(rt; "read {failing} failed"),
         }
-        assert_eq!(rt; source.failures, 1);
+        assert_eq!(rt; source.failures(), 1);
         assert_eq!(rt; source.reader.reads, failing + 1);
     }
 }
@@ -61,12 +61,12 @@ fn one_read_for_one_read(rt: HostRuntime) {
     assert_eq!(rt; piece.as_slice(), b"ab....".as_slice());
     assert_eq!(rt; source.read(&mut piece), Err(SourceFailed));
     assert_eq!(rt; piece.as_slice(), b"ab....".as_slice());
-    assert_eq!(rt; (source.failures, source.reader.reads), (1, 2));
+    assert_eq!(rt; (source.failures(), source.reader.reads), (1, 2));
     assert_eq!(rt; source.read(&mut piece), Ok(1));
     assert_eq!(rt; piece.as_slice(), b"cb....".as_slice());
     assert_eq!(rt; source.read(&mut piece), Ok(0));
     assert_eq!(rt; source.read(&mut piece), Ok(0));
-    assert_eq!(rt; (source.failures, source.reader.reads), (1, 5));
+    assert_eq!(rt; (source.failures(), source.reader.reads), (1, 5));
 }
 
 #[test]
@@ -74,6 +74,6 @@ fn reads_a_reader_of_std(rt: HostRuntime) -> Result<(), Fail> {
     let mut source = ReaderSource::new(b"a text".as_slice());
     let bytes = read_all(rt.alloc(), &mut source, 100)?;
     assert_eq!(rt; bytes.as_slice(), b"a text".as_slice());
-    assert_eq!(rt; source.failures, 0);
+    assert_eq!(rt; source.failures(), 0);
     Ok(())
 }

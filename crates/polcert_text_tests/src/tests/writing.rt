@@ -12,13 +12,13 @@ fn fails_at_each_write(rt: HostRuntime) {
         let mut sink = WriterSink::new(Taker::new(rt.alloc(), Failing::Fails(failing as u64)));
         assert_eq!(rt; write_all(&mut sink, text), Err(SinkFailed));
         assert_eq!(rt; sink.writer.taken.as_slice(), &text[..failing]);
-        assert_eq!(rt; sink.failures, 1);
+        assert_eq!(rt; sink.failures(), 1);
         assert_eq!(rt; sink.writer.writes, failing as u64 + 1);
     }
     let mut sink = WriterSink::new(Taker::new(rt.alloc(), Failing::Never));
     assert_eq!(rt; write_all(&mut sink, text), Ok(()));
     assert_eq!(rt; sink.writer.taken.as_slice(), text.as_slice());
-    assert_eq!(rt; sink.failures, 0);
+    assert_eq!(rt; sink.failures(), 0);
     assert_eq!(rt; sink.writer.writes, 17);
 }
 
@@ -29,7 +29,7 @@ fn a_full_slice_fails(rt: HostRuntime) {
     assert_eq!(rt; write_all(&mut sink, b"ab"), Ok(()));
     assert_eq!(rt; write_all(&mut sink, b"cde"), Err(SinkFailed));
     assert_eq!(rt; sink.written(), b"abcd".as_slice());
-    assert_eq!(rt; sink.failures, 1);
+    assert_eq!(rt; sink.failures(), 1);
     assert_eq!(rt; write_all(&mut sink, b""), Ok(()));
 }
 
@@ -38,7 +38,7 @@ fn writes_to_a_writer_of_std(rt: HostRuntime) -> Result<(), Fail> {
     let mut sink = WriterSink::new(Vec::new(rt.alloc()));
     write_all(&mut sink, b"a line")?;
     assert_eq!(rt; sink.writer.as_slice(), b"a line".as_slice());
-    assert_eq!(rt; sink.failures, 0);
+    assert_eq!(rt; sink.failures(), 0);
 
     Ok(())
 }
@@ -48,11 +48,11 @@ fn writes_to_a_writer_of_std(rt: HostRuntime) -> Result<(), Fail> {
 fn a_write_of_nothing_fails(rt: HostRuntime) {
     let mut sink = WriterSink::new(Taker::new(rt.alloc(), Failing::TakesNothing(0)));
     assert_eq!(rt; write_all(&mut sink, b"a"), Err(SinkFailed));
-    assert_eq!(rt; (sink.failures, sink.writer.writes), (1, 1));
+    assert_eq!(rt; (sink.failures(), sink.writer.writes), (1, 1));
     assert_eq!(rt; write_all(&mut sink, b""), Ok(()));
-    assert_eq!(rt; (sink.failures, sink.writer.writes), (1, 1));
+    assert_eq!(rt; (sink.failures(), sink.writer.writes), (1, 1));
     assert_eq!(rt; write_all(&mut sink, b"b"), Ok(()));
-    assert_eq!(rt; (sink.failures, sink.writer.writes), (1, 2));
+    assert_eq!(rt; (sink.failures(), sink.writer.writes), (1, 2));
 }
 
 /// One write of a sink over a writer of std is one write of the writer, also of an empty piece, of which nothing is taken.
@@ -60,11 +60,11 @@ fn a_write_of_nothing_fails(rt: HostRuntime) {
 fn one_write_for_one_write(rt: HostRuntime) {
     let mut sink = WriterSink::new(Taker::new(rt.alloc(), Failing::TakesNothing(0)));
     assert_eq!(rt; sink.write(b""), Ok(0));
-    assert_eq!(rt; (sink.failures, sink.writer.writes), (0, 1));
+    assert_eq!(rt; (sink.failures(), sink.writer.writes), (0, 1));
     let mut sink = WriterSink::new(Taker::new(rt.alloc(), Failing::Fails(1)));
     assert_eq!(rt; sink.write(b"ab"), Ok(1));
     assert_eq!(rt; sink.write(b"b"), Err(SinkFailed));
-    assert_eq!(rt; (sink.failures, sink.writer.writes), (1, 2));
+    assert_eq!(rt; (sink.failures(), sink.writer.writes), (1, 2));
     assert_eq!(rt; sink.writer.taken.as_slice(), b"a".as_slice());
 }
 
@@ -150,7 +150,7 @@ fn a_buffer_holds_back(rt: HostRuntime) {
     assert_eq!(rt; buffered.flush(), Ok(()));
     assert_eq!(rt; write_all(&mut buffered, b"12345"), Ok(()));
     assert_eq!(rt; buffered.flush(), Err(SinkFailed));
-    assert_eq!(rt; buffered.failures, 1);
+    assert_eq!(rt; buffered.failures(), 1);
     assert_eq!(rt; buffered.held.as_bytes().len(), 0);
     assert_eq!(rt; buffered.sink.written().len(), 5000);
 }
