@@ -1,6 +1,5 @@
 -- What nobody has to believe: only contracts of private functions, and of layers below the crates that callers use, cite these.
 pub mod Drafts
 pub mod EntryLists
-pub mod NameNumbers
 pub mod Sequences
 pub mod Sound

@@ -5,7 +5,7 @@ mod cell;
 mod elements;
 mod entries;
 mod entry;
-mod guesses;
+mod keyed_state;
 mod names;
 mod row;
 mod shares;

@@ -2,57 +2,61 @@
 ghost use Rattle.std.specs.Prelude.{◌≡◌, ℕ, ◌++◌, ◌∷◌, [], true, false, length, position, bytes_eq, slice_get, option_map, IfOk, OnErr, IsAscii};
 ghost use Rattle.std.specs.List.{list_any};
 
-use crate::guesses::Guesses;
+use crate::keyed_state::KeyedState;
+use indexmap::IndexSet;
 use std::alloc::{AllocError, Global};
-use std::collections::BTreeMap;
+use std::collections::hash_map::DefaultHasher;
+use std::hash::{Hash, Hasher};
 use std::marker::Model;
 use std::str;
 use std::string::String;
-use std::vec::Vec;
 
-/// Different names, numbered from 0 in the order in which they came. Contracts see the list of their bytes.
+/// The most names that are added under one key.
+const NAMES_PER_KEY: usize = 300;
+
+/// Distinct names, numbered from 0 in order of appearance. Contracts see the list of their bytes.
 ///
-/// A name is looked up at the number that is guessed for it, and then by its order among all of them. So it is compared
-/// with few names, whichever they are: of those that are made to have one hash, all but one are found by their order.
+/// Names that collide under a known key can be computed, so each key is a digest of all names before it: only names that are added under the
+/// last key can be made for it.
 #[derive(Drop)]
 pub struct Names {
-    names: Vec<String>,
-    numbers: BTreeMap<String, usize>,
-    guesses: Guesses,
+    set: IndexSet<String, KeyedState>,
+    digest: DefaultHasher,
+    rekey_at: usize,
 }
 
 impl Model for Names {
     ghost use Rattle.std.specs.Prelude.{List, ℕ, map, string_bytes};
-    ghost use Rattle.polcert_cells.specs.Steps.NameNumbers.{AreNumbered};
 
     ghost Value = { List (List ℕ) };
 
-    ghost view = { λ n. map string_bytes n.names.items };
-
-    ghost invariant = { λ n. AreNumbered (map string_bytes n.names.items) n.numbers };
+    ghost view = { λ n. map string_bytes n.set.keys };
 }
 
 impl Names {
-    /// No names.
+    /// Returns the empty list.
     pub fn new(alloc: Global) -> Names
         ensures { result ≡ [] }
     {
         Names {
-            names: Vec::new(alloc),
-            numbers: BTreeMap::new(alloc),
-            guesses: Guesses::new(alloc),
+            set: IndexSet::with_hasher(alloc, KeyedState::new(0)),
+            digest: DefaultHasher::new(),
+            rekey_at: NAMES_PER_KEY,
         }
     }
 
-    /// How many names there are.
+    /// Returns the number of names.
     pub fn len(&self) -> usize
         ensures { result ≡ length self.now }
     {
-        self.names.len()
+        self.set.len()
     }
 
-    /// Puts the name behind the others, and answers whether it is new: one that is among them stays where it is. Where
-    /// memory is wanting all stays as it was.
+    /// Adds the name at the end unless it is there already, and returns whether it was new.
+    ///
+    /// # Errors
+    ///
+    /// Out of memory. The names are then as before.
     pub fn push(&mut self, alloc: Global, name: &[u8]) -> Result<bool, AllocError>
         requires { IsAscii name.now }
         ensures new { IfOk result (λ is_new. is_new ≡ true → (list_any (bytes_eq name.now) self.old ≡ false)
@@ -61,44 +65,46 @@ impl Names {
             → (list_any (bytes_eq name.now) self.old ≡ true) × (self.new ≡ self.old)) }
         ensures err { OnErr result (self.new ≡ self.old) }
     {
-        if self.number_of(name).is_some() {
-            return Ok(false);
-        }
         let name = text_of(name);
-        let number = self.names.len();
-        let key = String::from_str(alloc, name)?;
-        self.guesses.make_room(alloc, self.names.as_slice())?;
-        self.names.push(String::from_str(alloc, name)?)?;
-        if let Err(refused) = self.numbers.insert(key, number) {
-            self.names.pop();
-            return Err(AllocError::from(refused));
-        }
-        self.guesses.note(name, number);
-        Ok(true)
+        self.rekey_if_due(alloc)?;
+        name.hash(&mut self.digest);
+        let is_new = self.set.insert(String::from_str(alloc, name)?)?;
+        Ok(is_new)
     }
 
-    /// The number of this name.
+    /// Moves the names to a set under the next key, if enough came under the last one.
+    fn rekey_if_due(&mut self, alloc: Global) -> Result<(), AllocError>
+        ensures { self.new ≡ self.old }
+    {
+        let count = self.set.len();
+        if count < self.rekey_at {
+            return Ok(());
+        }
+        let key = KeyedState::new(self.digest.finish());
+        let mut set = IndexSet::with_capacity_and_hasher(alloc, self.set.capacity(), key)?;
+        set.append(&mut self.set)?;
+        self.set = set;
+        self.rekey_at = count + NAMES_PER_KEY;
+        Ok(())
+    }
+
+    /// Returns the number of this name, if it is among the names.
     pub fn number_of(&self, name: &[u8]) -> Option<usize>
         requires { IsAscii name.now }
         ensures { result ≡ position (bytes_eq name.now) self.now }
     {
-        let name = text_of(name);
-        let guess = self.guesses.guess(name);
-        match self.names.get(guess) {
-            Some(guessed) if guessed.as_str() == name => Some(guess),
-            _ => self.numbers.get(name).copied(),
-        }
+        self.set.get_index_of(text_of(name))
     }
 
-    /// The name of this number.
+    /// Returns the name of this number.
     pub fn at(&self, number: usize) -> Option<&str>
         ensures { option_map (λ name. name.now) result ≡ slice_get self.now number }
     {
-        Some(self.names.get(number)?.as_str())
+        Some(self.set.get_index(number)?.as_str())
     }
 }
 
-/// The name as text, which its bytes are: they are ASCII.
+/// ASCII bytes are text as they stand.
 #[inline(always)]
 fn text_of(name: &[u8]) -> &str
     requires { IsAscii name.now }

@@ -1,5 +1,7 @@
 //! Entries, what they are made of, and the letters of the tables.
-use polcert_cells::{Body, BodyRef, Cell, Entries, Entry, Place, Places, Row, Sequence, Table};
+use polcert_cells::{
+    Body, BodyRef, Cell, Entries, Entry, Names, Place, Places, Row, Sequence, Table,
+};
 use std::alloc::{AllocError, Global};
 use std::test::Fail;
 
@@ -164,4 +166,59 @@ fn has_steps(row: Row<'_>, weights: &[(usize, u64)]) -> bool {
         }
     }
     row.step(at).is_none()
+}
+
+const LETTERS: &[u8] = b"abcdefghijklmnopqr";
+
+/// Adds the name, if it is ASCII, and returns whether it was new.
+fn add(names: &mut Names, alloc: Global, name: &[u8]) -> Result<bool, AllocError> {
+    if name.is_ascii() {
+        names.push(alloc, name)
+    } else {
+        Ok(false)
+    }
+}
+
+/// Adds each pair of letters, and returns how many were new.
+fn add_pairs(names: &mut Names, alloc: Global) -> Result<u64, AllocError> {
+    let mut added: u64 = 0;
+    for first in LETTERS {
+        for second in LETTERS {
+            if add(names, alloc, &[*first, *second])? {
+                added = added.saturating_add(1);
+            }
+        }
+    }
+    Ok(added)
+}
+
+fn is_numbered(names: &Names, name: &[u8], number: usize) -> bool {
+    name.is_ascii()
+        && names.number_of(name) == Some(number)
+        && matches!(names.at(number), Some(text) if text.as_bytes() == name)
+}
+
+/// The first pair of letters that has another number than its place in their order.
+fn first_misnumbered(names: &Names) -> Option<usize> {
+    let mut number: usize = 0;
+    for first in LETTERS {
+        for second in LETTERS {
+            if !is_numbered(names, &[*first, *second], number) {
+                return Some(number);
+            }
+            number = number.saturating_add(1);
+        }
+    }
+    None
+}
+
+/// 324 names: the 301st moves those before it under another key.
+#[test]
+fn names_keep_their_numbers_under_another_key(rt: HostRuntime) -> Result<(), Fail> {
+    let mut names = Names::new(rt.alloc());
+    assert_eq!(rt; add_pairs(&mut names, rt.alloc())?, 324);
+    assert_eq!(rt; first_misnumbered(&names), None);
+    assert_eq!(rt; add_pairs(&mut names, rt.alloc())?, 0);
+    assert_eq!(rt; names.len(), 324);
+    Ok(())
 }
