@@ -1,0 +1,82 @@
+"""What the tests of the scripts share."""
+import os
+import random
+import re
+import subprocess
+import sys
+import tempfile
+import unittest
+from pathlib import Path
+from typing import Iterator, List, NamedTuple, Optional, Tuple
+
+TOP = Path(__file__).resolve().parents[2]
+SCRIPTS = TOP / "scripts"
+EXAMPLES = TOP / "examples"
+NAMES = ("tiger", "machine", "stock", "robot")
+PROGRAM = os.environ.get("POLCERT")
+sys.path.insert(0, str(SCRIPTS))
+
+needs_program = unittest.skipUnless(PROGRAM, "no program is named")
+
+
+class Said(NamedTuple):
+    """What a run answers."""
+
+    status: int
+    out: bytes
+    err: str
+
+
+def run_script(name: str, *words: str, given: bytes = b"") -> Said:
+    """Runs a script of scripts/."""
+    return _run([sys.executable, str(SCRIPTS / name), *words], given)
+
+
+def polcert(*words: str, given: bytes = b"") -> Said:
+    """Runs the program."""
+    return _run([PROGRAM, *words], given)
+
+
+def _run(words: List[str], given: bytes) -> Said:
+    done = subprocess.run(words, input=given, stdout=subprocess.PIPE, stderr=subprocess.PIPE)
+    return Said(done.returncode, done.stdout, done.stderr.decode())
+
+
+class FolderTest(unittest.TestCase):
+    """Tests with a folder of their own."""
+
+    def setUp(self) -> None:
+        folder = tempfile.TemporaryDirectory()
+        self.addCleanup(folder.cleanup)
+        self.folder = Path(folder.name)
+
+    def file(self, name: str, text: bytes) -> str:
+        """Writes a file and returns its name."""
+        path = self.folder / name
+        path.write_bytes(text)
+        return str(path)
+
+
+def refusals_rows(kind: str) -> Iterator[Tuple[str, bytes]]:
+    """The printed line and the text of each row of the tables of docs/REFUSALS.md whose second column is `kind`."""
+    column: Optional[str] = None
+    for line in (TOP / "docs" / "REFUSALS.md").read_text().splitlines():
+        cells = [cell.strip() for cell in line.split("|")[1:-1]]
+        if not cells:
+            column = None
+        elif cells[0] == "Printed":
+            column = cells[1]
+        elif column == kind and not cells[0].startswith("---"):
+            text = re.fullmatch(r"`(.*)`", cells[1])
+            if text or cells[1] == "the empty text":
+                yield cells[0].strip("`"), text.group(1).encode() if text else b""
+
+
+def mutated(text: bytes, random_: random.Random) -> bytes:
+    """A text with one of its words changed, moved, taken out or put in."""
+    words = re.findall(rb"\S+|\s+", text)
+    for _ in range(random_.randint(1, 2)):
+        at = random_.randrange(len(words))
+        other = random_.choice([random_.choice(words), b" 0.5 ", b" - ", b" : ", b" * ", b"uniform", b"2", b"nan", b"\xc3\xa9", b"1e9", b"0.1234567"])
+        words[at] = random_.choice([b"", other, words[at] + b" " + other, other + b" " + words[at]])
+    return b"".join(words)
