@@ -6,7 +6,10 @@ import subprocess
 import sys
 import tempfile
 import unittest
+from importlib.machinery import SourceFileLoader
+from importlib.util import module_from_spec, spec_from_loader
 from pathlib import Path
+from types import ModuleType
 from typing import Iterator, List, NamedTuple, Optional, Tuple
 
 TOP = Path(__file__).resolve().parents[2]
@@ -15,6 +18,7 @@ EXAMPLES = TOP / "examples"
 NAMES = ("tiger", "machine", "stock", "robot")
 PROGRAM = os.environ.get("POLCERT")
 sys.path.insert(0, str(SCRIPTS))
+sys.dont_write_bytecode = True
 
 needs_program = unittest.skipUnless(PROGRAM, "no program is named")
 
@@ -30,6 +34,15 @@ class Said(NamedTuple):
 def run_script(name: str, *words: str, given: bytes = b"") -> Said:
     """Runs a script of scripts/."""
     return _run([sys.executable, str(SCRIPTS / name), *words], given)
+
+
+def load(name: str) -> ModuleType:
+    """A script as a module."""
+    loader = SourceFileLoader(name.replace("-", "_"), str(SCRIPTS / name))
+    module = module_from_spec(spec_from_loader(loader.name, loader))
+    sys.modules[loader.name] = module
+    loader.exec_module(module)
+    return module
 
 
 def polcert(*words: str, given: bytes = b"") -> Said:
