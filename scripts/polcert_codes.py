@@ -12,7 +12,10 @@ class Code(NamedTuple):
 CODES: Dict[str, Code] = {
     "M1": Code("these bytes are no name, number or sign", "remove them, or make them a comment with `#`"),
     "M2": Code("the number is not one of a model", "write a number from -10,000,000 to 10,000,000 with at most six decimals"),
-    "M3": Code("something stands before the first item's word", "remove it, or make it a comment; `discount` and the like are in lower case"),
+    "M3": Code(
+        "something stands before the first item's word",
+        "remove it, or make it a comment; `discount` and the like are in lower case"
+    ),
     "M4": Code("no form of the item continues like this", "compare the item with the tables of FORMAT"),
     "M5": Code("the line, or the start item, stands for the second time", "keep one of them"),
     "M6": Code("a line of the preamble, or the start item, stands too late", "move it up, before all entries"),
@@ -30,13 +33,19 @@ CODES: Dict[str, Code] = {
     "M18": Code("the start does not sum to one exactly", "run `polcert-mend`; or correct the last number of the start"),
     "M19": Code("no state is left to start in", "include at least one state, or exclude fewer"),
     "M20": Code("the text has more than 4,294,967,296 bytes", "use a smaller model"),
-    "K1": Code("a byte that begins no name, number or sign, such as a comma, a quote, `/` or a letter outside of ASCII", "remove it, or make it a comment with `#`"),
+    "K1": Code(
+        "a byte that begins no name, number or sign, such as a comma, a quote, `/` or a letter outside of ASCII",
+        "remove it, or make it a comment with `#`"
+    ),
     "K2": Code("a name or a number of more than 400 bytes", "use a shorter one"),
     "K3": Code("a letter, `_` or a point directly after a number", "write a blank between, or a name that begins with a letter"),
     "K4": Code("the text has more than 4,294,967,296 bytes", "use a smaller file"),
     "N2": Code("an exponent of more than 400 in size", "write the number in digits"),
     "N3": Code("a number beyond 10,000,000 in size", "scale all rewards, and the vectors, down by the same factor"),
-    "N4": Code("a non-zero digit after the sixth decimal place", "run `polcert-mend`; or write six decimals, and see that the row still sums to one"),
+    "N4": Code(
+        "a non-zero digit after the sixth decimal place",
+        "run `polcert-mend`; or write six decimals, and see that the row still sums to one"
+    ),
     "G1": Code("these bytes are no name, number or sign", "remove them, or make them a comment with `#`"),
     "G2": Code("not a number of digits only, nor `-` or `X` for a missing successor", "write a number, or a `-` with a blank after it"),
     "G3": Code("not the number of the next node", "number the nodes 0, 1, 2, .. in order; or remove a successor too many before it"),
@@ -47,15 +56,27 @@ CODES: Dict[str, Code] = {
     "G8": Code("there are more than 10,000 nodes", "use a smaller graph"),
     "V1": Code("these bytes are no name, number or sign", "remove them, or make them a comment with `#`"),
     "V2": Code("the number is not one of a vector", "write a number from -10,000,000 to 10,000,000"),
-    "V3": Code("not an action of digits only, or not a number; `nan` and `inf` are none", "write a number; if a solver wrote this, its evaluation went wrong"),
+    "V3": Code(
+        "not an action of digits only, or not a number; `nan` and `inf` are none",
+        "write a number; if a solver wrote this, its evaluation went wrong"
+    ),
     "V4": Code("the action is not the one of the vector's node", "write the vectors in the order of the graph's nodes"),
     "V5": Code("the text ends inside a vector", "add the missing numbers: one for each state"),
     "V6": Code("there are more, or fewer, vectors than nodes", "write one vector for each node; or remove a number too many before this"),
     "L1": Code("the discount is 1 and this pair is short, so no constant helps", "use vectors that fit, or a discount below 1"),
-    "L2": Code("lowered by the least constant, a value would be below -10,000,000", "scale rewards and vectors down, or evaluate the graph again"),
+    "L2": Code(
+        "lowered by the least constant, a value would be below -10,000,000",
+        "scale rewards and vectors down, or evaluate the graph again"
+    ),
     "L3": Code("an observation can come that has no successor", "give the node a successor"),
     "U1": Code("the discount is 1 and this pair is long, so no constant helps", "use vectors that fit, or a discount below 1"),
-    "U2": Code("raised by the least constant, a value would be above 10,000,000", "scale rewards and vectors down, or evaluate the graph again"),
+    "U2": Code(
+        "raised by the least constant, a value would be above 10,000,000",
+        "scale rewards and vectors down, or evaluate the graph again"
+    ),
     "U3": Code("an observation can come that has no successor", "give the node a successor"),
-    "C1": Code("the model has a table of more than 16,777,216 cells and is not printed", "use `check`, `lower` and `raise`, which print no model"),
+    "C1": Code(
+        "the model has a table of more than 16,777,216 cells and is not printed",
+        "use `check`, `lower` and `raise`, which print no model"
+    ),
 }

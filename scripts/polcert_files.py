@@ -40,7 +40,7 @@ class Model:
         self.discount, self.discount_token = Fraction(0), None
         self.is_cost = self.is_mdp = False
         self.states = self.actions = self.observations = Elements("state", 0)
-        self.start = Start("uniform", 0, 0)
+        self.start = Start("uniform", 0)
         self.entries: List[Entry] = []
         self.transitions = self.observing = Table("T", 0, 0, 0)
         self.rewards = Rewards(0, 0, False)
@@ -110,7 +110,6 @@ class _ModelReader:
         self.seen: Dict[bytes, int] = {}
         self.has_tables = False
         self.covered = {"T": 0, "O": 0}
-        self.last_end = 0
 
     def read(self) -> Model:
         if not self.at_item_end():
@@ -140,15 +139,10 @@ class _ModelReader:
     def at_item_end(self) -> bool:
         return is_item_end(self.cursor.next)
 
-    def take(self) -> Token:
-        token = self.cursor.take()
-        self.last_end = token.end
-        return token
-
     def colon(self) -> None:
         if self.cursor.next.kind != COLON:
             raise self.unexpected("M4", "a colon")
-        self.take()
+        self.cursor.take()
 
     def end_of_body(self) -> None:
         if not self.at_item_end():
@@ -163,7 +157,7 @@ class _ModelReader:
     def read_item(self, word: Token) -> None:
         is_preamble = word.text in PREAMBLE
         if (is_preamble or word.text == b"start") and any(key in self.seen for key in (b"T", b"O", b"R")):
-            raise self.fault("M6", word.begin, f"expected an entry of T, O or R, found {word.shown()}, which has to stand before all entries")
+            raise self.fault("M6", word.begin, f"{word.shown()} has to stand before all entries of T, O and R")
         if is_preamble and b"start" in self.seen:
             raise self.fault("M6", word.begin, f"{word.shown()} has to stand before the start item")
         if (is_preamble or word.text == b"start") and word.text in self.seen:
@@ -173,7 +167,7 @@ class _ModelReader:
         if word.text == b"O" and self.model.is_mdp:
             raise self.fault("M4", word.begin, "an MDP (a text without `observations:`) has no entries of O")
         self.seen[word.text] = word.begin
-        self.take()
+        self.cursor.take()
         readers = {b"discount": self.discount, b"values": self.values, b"start": self.start}
         if word.text in readers:
             readers[word.text](word)
@@ -208,7 +202,7 @@ class _ModelReader:
         self.colon()
         if self.cursor.next.text not in (b"reward", b"cost") or self.cursor.next.kind != NAME:
             raise self.unexpected("M4", "`reward` or `cost`")
-        self.model.is_cost = self.take().text == b"cost"
+        self.model.is_cost = self.cursor.take().text == b"cost"
         self.end_of_body()
 
     def elements(self, word: Token) -> None:
@@ -220,7 +214,7 @@ class _ModelReader:
         if first.kind == NUMERAL:
             if not first.is_digits() or not 1 <= int(first.text) <= limit:
                 raise self.unexpected("M8", expected)
-            self.take()
+            self.cursor.take()
             self.end_of_body()
             elements = Elements(word.text[:-1].decode(), int(first.text))
         else:
@@ -238,7 +232,7 @@ class _ModelReader:
             if token.text in index_of:
                 raise self.fault("M9", token.begin, f"the name {token.shown()} stands for the second time")
             index_of[token.text] = len(index_of)
-            self.take()
+            self.cursor.take()
         return Elements(word.text[:-1].decode(), len(index_of), [name.decode() for name in index_of], index_of)
 
     # Numbers
@@ -248,14 +242,13 @@ class _ModelReader:
         first = self.cursor.next
         if self.at_item_end():
             raise self.unexpected("M12", "a number")
-        sign = self.take() if first.kind == SIGN else None
+        sign = self.cursor.take() if first.kind == SIGN else None
         if self.cursor.next.kind != NUMERAL:
             raise self.unexpected("M4", "a number")
         try:
             value, numeral = number_after(self.cursor, sign)
         except NumberFault as fault:
             raise self.fault(f"M2 {fault.code}", first.begin, str(fault)) from None
-        self.last_end = numeral.end
         if not self.tolerant and not is_millionths(value):
             raise self.fault("M2 N4", first.begin, f"{numeral.shown()} has a non-zero digit after the sixth decimal place")
         return value, first.begin, numeral
@@ -282,21 +275,21 @@ class _ModelReader:
 
     def start(self, word: Token) -> None:
         if self.cursor.next.text in (b"include", b"exclude") and self.cursor.next.kind == NAME:
-            states, kind = self.listed_states(self.take()), "states"
-            self.model.start = Start(kind, word.begin, self.last_end, states)
+            states, kind = self.listed_states(self.cursor.take()), "states"
+            self.model.start = Start(kind, word.begin, states)
             return
         self.colon()
         first = self.cursor.next
         if first.kind == NAME and first.text == b"uniform":
-            self.take()
+            self.cursor.take()
             self.end_of_body()
-            self.model.start = Start("uniform", word.begin, self.last_end)
+            self.model.start = Start("uniform", word.begin)
         elif first.kind in (NUMERAL, SIGN) or self.at_item_end():
             self.start_numbers(word)
         else:
             state = self.place(self.model.states, has_star=False)
             self.end_of_body()
-            self.model.start = Start("states", word.begin, self.last_end, [state])
+            self.model.start = Start("states", word.begin, [state])
 
     def listed_states(self, word: Token) -> List[int]:
         self.colon()
@@ -314,7 +307,7 @@ class _ModelReader:
         first = self.cursor.next
         if first.is_digits() and count > 1 and is_item_end(self.cursor.after_next()):
             state = self.place(self.model.states, has_star=False)
-            self.model.start = Start("states", word.begin, self.last_end, [state])
+            self.model.start = Start("states", word.begin, [state])
             return
         while len(numbers.values) < count or len(numbers.values) == 0:
             if self.at_item_end():
@@ -332,11 +325,11 @@ class _ModelReader:
     def finish_start(self, word: Token, numbers: Numbers) -> None:
         count = self.model.states.count
         if count == 1 and numbers.values[0] in (0, 1):
-            self.model.start = Start("states", word.begin, self.last_end, [0])
+            self.model.start = Start("states", word.begin, [0])
             return
         if sum(numbers.values) != 1 and not self.tolerant or count == 1 and not 0 <= numbers.values[0] <= 1:
             raise self.fault("M18", self.cursor.next.begin, "the probabilities of the start do not sum to one")
-        self.model.start = Start("numbers", word.begin, self.last_end, numbers=numbers)
+        self.model.start = Start("numbers", word.begin, numbers=numbers)
 
     # Entries
 
@@ -344,17 +337,17 @@ class _ModelReader:
         """The index of an element, or None for `*`."""
         token = self.cursor.next
         if token.kind == STAR and has_star:
-            self.take()
+            self.cursor.take()
             return None
         if token.is_digits():
             if int(token.text) >= elements.count:
                 raise self.fault("M11", token.begin, f"there is no {elements.kind} {token.shown()}: numbers begin at 0")
-            return int(self.take().text)
+            return int(self.cursor.take().text)
         if token.kind != NAME or token.text in OTHER_RESERVED or self.at_item_end():
             raise self.unexpected("M4", f"the name or the number of {'an' if elements.kind[0] in 'ao' else 'a'} {elements.kind}")
         if token.text not in elements.index_of:
             raise self.fault("M10", token.begin, f"there is no {elements.kind} {token.shown()}")
-        return elements.index_of[self.take().text]
+        return elements.index_of[self.cursor.take().text]
 
     def entry(self, word: Token) -> None:
         model, letter = self.model, word.text.decode()
@@ -366,10 +359,9 @@ class _ModelReader:
         self.skip_star_of_mdp(letter, len(places))
         if letter == "R" and not model.is_mdp and len(places) == 1:
             raise self.unexpected("M4", "a colon: `R: a` with a matrix is read in an MDP alone")
-        body = self.cursor.next.begin
         text = self.body_word(letter, len(places))
         numbers = Numbers() if text else self.numbers(prod(sizes[len(places):]), letter != "R")
-        entry = Entry(letter, self.item, word.begin, places, text, numbers, body)
+        entry = Entry(letter, self.item, word.begin, places, text, numbers)
         self.refuse_too_many_cells(entry, sizes)
         model.entries.append(entry)
         (model.rewards if letter == "R" else model.transitions if letter == "T" else model.observing).add(entry)
@@ -378,24 +370,25 @@ class _ModelReader:
         self.colon()
         places = [self.place(kinds[0])]
         while self.cursor.next.kind == COLON and len(places) < len(kinds):
-            self.take()
+            self.cursor.take()
             places.append(self.place(kinds[len(places)]))
         return tuple(places)
 
     def skip_star_of_mdp(self, letter: str, places: int) -> None:
         if letter == "R" and self.model.is_mdp and places == 3 and self.cursor.next.kind == COLON:
-            self.take()
+            self.cursor.take()
             if self.cursor.next.kind != STAR:
                 raise self.unexpected("M4", "`*`: in an MDP a reward does not depend on what is observed")
-            self.take()
+            self.cursor.take()
 
     def body_word(self, letter: str, places: int) -> str:
         """Takes `uniform` or `identity`, if it stands where it is read."""
         token = self.cursor.next
-        is_read = token.text == b"uniform" and letter != "R" and places < 3 or token.text == b"identity" and letter == "T" and places == 1
-        if token.kind != NAME or not is_read:
+        is_uniform = token.text == b"uniform" and letter != "R" and places < 3
+        is_identity = token.text == b"identity" and letter == "T" and places == 1
+        if token.kind != NAME or not (is_uniform or is_identity):
             return ""
-        self.take()
+        self.cursor.take()
         self.end_of_body()
         return token.text.decode()
 

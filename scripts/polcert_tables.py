@@ -50,7 +50,6 @@ class Entry:
     places: Places
     word: str
     numbers: Numbers
-    body: int
 
     def is_for_each_row(self) -> bool:
         """Whether what the entry gives depends on the row: a matrix or `identity`."""
@@ -63,7 +62,6 @@ class Start:
 
     kind: str
     begin: int
-    end: int
     states: List[int] = field(default_factory=list)
     numbers: Numbers = field(default_factory=Numbers)
 

@@ -3,7 +3,7 @@ import random
 from fractions import Fraction
 from itertools import product
 from math import prod
-from typing import Dict, List, Optional, Sequence, Tuple
+from typing import Dict, Optional, Sequence, Tuple
 
 Cell = Tuple[int, ...]
 
@@ -29,8 +29,8 @@ class Entries:
         for front in product(*spans):
             for i, back in enumerate(left):
                 cell = front + back
-                value = Fraction(1, sizes[-1]) if body == "uniform" else Fraction(cell[-1] == cell[-2]) if body == "identity" else numbers[i]
-                self.cells[table][cell] = value
+                words = {"uniform": Fraction(1, sizes[-1]), "identity": Fraction(cell[-1] == cell[-2])}
+                self.cells[table][cell] = words[body] if body in words else numbers[i]
         self.lines.append(f"{table}: {' : '.join('*' if place is None else str(place) for place in places)} {body}")
 
     def text(self) -> bytes:
@@ -77,7 +77,8 @@ def add_random(entries: Entries, random_: random.Random, table: str, exact: bool
     elif count < 3 and random_.random() < 0.3:
         body = "identity" if table == "T" and count == 1 and random_.random() < 0.5 else "uniform"
     else:
-        body = " ".join(random_row(random_, sizes[-1], exact) for _ in range(left // sizes[-1])) if count < 3 else random_row(random_, 1, False)
+        width, rows = (sizes[-1], left // sizes[-1]) if count < 3 else (1, 1)
+        body = " ".join(random_row(random_, width, exact and count < 3) for _ in range(rows))
     entries.add(table, places, body)
 
 

@@ -20,6 +20,8 @@ PROGRAM = os.environ.get("POLCERT")
 sys.path.insert(0, str(SCRIPTS))
 sys.dont_write_bytecode = True
 
+OTHER_WORDS = [b" 0.5 ", b" - ", b" : ", b" * ", b"uniform", b"2", b"nan", b"\xc3\xa9", b"1e9", b"0.1234567"]
+
 needs_program = unittest.skipUnless(PROGRAM, "no program is named")
 
 
@@ -90,6 +92,6 @@ def mutated(text: bytes, random_: random.Random) -> bytes:
     words = re.findall(rb"\S+|\s+", text)
     for _ in range(random_.randint(1, 2)):
         at = random_.randrange(len(words))
-        other = random_.choice([random_.choice(words), b" 0.5 ", b" - ", b" : ", b" * ", b"uniform", b"2", b"nan", b"\xc3\xa9", b"1e9", b"0.1234567"])
+        other = random_.choice([random_.choice(words), *OTHER_WORDS])
         words[at] = random_.choice([b"", other, words[at] + b" " + other, other + b" " + words[at]])
     return b"".join(words)

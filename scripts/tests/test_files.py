@@ -3,9 +3,9 @@ import random
 import time
 from fractions import Fraction
 from itertools import product
-from typing import Dict, List, Optional, Tuple
+from typing import Dict, Optional, Tuple
 
-from models import Entries, random_model, tag
+from models import random_model, tag
 from support import EXAMPLES, NAMES, TOP, FolderTest, mutated, needs_program, polcert, refusals_rows
 from polcert_files import FileError, Graph, Model, Source, read_graph, read_model, read_source, read_vectors
 
@@ -59,8 +59,8 @@ class Refusals(FolderTest):
     def test_cases_of_the_program(self) -> None:
         count = 0
         for path in sorted((TOP / "tests" / "cases").glob("*.err")):
-            text, words = path.with_suffix(".in"), path.with_suffix(".args")
-            if path.read_text().startswith("model: ") and not words.exists() and text.exists() and not path.with_suffix(".from").exists():
+            text, others = path.with_suffix(".in"), (path.with_suffix(ending) for ending in (".args", ".from"))
+            if path.read_text().startswith("model: ") and text.exists() and not any(other.exists() for other in others):
                 self.assertEqual(refusal(text.read_bytes()), path.read_text().strip(), path.name)
                 count += 1
         self.assertGreater(count, 20)
@@ -95,7 +95,8 @@ class Tables(FolderTest):
             self.assertEqual(all_cells(model), entries.tables(), entries.text())
 
     def test_numbers_keep_all_decimals(self) -> None:
-        text = b"discount: 1 values: cost states: 2 actions: 1 observations: 1 T: 0 0.12345678 0.87654322 1 0 O: 0 uniform R: 0:0:0:0 1e-9"
+        text = b"discount: 1 values: cost states: 2 actions: 1 observations: 1 T: 0 0.12345678 0.87654322 1 0 O: 0 uniform "
+        text += b"R: 0:0:0:0 1e-9"
         model = read_model(Source("model", text), tolerant=True)
         self.assertEqual(model.transitions.row(0, 0), {0: Fraction("0.12345678"), 1: Fraction("0.87654322")})
         self.assertEqual(model.rewards.of(0, 0).at(0, 0), Fraction("0.000000001"))

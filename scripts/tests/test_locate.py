@@ -1,6 +1,4 @@
 """polcert-locate: places, lines, carets, and its table of codes against docs/REFUSALS.md."""
-import contextlib
-import io
 import re
 from typing import List
 

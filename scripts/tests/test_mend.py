@@ -114,14 +114,16 @@ class Changes(MendTest):
         self.assertEqual(self.added(text), b"T: 1 : 1 : 0 0.333333\nT: 1 : 1 : 1 0.333333\nT: 1 : 1 : 2 0.333334\n")
 
     def test_mdps(self) -> None:
-        text = b"discount: 0.9\nvalues: cost\nstates: left right\nactions: go\nT: go\n0.33333333 0.66666667\n0.3333 0.6666\nR: go\n1 2.123456789 3 4\n"
+        text = b"discount: 0.9\nvalues: cost\nstates: left right\nactions: go\nT: go\n0.33333333 0.66666667\n0.3333 0.6666\n"
+        text += b"R: go\n1 2.123456789 3 4\n"
         out = self.mended(text)
         self.assertIn(b"\n0.333333 0.666667\n0.3333 0.6666\nR: go\n1 2.123457 3 4\n", out)
         self.assertTrue(out.endswith(MARK + b"T: go : right : left 0.33335\nT: go : right : right 0.66665\n"), out)
 
     def test_a_hundred_rows(self) -> None:
         head = b"discount: 0.9 values: reward states: 100 actions: 1 observations: 1\n"
-        rows = b"".join(b"T: 0 : %d : %d 0.%06d\nT: 0 : %d : %d 0.%06d\n" % (i, i, 1000 + i, i, (i + 1) % 100, 998999 - i) for i in range(100))
+        entry = b"T: 0 : %d : %d 0.%06d\n"
+        rows = b"".join(entry % (i, i, 1000 + i) + entry % (i, (i + 1) % 100, 998999 - i) for i in range(100))
         added = self.added(head + rows + b"O: * uniform\n").splitlines()
         self.assertEqual(len(added), 100)
         self.assertEqual(added[7], b"T: 0 : 7 : 8 0.998993")
@@ -140,7 +142,8 @@ class Changes(MendTest):
         self.assertTrue(self.mended(text).startswith(text + b"\n\n" + MARK))
 
     def test_names(self) -> None:
-        text = b"discount: 0.9\nvalues: reward\nstates: a b\nactions: go\nobservations: x y z\nT: go identity\nO: go : b 0.333333 0.666666 0\nO: go : a uniform\n"
+        text = b"discount: 0.9\nvalues: reward\nstates: a b\nactions: go\nobservations: x y z\nT: go identity\n"
+        text += b"O: go : b 0.333333 0.666666 0\nO: go : a uniform\n"
         self.assertEqual(self.added(text), b"O: go : b : y 0.666667\n")
 
     def test_models_that_polcert_accepts_stay(self) -> None:
@@ -172,7 +175,8 @@ class Changes(MendTest):
         self.assertGreater(mended, 100)
 
     def test_messages(self) -> None:
-        text = HEAD + b"start: 0.333 0.333 0.333\nT: 0 : * 0.333333 0.333333 0.333333\nT: 1 : * 0.1234567 0.876543 0\n" + TAIL.replace(b"R: *", b"R: 0")
+        text = HEAD + b"start: 0.333 0.333 0.333\nT: 0 : * 0.333333 0.333333 0.333333\nT: 1 : * 0.1234567 0.876543 0\n"
+        text += TAIL.replace(b"R: *", b"R: 0")
         said = self.mend(text, "-o", str(self.folder / "out"))
         name = str(self.folder / "m.POMDP")
         self.assertEqual(said.err.replace(name, "M").splitlines(), [
@@ -293,6 +297,9 @@ def values(model: Model, graph: List[Tuple[int, List[int]]]) -> Tuple[List[List[
             ]
     worth = [[0.0] * len(states) for _ in graph]
     for _ in range(150):
-        worth = [[sum(p * (r + float(model.discount) * worth[after[z]][e]) for p, e, z, r in steps[action, s]) for s in states] for action, after in graph]
+        worth = [
+            [sum(p * (r + float(model.discount) * worth[after[z]][e]) for p, e, z, r in steps[action, s]) for s in states]
+            for action, after in graph
+        ]
     start = part(model.start_weights())
     return worth, [sum(p * row[s] for s, p in start.items()) for row in worth]
