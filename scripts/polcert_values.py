@@ -9,7 +9,8 @@ from polcert_files import FileError, Graph, Model, Row
 Values = List[float]
 Belief = Dict[int, float]
 MOST_SWEEPS = 100_000
-# After so many sweeps the rest is estimated from how fast the last two came together.
+# After so many sweeps the rest is estimated from how fast the last two came together. If that takes the values further off, they are put
+# back, and twice as many sweeps are waited.
 SWEEPS_BETWEEN = 30
 LARGEST_VALUE = 10_000_000.0
 
@@ -146,13 +147,18 @@ def evaluate(steps: Steps, graph: Graph, worth: Optional[List[Values]] = None, p
     """What each node is worth in each state, by iteration from given values on until no value is further off than the precision (and than
     rounding allows)."""
     worth = [list(values) for values in worth] if worth else [[0.0] * steps.states for _ in graph.actions]
-    last, bound = 0.0, precision * (1 - steps.discount)
-    for number in range(1, MOST_SWEEPS):
+    last, bound, waits, number = 0.0, precision * (1 - steps.discount), SWEEPS_BETWEEN, 0
+    saved: Optional[Tuple[float, List[Values]]] = None
+    for _ in range(MOST_SWEEPS):
         moves = sweep(steps, graph, worth)
         moved = max(max(map(abs, move)) for move in moves)
         if moved <= bound + 1e-14 * max(max(map(abs, values)) for values in worth):
             return worth
-        if number % SWEEPS_BETWEEN == 0 and moved < last:
+        if saved and moved > saved[0]:
+            worth, number, waits = saved[1], 0, 2 * waits
+        saved, number = None, number + 1
+        if number >= waits and moved < last:
+            saved, number = (moved, [list(values) for values in worth]), 0
             jump(worth, moves, moved / last)
         last = moved
     raise Refusal("what the graph is worth does not settle")
@@ -172,7 +178,7 @@ def sweep(steps: Steps, graph: Graph, worth: List[Values]) -> List[Values]:
 
 def jump(worth: List[Values], moves: List[Values], ratio: float) -> None:
     """Adds what further sweeps would add if each moved the values by this ratio of the one before."""
-    factor = ratio / (1 - ratio) if ratio < 0.9999 else 0.0
+    factor = ratio / (1 - ratio)
     for values, move in zip(worth, moves):
         values[:] = [value + factor * x for value, x in zip(values, move)]
 

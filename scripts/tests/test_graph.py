@@ -91,8 +91,20 @@ class Vectors(GraphTest):
         self.assertTrue(worth is None or worth > 11.39)
         steps = Steps(read_model(read_source(machine)))
         solved = script.read_solved(read_source(example("machine.alpha")), steps.model)
-        by_vector = script.best_round(script.Unroller(steps, solved, 50, True).run(), 4)
+        by_vector = script.linked_best(script.Unroller(steps, solved, 50, True).run(), 1e-3)
         self.assertLess(by_vector.worth, 5)
+
+    def test_nodes_are_added_where_they_are_worth_more(self) -> None:
+        machine, solved = example("machine.POMDP"), self.file("solved", b"0 0 0\n")
+        earned = []
+        for rounds in ("1", "3", "20"):
+            said = self.graph(machine, solved, "--rounds", rounds, "--nodes", "40")
+            self.assertEqual(said.status, 0, said.err)
+            earned.append(float(re.search(r"worth (\S+) from", said.err).group(1)))
+            self.assertLessEqual(len(self.text("pg").splitlines()), 40)
+        self.assertLess(earned[0], earned[1])
+        self.assertLess(earned[1], earned[2])
+        self.certified(machine)
 
     def test_the_most_nodes(self) -> None:
         for most in (1, 3, 12):
