@@ -6,6 +6,9 @@ program = crates/polcert/out/polcert
 unproved = build/polcert-unproved
 bindir = $(DESTDIR)$(PREFIX)/bin
 mandir = $(DESTDIR)$(PREFIX)/share/man/man1
+sharedir = $(DESTDIR)$(PREFIX)/share/polcert
+docdir = $(DESTDIR)$(PREFIX)/share/doc/polcert
+scripts = scripts/polcert-evaluate scripts/polcert-graph scripts/polcert-locate scripts/polcert-mend
 tiger = check examples/tiger.POMDP examples/tiger.pg examples/tiger.lowered.alpha
 sources = crates.txt $(shell find crates -name '*.rt' -path '*/src/*')
 
@@ -25,14 +28,19 @@ $(unproved): $(sources)
 program: ## prove and build the program, and check a shipped model with it
 	@tools/prove-program $(tiger)
 
-install: ## install the proved program and its man page below PREFIX (/usr/local), under DESTDIR
+install: ## install the proved program, the scripts and the pages below PREFIX (/usr/local), under DESTDIR
 	@tools/is-proved $(program)
-	install -d "$(bindir)" "$(mandir)"
+	install -d "$(bindir)" "$(mandir)" "$(sharedir)" "$(docdir)"
 	install -m 755 $(program) "$(bindir)/polcert"
 	install -m 644 docs/polcert.1 "$(mandir)/polcert.1"
+	install -m 644 scripts/*.py "$(sharedir)"
+	install -m 755 $(scripts) "$(sharedir)"
+	for script in $(notdir $(scripts)); do ln -sf "../share/polcert/$$script" "$(bindir)/$$script"; done
+	install -m 644 README.md $(wildcard docs/*.md) "$(docdir)"
 
 uninstall: ## remove what install put there
-	rm -f "$(bindir)/polcert" "$(mandir)/polcert.1"
+	rm -f "$(bindir)/polcert" "$(mandir)/polcert.1" $(addprefix "$(bindir)"/,$(notdir $(scripts)))
+	rm -rf "$(sharedir)" "$(docdir)"
 
 test: ## run each test and each case in minutes, before any proof; last line: N passed, M failed
 	@tests/run
