@@ -1,4 +1,4 @@
-.PHONY: help run program install uninstall test gate
+.PHONY: help run program install uninstall dist test gate
 .DEFAULT_GOAL := help
 
 PREFIX ?= /usr/local
@@ -41,6 +41,9 @@ install: ## install the proved program, the scripts and the pages below PREFIX (
 uninstall: ## remove what install put there
 	rm -f "$(bindir)/polcert" "$(mandir)/polcert.1" $(addprefix "$(bindir)"/,$(notdir $(scripts)))
 	rm -rf "$(sharedir)" "$(docdir)"
+
+dist: ## make an archive of the proved program, the scripts, the pages and their checksums
+	@tools/make-dist $(program)
 
 test: ## run each test and each case in minutes, before any proof; last line: N passed, M failed
 	@tests/run
