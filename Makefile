@@ -8,7 +8,7 @@ bindir = $(DESTDIR)$(PREFIX)/bin
 mandir = $(DESTDIR)$(PREFIX)/share/man/man1
 sharedir = $(DESTDIR)$(PREFIX)/share/polcert
 docdir = $(DESTDIR)$(PREFIX)/share/doc/polcert
-scripts = scripts/polcert-evaluate scripts/polcert-graph scripts/polcert-locate scripts/polcert-mend
+scripts = scripts/polcert-evaluate scripts/polcert-graph scripts/polcert-locate scripts/polcert-mend scripts/polcert-report
 tiger = check examples/tiger.POMDP examples/tiger.pg examples/tiger.lowered.alpha
 sources = crates.txt $(shell find crates -name '*.rt' -path '*/src/*')
 

@@ -1,0 +1,67 @@
+"""polcert-report."""
+import hashlib
+import unittest
+
+from support import EXAMPLES, PROGRAM, FolderTest, needs_program, run_script
+
+TIGER = [str(EXAMPLES / name) for name in ("tiger.POMDP", "tiger.pg", "tiger.alpha")]
+
+
+@needs_program
+class Report(FolderTest):
+    """The report of a certificate."""
+
+    def report(self, *names: str) -> str:
+        said = run_script("polcert-report", *names, "--program", PROGRAM)
+        self.assertEqual((said.status, said.err), (0, ""))
+        return said.out.decode()
+
+    def test_the_same_files_give_the_same_bytes(self) -> None:
+        self.assertEqual(self.report(*TIGER), self.report(*TIGER))
+
+    def test_files_verdicts_and_interval(self) -> None:
+        report = self.report(*TIGER)
+        for name in TIGER:
+            with open(name, "rb") as file:
+                self.assertIn(f"| `{name}` | `{hashlib.sha256(file.read()).hexdigest()}` |", report)
+        self.assertIn("- lowered by 0.000008: yes: start node 0, at least 19.37136\n", report)
+        self.assertIn("- raised by 0.000009: yes: every start node, at most 19.371377\n", report)
+        self.assertIn("| 0 | listen | 19.37136 | 19.371377 |\n", report)
+
+    def test_terms_of_a_no(self) -> None:
+        # 0.85 * (-1 + 0.95 * 28.4028) + 0.15 * (-1 + 0.95 * 19.371368), which is 0.00000006 below 24.695681
+        report = self.report(*TIGER)
+        self.assertIn("In node 1 and state tiger-left the action is listen. The vector's value is 24.695681, and it has to be at most", report)
+        self.assertIn("the sum of these terms, 24.69568094; it is 0.00000006 off.", report)
+        self.assertIn("| tiger-left | tiger-left | 0.85 | -1 | 3 | 28.4028 | 22.085261 |", report)
+        self.assertIn("| tiger-left | tiger-right | 0.15 | -1 | 0 | 19.371368 | 2.61041994 |", report)
+
+    def test_a_cost_is_a_loss(self) -> None:
+        model = self.file("toll.POMDP", b"discount: 0.5 values: cost states: 1 actions: 1 observations: 1 T: 0 identity O: 0 uniform R: 0:0:0:0 1")
+        report = self.report(model, self.file("toll.pg", b"0 0 0"), self.file("toll.alpha", b"0 2"))
+        self.assertIn("- `polcert check`: no: node 0, state 0, short by 2\n", report)
+        self.assertIn("| 0 | 0 | 1 | -1 | 0 | 2 | 0 |", report)
+        self.assertIn("| 0 | 0 | -2 | 2 |\n", report)
+
+    def test_no_constant_helps(self) -> None:
+        model = self.file("lack.POMDP", b"discount: 0.5 values: reward states: 1 actions: 1 observations: 2 T: 0 identity O: 0 uniform")
+        report = self.report(model, self.file("lack.pg", b"0 0 0 -"), self.file("lack.alpha", b"0 0"))
+        self.assertIn("no: node 0, state 0, observation 1 has no successor", report)
+        self.assertIn("No constant makes the vectors pass from both sides", report)
+
+    def test_refused_files(self) -> None:
+        for at in range(3):
+            names = list(TIGER)
+            names[at] = self.file("wrong", b"nan")
+            said = run_script("polcert-report", *names, "--program", PROGRAM)
+            self.assertEqual((said.status, said.out), (2, b""))
+            self.assertIn("wrong:1:1", said.err)
+
+    def test_no_program(self) -> None:
+        said = run_script("polcert-report", *TIGER, "--program", str(self.folder / "none"))
+        self.assertEqual((said.status, said.out), (2, b""))
+        self.assertIn("No such file", said.err)
+
+
+if __name__ == "__main__":
+    unittest.main()
