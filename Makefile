@@ -8,6 +8,8 @@ bindir = $(DESTDIR)$(PREFIX)/bin
 mandir = $(DESTDIR)$(PREFIX)/share/man/man1
 sharedir = $(DESTDIR)$(PREFIX)/share/polcert
 docdir = $(DESTDIR)$(PREFIX)/share/doc/polcert
+bashdir = $(DESTDIR)$(PREFIX)/share/bash-completion/completions
+zshdir = $(DESTDIR)$(PREFIX)/share/zsh/site-functions
 scripts = scripts/polcert-evaluate scripts/polcert-graph scripts/polcert-locate scripts/polcert-mend scripts/polcert-report
 tiger = check examples/tiger.POMDP examples/tiger.pg examples/tiger.lowered.alpha
 sources = crates.txt $(shell find crates -name '*.rt' -path '*/src/*')
@@ -30,16 +32,18 @@ program: ## prove and build the program, and check a shipped model with it
 
 install: ## install the proved program, the scripts and the pages below PREFIX (/usr/local), under DESTDIR
 	@tools/is-proved $(program)
-	install -d "$(bindir)" "$(mandir)" "$(sharedir)" "$(docdir)"
+	install -d "$(bindir)" "$(mandir)" "$(sharedir)" "$(docdir)" "$(bashdir)" "$(zshdir)"
 	install -m 755 $(program) "$(bindir)/polcert"
 	install -m 644 docs/polcert.1 "$(mandir)/polcert.1"
 	install -m 644 scripts/*.py "$(sharedir)"
 	install -m 755 $(scripts) "$(sharedir)"
 	for script in $(notdir $(scripts)); do ln -sf "../share/polcert/$$script" "$(bindir)/$$script"; done
 	install -m 644 README.md $(wildcard docs/*.md) "$(docdir)"
+	install -m 644 scripts/completions/polcert.bash "$(bashdir)/polcert"
+	install -m 644 scripts/completions/_polcert "$(zshdir)/_polcert"
 
 uninstall: ## remove what install put there
-	rm -f "$(bindir)/polcert" "$(mandir)/polcert.1" $(addprefix "$(bindir)"/,$(notdir $(scripts)))
+	rm -f "$(bindir)/polcert" "$(mandir)/polcert.1" "$(bashdir)/polcert" "$(zshdir)/_polcert" $(addprefix "$(bindir)"/,$(notdir $(scripts)))
 	rm -rf "$(sharedir)" "$(docdir)"
 
 dist: ## make an archive of the proved program, the scripts, the pages and their checksums
