@@ -39,8 +39,13 @@ def run_script(name: str, *words: str, given: bytes = b"") -> Said:
 
 
 def load(name: str) -> ModuleType:
-    """A script as a module."""
-    loader = SourceFileLoader(name.replace("-", "_"), str(SCRIPTS / name))
+    """A script of scripts/ as a module."""
+    return load_file(name.replace("-", "_"), SCRIPTS / name)
+
+
+def load_file(name: str, path: Path) -> ModuleType:
+    """A Python file as a module of this name."""
+    loader = SourceFileLoader(name, str(path))
     module = module_from_spec(spec_from_loader(loader.name, loader))
     sys.modules[loader.name] = module
     loader.exec_module(module)
@@ -73,18 +78,9 @@ class FolderTest(unittest.TestCase):
 
 
 def refusals_rows(kind: str) -> Iterator[Tuple[str, bytes]]:
-    """The printed line and the text of each row of the tables of docs/REFUSALS.md whose second column is `kind`."""
-    column: Optional[str] = None
-    for line in (TOP / "docs" / "REFUSALS.md").read_text().splitlines():
-        cells = [cell.strip() for cell in line.split("|")[1:-1]]
-        if not cells:
-            column = None
-        elif cells[0] == "Printed":
-            column = cells[1]
-        elif column == kind and not cells[0].startswith("---"):
-            text = re.fullmatch(r"`(.*)`", cells[1])
-            if text or cells[1] == "the empty text":
-                yield cells[0].strip("`"), text.group(1).encode() if text else b""
+    """The printed line and the text of each item of docs/REFUSALS.md for `model`, `graph` or `vectors`."""
+    page = load_file("refusals_page", TOP / "tests" / "refusals-page")
+    return ((item.line, item.given[0].encode()) for item in page.items() if item.kind == kind.lower())
 
 
 def mutated(text: bytes, random_: random.Random) -> bytes:
