@@ -29,7 +29,7 @@ impl Watch for Calls {
     }
 }
 
-/// Node 0 listens for good, which costs 1 at each step: 20 in all. Node 1 opens the left door, for -100 or 10, and goes on as node 0.
+/// Node 0 listens for good, which costs 1 at each step: 20 in all. Node 1 opens the left door, for -100 or 10, and continues as node 0.
 const GRAPH: &[u8] = b"0 0 0 0 1 1 0 0";
 
 /// What the nodes are worth, exactly.
