@@ -4,7 +4,7 @@
     inputs.py FOLDER            writes all of them into FOLDER, but for those of MOST
     inputs.py FOLDER NAME ..    writes those
 
-Nothing here is a test: `tests/bench/run` and `tests/bench/turns` time the program on them, and docs/SPEED.md has the times.
+Nothing here is a test: `tests/bench/run` and `tests/bench/turns` time the program on them, and docs/BENCHMARKS.md has the times.
 """
 import os
 import random

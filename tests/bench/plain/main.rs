@@ -1,4 +1,4 @@
-//! A program that gives the answers of polcert and proves nothing. It is for benchmarks alone: docs/SPEED.md says how long both
+//! A program that gives the answers of polcert and proves nothing. It is for benchmarks alone: docs/BENCHMARKS.md says how long both
 //! take on the same inputs, and nothing rests on it. `tests/bench/same` compares its answers with those of polcert.
 //!
 //!     rustc -O --edition 2021 tests/bench/plain/main.rs -o PLAIN
