@@ -1,12 +1,19 @@
-"""Policies as solvers write them: lists of vectors, SARSOP's `.policy` files, and an action for each state of an MDP."""
+"""Policies as solvers write them: lists of vectors, SARSOP's `.policy` files, the tables of R's `pomdp`, the policies of AI-Toolbox, and an
+action for each state of an MDP."""
 import re
 from math import isfinite
-from typing import Dict, List, NamedTuple, Optional
+from typing import Dict, Iterator, List, NamedTuple, Optional, Sequence, Union
 from xml.parsers import expat
 
-from polcert_files import END, NAME, NUMERAL, Cursor, FileError, Model, Source, read_vectors
+from polcert_files import END, NAME, NUMERAL, Cursor, FileError, Graph, Model, Source, read_vectors
+from polcert_tables import Elements
 
 _NUMBER = re.compile(r"[+-]?(?:[0-9]+\.?[0-9]*|\.[0-9]+)(?:[eE][+-]?[0-9]+)?")
+_STEP_END = re.compile(rb"^[ \t]*@[ \t\r]*$", re.M)
+_TABLE_WORD = re.compile(rb'"([^"\r\n]*)"|([^\s,"]+)')
+_LIST_MARK = re.compile(r"\[\[[0-9]+\]\]")
+# What R and pomdp-solve write for a successor that is missing.
+_NO_NODE = ("NA", "-", "X")
 
 
 class Solved(NamedTuple):
@@ -16,22 +23,54 @@ class Solved(NamedTuple):
     values: List[float]
 
 
+class Word(NamedTuple):
+    """A word of a text and its first byte."""
+
+    begin: int
+    text: str
+
+
 def is_xml(source: Source) -> bool:
     return source.text.lstrip(b"\xef\xbb\xbf \t\r\n").startswith(b"<")
 
 
-def read_solved(source: Source, model: Model) -> List[Solved]:
-    """The vectors of a solver, from an `.alpha` file or from SARSOP's XML. Raises FileError; never answers no vector at all."""
+def read_solved(source: Source, model: Model) -> Union[Graph, List[Solved]]:
+    """What a solver wrote: a graph, if the text is a table of nodes, else vectors. Raises FileError; never answers no vector at all."""
     if is_xml(source):
         return _PolicyReader(source, model).read()
+    if _STEP_END.search(source.text):
+        return _StepsReader(source, model).read()
+    if is_table(source):
+        return _TableReader(source, model).read()
     return [Solved(vector.action, [float(value) for value in vector.values]) for vector in read_vectors(source, model)]
 
 
-class _PolicyReader:
-    """Reads `<Vector>` and `<SparseVector>` elements of a policy."""
+class _Reader:
+    """What the readers of policies share."""
 
     def __init__(self, source: Source, model: Model) -> None:
         self.source, self.model = source, model
+
+    def fault(self, byte: int, why: str) -> FileError:
+        return FileError(self.source, "", byte, why)
+
+    def whole(self, word: Word, count: int, kind: str) -> int:
+        if not (word.text.isascii() and word.text.isdigit() and int(word.text) < count):
+            expected = f"the number of {'an' if kind[0] in 'ao' else 'a'} {kind} from 0 to {count - 1}"
+            raise self.fault(word.begin, f"expected {expected}, found `{word.text}`")
+        return int(word.text)
+
+    def number(self, word: Word) -> float:
+        if not _NUMBER.fullmatch(word.text) or not isfinite(float(word.text)):
+            raise self.fault(word.begin, f"expected a number, found `{word.text}`")
+        return float(word.text)
+
+
+class _PolicyReader(_Reader):
+    """Reads the `<Vector>` and `<SparseVector>` elements of SARSOP's policy."""
+
+    def __init__(self, source: Source, model: Model) -> None:
+        super().__init__(source, model)
         self.solved: List[Solved] = []
         self.action: Optional[int] = None
         self.sparse: Optional[List[float]] = None
@@ -41,53 +80,166 @@ class _PolicyReader:
         self.parser.EndElementHandler = self.end
         self.parser.CharacterDataHandler = self.text.append
 
-    def fault(self, why: str) -> FileError:
-        return FileError(self.source, "", max(0, self.parser.CurrentByteIndex), why)
+    @property
+    def byte(self) -> int:
+        return max(0, self.parser.CurrentByteIndex)
 
     def read(self) -> List[Solved]:
         try:
             self.parser.Parse(self.source.text, True)
         except expat.ExpatError as fault:
             byte, why = max(0, self.parser.ErrorByteIndex), expat.ErrorString(fault.code)
-            raise FileError(self.source, "", byte, f"this is no XML: {why}") from None
+            raise self.fault(byte, f"this is no XML: {why}") from None
         if not self.solved:
-            raise FileError(self.source, "", len(self.source.text), "expected a `<Vector>` or a `<SparseVector>` of a policy, found none")
+            raise self.fault(len(self.source.text), "expected a `<Vector>` or a `<SparseVector>` of a policy, found none")
         return self.solved
 
     def begin(self, name: str, attributes: Dict[str, str]) -> None:
         self.text.clear()
         if name in ("Vector", "SparseVector"):
-            self.action = self.whole(attributes.get("action", "nothing"), self.model.actions.count, "action")
+            self.action = self.whole(Word(self.byte, attributes.get("action", "nothing")), self.model.actions.count, "action")
             if attributes.get("obsValue", "0") != "0":
-                raise self.fault("this policy is of mixed observability (obsValue): its vectors are not over all states")
+                raise self.fault(self.byte, "this policy is of mixed observability (obsValue): its vectors are not over all states")
             self.sparse = [0.0] * self.model.states.count if name == "SparseVector" else None
         elif name == "Entry" and self.sparse is None:
-            raise self.fault("an `<Entry>` stands outside of a `<SparseVector>`")
+            raise self.fault(self.byte, "an `<Entry>` stands outside of a `<SparseVector>`")
 
     def end(self, name: str) -> None:
-        words = "".join(self.text).split()
+        words = [Word(self.byte, word) for word in "".join(self.text).split()]
         self.text.clear()
         if name == "Vector":
             if len(words) != self.model.states.count:
-                raise self.fault(f"expected {self.model.states.count} numbers, one for each state of the model, found {len(words)}")
+                expected = f"{self.model.states.count} numbers, one for each state of the model"
+                raise self.fault(self.byte, f"expected {expected}, found {len(words)}")
             self.solved.append(Solved(self.action, [self.number(word) for word in words]))
         elif name == "Entry":
             if len(words) != 2:
-                raise self.fault(f"expected a state and a number in an `<Entry>`, found {len(words)} words")
+                raise self.fault(self.byte, f"expected a state and a number in an `<Entry>`, found {len(words)} words")
             self.sparse[self.whole(words[0], self.model.states.count, "state")] = self.number(words[1])
         elif name == "SparseVector":
             self.solved.append(Solved(self.action, self.sparse))
             self.sparse = None
 
-    def whole(self, word: str, count: int, kind: str) -> int:
-        if not (word.isascii() and word.isdigit() and int(word) < count):
-            raise self.fault(f"expected the number of {'an' if kind == 'action' else 'a'} {kind} from 0 to {count - 1}, found `{word}`")
-        return int(word)
 
-    def number(self, word: str) -> float:
-        if not _NUMBER.fullmatch(word) or not isfinite(float(word)):
-            raise self.fault(f"expected a number, found `{word}`")
-        return float(word)
+class _StepsReader(_Reader):
+    """Reads the policy of AI-Toolbox: a list of vectors for each number of steps, the fewest first, with `@` after each list. A vector is a
+    number for each state, an action and, for each observation, the vector of the list before that follows."""
+
+    def read(self) -> List[Solved]:
+        """The vectors of the last list: those of the most steps."""
+        lists = self.lists()
+        if not lists:
+            raise self.fault(0, "expected vectors before the first `@`, found none")
+        states, observations = self.model.states.count, self.model.observations.count
+        last, before = lists[-1], lists[-2] if len(lists) > 1 else []
+        width = states + 1 + observations
+        if len(last) % width:
+            parts = f"{states} numbers, an action and {observations} successors"
+            why = f"expected {parts} for each vector of the last list, which has {len(last)} words"
+            raise self.fault(last[0].begin, why)
+        nodes = max(1, len(before) // width)
+        return [self.vector(last[i : i + width], nodes) for i in range(0, len(last), width)]
+
+    def lists(self) -> List[List[Word]]:
+        """The words of each list that is not empty."""
+        lists: List[List[Word]] = [[]]
+        for match in re.finditer(rb"@|[^\s@]+", self.source.text):
+            if match[0] == b"@":
+                lists.append([])
+            else:
+                lists[-1].append(Word(match.start(), match[0].decode(errors="replace")))
+        return [words for words in lists if words]
+
+    def vector(self, words: Sequence[Word], nodes: int) -> Solved:
+        states = self.model.states.count
+        values = [self.number(word) for word in words[:states]]
+        action = self.whole(words[states], self.model.actions.count, "action")
+        for word in words[states + 1 :]:
+            self.whole(word, nodes, "vector of the list before")
+        return Solved(action, values)
+
+
+def table_lines(source: Source) -> Iterator[List[Word]]:
+    """The words of each line that is not empty, without quotation marks and without R's `[[1]]`."""
+    for line in re.finditer(rb"[^\r\n]+", source.text):
+        found = _TABLE_WORD.finditer(line[0])
+        words = [Word(line.start() + word.start(), (word[2] or word[1] or b"").decode(errors="replace")) for word in found]
+        if words and not _LIST_MARK.fullmatch(words[0].text):
+            yield words
+
+
+def is_table(source: Source) -> bool:
+    """Whether the first line names columns, and `action` is one of them."""
+    words = [word.text for word in next(table_lines(source), [])]
+    return "action" in words and not words[0].startswith("#")
+
+
+class _TableReader(_Reader):
+    """Reads a data frame of R's `pomdp`: nodes (`node`, `action`, a column for each observation) or vectors (a column for each state,
+    `action`). The nodes are numbered from 1, and a number of the row may stand first."""
+
+    def __init__(self, source: Source, model: Model) -> None:
+        super().__init__(source, model)
+        head, *self.rows = table_lines(source)
+        self.columns = [word for word in head if word.text]
+        self.at_action = [word.text for word in self.columns].index("action")
+
+    def read(self) -> Union[Graph, List[Solved]]:
+        before, after = self.columns[: self.at_action], self.columns[self.at_action + 1 :]
+        if not self.rows:
+            raise self.fault(len(self.source.text), "expected a row below the names of the columns, found the end of the text")
+        if [word.text for word in before] == ["node"]:
+            self.compare(after, self.model.observations)
+            return self.graph()
+        self.compare(before, self.model.states)
+        if after:
+            raise self.fault(after[0].begin, f"expected `action` as the last column after those of the states, found `{after[0].text}`")
+        return [self.vector(self.cells(row)) for row in self.rows]
+
+    def compare(self, words: Sequence[Word], elements: Elements) -> None:
+        """Refuses columns that are not those of the states or the observations. R may have made a point of each `-`."""
+        if len(words) != elements.count:
+            why = f"expected a column for each {elements.kind} of the model, which are {elements.count}, found {len(words)}"
+            raise self.fault(self.columns[self.at_action].begin, why)
+        for word, name in zip(words, elements.names or []):
+            if word.text not in (name, name.replace("-", ".")):
+                raise self.fault(word.begin, f"expected the column of {elements.kind} `{name}`, found `{word.text}`")
+
+    def cells(self, row: Sequence[Word]) -> Sequence[Word]:
+        """The words of a row, without its number."""
+        width = len(self.columns)
+        if [word.text for word in row] == [word.text for word in self.columns]:
+            why = "a second table begins here: the graph of a finite horizon has one for each step, and is no controller that runs on"
+            raise self.fault(row[0].begin, why)
+        if len(row) not in (width, width + 1):
+            raise self.fault(row[0].begin, f"expected {width} words, one for each column, found {len(row)}")
+        return row[-width:]
+
+    def graph(self) -> Graph:
+        graph = Graph([], [])
+        for number, row in enumerate(self.rows, 1):
+            node, action, *successors = self.cells(row)
+            if node.text != str(number):
+                raise self.fault(node.begin, f"expected node {number}, as nodes are numbered 1, 2, .. in order, found `{node.text}`")
+            graph.actions.append(self.action(action))
+            graph.successors.append([self.successor(word) for word in successors])
+        return graph
+
+    def action(self, word: Word) -> int:
+        action = self.model.actions.index_of.get(word.text.encode())
+        if action is None:
+            raise self.fault(word.begin, f"expected the name of an action of the model, found `{word.text}`")
+        return action
+
+    def successor(self, word: Word) -> Optional[int]:
+        if word.text in _NO_NODE:
+            return None
+        if not (word.text.isascii() and word.text.isdigit() and 1 <= int(word.text) <= len(self.rows)):
+            raise self.fault(word.begin, f"expected a node from 1 to {len(self.rows)}, or `NA`, found `{word.text}`")
+        return int(word.text) - 1
+
+    def vector(self, cells: Sequence[Word]) -> Solved:
+        return Solved(self.action(cells[-1]), [self.number(word) for word in cells[:-1]])
 
 
 def is_policy_of_mdp(source: Source, model: Model) -> bool:
