@@ -189,6 +189,16 @@ class Changes(MendTest):
         self.assertEqual((said.status, said.out), (0, b""))
 
 
+    def test_lines_of_rows_with_the_same_change(self) -> None:
+        row = b"0.333333 0.333333 0.333333\n"
+        said = self.mend(HEAD + b"T: 0 identity\nT: 0 : 1 " + row + b"T: 1 : * " + row + TAIL)
+        lines = [re.sub(r"^.*/", "", line) for line in said.err.splitlines()]
+        self.assertEqual(lines[:2], [
+            "m.POMDP:7: T: 0 : 1 summed to 0.999999: became `uniform`",
+            "m.POMDP:8: T: 1 : * summed to 0.999999: became `uniform`",
+        ])
+
+
 class Refusals(MendTest):
     def test_what_it_does_not_mend(self) -> None:
         body = b"T: * identity\n" + TAIL
