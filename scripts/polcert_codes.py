@@ -1,4 +1,4 @@
-"""The codes of polcert's refusals: what each means and how to mend it. docs/REFUSALS.md has the same table ("Index of codes")."""
+"""The codes of polcert's refusals: what each means and how to mend it. docs/REFUSALS.md has the same sentences."""
 from typing import Dict, NamedTuple
 
 
@@ -10,12 +10,9 @@ class Code(NamedTuple):
 
 
 CODES: Dict[str, Code] = {
-    "M1": Code("these bytes are no name, number or sign", "remove them, or make them a comment with `#`"),
-    "M2": Code("the number is not one of a model", "write a number from -10,000,000 to 10,000,000 with at most six decimals"),
-    "M3": Code(
-        "something precedes the first item's word",
-        "remove it, or make it a comment; `discount` and the like are in lower case"
-    ),
+    "M1": Code("these bytes are no name, number or sign", "see K1 to K4, of which one follows"),
+    "M2": Code("the number is not one of a model", "see N2 to N4, of which one follows"),
+    "M3": Code("something precedes the first item's word", "remove it, or make it a comment with `#`"),
     "M4": Code("no form of the item continues like this", "compare the item with the tables of FORMAT"),
     "M5": Code("the line, or the start item, appears for the second time", "keep one of them"),
     "M6": Code("a line of the preamble, or the start item, comes too late", "move it up, before all entries"),
@@ -46,7 +43,7 @@ CODES: Dict[str, Code] = {
         "a non-zero digit after the sixth decimal place",
         "run `polcert-mend`; or write six decimals, and see that the row still sums to one"
     ),
-    "G1": Code("these bytes are no name, number or sign", "remove them, or make them a comment with `#`"),
+    "G1": Code("these bytes are no name, number or sign", "see K1 to K4, of which one follows"),
     "G2": Code("not a number of digits only, nor `-` or `X` for a missing successor", "write a number, or a `-` with a blank after it"),
     "G3": Code("not the number of the next node", "number the nodes 0, 1, 2, .. in order; or remove a successor too many before it"),
     "G4": Code("the model has no such action", "use a number below the count of actions"),
@@ -54,8 +51,8 @@ CODES: Dict[str, Code] = {
     "G6": Code("the text ends inside a node", "add the missing action or successors: one for each observation"),
     "G7": Code("the text has no node", "write at least one"),
     "G8": Code("there are more than 10,000 nodes", "use a smaller graph"),
-    "V1": Code("these bytes are no name, number or sign", "remove them, or make them a comment with `#`"),
-    "V2": Code("the number is not one of a vector", "write a number from -10,000,000 to 10,000,000"),
+    "V1": Code("these bytes are no name, number or sign", "see K1 to K4, of which one follows"),
+    "V2": Code("the number is not one of a vector", "see N2 and N3, of which one follows"),
     "V3": Code(
         "not an action of digits only, or not a number; `nan` and `inf` are none",
         "write a number; if a solver wrote this, its evaluation went wrong"

@@ -15,9 +15,9 @@ def located(text: bytes, line: str) -> List[str]:
 
 
 class Page(FolderTest):
-    def test_the_index_is_the_table(self) -> None:
-        page = (TOP / "docs" / "REFUSALS.md").read_text().split("## Index of codes\n")[1]
-        items = re.findall(r"^- \*\*(\w+)\*\*: (.*?)\. \*How to mend it:\* (.*?)\.$", re.sub(r"\n  ", " ", page), re.M)
+    def test_the_page_has_the_sentences(self) -> None:
+        page = re.sub(r"\n  (?! *- )", " ", (TOP / "docs" / "REFUSALS.md").read_text())
+        items = re.findall(r"^- \*\*(\w\d+)\*\*: (.*?)\. \*Mend:\* (.*?)\.(?: There is no tolerance.*)?$", page, re.M)
         self.assertEqual(items, [(code, *sentences) for code, sentences in CODES.items()])
 
     def test_each_code_that_polcert_prints_has_a_sentence(self) -> None:
