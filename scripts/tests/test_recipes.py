@@ -1,7 +1,7 @@
 """The recipes of docs/GUIDE.md: files in the forms of each solver, from examples/recipes to a certificate, and what is refused in them."""
 import re
 
-from support import EXAMPLES, PROGRAM, FolderTest, Said, polcert, run_script
+from support import EXAMPLES, PROGRAM, TOP, FolderTest, Said, polcert, run_script
 from polcert_files import FileError, Graph, Source, read_graph, read_model, read_source, read_vectors
 from polcert_policies import Solved, read_solved
 
@@ -53,10 +53,10 @@ STEPS = """10 -100 2 0 0
 
 
 class RecipeTest(FolderTest):
-    def mended(self, model: str, wanted: str) -> str:
+    def mended(self, model: str, expected: str) -> str:
         said = run_script("polcert-mend", "-q", str(RECIPES / model))
         self.assertEqual(said.status, 0, said.err)
-        self.assertIn(wanted, said.err)
+        self.assertIn(expected, said.err)
         return self.file("mended.POMDP", said.out)
 
     def graph(self, model: str, solved: str) -> Said:
@@ -109,8 +109,10 @@ class Recipes(RecipeTest):
         said = self.from_graph(str(TIGER), "ai-toolbox/tiger.solved", 19.371368)
         self.assertIn("the vectors claim 4.428530, 14.942838 less", said)
 
-    def test_each_folder_says_what_it_holds(self) -> None:
+    def test_each_folder_is_in_the_guide_and_says_what_it_holds(self) -> None:
+        guide = (TOP / "docs" / "GUIDE.md").read_text()
         for folder in RECIPES.iterdir():
+            self.assertRegex(guide, rf"\n\$ .* ?recipes/{folder.name}/")
             page = (folder / "README.md").read_text()
             for file in folder.iterdir():
                 self.assertTrue(file.name == "README.md" or f"`{file.name}`" in page, file)
@@ -187,9 +189,9 @@ class Tables(FormTest):
 
 class Steps(FormTest):
     def test_the_vectors_of_the_most_steps(self) -> None:
-        wanted = [(2, [9.05, -100.95]), (0, [6.9325, -16.0575]), (0, [-1.95, -1.95]), (0, [-16.0575, 6.9325]), (1, [-100.95, 9.05])]
+        expected = [(2, [9.05, -100.95]), (0, [6.9325, -16.0575]), (0, [-1.95, -1.95]), (0, [-16.0575, 6.9325]), (1, [-100.95, 9.05])]
         for text in (STEPS, STEPS + "@\n", STEPS[:-2], STEPS.replace("\n", "\r\n")):
-            self.assertEqual(self.read(text), [Solved(*vector) for vector in wanted])
+            self.assertEqual(self.read(text), [Solved(*vector) for vector in expected])
 
     def test_one_step(self) -> None:
         self.assertEqual(self.read("10 -100 2 0 0\n@\n"), [Solved(2, [10, -100])])
