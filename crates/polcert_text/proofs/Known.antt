@@ -1,5 +1,5 @@
 -- What is read and taken, where the bytes are known.
-use Rattle.std.proofs.Common.{◌≡◌, ◌++◌, ◌∙◌, ap, sym, refl, append_assoc, ℕ, List, [], Option, IfSome}
+use Rattle.std.proofs.Common.{◌≡◌, ◌++◌, ◌∙◌, ◌∷◌, ap, sym, refl, append_assoc, ℕ, List, [], length, Option, None, IfSome, arith}
 use Rattle.std.specs.Io.KnownBytes.{Consumes, Appends}
 use Rattle.std.proofs.KnownBytes.{Consumes-nil, Consumes-trans, Appends-nil, Appends-trans, Consumes-whole}
 use Rattle.std.proofs.lemmas.List.{append-nil}
@@ -63,3 +63,20 @@ reader_text rest after text = text_known (λ xs. xs)
 
 pub writer_took : (held after : Option (List ℕ)) (bytes : List ℕ) → Takes WritesKnown held bytes after → Appends held after bytes
 writer_took held after bytes = took_known (λ xs. xs)
+
+-- ---- where no bytes are known
+
+-- one read may have given the whole text, and the next one nothing
+pub unknown_text : {S : Type 0} (s t : S) (text : List ℕ) → IsText (λ (x : S) room answer (y : S). ReadsKnown None room answer None) s text t
+unknown_text s t [] = record { before = s; room = 1; has_room = omega arith; gave = nothing; ended = (tt, λ none some. tt) }
+unknown_text s t (b ∷ bs) = record {
+  before = t;
+  room = 1;
+  has_room = omega arith;
+  gave = more {bytes = []} {front = b ∷ bs} {room = length (b ∷ bs)} {s = s} {t = t} nothing (tt, λ none some. tt) (omega arith);
+  ended = (tt, λ none some. tt);
+}
+
+-- one write may have taken all of it
+pub unknown_taken : {S : Type 0} (s t : S) (text : List ℕ) → Takes (λ (x : S) answer (y : S). WritesKnown None answer None) s text t
+unknown_taken s t text = sink.more {bytes = []} {front = text} {s = s} {t = t} sink.nothing tt

@@ -9,7 +9,9 @@ ghost use Rattle.polcert_text.specs.Sink.{Takes};
 ghost use Rattle.polcert_text.specs.Memory.{ReadsSlice};
 ghost use Rattle.polcert_text.specs.Known.{ReadsKnown, WritesKnown};
 
-use crate::{NumberFault, Rounding, Token, TokenFault};
+use crate::{NumberFault, ReaderSource, Rounding, Sink, Source, Token, TokenFault, WriterSink};
+use std::fs::File;
+use std::io::Printer;
 
 /// A text has one cut: one list of tokens, and one end.
 pub fn one_cut()
@@ -82,6 +84,18 @@ pub fn text_of_a_slice()
 pub fn text_of_a_reader()
     ensures { (rest after : Option (List ℕ)) (text : List ℕ) →
         IsText ReadsKnown rest text after → IfSome rest (λ xs. text ≡ xs) }
+{}
+
+/// Every text is that of a source over a file of the system: std's contracts do not say which bytes its reads give.
+pub fn any_text_of_a_file()
+    ensures { (old new : ReaderSource File) (text : List ℕ) →
+        IsText ⟦<ReaderSource<File> as Source>⟧.reads old text new }
+{}
+
+/// Every text is what a sink over standard output took: std's contracts do not say which bytes are printed.
+pub fn any_text_of_standard_output<P: Print>()
+    ensures { (old new : WriterSink (Printer P)) (text : List ℕ) →
+        Takes ⟦<WriterSink<Printer<'static, P>> as Sink>⟧.writes old text new }
 {}
 
 /// A writer of std holds, behind what it held, what it took, where that is known.

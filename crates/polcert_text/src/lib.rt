@@ -23,8 +23,9 @@ pub use beginning::{FrontNumber, front_colon, front_digits, front_number};
 pub use buffer::{BUFFER_SIZE, Buffer};
 pub use buffered::BufferedSink;
 pub use laws::{
-    bytes_of_a_writer, one_cut, one_end, one_next_token, one_refusal, one_value,
-    rounding_either_way, same_answer_again, some_cut, text_of_a_reader, text_of_a_slice,
+    any_text_of_a_file, any_text_of_standard_output, bytes_of_a_writer, one_cut, one_end,
+    one_next_token, one_refusal, one_value, rounding_either_way, same_answer_again, some_cut,
+    text_of_a_reader, text_of_a_slice,
 };
 pub use lexeme::TokenKind;
 pub use memory::{SliceSink, SliceSource};
