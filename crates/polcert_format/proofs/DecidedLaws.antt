@@ -13,7 +13,7 @@ use Rattle.polcert_format.proofs.ItemLaws.{one_division}
 use Rattle.polcert_format.proofs.TextLaws.{one_known}
 
 -- lists that are the same, cut at the same length
-pub record SameCut (xs ys us vs : List Item) (x y : Item) : Type 0 where
+pub record SameCut {A : Type 0} (xs ys us vs : List A) (x y : A) : Type 0 where
   pub front : xs ≡ ys
   pub here : x ≡ y
   pub behind : us ≡ vs

@@ -19,19 +19,23 @@ taken_end old new seen (token _ between _ us t before takes) = (token_leaves bet
 some≢none : {A : Type 0} {x : A} → Some x ≡ None → ⊥
 some≢none e = cc
 
+-- a token has a byte
+pub has_bytes : (old new : Rest) (t : Lexeme) → TakesToken old t new → 1 ≤ length t.bytes
+has_bytes old new t takes = at (length t.bytes) takes.token_at.lexeme.lexeme
+  where
+    at : (n : ℕ) → kind_of (take n (drop takes.gap old.bytes)) ≡ Some t.kind → 1 ≤ n
+    at zero e = absurd (some≢none (sym e))
+    at (suc n) e = omega arith
+
 -- a token leaves less than there was
 pub shorter : (old new : Rest) (t : Lexeme) → TakesToken old t new → length new.bytes + 1 ≤ length old.bytes
 shorter old new t takes =
-    let some : 1 ≤ length t.bytes = at (length t.bytes) takes.token_at.lexeme.lexeme in
+    let some = has_bytes old new t takes in
     let within = takes.token_at.lexeme.within in
     let bytes : length new.bytes ≡ length (drop (length t.bytes) (drop takes.gap old.bytes)) = ap (λ (r : Rest). length r.bytes) takes.rest in
     let outer : length (drop (length t.bytes) (drop takes.gap old.bytes)) ≡ length (drop takes.gap old.bytes) - length t.bytes = length-drop (length t.bytes) (drop takes.gap old.bytes) in
     let inner : length (drop takes.gap old.bytes) ≡ length old.bytes - takes.gap = length-drop takes.gap old.bytes in
     omega (arith, some, within, bytes, outer, inner)
-  where
-    at : (n : ℕ) → kind_of (take n (drop takes.gap old.bytes)) ≡ Some t.kind → 1 ≤ n
-    at zero e = absurd (some≢none (sym e))
-    at (suc n) e = omega arith
 
 -- ---- the whole text
 

@@ -1,4 +1,5 @@
 pub mod CellLimits
+pub mod Climbing
 pub mod DecidedLaws
 pub mod Dividing
 pub mod FirstNumbers
