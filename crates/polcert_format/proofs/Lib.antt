@@ -9,6 +9,7 @@ pub mod FurtherNumbers
 pub mod ItemLaws
 pub mod KnownLaws
 pub mod LimitLaws
+pub mod OneRefusal
 pub mod OneStop
 pub mod OneValue
 pub mod OrderLaws

@@ -141,7 +141,7 @@ last_place xs ys x y e = omega (arith, simp length-append at (ap length e))
 front_or_none : (ls : List Lexeme) (l : Lexeme) (fs : List Lexeme) (items others : List Item) → IsDivided ls (l ∷ fs) items → IsDivided ls [] others → ⊥
 front_or_none ls l fs items others a b = cons≢nil (one_division ls (l ∷ fs) [] items others a b).0
 
-item_or_empty : (ls : List Lexeme) (xs : List Item) (x : Item) (ys : List Item) → IsDivided ls [] (xs ++ x ∷ ys) → ls ≡ [] → ⊥
+pub item_or_empty : (ls : List Lexeme) (xs : List Item) (x : Item) (ys : List Item) → IsDivided ls [] (xs ++ x ∷ ys) → ls ≡ [] → ⊥
 item_or_empty ls xs x ys a e = no_empty xs x ys (one_division [] [] [] (xs ++ x ∷ ys) [] (subst (λ s. IsDivided s [] (xs ++ x ∷ ys)) e a) empty_division).1
 
 item_or_end : (ls : List Lexeme) (xs : List Item) (x : Item) (ys items : List Item) (k last : Known) → IsDivided ls [] (xs ++ x ∷ ys) → AreRight nothing_known xs k

@@ -1,5 +1,5 @@
 //! Laws of the definitions: each function has an empty body, and its contract is the law.
-ghost use Rattle.std.specs.Prelude.{◌≡◌, ℕ, List, ℤ, pos, Option, Some, None, ◌+◌, ◌≤◌, ◌++◌, ◌∷◌, [], true, false, length};
+ghost use Rattle.std.specs.Prelude.{◌≡◌, ◌≢◌, ℕ, List, ℤ, pos, Option, Some, None, ◌+◌, ◌≤◌, ◌++◌, ◌∷◌, [], true, false, length};
 ghost use Rattle.std.specs.List.{list_any};
 ghost use Rattle.polcert_text.specs.Cut.{Lexeme};
 ghost use Rattle.polcert_text.specs.declared.tokens.TokenFault.{TokenFault};
@@ -27,6 +27,7 @@ ghost use Rattle.polcert_format.specs.declared.fault.ItemFault.{ItemFault};
 ghost use Rattle.polcert_format.specs.Order.{preamble_fault, word_fault};
 ghost use Rattle.polcert_format.specs.declared.fault.ModelFault.{ModelFault};
 ghost use Rattle.polcert_format.specs.Refusals.{IsRefusal, SaysOfText, StandsRight, place_or};
+ghost use Rattle.polcert_format.specs.RefusedTexts.{IsRefusedModelText};
 ghost use Rattle.polcert_format.specs.Items.{Item, IsDivided};
 ghost use Rattle.polcert_format.specs.Forms.{IsTooMuch, IsPossible};
 ghost use Rattle.polcert_format.specs.Limits.{HasFewPairs, HasFewCells};
@@ -219,6 +220,12 @@ pub fn small_models_are_within_limits()
 pub fn refused_is_not_accepted()
     ensures { (text : List ℕ) (ts : TextTokens) (fault : ModelFault) (m : Meaning) →
         AreTokensOf text ts → IsRefusal ts fault → SaysOfText fault → IsModelText text m → ⊥ }
+{}
+
+/// A text is refused as a model for at most one reason, and at one place, running out of memory aside.
+pub fn one_model_refusal()
+    ensures { (text : List ℕ) (f g : ModelFault) → f ≢ ModelFault.Memory → g ≢ ModelFault.Memory →
+        IsRefusedModelText f text → IsRefusedModelText g text → f ≡ g }
 {}
 
 /// The places of a text's tokens rise. So the place where a part of an item's body was taken lies in the item, and so
