@@ -6,6 +6,7 @@ mod elements;
 mod entries;
 mod entry;
 mod keyed_state;
+mod name_hasher;
 mod names;
 mod row;
 mod shares;

@@ -5,8 +5,6 @@ ghost use Rattle.std.specs.List.{list_any};
 use crate::keyed_state::KeyedState;
 use indexmap::IndexSet;
 use std::alloc::{AllocError, Global};
-use std::collections::hash_map::DefaultHasher;
-use std::hash::{Hash, Hasher};
 use std::marker::Model;
 use std::str;
 use std::string::String;
@@ -16,13 +14,11 @@ const NAMES_PER_KEY: usize = 300;
 
 /// Distinct names, numbered from 0 in order of appearance. Contracts see the list of their bytes.
 ///
-/// Names that collide under a known key can be computed, so each key is a digest of all names before it: only names that are added under the
-/// last key can be made for it.
+/// Names that collide under a known key can be computed, so each key is a digest of the key before it and of the names that were added
+/// under that one: only names that are added under the last key can be made for it.
 #[derive(Drop)]
 pub struct Names {
     set: IndexSet<String, KeyedState>,
-    digest: DefaultHasher,
-    rekey_at: usize,
 }
 
 impl Model for Names {
@@ -40,8 +36,6 @@ impl Names {
     {
         Names {
             set: IndexSet::with_hasher(alloc, KeyedState::new(0)),
-            digest: DefaultHasher::new(),
-            rekey_at: NAMES_PER_KEY,
         }
     }
 
@@ -67,7 +61,6 @@ impl Names {
     {
         let name = text_of(name);
         self.rekey_if_due(alloc)?;
-        name.hash(&mut self.digest);
         let is_new = self.set.insert(String::from_str(alloc, name)?)?;
         Ok(is_new)
     }
@@ -77,14 +70,16 @@ impl Names {
         ensures { self.new ≡ self.old }
     {
         let count = self.set.len();
-        if count < self.rekey_at {
+        if count == 0 || count % NAMES_PER_KEY != 0 {
             return Ok(());
         }
-        let key = KeyedState::new(self.digest.finish());
+        let key = self
+            .set
+            .hasher()
+            .after(&self.set.as_slice()[count - NAMES_PER_KEY..]);
         let mut set = IndexSet::with_capacity_and_hasher(alloc, self.set.capacity(), key)?;
         set.append(&mut self.set)?;
         self.set = set;
-        self.rekey_at = count + NAMES_PER_KEY;
         Ok(())
     }
 
