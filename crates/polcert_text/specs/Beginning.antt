@@ -25,6 +25,10 @@ pub record BeginWith (place : ℕ) (bytes : List ℕ) (count : ℕ) (tokens : Li
 abbrev pub passed : ℕ → Stream → Stream
 passed n s = record { ahead = skip n s.ahead; lent = []; stop = s.stop }
 
+-- the lexeme, where the bytes that its place is counted from stand at this offset
+abbrev pub moved : ℕ → Lexeme → Lexeme
+moved place l = record l { place = place + l.place }
+
 -- the first bytes are one token of this kind
 pub record BeginWithOne (place : ℕ) (bytes : List ℕ) (count : ℕ) (kind : TokenKind) : Type 0 where
   pub token : Lexeme

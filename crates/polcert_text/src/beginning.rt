@@ -1,12 +1,14 @@
 //! Tokens that stand whole at the front of some bytes, cut without going through a stream.
-ghost use Rattle.std.specs.Prelude.{◌≡◌, ◌≤◌, ℕ, length, take, IfSome};
+ghost use Rattle.std.specs.Prelude.{◌≡◌, ◌≤◌, ◌∷◌, [], ℕ, length, take, IfSome};
 ghost use Rattle.polcert_text.specs.Steps.Scan.{gap_through};
-ghost use Rattle.polcert_text.specs.Beginning.{BeginWithOne, BeginWithNumber, BeginWithDigits};
+ghost use Rattle.polcert_text.specs.Beginning.{BeginWith, BeginWithOne, BeginWithNumber, BeginWithDigits, moved};
+ghost use Rattle.polcert_text.specs.Reading.{lexeme_of};
 ghost use Rattle.polcert_text.specs.Steps.ScanOf.{EndsAsNumber, EndsAsDigits};
 
 use crate::bytes::{is_surely_blank, is_surely_colon, is_surely_point};
-use crate::lexeme::{Gap, TokenKind};
+use crate::lexeme::{Gap, LONGEST_TOKEN, TokenKind, ended_name_or_mark};
 use crate::number::{LARGEST, MILLION, digits_behind, with_zeros};
+use crate::tokens::Token;
 
 /// A number at the front of some bytes: its value, and how many bytes it takes with the blanks before it.
 #[derive(Clone, Copy)]
@@ -25,6 +27,29 @@ pub fn front_colon(bytes: &[u8]) -> Option<usize>
         return Some(start + 1);
     }
     None
+}
+
+/// The token that the bytes begin with, where it is a name or a mark and a byte follows it. Its place and its end are counted from
+/// the first of the bytes. `None` says nothing.
+#[inline(always)]
+pub fn front_token(bytes: &[u8]) -> Option<Token<'_>>
+    ensures { IfSome result (λ token. (place : ℕ) →
+        BeginWith place bytes.now token.stop (moved place (lexeme_of token) ∷ [])) }
+{
+    let start = blanks(bytes);
+    let rest = &bytes[start..];
+    if rest.len() < 2 {
+        return None;
+    }
+    match ended_name_or_mark(rest) {
+        Some(front) if front.len <= LONGEST_TOKEN => Some(Token {
+            kind: front.kind,
+            place: start as u64,
+            stop: (start + front.len) as u64,
+            bytes: &rest[..front.len],
+        }),
+        _ => None,
+    }
 }
 
 /// The number in millionths that the bytes begin with, where a blank or a line end follows its numeral: digits, perhaps with a point

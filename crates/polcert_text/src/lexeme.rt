@@ -346,7 +346,7 @@ impl LexemeScan {
     }
 }
 
-ghost use Rattle.polcert_text.specs.Steps.ScanOf.{IsFrontOf, EndsWithin};
+ghost use Rattle.polcert_text.specs.Steps.ScanOf.{IsFrontOf, EndsWithin, IsNameOrMark};
 ghost use Rattle.polcert_text.specs.Steps.Scan.{GoesOnWithDigits};
 ghost use Rattle.polcert_text.specs.declared.lexeme.State.{State};
 
@@ -413,7 +413,7 @@ fn digits_end(bytes: &[u8], from: usize) -> usize
     at
 }
 
-/// The lexeme at the front, where a byte behind it is there and ends it: a name, a colon, or a numeral of digits, perhaps with a
+/// The lexeme at the front, where a byte after it is there and ends it: a name, a mark, or a numeral of digits, perhaps with a
 /// point and digits, before a blank or a line end. Most are, and these are cut without a step for each byte. `None` says nothing.
 #[inline(always)]
 pub fn ended_lexeme(bytes: &[u8]) -> Option<Front>
@@ -425,13 +425,23 @@ pub fn ended_lexeme(bytes: &[u8]) -> Option<Front>
     if is_surely_digit(bytes[0]) {
         return ended_numeral(bytes);
     }
-    if is_surely_colon(bytes[0]) {
-        return Some(Front {
-            kind: TokenKind::Colon,
-            len: 1,
-        });
+    ended_name_or_mark(bytes)
+}
+
+/// The name or the mark at the front, where a byte after it is there and ends it. `None` says nothing.
+#[inline(always)]
+pub fn ended_name_or_mark(bytes: &[u8]) -> Option<Front>
+    requires { 1 < length bytes.now }
+    ensures ends { IfSome result (EndsWithin bytes.now) }
+    ensures word { IfSome result (IsNameOrMark bytes.now) }
+{
+    if is_surely_letter(bytes[0]) {
+        return ended_name(bytes);
     }
-    ended_name(bytes)
+    match State::first(class_of(bytes[0])) {
+        State::Single(kind) => Some(Front { kind, len: 1 }),
+        _ => None,
+    }
 }
 
 #[inline(always)]
@@ -465,12 +475,12 @@ fn ended_numeral(bytes: &[u8]) -> Option<Front>
 
 #[inline(always)]
 fn ended_name(bytes: &[u8]) -> Option<Front>
-    requires { 0 < length bytes.now }
-    ensures { IfSome result (EndsWithin bytes.now) }
+    requires some { 0 < length bytes.now }
+    requires letter { (class_of (slice_index bytes.now 0) ≡ ByteClass.Letter)
+        ⊎ (class_of (slice_index bytes.now 0) ≡ ByteClass.ExponentMark) }
+    ensures ends { IfSome result (EndsWithin bytes.now) }
+    ensures word { IfSome result (IsNameOrMark bytes.now) }
 {
-    if !is_surely_letter(bytes[0]) {
-        return None;
-    }
     let end = name_end(bytes, 1);
     if end == bytes.len() {
         return None;

@@ -5,15 +5,16 @@ use Rattle.std.proofs.lemmas.Bool.{eqb-true}
 use Rattle.std.proofs.lemmas.List.{length-take-le, take_more, take-append-drop}
 use Rattle.std.specs.Char.{is_ascii_digit, is_ascii_alphabetic}
 use Rattle.polcert_text.specs.Bytes.{class_of}
+use Rattle.polcert_text.specs.Cut.{is_glued}
 use Rattle.polcert_text.specs.Fronts.{IsLongestGap, IsLongestLexeme}
 use Rattle.polcert_text.specs.Gaps.{is_gap}
 use Rattle.polcert_text.specs.Lexemes.{kind_of}
 use Rattle.polcert_text.specs.Steps.Scan.{gap_after, gap_through, state_after, state_through, kind_at}
-use Rattle.polcert_text.specs.Steps.ScanOf.{pending, IsFrontOf, IsScanOf, scan_at, EndsWithin}
+use Rattle.polcert_text.specs.Steps.ScanOf.{pending, IsFrontOf, IsScanOf, scan_at, EndsWithin, IsNameOrMark}
 use Rattle.polcert_text.specs.declared.bytes.ByteClass.{ByteClass}
 use Rattle.polcert_text.specs.declared.bytes.ByteClass.TheVariants as classes
 use Rattle.polcert_text.specs.declared.lexeme.TokenKind.{TokenKind}
-use Rattle.polcert_text.specs.declared.lexeme.TokenKind.TheVariants.{Colon}
+use Rattle.polcert_text.specs.declared.lexeme.TokenKind.TheVariants.{Colon, Star, Plus, Minus}
 use Rattle.polcert_text.specs.declared.lexeme.Front.{Front}
 use Rattle.polcert_text.specs.declared.lexeme.Gap.{Gap}
 use Rattle.polcert_text.specs.declared.lexeme.Gap.TheVariants.{Between, Comment, Ended}
@@ -119,10 +120,23 @@ ends_within bs n state kind h read is none ends =
 pub ended_front : (bs : List ℕ) (front : Front) → EndsWithin bs front → IsFrontOf bs (Some front)
 ended_front bs front ends = subst (λ xs. IsLongestLexeme xs front.kind front.len) (append-nil bs) (ends.longest [])
 
--- a colon that a byte follows
-pub ended_colon : (bs : List ℕ) → 1 < length bs → class_of (get_or bs 0 0) ≡ classes.Colon → EndsWithin bs (record { kind = Colon; len = 1 })
-ended_colon bs more colon =
-    ends_within bs 1 (Single Colon) Colon more (state_step bs 0 Start classes.Colon (Single Colon) (omega arith) refl (sym colon) refl) refl refl refl
+-- a mark that a byte follows
+pub ended_mark : (bs : List ℕ) (kind : TokenKind) → 1 < length bs → state_after Start (class_of (get_or bs 0 0)) ≡ Single kind → EndsWithin bs (record { kind = kind; len = 1 })
+ended_mark bs kind more mark =
+    ends_within bs 1 (Single kind) kind more (state_step bs 0 Start (class_of (get_or bs 0 0)) (Single kind) (omega arith) refl refl (sym mark)) refl refl refl
+
+mark_word : (c : ByteClass) (kind : TokenKind) → state_after Start c ≡ Single kind → (gap_after Between c ≡ Ended) × ((rest : List ℕ) → is_glued kind rest ≡ false)
+mark_word classes.Colon Colon e = (refl, λ rest. refl)
+mark_word classes.Star Star e = (refl, λ rest. refl)
+mark_word classes.Plus Plus e = (refl, λ rest. refl)
+mark_word classes.Minus Minus e = (refl, λ rest. refl)
+mark_word _ _ e = absurd (cc)
+
+-- a mark is a word of its own
+pub is_mark : (bs : List ℕ) (kind : TokenKind) → state_after Start (class_of (get_or bs 0 0)) ≡ Single kind → IsNameOrMark bs (record { kind = kind; len = 1 })
+is_mark bs kind mark =
+    let w = mark_word (class_of (get_or bs 0 0)) kind mark in
+    record { begins = w.0; apart = w.1 }
 
 -- the first byte of a name
 pub begins_name : (bs : List ℕ) (c : ByteClass) → 0 < length bs → c ≡ class_of (get_or bs 0 0) → ((c ≡ classes.Letter) ⊎ (c ≡ classes.ExponentMark)) → state_through Start (take 1 bs) ≡ Name

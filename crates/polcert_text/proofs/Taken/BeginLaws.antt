@@ -3,19 +3,21 @@ use Rattle.std.proofs.Common.{◌≡◌, ◌∙◌, ℕ, ◌+◌, ◌<◌, ◌�
 use Rattle.std.proofs.Math.ListN.{get_or-append}
 use Rattle.std.proofs.lemmas.List.{take-append-le, drop-append-le, length-take-le, length-drop, get_or-drop, drop-drop}
 use Rattle.polcert_text.specs.Beginning.{rest_at, BeginWith, BeginWithOne, BeginWithNumber, BeginWithDigits}
-use Rattle.polcert_text.specs.Steps.ScanOf.{EndsAsNumber, EndsAsDigits, EndsWithin}
+use Rattle.polcert_text.specs.Steps.ScanOf.{EndsAsNumber, EndsAsDigits, EndsWithin, IsNameOrMark}
 use Rattle.polcert_text.specs.Bytes.{class_of}
 use Rattle.polcert_text.specs.Cut.{Lexeme, Rest, TakesToken, is_glued}
 use Rattle.polcert_text.specs.Fronts.{IsLongestLexeme}
-use Rattle.polcert_text.specs.Steps.Scan.{gap_after, gap_through}
+use Rattle.polcert_text.specs.Steps.Scan.{gap_after, gap_through, state_after}
 use Rattle.polcert_text.specs.TakenTokens.{Taken, nothing, token}
 use Rattle.polcert_text.specs.declared.beginning.FrontNumber.{FrontNumber}
 use Rattle.polcert_text.specs.declared.bytes.ByteClass.TheVariants as classes
+use Rattle.polcert_text.specs.declared.lexeme.Front.{Front}
 use Rattle.polcert_text.specs.declared.lexeme.Gap.TheVariants.{Between, Ended}
+use Rattle.polcert_text.specs.declared.lexeme.State.TheVariants.{Start}
 use Rattle.polcert_text.specs.declared.lexeme.TokenKind.{TokenKind}
 use Rattle.polcert_text.specs.declared.lexeme.TokenKind.TheVariants.{Name, Numeral, Colon}
 use Rattle.polcert_text.specs.declared.tokens.TokenFault.{TokenFault}
-use Rattle.polcert_text.proofs.Scanning.Runs.{longest_seen, ended_colon}
+use Rattle.polcert_text.proofs.Scanning.Runs.{longest_seen, ended_mark}
 
 -- ---- several
 
@@ -115,6 +117,14 @@ module _ (place : ℕ) (bytes : List ℕ) (gap : ℕ) (number : FrontNumber) (op
     value = e.value;
   }
 
+-- ---- a name or a mark
+
+pub word_begins : (place : ℕ) (bytes : List ℕ) (gap : ℕ) (front : Front) (rest : List ℕ) → rest ≡ drop gap bytes → gap_through Between (take gap bytes) ≡ Between → EndsWithin rest front → IsNameOrMark rest front → front.len ≤ 400
+    → BeginWith place bytes (gap + front.len) (record { kind = front.kind; place = place + gap; bytes = take front.len rest } ∷ [])
+word_begins place bytes gap front rest is open_gap ends word short =
+    subst (λ xs. EndsWithin xs front → IsNameOrMark xs front → BeginWith place bytes (gap + front.len) (record { kind = front.kind; place = place + gap; bytes = take front.len xs } ∷ [])) (sym is)
+    (λ e w. begin_one place bytes gap front.len front.kind open_gap w.begins e short (w.apart _)) ends word
+
 -- ---- a colon
 
 pub colon_begins : (place : ℕ) (bytes : List ℕ) (gap : ℕ) → gap_through Between (take gap bytes) ≡ Between → gap + 1 < length bytes → class_of (get_or bytes gap 0) ≡ classes.Colon
@@ -122,7 +132,7 @@ pub colon_begins : (place : ℕ) (bytes : List ℕ) (gap : ℕ) → gap_through 
 colon_begins place bytes gap open_gap inside colon =
     let here : gap + 0 ≡ gap = omega arith in
     let first : class_of (get_or (drop gap bytes) 0 0) ≡ classes.Colon = ap class_of (get_or-drop gap bytes 0 0 ∙ ap (λ k. get_or bytes k 0) here) ∙ colon in
-    let ends = ended_colon (drop gap bytes) (omega (arith, inside, length-drop gap bytes)) first in
+    let ends = ended_mark (drop gap bytes) Colon (omega (arith, inside, length-drop gap bytes)) (ap (state_after Start) first) in
     record {
       token = front_lexeme place bytes gap Colon 1;
       kind_is = refl;

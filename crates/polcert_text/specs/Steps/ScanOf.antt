@@ -9,7 +9,8 @@ use Rattle.polcert_text.specs.Numbers.{IsReadable, IsExact}
 use Rattle.polcert_text.specs.declared.beginning.FrontNumber.{FrontNumber}
 use Rattle.polcert_text.specs.declared.bytes.ByteClass.TheVariants.{Digit}
 use Rattle.polcert_text.specs.Fronts.{IsLongestLexeme, NoLexeme}
-use Rattle.polcert_text.specs.Steps.Scan.{state_through}
+use Rattle.polcert_text.specs.Steps.Scan.{gap_after, state_through}
+use Rattle.polcert_text.specs.declared.lexeme.Gap.TheVariants.{Between, Ended}
 use Rattle.polcert_text.specs.declared.lexeme.State.{State}
 use Rattle.polcert_text.specs.declared.lexeme.TokenKind.{TokenKind}
 use Rattle.polcert_text.specs.declared.lexeme.TokenKind.TheVariants.{Numeral}
@@ -60,6 +61,11 @@ scan_at state kind len = record { state = state; len = len; longest = Some (reco
 pub record EndsWithin (bytes : List ℕ) (front : Front) : Type 0 where
   pub within : front.len < length bytes
   pub longest : (tail : List ℕ) → IsLongestLexeme (bytes ++ tail) front.kind front.len
+
+-- the lexeme at the front of the bytes is a name or a mark, before which no gap goes on
+pub record IsNameOrMark (bytes : List ℕ) (front : Front) : Type 0 where
+  pub begins : gap_after Between (class_of (slice_index bytes 0)) ≡ Ended
+  pub apart : (rest : List ℕ) → is_glued front.kind rest ≡ false
 
 -- a numeral of just so many millionths ends within the bytes
 pub record EndsAsNumber (bytes : List ℕ) (number : FrontNumber) : Type 0 where

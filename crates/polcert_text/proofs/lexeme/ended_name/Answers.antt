@@ -1,13 +1,21 @@
-use Rattle.std.proofs.Common.{◌<◌, length, refl, arith}
+use Rattle.std.proofs.Common.{◌<◌, ⊎_elim, length, refl, ap, arith}
+use Rattle.polcert_text.specs.Steps.Scan.{gap_after}
+use Rattle.polcert_text.specs.declared.lexeme.Gap.TheVariants.{Between}
 use Rattle.polcert_text.specs.declared.lexeme.State.TheVariants.{Name}
 use Rattle.polcert_text.specs.declared.lexeme.TokenKind.TheVariants as kinds
 use Rattle.polcert_text.proofs.Scanning.Runs.{begins_name, ends_within}
 use Rattle.polcert_text.proofs.lexeme.ended_name.Goals as goal
 
-pub returns : goal.returns
-returns c =
+pub returns-clause-ends : goal.returns-clause-ends
+returns-clause-ends c =
     let bs = c.args.bytes.now in
     let name = c.name_end-end.ensures in
     let inside : c.name_end-end.result < length bs = omega (arith, name.within.1) in
-    let read = name.same (begins_name bs _ c.requires refl (c.is_surely_letter.ensures c.if-not-is_surely_letter.false)) in
+    let read = name.same (begins_name bs _ c.requires.some refl c.requires.letter) in
     ends_within bs c.name_end-end.result Name kinds.Name inside read refl refl (name.stops inside)
+
+pub returns-clause-word : goal.returns-clause-word
+returns-clause-word c = record {
+  begins = ⊎_elim (ap (gap_after Between)) (ap (gap_after Between)) c.requires.letter;
+  apart = λ rest. refl;
+}
