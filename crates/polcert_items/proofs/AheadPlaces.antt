@@ -1,20 +1,21 @@
 -- The places of an entry and the first number behind them, taken at once.
-use Rattle.std.proofs.Common.{◌≡◌, ◌∙◌, ⊎_elim, inl, ℕ, zero, suc, ◌+◌, ◌<◌, ◌≤◌, true, false, None, List, [], ◌∷◌, ◌++◌, length, drop, get_or, pos, refl, sym, ap, subst, length-append, arith}
-use Rattle.polcert_text.specs.Beginning.{BeginWithOne, BeginWithNumber, BeginWithDigits}
+use Rattle.std.proofs.Common.{◌≡◌, ◌∙◌, ⊎_elim, inl, ℕ, zero, suc, ◌+◌, ◌<◌, ◌≤◌, true, false, None, List, [], ◌∷◌, ◌++◌, length, drop, get_or, pos, refl, sym, ap, subst, length-append, arith, Bool, ◌||◌}
+use Rattle.std.proofs.lemmas.List.{length-drop}
+use Rattle.polcert_text.specs.Beginning.{BeginWithOne, BeginWithNumber, BeginWithDigits, moved}
 use Rattle.polcert_text.specs.Cut.{Lexeme}
 use Rattle.polcert_text.specs.declared.beginning.FrontNumber.{FrontNumber}
 use Rattle.polcert_text.specs.declared.lexeme.TokenKind.{TokenKind}
-use Rattle.polcert_text.specs.declared.lexeme.TokenKind.TheVariants.{Colon, Numeral}
+use Rattle.polcert_text.specs.declared.lexeme.TokenKind.TheVariants.{Colon, Numeral, Star}
 use Rattle.polcert_text.proofs.Taken.BeginLaws.{begin_then}
-use Rattle.polcert_cells.specs.Elements.{count_of, by_number}
+use Rattle.polcert_cells.specs.Elements.{count_of, by_number, by_name}
 use Rattle.polcert_cells.specs.Entry.{cells_in, IsPlace}
 use Rattle.polcert_cells.specs.Numbers.{IsMillionths, IsWhole}
 use Rattle.polcert_cells.specs.Preamble.{Preamble, is_mdp}
-use Rattle.polcert_cells.specs.Words.{begins_item}
+use Rattle.polcert_cells.specs.Words.{begins_item, is_reserved, IsName}
 use Rattle.polcert_cells.specs.declared.elements.Elements.{Elements}
 use Rattle.polcert_cells.specs.declared.elements.Elements.TheVariants.{Count}
 use Rattle.polcert_cells.specs.declared.entry.Place.{Place}
-use Rattle.polcert_cells.specs.declared.entry.Place.TheVariants.{Only}
+use Rattle.polcert_cells.specs.declared.entry.Place.TheVariants.{Every, Only}
 use Rattle.polcert_cells.specs.declared.entry.Table.{Table}
 use Rattle.polcert_cells.specs.declared.entry.Table.TheVariants.{Transition, Observation, Reward}
 use Rattle.polcert_cells.proofs.EntryLaws.{one_place}
@@ -28,6 +29,7 @@ use Rattle.polcert_items.specs.Steps.Entries.{NumberListGoes, StateGoes, IsFirst
 use Rattle.polcert_items.specs.Steps.Numbers.{IsInRange, ListKind, of_probabilities, of_rewards, SignIs}
 use Rattle.polcert_items.specs.Steps.Lines.{Takes}
 use Rattle.polcert_items.specs.Steps.Wants.{Leads, list_wants, state_wants, entry_wants}
+use Rattle.polcert_items.specs.declared.ahead.FrontPlace.{FrontPlace}
 use Rattle.polcert_items.specs.declared.entry_reader.EntryReader.{EntryReader}
 use Rattle.polcert_items.specs.declared.entry_reader.EntryState.{EntryState}
 use Rattle.polcert_items.specs.declared.entry_reader.EntryState.TheVariants as states
@@ -35,6 +37,10 @@ use Rattle.polcert_items.proofs.AheadLaws.{numeral_inside}
 use Rattle.polcert_items.proofs.ListLaws.{takes_number, one_probability, fraction_in_range}
 use Rattle.polcert_items.proofs.PatternLaws.{in_state, colon_takes, numbers_begin, number_not_colon, number_not_name, BeginsNumber}
 use Rattle.polcert_items.proofs.WantLaws.{body_leads, colon_leads, numbers_lead, number_begins, list_numeral_leads, no_numbers_lead}
+
+or_false : (a b : Bool) → (a || b) ≡ false → a ≡ false
+or_false true b e = cc
+or_false false b e = refl
 
 -- ---- a colon
 
@@ -77,50 +83,79 @@ same_count k Transition = refl
 same_count k Observation = refl
 same_count k Reward = refl
 
-place_fed : (k : Known) (r : EntryReader) (l : Lexeme) (p : Place) → r.state ≡ states.Place → length r.places < length (indices_in k r.table) → l.kind ≡ Numeral → IsFirstPlace (drop (length r.places) (named_in k r.table)) l p
+-- a place begins no item, and is no sign
+record IsInside (l : Lexeme) : Type 0 where
+  item : begins_item l ≡ false
+  sign : is_sign l.kind ≡ false
+
+star_inside : (l : Lexeme) → l.kind ≡ Star → IsInside l
+star_inside l is = subst (λ (kind : TokenKind). IsInside (record l { kind = kind })) (sym is) (record { item = refl; sign = refl })
+
+name_inside : (l : Lexeme) → IsName l → IsInside l
+unfolding is_reserved
+name_inside l n = subst (λ (kind : TokenKind). IsInside (record l { kind = kind })) (sym n.kind) (record { item = or_false _ _ n.free; sign = refl })
+
+place_inside : (ds : List Elements) (l : Lexeme) (p : Place) → IsFirstPlace ds l p → IsInside l
+place_inside [] l p is = absurd is
+place_inside (d ∷ ds) l Every is = star_inside l is
+place_inside (d ∷ ds) l (Only index) (by_number whole below) = record { item = numeral_inside l whole.kind; sign = ap is_sign whole.kind }
+place_inside (d ∷ ds) l (Only index) (by_name name is) = name_inside l name
+
+-- wherever its token stands
+pub place_moved : (ds : List Elements) (l : Lexeme) (p : Place) (position : ℕ) → IsFirstPlace ds l p → IsFirstPlace ds (moved position l) p
+place_moved [] l p position is = is
+place_moved (d ∷ ds) l Every position is = is
+place_moved (d ∷ ds) l (Only index) position (by_number whole below) = by_number (record { kind = whole.kind; digits = whole.digits; value = whole.value }) below
+place_moved (d ∷ ds) l (Only index) position (by_name name is) = by_name (record { kind = name.kind; free = name.free }) is
+
+place_fed : (k : Known) (r : EntryReader) (l : Lexeme) (p : Place) → r.state ≡ states.Place → length r.places < length (indices_in k r.table) → IsFirstPlace (drop (length r.places) (named_in k r.table)) l p
     → IsFed k r l (record { table = r.table; places = r.places ++ p ∷ []; state = states.Body })
-place_fed k r l p is room kind first = record {
-  inside = numeral_inside l kind;
-  table = refl;
-  within = (omega (arith, length-append r.places (p ∷ [])), omega (arith, room, length-append r.places (p ∷ [])));
-  takes = record {
-    back = λ ls e g. subst (λ s. StateGoes (preamble_in k) r.table r.places s (l ∷ ls) e) (sym is) (p, (first, g));
-    on = λ ls e g.
-        let h : StateGoes (preamble_in k) r.table r.places states.Place (l ∷ ls) e = subst (λ s. StateGoes (preamble_in k) r.table r.places s (l ∷ ls) e) is g in
-        subst (λ q. IsEntryBehind (preamble_in k) r.table (r.places ++ q ∷ []) ls e) (one_first_place (drop (length r.places) (named_in k r.table)) l h.0 p h.1.0 first) h.1.1;
-  };
-  sign = ap is_sign kind;
-  leads = record { same = λ ls. ap (λ s. state_wants (preamble_in k) r.table r.places s (l ∷ ls)) is ∙ ap (λ n. wants.entry_wants (preamble_in k) r.table false n ls) (sym (length-append r.places (p ∷ []))) };
-}
+place_fed k r l p is room first =
+    let inside = place_inside (drop (length r.places) (named_in k r.table)) l p first in
+    record {
+      inside = inside.item;
+      table = refl;
+      within = (omega (arith, length-append r.places (p ∷ [])), omega (arith, room, length-append r.places (p ∷ [])));
+      takes = record {
+        back = λ ls e g. subst (λ s. StateGoes (preamble_in k) r.table r.places s (l ∷ ls) e) (sym is) (p, (first, g));
+        on = λ ls e g.
+            let h : StateGoes (preamble_in k) r.table r.places states.Place (l ∷ ls) e = subst (λ s. StateGoes (preamble_in k) r.table r.places s (l ∷ ls) e) is g in
+            subst (λ q. IsEntryBehind (preamble_in k) r.table (r.places ++ q ∷ []) ls e) (one_first_place (drop (length r.places) (named_in k r.table)) l h.0 p h.1.0 first) h.1.1;
+      };
+      sign = inside.sign;
+      leads = record { same = λ ls. ap (λ s. state_wants (preamble_in k) r.table r.places s (l ∷ ls)) is ∙ ap (λ n. wants.entry_wants (preamble_in k) r.table false n ls) (sym (length-append r.places (p ∷ []))) };
+    }
 
 -- a colon and a place
-pub index_fed : (k : Known) (r : EntryReader) (bytes : List ℕ) (index : FrontNumber) (new : EntryReader) → AwaitsColon r.state → IsWithinIndices (indices_in k r.table) r → length r.places < length (indices_in k r.table)
-    → ((position : ℕ) → BeginWithPlace (drop (length r.places) (named_in k r.table)) position bytes index)
-    → new ≡ (record { table = r.table; places = r.places ++ Only index.value ∷ []; state = states.Body }) → FedAhead k r bytes index.len new
-index_fed k r bytes index new awaits within room front is = subst (FedAhead k r bytes index.len) (sym is) (record {
-  within = (front 0).front.within;
+pub colon_place_fed : (k : Known) (r : EntryReader) (bytes : List ℕ) (colon : ℕ) (front : FrontPlace) (new : EntryReader) → AwaitsColon r.state → IsWithinIndices (indices_in k r.table) r → length r.places < length (indices_in k r.table)
+    → ((position : ℕ) → BeginWithOne position bytes colon Colon) → ((position : ℕ) → BeginWithPlace (drop (length r.places) (named_in k r.table)) position (drop colon bytes) front)
+    → new ≡ (record { table = r.table; places = r.places ++ front.place ∷ []; state = states.Body }) → FedAhead k r bytes (colon + front.len) new
+colon_place_fed k r bytes colon front new awaits within room first second is = subst (FedAhead k r bytes (colon + front.len)) (sym is) (record {
+  within = omega (arith, (first 0).front.within, (second 0).front.within, length-drop colon bytes);
   fed = λ position.
-      let f = front position in
+      let c = first position in
+      let p = second (position + colon) in
       let mid : EntryReader = record r { state = states.Place } in
-      let next : EntryReader = record { table = r.table; places = r.places ++ Only index.value ∷ []; state = states.Body } in
-      (f.colon ∷ f.digits ∷ [], (f.front, more r mid next (f.colon ∷ []) f.digits (more r r mid [] f.colon (none r) (colon_fed k r f.colon awaits within room f.colon_is)) (place_fed k mid f.digits (Only index.value) refl room f.digits_are f.place_is)));
+      let next : EntryReader = record { table = r.table; places = r.places ++ front.place ∷ []; state = states.Body } in (
+        c.token ∷ p.token ∷ [],
+        (
+          begin_then position bytes colon front.len (c.token ∷ []) (p.token ∷ []) c.front p.front,
+          more r mid next (c.token ∷ []) p.token (more r r mid [] c.token (none r) (colon_fed k r c.token awaits within room c.kind_is)) (place_fed k mid p.token front.place refl room p.place_is),
+        ),
+      );
 })
 
--- what stands at the front of some bytes
-pub place_begins : (k : Known) (table : Table) (written : ℕ) (bytes : List ℕ) (colon count : ℕ) (index : FrontNumber) → written < length (indices_in k table)
-    → ((place : ℕ) → BeginWithOne place bytes colon Colon) → ((place : ℕ) → BeginWithDigits place (drop colon bytes) index) → count ≡ count_of (get_or (named_in k table) written (Count 0)) → index.value < count
-    → (position : ℕ) → BeginWithPlace (drop written (named_in k table)) position bytes (record { len = colon + index.len; value = index.value })
-place_begins k table written bytes colon count index inside first second are below position =
-    let c = first position in
-    let d = second (position + colon) in
+-- the digits at the front of some bytes are the number of an element
+pub digits_place : (k : Known) (table : Table) (written : ℕ) (bytes : List ℕ) (count : ℕ) (index : FrontNumber) → written < length (indices_in k table)
+    → ((place : ℕ) → BeginWithDigits place bytes index) → count ≡ count_of (get_or (named_in k table) written (Count 0)) → index.value < count
+    → (position : ℕ) → BeginWithPlace (drop written (named_in k table)) position bytes (record { len = index.len; place = Only index.value })
+digits_place k table written bytes count index inside front are below position =
+    let d = front position in
     let whole : IsWhole d.token index.value = record { kind = d.kind_is; digits = d.digits; value = d.value } in
     record {
-      colon = c.token;
-      digits = d.token;
-      colon_is = c.kind_is;
+      token = d.token;
       place_is = first_place (named_in k table) written d.token (Only index.value) (omega (arith, same_count k table)) (by_number whole (omega (arith, are)));
-      digits_are = d.kind_is;
-      front = begin_then position bytes colon index.len (c.token ∷ []) (d.token ∷ []) c.front d.front;
+      front = d.front;
     }
 
 -- ---- the body's first number

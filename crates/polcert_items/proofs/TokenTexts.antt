@@ -1,9 +1,11 @@
 -- A name among the tokens of a text is ASCII text.
-use Rattle.std.proofs.Common.{◌≡◌, ◌∙◌, ℕ, zero, suc, ◌<◌, Bool, true, false, cond, ◌||◌, Some, None, List, [], ◌∷◌, IsAscii, ap, arith, lit<}
+use Rattle.std.proofs.Common.{◌≡◌, ◌∙◌, ℕ, zero, suc, ◌<◌, Bool, true, false, cond, ◌||◌, Some, None, List, [], ◌∷◌, IsAscii, ap, arith, lit<, ◌++◌, refl, sym, subst, length, length-append}
 use Rattle.std.specs.Prelude.{◌==◌}
 use Rattle.std.specs.Char.{is_ascii_digit, is_ascii_alphabetic}
 use Rattle.std.specs.List.{list_all}
 use Rattle.std.proofs.lemmas.Bool.Decides.{nat_tests}
+use Rattle.polcert_text.specs.Beginning.{BeginWith}
+use Rattle.polcert_text.specs.TakenTokens.{Taken, nothing, token}
 use Rattle.polcert_text.specs.Bytes.{class_of, letter_class, name_class, is_letter, is_name_byte}
 use Rattle.polcert_text.specs.Lexemes.{is_empty, is_name, is_numeral, mark_kind, kind_of}
 use Rattle.polcert_text.specs.Cut.{Lexeme, Rest, IsTokenAt, TakesToken}
@@ -11,7 +13,7 @@ use Rattle.polcert_text.specs.declared.bytes.ByteClass.{ByteClass}
 use Rattle.polcert_text.specs.declared.bytes.ByteClass.TheVariants as classes
 use Rattle.polcert_text.specs.declared.lexeme.TokenKind.TheVariants.{Name, Numeral}
 use Rattle.polcert_items.specs.Steps.Elements.{IsText}
-use Rattle.polcert_cells.proofs.Basics.{and_true}
+use Rattle.polcert_cells.proofs.Basics.{and_true, cons≢nil, same_head, same_tail}
 
 -- among the tests of `class_of`, in their order, one for a byte of a name passed
 chain : (blank line hash mark letter digit low point colon star plus minus : Bool) → name_class (cond blank classes.Blank (cond line classes.LineEnd (cond hash classes.Hash (cond mark classes.ExponentMark (cond letter classes.Letter (cond digit classes.Digit (cond low classes.Underscore (cond point classes.Point (cond colon classes.Colon (cond star classes.Star (cond plus classes.Plus (cond minus classes.Minus classes.Other)))))))))))) ≡ true → (mark || letter || digit || low || minus) ≡ true
@@ -75,3 +77,15 @@ name_is_text place bytes l at = λ name. name_below l.bytes (name_of_kind l.byte
 
 pub token_is_text : (old : Rest) (l : Lexeme) (new : Rest) → TakesToken old l new → IsText l
 token_is_text old l new takes = name_is_text _ _ l takes.token_at
+
+one_last : (ls : List Lexeme) (t l : Lexeme) → ls ++ t ∷ [] ≡ l ∷ [] → t ≡ l
+one_last [] t l e = same_head e
+one_last (m ∷ ls) t l e = absurd (omega (arith, ap length (same_tail e), length-append ls (t ∷ [])))
+
+only_is_text : (old new : Rest) (ls : List Lexeme) (l : Lexeme) → Taken old ls new → ls ≡ l ∷ [] → IsText l
+only_is_text old new ls l (nothing _) e = absurd (cons≢nil (sym e))
+only_is_text old new ls l (token _ between _ before t taken takes) e = subst IsText (one_last before t l e) (token_is_text between t new takes)
+
+-- the one token at the front of some bytes
+pub front_is_text : (place : ℕ) (bytes : List ℕ) (count : ℕ) (l : Lexeme) → BeginWith place bytes count (l ∷ []) → IsText l
+front_is_text place bytes count l front = only_is_text _ _ (l ∷ []) l (front.taken [] None) refl

@@ -13,11 +13,18 @@ use crate::entry_reader::{EntryReader, EntryState, Numbers, indices_of, takes_nu
 use crate::item::ItemReader;
 use crate::known::Known;
 use polcert_cells::{ONE, Place, Table};
-use polcert_text::{FrontNumber, front_colon, front_digits, front_number};
+use polcert_text::{front_colon, front_digits, front_number, front_token};
 use std::alloc::{AllocError, Global};
 
 /// The largest reward, in millionths.
 const LARGEST: u64 = 10_000_000_000_000;
+
+/// A place at the front of some bytes, and how many bytes it takes with the blanks before it.
+#[derive(Clone, Copy)]
+pub struct FrontPlace {
+    pub len: usize,
+    pub place: Place,
+}
 
 impl ItemReader {
     /// Goes on with tokens that stand whole at the front of the bytes, as far as it is known at once that it can, and answers how
@@ -40,7 +47,7 @@ impl ItemReader {
 }
 
 impl EntryReader {
-    /// The same of an entry. Only where its line begins is it tried whether places come next: others are mostly names.
+    /// The same of an entry. Only where its line begins is it tried whether places come next.
     #[inline(always)]
     fn feed_ahead(
         &mut self,
@@ -58,7 +65,7 @@ impl EntryReader {
         }
     }
 
-    /// Goes on with places that are numbers, each behind a colon, and then with a number, which may be the first of more.
+    /// Goes on with places, each after a colon, and then with a number, which may be the first of more.
     #[inline(never)]
     fn feed_line(&mut self, alloc: Global, known: &Known, bytes: &[u8]) -> Result<usize, AllocError>
         requires { IsWithinIndices (indices_in known.now self.old.table) self.old }
@@ -72,7 +79,7 @@ impl EntryReader {
         Ok(at + len)
     }
 
-    /// Goes on with a colon and a place that is a number, and answers how many bytes they are, if they come next.
+    /// Goes on with a colon and a place, and answers how many bytes they are, if they come next.
     #[inline(always)]
     fn feed_place_ahead(&mut self, known: &Known, bytes: &[u8]) -> Option<usize>
         requires { IsWithinIndices (indices_in known.now self.old.table) self.old }
@@ -87,13 +94,16 @@ impl EntryReader {
         if self.places.len() >= indices_of(self.table) || !self.awaits_colon() {
             return None;
         }
-        let Some(index) = self.index_ahead(known, bytes) else {
+        let Some(colon) = front_colon(bytes) else {
             return None;
         };
-        match self.places.push(Place::Only(index.value as u16)) {
+        let Some(front) = self.place_ahead(known, &bytes[colon..]) else {
+            return None;
+        };
+        match self.places.push(front.place) {
             Ok(()) => {
                 self.state = EntryState::Body;
-                Some(index.len)
+                Some(colon + front.len)
             }
             Err(AllocError) => None,
         }
@@ -120,25 +130,40 @@ impl EntryReader {
         }
     }
 
-    /// The next place, where it is a number behind a colon.
+    /// The next place, where a token that is one comes next. Numbers are tried first, by a shorter way.
     #[inline(always)]
-    fn index_ahead(&self, known: &Known, bytes: &[u8]) -> Option<FrontNumber>
+    fn place_ahead(&self, known: &Known, bytes: &[u8]) -> Option<FrontPlace>
         requires { length self.now.places < length (indices_in known.now self.now.table) }
-        ensures front { IfSome result (λ index. (position : ℕ) →
+        ensures { IfSome result (λ front. (position : ℕ) →
             BeginWithPlace (drop (length self.now.places) (named_in known.now self.now.table)) position
-            bytes.now index) }
-        ensures small { IfSome result (λ index. index.value < most_elements) }
+            bytes.now front) }
     {
-        let count = self.next_count(known);
-        let Some(colon) = front_colon(bytes) else {
+        match front_digits(bytes) {
+            Some(index) if index.value < self.next_count(known) as u64 => Some(FrontPlace {
+                len: index.len,
+                place: Place::Only(index.value as u16),
+            }),
+            _ => self.named_place_ahead(known, bytes),
+        }
+    }
+
+    /// The next place, where a name or `*` that is one comes next.
+    #[inline(always)]
+    fn named_place_ahead(&self, known: &Known, bytes: &[u8]) -> Option<FrontPlace>
+        requires { length self.now.places < length (indices_in known.now self.now.table) }
+        ensures { IfSome result (λ front. (position : ℕ) →
+            BeginWithPlace (drop (length self.now.places) (named_in known.now self.now.table)) position
+            bytes.now front) }
+    {
+        let Some(token) = front_token(bytes) else {
             return None;
         };
-        match front_digits(&bytes[colon..]) {
-            Some(index) if index.value < count as u64 => Some(FrontNumber {
-                len: colon + index.len,
-                value: index.value,
+        match self.next_place(known, token) {
+            Ok(place) => Some(FrontPlace {
+                len: token.stop as usize,
+                place,
             }),
-            _ => None,
+            Err(_) => None,
         }
     }
 

@@ -192,7 +192,7 @@ impl EntryReader {
     }
 
     /// The next place that the token is. In an MDP the fourth is `*`: a reward has nothing to do with what is observed.
-    fn next_place(&self, known: &Known, token: Token<'_>) -> Result<Place, Refusal>
+    pub(crate) fn next_place(&self, known: &Known, token: Token<'_>) -> Result<Place, Refusal>
         requires within { length self.now.places < length (indices_in known.now self.now.table) }
         requires text { IsText (lexeme_of token) }
         ensures place { IfOk result

@@ -3,12 +3,9 @@
 use Rattle.std.specs.Prelude.{◌≡◌, ℕ, ◌≤◌, ◌⊎◌, false, List, [], ◌∷◌, ◌++◌, length, pos}
 use Rattle.polcert_text.specs.Beginning.{BeginWith}
 use Rattle.polcert_text.specs.Cut.{Lexeme}
-use Rattle.polcert_text.specs.declared.beginning.FrontNumber.{FrontNumber}
-use Rattle.polcert_text.specs.declared.lexeme.TokenKind.TheVariants.{Colon, Numeral}
 use Rattle.polcert_cells.specs.Numbers.{one}
 use Rattle.polcert_cells.specs.Words.{begins_item}
 use Rattle.polcert_cells.specs.declared.elements.Elements.{Elements}
-use Rattle.polcert_cells.specs.declared.entry.Place.TheVariants.{Only}
 use Rattle.polcert_cells.specs.declared.entry.Table.{Table}
 use Rattle.polcert_cells.specs.declared.entry.Table.TheVariants.{Reward}
 use Rattle.polcert_format.specs.KnownPreamble.{preamble_in, indices_in}
@@ -17,6 +14,7 @@ use Rattle.polcert_items.specs.Steps.Entries.{EntryGoes, IsFirstPlace, IsWithinI
 use Rattle.polcert_items.specs.Steps.Lines.{Takes}
 use Rattle.polcert_items.specs.Steps.Numbers.{SignIs}
 use Rattle.polcert_items.specs.Steps.Wants.{Leads, entry_wants}
+use Rattle.polcert_items.specs.declared.ahead.FrontPlace.{FrontPlace}
 use Rattle.polcert_items.specs.declared.entry_reader.EntryReader.{EntryReader}
 use Rattle.polcert_items.specs.declared.item.ItemReader.{ItemReader}
 use Rattle.polcert_items.specs.declared.item.ItemReader.TheVariants as items
@@ -52,14 +50,11 @@ pub data ItemFedAhead (k : Known) (old : ItemReader) (bytes : List ℕ) (count :
 abbrev pub with_probabilities : EntryReader → Numbers ℕ → EntryReader
 with_probabilities r n = record r { state = states.Probabilities n }
 
--- a colon, and digits that are this place's number, are the first of some bytes
-pub record BeginWithPlace (ds : List Elements) (position : ℕ) (bytes : List ℕ) (index : FrontNumber) : Type 0 where
-  pub colon : Lexeme
-  pub digits : Lexeme
-  pub colon_is : colon.kind ≡ Colon
-  pub place_is : IsFirstPlace ds digits (Only index.value)
-  pub digits_are : digits.kind ≡ Numeral
-  pub front : BeginWith position bytes index.len (colon ∷ digits ∷ [])
+-- a token that is a place of the first of these indices is the first of some bytes
+pub record BeginWithPlace (ds : List Elements) (position : ℕ) (bytes : List ℕ) (found : FrontPlace) : Type 0 where
+  pub token : Lexeme
+  pub place_is : IsFirstPlace ds token found.place
+  pub front : BeginWith position bytes found.len (token ∷ [])
 
 -- a colon may come next
 abbrev pub AwaitsColon : EntryState → Type 0

@@ -1,13 +1,36 @@
-use Rattle.std.proofs.Common.{◌<◌, length, arith}
-use Rattle.polcert_format.specs.KnownPreamble.{indices_in}
+use Rattle.std.proofs.Common.{◌+◌, ◌<◌, ◌≤◌, ℕ, length, drop, rules, subst, arith}
+use Rattle.std.proofs.lemmas.List.{take_rest, length-drop}
+use Rattle.polcert_format.specs.KnownPreamble.{indices_in, named_in}
+use Rattle.polcert_items.specs.Steps.Ahead.{BeginWithPlace}
 use Rattle.polcert_items.specs.declared.entry_reader.EntryState.TheVariants as states
-use Rattle.polcert_items.proofs.AheadPlaces.{index_fed}
+use Rattle.polcert_items.proofs.AheadPlaces.{colon_place_fed}
 use Rattle.polcert_items.proofs.entry_reader.EntryReader.feed_place_ahead.Goals as goal
 
 pub returns-in-Ok-clause-fed : goal.returns-in-Ok-clause-fed
 returns-in-Ok-clause-fed c =
     let k = c.args.known.now in
     let r = c.args.self.now in
+    let bs = c.args.bytes.now in
+    let colon = c.in-Some.colon in
     let count = c.indices_of.ensures k in
     let room : length r.places < length (indices_in k r.table) = omega (arith, count, c.len.ensures) in
-    index_fed k r c.args.bytes.now c.in-Some.index _ (c.awaits_colon.ensures c.if-not-awaits_colon.false) c.requires room c.in-Some.ensures.front (λ i. record { table = r.table; places = c.in-Ok.ensures.ok i; state = states.Body })
+    let second = subst (λ xs. (position : ℕ) → BeginWithPlace (drop (length r.places) (named_in k r.table)) position xs c.in-Some-place_ahead.front) (take_rest bs colon) c.in-Some-place_ahead.ensures in
+    colon_place_fed k r bs colon c.in-Some-place_ahead.front _ (c.awaits_colon.ensures c.if-not-awaits_colon.false) c.requires room c.in-Some.ensures second (λ i. record { table = r.table; places = c.in-Ok.ensures.ok i; state = states.Body })
+
+pub slice_bounds-place_ahead-count : goal.slice_bounds-place_ahead-count
+slice_bounds-place_ahead-count c = (c.in-Some.ensures 0).front.within
+
+pub slice_bounds-place_ahead-start : goal.slice_bounds-place_ahead-start
+slice_bounds-place_ahead-start c =
+    let few : c.in-Some.colon ≤ length c.args.bytes.now = (c.in-Some.ensures 0).front.within in
+    search rules
+
+pub overflow_add-result : goal.overflow_add-result
+overflow_add-result c =
+    let k = c.args.known.now in
+    let r = c.args.self.now in
+    let bs = c.args.bytes.now in
+    let colon = c.in-Some.colon in
+    let second = subst (λ xs. (position : ℕ) → BeginWithPlace (drop (length r.places) (named_in k r.table)) position xs c.in-Some-place_ahead.front) (take_rest bs colon) c.in-Some-place_ahead.ensures in
+    let few : colon + c.in-Some-place_ahead.front.len ≤ length bs = omega (arith, (c.in-Some.ensures 0).front.within, (second 0).front.within, length-drop colon bs) in
+    search rules
