@@ -1,5 +1,5 @@
 //! The values of a node at all end states, computed once for all start states.
-ghost use Rattle.std.specs.Prelude.{◌≡◌, length};
+ghost use Rattle.std.specs.Prelude.{◌≡◌, ◌<◌, ◌^◌, length, unsigned_abs, false};
 ghost use Rattle.polcert_cells.specs.declared.elements.TheConstants.{MOST_STATES};
 
 use crate::expected_value::expected_value;
@@ -8,6 +8,26 @@ use crate::partial_value::{PartialValue, end_value};
 use crate::reached_states::ReachedStates;
 use polcert_cells::MOST_STATES;
 use polcert_model::Cells;
+
+/// Numbers smaller than this have 64 bits, with their sign.
+const NARROW: u128 = 9_223_372_036_854_775_808;
+
+/// Whether a number may need more than 64 bits.
+fn is_wide(number: i128) -> bool
+    ensures { result ≡ false → unsigned_abs number < 2 ^ 63 }
+{
+    number.unsigned_abs() >= NARROW
+}
+
+/// Returns the same number, which has 64 bits.
+#[inline(always)]
+fn narrow(number: i128) -> i128
+    requires { unsigned_abs number < 2 ^ 63 }
+    ensures { result ≡ number }
+{
+    let low = number as i64;
+    low as i128
+}
 
 /// The values of a node at the end states that its action reaches.
 #[derive(Drop)]
@@ -18,12 +38,14 @@ pub(crate) struct EndValues {
     pub lacks_successor: [bool; MOST_STATES],
     /// Whether it lacks one at any of them.
     pub lacks_any: bool,
+    /// Whether any of the values may need more than 64 bits. The product of a weight and a shorter one takes half the time.
+    pub has_wide: bool,
     ghost room_for_values: { length values ≡ MOST_STATES },
     ghost room_for_marks: { length lacks_successor ≡ MOST_STATES },
 }
 
 impl EndValues {
-    ghost use Rattle.std.specs.Prelude.{◌<◌, ℕ};
+    ghost use Rattle.std.specs.Prelude.{ℕ};
     ghost use Rattle.polcert_check.specs.Steps.Node.{around};
     ghost use Rattle.polcert_check.specs.Steps.Factored.{AreMarked};
     ghost use Rattle.polcert_check.specs.Steps.Values.{AreEndValues, IsEndValue, IsExpectedValue};
@@ -33,6 +55,7 @@ impl EndValues {
             values: [0; MOST_STATES],
             lacks_successor: [false; MOST_STATES],
             lacks_any: false,
+            has_wide: false,
         }
     }
 
@@ -43,6 +66,7 @@ impl EndValues {
         ensures { AreEndValues (around node.now) node.now.n (around node.now).cells.states self.new }
     {
         self.lacks_any = false;
+        self.has_wide = false;
         for e in 0..node.certificate.cells.states() {
             if !reached.marks[e] {
                 continue;
@@ -52,6 +76,9 @@ impl EndValues {
             self.lacks_successor[e] = end.missing.is_some();
             if end.missing.is_some() {
                 self.lacks_any = true;
+            }
+            if is_wide(end.value) {
+                self.has_wide = true;
             }
         }
     }
@@ -67,11 +94,21 @@ impl EndValues {
             return self.expected_with_missing(node, s);
         }
         let values = &self.values;
+        if self.has_wide {
+            return expected_value(
+                node,
+                s,
+                |e| PartialValue {
+                    value: values[e],
+                    missing: None,
+                },
+            );
+        }
         expected_value(
             node,
             s,
             |e| PartialValue {
-                value: values[e],
+                value: narrow(values[e]),
                 missing: None,
             },
         )

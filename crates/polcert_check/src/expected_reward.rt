@@ -1,5 +1,5 @@
 //! The reward that an action expects at a state.
-ghost use Rattle.std.specs.Prelude.{◌≡◌, ℕ, ◌*◌, ◌<◌, ◌≤◌, pos, ◌*ℤ◌, unsigned_abs};
+ghost use Rattle.std.specs.Prelude.{◌≡◌, ℕ, ◌*◌, ◌^◌, ◌<◌, ◌≤◌, pos, ◌*ℤ◌, unsigned_abs};
 ghost use Rattle.polcert_check.specs.Steps.Ranges.{most_sum};
 ghost use Rattle.polcert_check.specs.Steps.Factored.{reward_at_end, expected_reward};
 
@@ -12,10 +12,13 @@ const READ_PER_QUERY: usize = 64;
 
 /// Returns a weight times a number.
 pub(crate) fn weigh(weight: u64, number: i128) -> i128
-    requires { weight * unsigned_abs number ≤ most_sum }
+    requires weight { weight < 2 ^ 63 }
+    requires product { weight * unsigned_abs number ≤ most_sum }
     ensures { result ≡ pos weight *ℤ number }
 {
-    (weight as i128) * number
+    // (With a sign, since the product of two signed numbers of 64 bits is one multiplication.)
+    let signed = weight as i64;
+    (signed as i128) * number
 }
 
 /// Whether so many observations have a weight at end state `e` that reading all rewards together is faster than asking for each.

@@ -17,7 +17,8 @@ pub(crate) fn expected_value<C: Cells, F: Fn(usize) -> PartialValue>(
     value_of: F,
 ) -> PartialValue
     requires start { s < (around node.now).cells.states }
-    requires callable { (e : ℕ) → e < (around node.now).cells.states → F.pre value_of e }
+    requires callable { (e : ℕ) → e < (around node.now).cells.states
+        → 0 < (around node.now).cells.t ((around node.now).action node.now.n) s e → F.pre value_of e }
     requires value { (e : ℕ) (part : _) → e < (around node.now).cells.states
         → 0 < (around node.now).cells.t ((around node.now).action node.now.n) s e
         → F.post value_of e part → IsEndValue (around node.now) node.now.n e part }

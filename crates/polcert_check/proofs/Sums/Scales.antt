@@ -1,5 +1,5 @@
 -- How large the products of the scales are: one number, and the room that it leaves for every sum.
-use Rattle.std.proofs.Common.{◌≡◌, ◌∙◌, ℕ, ◌*◌, ◌<◌, ◌≤◌, sym, ap, arith}
+use Rattle.std.proofs.Common.{◌≡◌, ◌∙◌, ℕ, ◌*◌, ◌^◌, ◌<◌, ◌≤◌, sym, ap, arith}
 use Rattle.std.proofs.Math.Nat.{mul_assoc, mul_comm, mul-le-mul_left, mul-le-mul_right}
 use Rattle.polcert_text.specs.Numbers.{largest}
 use Rattle.polcert_cells.specs.Elements.{most_pairs}
@@ -10,6 +10,11 @@ use Rattle.polcert_check.specs.Steps.Ranges.{most_scales, most_sum}
 pub scales : (m : CellTable) → IsWithinLimits m → (0 < m.t_scale) × (0 < m.o_scale)
 unfolding one
 scales m limits = (omega (arith, limits.t_scale, limits.states.0), omega (arith, limits.o_scale, limits.observations.0))
+
+-- a scale has 63 bits
+pub scales_small : (m : CellTable) → IsWithinLimits m → (m.t_scale < 2 ^ 63) × (m.o_scale < 2 ^ 63)
+unfolding one
+scales_small m limits = (omega (arith, limits.t_scale, limits.states.1), omega (arith, limits.o_scale, limits.observations.1))
 
 products_of : (a b s z : ℕ) → (a * s) * (b * z) ≡ a * b * (s * z)
 products_of a b s z = mul_assoc a s (b * z) ∙ ap (λ x. a * x) (sym (mul_assoc s b z) ∙ ap (λ x. x * z) (mul_comm s b) ∙ mul_assoc b s z) ∙ sym (mul_assoc a b (s * z))

@@ -1,5 +1,5 @@
 -- A row of weights, each times a number, added up: the steps of the sum, and that they fit.
-use Rattle.std.proofs.Common.{◌≡◌, ℕ, suc, ◌+◌, ◌*◌, ◌<◌, ◌≤◌, ℤ, pos, ◌+ℤ◌, ◌*ℤ◌, unsigned_abs, FitsSigned, to_z, of_z, sym, ◌∙◌, arith, lit<}
+use Rattle.std.proofs.Common.{◌≡◌, ℕ, suc, ◌+◌, ◌*◌, ◌^◌, ◌<◌, ◌≤◌, ℤ, pos, ◌+ℤ◌, ◌*ℤ◌, unsigned_abs, FitsSigned, to_z, of_z, sym, ◌∙◌, arith, lit<}
 use mir.Syntax.{w128}
 use Rattle.std.proofs.Math.Nat.{mul-le-mul}
 use Rattle.polcert_text.specs.Numbers.{largest}
@@ -8,27 +8,33 @@ use Rattle.polcert_check.specs.Horizon.{total_below}
 use Rattle.polcert_check.specs.Steps.Ranges.{most_sum}
 use Rattle.polcert_check.proofs.Sums.RowTotals.{t_rows, o_rows}
 use Rattle.polcert_check.proofs.Sums.Bounds.{abs-*ℤ_le, abs_part_le, term_le}
-use Rattle.polcert_check.proofs.Sums.Scales.{ahead_room, behind_room}
+use Rattle.polcert_check.proofs.Sums.Scales.{scales_small, ahead_room, behind_room}
 use Rattle.polcert_check.proofs.Sums.Gaps.{gap, no_weight, cursor_step, weighed_is}
 
--- the weights sum to their scale, and there is room for a sum of numbers up to b
+-- the weights sum to their scale, which has 63 bits, and there is room for a sum of numbers up to b
 pub record IsWeighed (w : ℕ → ℕ) (count scale b : ℕ) : Type 0 where
   pub all : total_below (λ i. pos (w i)) count ≡ pos scale
+  pub small : scale < 2 ^ 63
   pub room : scale * b ≤ most_sum
 
 -- the end states of a step, and the observations behind one of them
 module _ (m : CellTable) (p : IsProper m) (limits : IsWithinLimits m) where
   pub ends_weighed : (a s : ℕ) → a < m.actions → s < m.states → IsWeighed (m.t a s) m.states m.t_scale (m.o_scale * largest)
-  ends_weighed a s al sl = record { all = t_rows m p a s al sl; room = ahead_room m limits }
+  ends_weighed a s al sl = record { all = t_rows m p a s al sl; small = (scales_small m limits).0; room = ahead_room m limits }
 
   pub seen_weighed : (a e : ℕ) → a < m.actions → e < m.states → IsWeighed (m.o a e) m.observations m.o_scale largest
-  seen_weighed a e al el = record { all = o_rows m p a e al el; room = behind_room m limits }
+  seen_weighed a e al el = record { all = o_rows m p a e al el; small = (scales_small m limits).1; room = behind_room m limits }
 
 pub weight_room : {w : ℕ → ℕ} {count scale b : ℕ} → IsWeighed w count scale b → (i v : ℕ) (y : ℤ) → i < count → v ≡ w i → unsigned_abs y ≤ b → v * unsigned_abs y ≤ most_sum
 weight_room {w} {count} {scale} {b} row i v y il vi small =
     let le : w i ≤ scale = term_le w i count scale row.all il in
     let q : v * unsigned_abs y ≤ scale * b = mul-le-mul (omega (arith, le, vi)) small in
     omega (arith, q, row.room)
+
+pub weight_small : {w : ℕ → ℕ} {count scale b : ℕ} → IsWeighed w count scale b → (i v : ℕ) → i < count → v ≡ w i → v < 2 ^ 63
+weight_small {w} {count} {scale} {b} row i v il vi =
+    let le : w i ≤ scale = term_le w i count scale row.all il in
+    omega (arith, le, vi, row.small)
 
 pub part_le : {w : ℕ → ℕ} {count scale b : ℕ} → IsWeighed w count scale b → (f : ℕ → ℤ) → ((i : ℕ) → i < count → unsigned_abs (f i) ≤ b) → (i : ℕ) → i ≤ count → unsigned_abs (total_below (λ i. pos (w i) *ℤ f i) i) ≤ scale * b
 part_le {w} {count} {scale} {b} row f small i il =

@@ -3,11 +3,18 @@ use mir.Syntax.{w128}
 use Rattle.std.proofs.lemmas.Int.{to_z-of_z}
 use Rattle.polcert_cells.specs.Tables.{CellTable}
 use Rattle.polcert_check.proofs.Sums.Gaps.{weighed_is}
+use Rattle.polcert_check.proofs.Sums.Scales.{scales_small}
 use Rattle.polcert_check.proofs.Walking.Earning.{common, common_room}
 use Rattle.polcert_check.proofs.expected_reward.expected_reward.Goals as goal
 
-pub weigh-requires : goal.weigh-requires
-weigh-requires g c =
+pub weigh-at_end-requires-clause-weight : goal.weigh-at_end-requires-clause-weight
+weigh-at_end-requires-clause-weight g c = rw c.o_scale.ensures (scales_small (g.C.Cells.table c.args.cells.now) (g.met.C.Cells.is_within_limits c.args.cells.now)).1
+
+pub weigh-requires-clause-weight : goal.weigh-requires-clause-weight
+weigh-requires-clause-weight g c = rw c.t_scale.ensures (scales_small (g.C.Cells.table c.args.cells.now) (g.met.C.Cells.is_within_limits c.args.cells.now)).0
+
+pub weigh-requires-clause-product : goal.weigh-requires-clause-product
+weigh-requires-clause-product g c =
     let m : CellTable = g.C.Cells.table c.args.cells.now in
     let at_end : to_z w128 (of_z w128 c.weigh-at_end.result) ≡ pos m.o_scale *ℤ c.in-Some.reward =
     to_z-of_z w128 c.weigh-at_end.result (search rules)

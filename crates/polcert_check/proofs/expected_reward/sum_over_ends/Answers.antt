@@ -4,13 +4,19 @@ use Rattle.std.proofs.lemmas.Int.{to_z-of_z}
 use Rattle.polcert_text.specs.Numbers.{largest}
 use Rattle.polcert_cells.specs.Tables.{CellTable}
 use Rattle.polcert_check.specs.Steps.Factored.{reward_at_end}
-use Rattle.polcert_check.proofs.Walking.Weighed.{ends_weighed, weight_room, weighed_step, weighed_on}
+use Rattle.polcert_check.proofs.Walking.Weighed.{ends_weighed, weight_room, weight_small, weighed_step, weighed_on}
 use Rattle.polcert_check.proofs.Walking.Earning.{reward_at_end_le}
 use Rattle.polcert_cells.specs.LentRows.{reached}
 use Rattle.polcert_check.proofs.expected_reward.sum_over_ends.Goals as goal
 
-pub weigh-sum-requires : goal.weigh-sum-requires
-weigh-sum-requires g c =
+pub weigh-sum-requires-clause-weight : goal.weigh-sum-requires-clause-weight
+weigh-sum-requires-clause-weight g c =
+    let m : CellTable = g.C.Cells.table c.args.cells.now in
+    let next = c.in-Some.ensures.0 in
+    weight_small (ends_weighed m (g.met.C.Cells.is_proper c.args.cells.now) (g.met.C.Cells.is_within_limits c.args.cells.now) c.args.a c.args.s c.requires.action c.requires.start) c.in-Some.end.column c.in-Some.end.weight next.1 next.2
+
+pub weigh-sum-requires-clause-product : goal.weigh-sum-requires-clause-product
+weigh-sum-requires-clause-product g c =
     let m : CellTable = g.C.Cells.table c.args.cells.now in
     let back : to_z w128 (of_z w128 c.reward_at_end.result) ≡ c.reward_at_end.result = to_z-of_z w128 c.reward_at_end.result (search rules) in
     let next = c.in-Some.ensures.0 in

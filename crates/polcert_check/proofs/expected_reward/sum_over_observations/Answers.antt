@@ -2,12 +2,18 @@ use Rattle.std.proofs.Common.{rules, arith, ◌≡◌, ℤ, to_z, of_z, w64, ◌
 use mir.Syntax.{w128}
 use Rattle.std.proofs.lemmas.Int.{to_z-of_z}
 use Rattle.polcert_cells.specs.Tables.{CellTable}
-use Rattle.polcert_check.proofs.Walking.Weighed.{seen_weighed, weight_room, weighed_step, weighed_on}
+use Rattle.polcert_check.proofs.Walking.Weighed.{seen_weighed, weight_room, weight_small, weighed_step, weighed_on}
 use Rattle.polcert_cells.specs.LentRows.{reached}
 use Rattle.polcert_check.proofs.expected_reward.sum_over_observations.Goals as goal
 
-pub weigh-sum-requires : goal.weigh-sum-requires
-weigh-sum-requires g c =
+pub weigh-sum-requires-clause-weight : goal.weigh-sum-requires-clause-weight
+weigh-sum-requires-clause-weight g c =
+    let m : CellTable = g.C.Cells.table c.args.cells.now in
+    let next = c.in-Some.ensures.0 in
+    weight_small (seen_weighed m (g.met.C.Cells.is_proper c.args.cells.now) (g.met.C.Cells.is_within_limits c.args.cells.now) c.args.a c.args.e c.requires.action c.requires.end) c.in-Some.observation.column c.in-Some.observation.weight next.1 next.2
+
+pub weigh-sum-requires-clause-product : goal.weigh-sum-requires-clause-product
+weigh-sum-requires-clause-product g c =
     let m : CellTable = g.C.Cells.table c.args.cells.now in
     let h : ℤ = to_z w64 (of_z w64 c.reward_of-reward.result) in
     let next = c.in-Some.ensures.0 in

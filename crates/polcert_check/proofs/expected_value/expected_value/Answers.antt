@@ -6,14 +6,25 @@ use Rattle.polcert_cells.specs.Tables.{IsWithinLimits}
 use Rattle.polcert_check.specs.Steps.Node.{around}
 use Rattle.polcert_check.specs.Horizon.{Controller}
 use Rattle.polcert_check.specs.Steps.Factored.{value_at_end}
-use Rattle.polcert_check.proofs.Walking.Weighed.{ends_weighed, weight_room, weighed_step, weighed_on}
+use Rattle.polcert_check.proofs.Walking.Weighed.{ends_weighed, weight_room, weight_small, weighed_step, weighed_on}
 use Rattle.polcert_check.proofs.Walking.Expecting.{value_at_end_le}
 use Rattle.polcert_check.proofs.Walking.Missing.{before_more, before_on}
 use Rattle.polcert_cells.specs.LentRows.{reached}
 use Rattle.polcert_check.proofs.expected_value.expected_value.Goals as goal
 
-pub weigh-value-requires : goal.weigh-value-requires
-weigh-value-requires g c =
+pub value_of-part-requires : goal.value_of-part-requires
+value_of-part-requires g c =
+    let next = rw c.action-a.ensures.value at c.in-Some.ensures.0 in
+    c.requires.callable c.in-Some.end.column next.1 (omega (arith, next.2, next.3))
+
+pub weigh-value-requires-clause-weight : goal.weigh-value-requires-clause-weight
+weigh-value-requires-clause-weight g c =
+    let k : Controller = around c.args.node.now in
+    let next = rw c.action-a.ensures.value at c.in-Some.ensures.0 in
+    weight_small (ends_weighed k.cells c.args.node.now.certificate.proper.cells (g.met.C.Cells.is_within_limits c.args.node.now.certificate.cells.now) (k.action c.args.node.now.n) c.args.s (c.args.node.now.certificate.proper.closed.actions_in_range c.args.node.now.n c.args.node.now.within) c.requires.start) c.in-Some.end.column c.in-Some.end.weight next.1 next.2
+
+pub weigh-value-requires-clause-product : goal.weigh-value-requires-clause-product
+weigh-value-requires-clause-product g c =
     let k : Controller = around c.args.node.now in
     let limits : IsWithinLimits k.cells = g.met.C.Cells.is_within_limits c.args.node.now.certificate.cells.now in
     let next = rw c.action-a.ensures.value at c.in-Some.ensures.0 in

@@ -8,13 +8,13 @@ use Rattle.polcert_check.proofs.Sums.Gaps.{weighed_is}
 use Rattle.polcert_check.proofs.Sums.Amounts.{value_small, factor_room, factor_small, discount_small, backing_fits, amount_fits}
 use Rattle.polcert_check.proofs.pairs.shortfall.Goals as goal
 
-pub weigh-requires : goal.weigh-requires
-weigh-requires g c =
+pub weigh-requires-clause-product : goal.weigh-requires-clause-product
+weigh-requires-clause-product g c =
     let back : to_z w128 (of_z w128 c.args.reward) ≡ c.args.reward = to_z-of_z w128 c.args.reward c.ranges.reward in
     rw back (factor_room (g.C.Cells.table c.args.cells.now) (g.met.C.Cells.is_within_limits c.args.cells.now) 1000000 c.args.reward (omega arith) c.requires.reward)
 
-pub weigh-requires-2 : goal.weigh-requires-2
-weigh-requires-2 g c =
+pub weigh-requires-2-clause-product : goal.weigh-requires-2-clause-product
+weigh-requires-2-clause-product g c =
     let m : CellTable = g.C.Cells.table c.args.cells.now in
     let limits : IsWithinLimits m = g.met.C.Cells.is_within_limits c.args.cells.now in
     let back : to_z w128 (of_z w128 c.args.expected) ≡ c.args.expected = to_z-of_z w128 c.args.expected c.ranges.expected in
