@@ -7,7 +7,8 @@ use std::time::{Clock, Instant};
 const QUIET_SECONDS: u64 = 5;
 
 /// Says on standard error how far a check, a lowering or a raising is, where that is a terminal: nothing for the first seconds, and
-/// then each second how many nodes are done, in one line that is blank again where the walk over the nodes ends.
+/// then each second how many nodes are done, and how many start states of a node that takes long, in one line that is blank again
+/// where the walk over the nodes ends.
 pub struct Progress<'a, R> {
     rt: &'a R,
     /// When it began; none where nothing is to be said.
@@ -52,6 +53,22 @@ impl<'a, R: Clock + Eprint> Progress<'a, R> {
         let elapsed = self.began?.elapsed(self.rt).ok()?;
         Some(elapsed.as_secs())
     }
+
+    /// Shows how far it is: not in the first seconds, and then once a second at most.
+    #[cold]
+    #[inline(never)]
+    fn show(&mut self, states: Option<Share>) {
+        if let Some(seconds) = self.seconds() {
+            if seconds >= QUIET_SECONDS && seconds > self.said {
+                self.said = seconds;
+                let nodes = Share {
+                    done: self.done,
+                    all: self.nodes,
+                };
+                let _ = self.rt.eprint(Line { nodes, states });
+            }
+        }
+    }
 }
 
 impl<R: Clock + Eprint> Watch for Progress<'_, R> {
@@ -60,16 +77,16 @@ impl<R: Clock + Eprint> Watch for Progress<'_, R> {
         self.nodes = nodes;
     }
 
+    fn states_done(&mut self, done: usize, states: usize) {
+        if self.began.is_some() {
+            self.show(Some(Share { done, all: states }));
+        }
+    }
+
     fn node_done(&mut self) {
         self.done = self.done.saturating_add(1);
-        if let Some(seconds) = self.seconds() {
-            if seconds >= QUIET_SECONDS && seconds > self.said {
-                self.said = seconds;
-                let _ = self.rt.eprint(Line {
-                    done: self.done,
-                    nodes: self.nodes,
-                });
-            }
+        if self.began.is_some() {
+            self.show(None);
         }
     }
 
@@ -80,11 +97,18 @@ impl<R: Clock + Eprint> Watch for Progress<'_, R> {
     }
 }
 
-/// How many nodes are done, in place of what the line said before.
+/// How many of all are done.
+#[derive(Clone, Copy)]
+struct Share {
+    done: usize,
+    all: usize,
+}
+
+/// The nodes that are done, and the start states of the next node, in place of what the line said before.
 #[derive(Clone, Copy)]
 struct Line {
-    done: usize,
-    nodes: usize,
+    nodes: Share,
+    states: Option<Share>,
 }
 
 /// Nothing, in place of what the line said before.
@@ -93,13 +117,21 @@ struct Blank;
 
 impl fmt::Display for Line {
     fn fmt<W: fmt::Write>(&self, f: &mut fmt::Formatter<W>) -> fmt::Result {
-        write!(f, "\r{} of {} nodes", self.done, self.nodes)
+        write!(
+            f,
+            "{}{} of {} nodes",
+            Blank, self.nodes.done, self.nodes.all
+        )?;
+        match self.states {
+            Some(states) => write!(f, ", {} of {} states", states.done, states.all),
+            None => Ok(()),
+        }
     }
 }
 
 impl fmt::Display for Blank {
     fn fmt<W: fmt::Write>(&self, f: &mut fmt::Formatter<W>) -> fmt::Result {
-        write!(f, "\r{:22}\r", "")
+        write!(f, "\r{:44}\r", "")
     }
 }
 

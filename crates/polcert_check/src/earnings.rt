@@ -5,6 +5,7 @@ ghost use Rattle.polcert_check.specs.Steps.Factored.{expected_reward, AreRewards
 
 use crate::expected_reward::expected_reward;
 use crate::reward_buffer::RewardBuffer;
+use crate::watch::Watch;
 use polcert_cells::{Cells, MOST_STATES};
 
 /// The reward that an action expects at each of the first states.
@@ -33,8 +34,15 @@ impl Earnings {
         self.count = 0;
     }
 
-    /// Returns the reward that action `a` expects at state `s`, computed on first use. States are asked for in order.
-    pub(crate) fn reward_at<C: Cells>(&mut self, cells: &C, a: usize, s: usize) -> i128
+    /// Returns the reward that action `a` expects at state `s`, computed on first use, of which `watch` is notified. States are asked
+    /// for in order.
+    pub(crate) fn reward_at<C: Cells, W: Watch>(
+        &mut self,
+        cells: &C,
+        a: usize,
+        s: usize,
+        watch: &mut W,
+    ) -> i128
         requires action { a < (C.table cells.now).actions }
         requires start { s < (C.table cells.now).states }
         requires before { s ≤ self.old.count }
@@ -46,6 +54,7 @@ impl Earnings {
         if s >= self.count {
             self.rewards[s] = expected_reward(cells, a, s, &mut self.buffer);
             self.count = s + 1;
+            watch.states_done(self.count, cells.states());
         }
         self.rewards[s]
     }

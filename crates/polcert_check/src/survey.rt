@@ -42,7 +42,7 @@ fn survey_node<C: Cells, W: Watch>(node: &Node<'_, C>, survey: &mut SurveyState,
     survey.reached.find(cells, a);
     survey.ends.fill(node, &survey.reached);
     for s in 0..cells.states() {
-        let reward = survey.earnings.reward_at(cells, a, s);
+        let reward = survey.earnings.reward_at(cells, a, s, watch);
         let verdict = pair_verdict(node, s, reward, survey.ends.expected_value(node, s));
         if survey.findings.note(node.n, verdict) {
             return;

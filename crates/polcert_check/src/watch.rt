@@ -1,9 +1,13 @@
-//! Who is told how far a walk over the nodes of a graph is.
+//! Notification of how far a walk over the nodes of a graph is.
 
-/// Is told how far a walk over the nodes of a graph is. No answer depends on it.
+/// Is notified of how far a walk over the nodes of a graph is. No answer depends on it.
 pub trait Watch {
     /// A walk over so many nodes begins.
     fn begin(&mut self, nodes: usize);
+
+    /// The first `done` of `states` start states of a node are done. Told of the first node of an action only: nodes after it share
+    /// its rewards, which take most of the time.
+    fn states_done(&mut self, done: usize, states: usize);
 
     /// One of these nodes more is done.
     fn node_done(&mut self);
@@ -12,12 +16,14 @@ pub trait Watch {
     fn end(&mut self);
 }
 
-/// Nobody is told.
+/// Nobody is notified.
 #[derive(Clone, Copy, Debug)]
 pub struct Unwatched;
 
 impl Watch for Unwatched {
     fn begin(&mut self, _nodes: usize) {}
+
+    fn states_done(&mut self, _done: usize, _states: usize) {}
 
     fn node_done(&mut self) {}
 

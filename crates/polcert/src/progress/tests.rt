@@ -49,15 +49,21 @@ impl Eprint for Terminal {
     }
 }
 
-/// What is said in the end of a check of nine nodes that ends behind so many.
-fn said(alloc: Global, is_terminal: bool, passed: usize) -> String {
+/// A line that is blank.
+const BLANK: &str = "\r                                            \r";
+
+/// What is said of a check of nine nodes over five states which ends after so many nodes, the first of which takes long.
+fn said(alloc: Global, is_terminal: bool, states: usize, nodes: usize) -> String {
     let terminal = Terminal {
         seconds: Cell::new(0),
         said: RefCell::new(String::new(alloc)),
     };
     let mut progress = Progress::new(&terminal, is_terminal);
     progress.begin(9);
-    for _ in 0..passed {
+    for s in 0..states {
+        progress.states_done(s.saturating_add(1), 5);
+    }
+    for _ in 0..nodes {
         progress.node_done();
     }
     progress.end();
@@ -69,19 +75,29 @@ fn said(alloc: Global, is_terminal: bool, passed: usize) -> String {
 
 #[test]
 fn says_how_far_a_long_check_is(rt: HostRuntime) -> Result<(), Fail> {
-    let line = said(rt.alloc(), true, 7);
-    assert_eq!(rt;
-        line.as_str(),
-        "\r5 of 9 nodes\r6 of 9 nodes\r7 of 9 nodes\r                      \r"
-    );
+    let line = said(rt.alloc(), true, 0, 7);
+    let wanted = format!(in rt.alloc();
+        "{BLANK}5 of 9 nodes{BLANK}6 of 9 nodes{BLANK}7 of 9 nodes{BLANK}"
+    )?;
+    assert_eq!(rt; line.as_str(), wanted.as_str());
+    Ok(())
+}
+
+#[test]
+fn says_how_far_a_long_node_is(rt: HostRuntime) -> Result<(), Fail> {
+    let line = said(rt.alloc(), true, 5, 1);
+    let wanted = format!(in rt.alloc();
+        "{BLANK}0 of 9 nodes, 5 of 5 states{BLANK}1 of 9 nodes{BLANK}"
+    )?;
+    assert_eq!(rt; line.as_str(), wanted.as_str());
     Ok(())
 }
 
 #[test]
 fn says_nothing_of_a_short_check_or_to_no_terminal(rt: HostRuntime) -> Result<(), Fail> {
-    let short = said(rt.alloc(), true, 4);
+    let short = said(rt.alloc(), true, 2, 2);
     assert_eq!(rt; short.as_str(), "");
-    let unseen = said(rt.alloc(), false, 9);
+    let unseen = said(rt.alloc(), false, 5, 9);
     assert_eq!(rt; unseen.as_str(), "");
     Ok(())
 }

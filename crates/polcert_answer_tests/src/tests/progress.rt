@@ -5,11 +5,13 @@ use polcert_testing::TIGER;
 use polcert_text::{SliceSink, SliceSource};
 use std::alloc::Global;
 
-/// The calls of one run, and the nodes that it said to begin with.
+/// The calls of one run, the nodes that it said to begin with, and the states: a digit for each call, how many were done.
 #[derive(Clone, Copy, Debug, PartialEq)]
 struct Calls {
     begin: usize,
     nodes: usize,
+    states_done: usize,
+    states: usize,
     node_done: usize,
     end: usize,
 }
@@ -18,6 +20,11 @@ impl Watch for Calls {
     fn begin(&mut self, nodes: usize) {
         self.begin = self.begin.saturating_add(1);
         self.nodes = nodes;
+    }
+
+    fn states_done(&mut self, done: usize, states: usize) {
+        self.states_done = self.states_done.saturating_mul(10).saturating_add(done);
+        self.states = states;
     }
 
     fn node_done(&mut self) {
@@ -29,23 +36,29 @@ impl Watch for Calls {
     }
 }
 
-/// Node 0 listens for good, which costs 1 at each step: 20 in all. Node 1 opens the left door, for -100 or 10, and continues as node 0.
-const GRAPH: &[u8] = b"0 0 0 0 1 1 0 0";
+/// Nodes 0 and 2 listen for good, which costs 1 at each step: 20 in all. Node 1 opens the left door, for -100 or 10, and continues as
+/// node 0.
+const GRAPH: &[u8] = b"0 0 0 0 1 1 0 0 2 0 2 2";
 
 /// What the nodes are worth, exactly.
-const VALUES: &[u8] = b"0 -20 -20 1 -119 -9";
+const VALUES: &[u8] = b"0 -20 -20 1 -119 -9 0 -20 -20";
 
-/// A millionth too much in the last state.
-const HIGH: &[u8] = b"0 -20 -20 1 -119 -8.999999";
+/// A millionth too much in the last state of node 1.
+const HIGH: &[u8] = b"0 -20 -20 1 -119 -8.999999 0 -20 -20";
 
 /// A millionth too little there.
-const LOW: &[u8] = b"0 -20 -20 1 -119 -9.000001";
+const LOW: &[u8] = b"0 -20 -20 1 -119 -9.000001 0 -20 -20";
+
+/// A millionth too much in the first state of node 0.
+const FIRST_HIGH: &[u8] = b"0 -19.999999 -20 1 -119 -9 0 -20 -20";
 
 /// The outcome of a task with the tiger, the graph and these vectors, and its calls.
 fn calls_of(alloc: Global, task: Task, vectors: &[u8]) -> Option<(Outcome, Calls)> {
     let mut calls = Calls {
         begin: 0,
         nodes: 0,
+        states_done: 0,
+        states: 0,
         node_done: 0,
         end: 0,
     };
@@ -63,10 +76,17 @@ fn calls_of(alloc: Global, task: Task, vectors: &[u8]) -> Option<(Outcome, Calls
     Some((outcome.ok()?, calls))
 }
 
-/// A task, vectors, its outcome, the exit status, and the nodes that are done. A constant is a millionth over one minus the discount. A no
-/// ends the walk at its node, while lowering and raising go over all nodes.
-const ROWS: [(Task, &[u8], Outcome, u8, usize); 8] = [
-    (Task::Check, VALUES, Outcome::Checked(Verdict::Yes), 0, 2),
+/// A task, vectors, its outcome, the exit status, the states that are done at the first node of each action, and the nodes that are done.
+/// A constant is a millionth over one minus the discount. A no ends the walk at its node, while lowering and raising go over all nodes.
+const ROWS: [(Task, &[u8], Outcome, u8, usize, usize); 9] = [
+    (
+        Task::Check,
+        VALUES,
+        Outcome::Checked(Verdict::Yes),
+        0,
+        1212,
+        3,
+    ),
     (
         Task::Check,
         HIGH,
@@ -76,14 +96,28 @@ const ROWS: [(Task, &[u8], Outcome, u8, usize); 8] = [
             amount: 4_000_000_000_000_000_000,
         }),
         1,
+        1212,
+        2,
+    ),
+    (
+        Task::Check,
+        FIRST_HIGH,
+        Outcome::Checked(Verdict::Short {
+            node: 0,
+            state: 0,
+            amount: 200_000_000_000_000_000,
+        }),
         1,
+        1,
+        0,
     ),
     (
         Task::CheckAbove,
         VALUES,
         Outcome::CheckedAbove(AboveVerdict::Yes),
         0,
-        2,
+        1212,
+        3,
     ),
     (
         Task::CheckAbove,
@@ -94,20 +128,23 @@ const ROWS: [(Task, &[u8], Outcome, u8, usize); 8] = [
             amount: 4_000_000_000_000_000_000,
         }),
         1,
-        1,
+        1212,
+        2,
     ),
-    (Task::Lower, VALUES, Outcome::Lowered(0), 0, 2),
-    (Task::Lower, HIGH, Outcome::Lowered(20), 0, 2),
-    (Task::Raise, VALUES, Outcome::Raised(0), 0, 2),
-    (Task::Raise, LOW, Outcome::Raised(20), 0, 2),
+    (Task::Lower, VALUES, Outcome::Lowered(0), 0, 1212, 3),
+    (Task::Lower, HIGH, Outcome::Lowered(20), 0, 1212, 3),
+    (Task::Raise, VALUES, Outcome::Raised(0), 0, 1212, 3),
+    (Task::Raise, LOW, Outcome::Raised(20), 0, 1212, 3),
 ];
 
 #[test]
-fn each_node_is_told_once(rt: HostRuntime) {
-    for (task, vectors, outcome, status, node_done) in ROWS {
+fn each_share_is_told_once(rt: HostRuntime) {
+    for (task, vectors, outcome, status, states_done, node_done) in ROWS {
         let calls = Calls {
             begin: 1,
-            nodes: 2,
+            nodes: 3,
+            states_done,
+            states: 2,
             node_done,
             end: 1,
         };
