@@ -60,17 +60,17 @@ impl<'a> Choice<'a> {
     }
 }
 
-/// What the words ask for, of which the first is the program's name. None where a file's name isn't there.
+/// What the words ask for, of which the first is the program's name. None if a file's name isn't there.
 ///
 /// # Errors
 ///
-/// Words that are no command line, with clap's text; that help or the version is asked for; and want of memory.
+/// Words that are no command line, with clap's text; that help or the version is asked for; and out of memory.
 pub fn choose<'a>(alloc: Global, words: &'a [&'a str]) -> Result<Option<Choice<'a>>, Error>
     // The row of the subcommand and the values that clap's promise for simple commands gives for these words.
     ensures choice { IfOk result (λ choice.
         option_map view_of choice ≡ chosen (subcommand_of the_app (map (λ word. word.now) words.entry.now))) }
 
-    // An error comes exactly where clap's promise has a fault for the words, and has one of its kinds; want of memory
+    // An error comes exactly where clap's promise has a fault for the words, and has one of its kinds; out of memory
     // aside.
     ensures faults { FailsBy (fault_of the_app (map (λ word. word.now) words.entry.now)) result }
 {

@@ -27,7 +27,7 @@ const CANNOT_WRITE: u8 = 3;
 const MEMORY: u8 = 4;
 
 /// Does what the command line asks for, and answers the exit status. A long check, lowering or raising says
-/// how far it is, where that is wanted.
+/// how far it is, if that is wanted.
 pub fn run_program<R: Env + Files + Clock + AllocGlobal + Input + Print + Eprint>(
     rt: &R,
     shows_progress: bool,
@@ -74,7 +74,7 @@ fn answer_of_clap<R: Print + Eprint>(rt: &R, error: &clap::Error) -> u8 {
     }
 }
 
-/// Does what was chosen; where that stops, prints why.
+/// Does what was chosen; if that stops, prints why.
 fn run_choice<R: Files + Clock + AllocGlobal + Input + Print + Eprint>(
     rt: &R,
     shows_progress: bool,
@@ -161,7 +161,7 @@ fn opened_files<R: Files>(rt: &R, names: Names<'_>) -> Result<OpenedFiles<R::Fil
     })
 }
 
-/// The source of a file, or the fault where it can't be opened.
+/// The source of a file, or the fault if it can't be opened.
 fn opened<R: Files>(
     rt: &R,
     name: &str,

@@ -6,7 +6,7 @@ use std::time::{Clock, Instant};
 /// For so many seconds nothing is said.
 const QUIET_SECONDS: u64 = 5;
 
-/// Says on standard error how far a check, a lowering or a raising is, where that is a terminal: nothing for the first seconds, and
+/// Says on standard error how far a check, a lowering or a raising is, if that is a terminal: nothing for the first seconds, and
 /// then each second how many nodes are done, and how many start states of a node that takes long, in one line that is blank again
 /// where the walk over the nodes ends.
 pub struct Progress<'a, R> {
@@ -48,7 +48,7 @@ impl<'a, R: Clock + Eprint> Progress<'a, R> {
         }
     }
 
-    /// The whole seconds since it began, where something is to be said.
+    /// The whole seconds since it began, if something is to be said.
     fn seconds(&self) -> Option<u64> {
         let elapsed = self.began?.elapsed(self.rt).ok()?;
         Some(elapsed.as_secs())

@@ -46,7 +46,7 @@ impl fmt::Display for ModelLine {
     }
 }
 
-/// The number of a refusal, and that of the token's or the number's own fault where it has one.
+/// The number of a refusal, and that of the token's or the number's own fault if it has one.
 #[derive(Clone, Copy, Debug)]
 struct Codes(ItemFault);
 

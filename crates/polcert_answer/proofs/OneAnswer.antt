@@ -1,4 +1,4 @@
--- Three texts have one answer, want of memory aside.
+-- Three texts have one answer, out of memory aside.
 use Rattle.std.proofs.Common.{◌≡◌, ℕ, List, Result, Ok, Err, refl, sym, subst}
 use Rattle.polcert_format.specs.declared.fault.ModelFault.{ModelFault}
 use Rattle.polcert_format.specs.declared.fault.ModelFault.TheVariants as models
@@ -24,7 +24,7 @@ use Rattle.polcert_answer.specs.Answer.{HasGraph, IsModelFault, IsRoundedAnswer,
 use Rattle.polcert_answer.specs.OneAnswer.{HasOneVerdict, RefusesTheFirst, HasOneRefusal}
 use Rattle.polcert_answer.proofs.Refusing.{refused_of}
 
--- what is refused as a graph is none, or memory was wanting
+-- what is refused as a graph is none, or memory ran out
 graph_memory : (a o : ℕ) (text : List ℕ) (f : GraphFault) (g : PolicyGraph) → IsNoGraphText a o text f → IsGraphText a o text g → f ≡ graphs.Memory
 graph_memory a o text graphs.Memory g refused is = refl
 graph_memory a o text _ g refused is = absurd (refused g is)
@@ -39,7 +39,7 @@ module _ {V : Type 0} (rounding : Rounding) (Is : Controller → V → Type 0) (
   abbrev Answers : Result V Fault → Type 0
   Answers r = IsRoundedAnswer rounding Is model graph vectors r
 
-  -- what is refused as a model, but for want of memory, is none
+  -- what is refused as a model, except out of memory, is none
   no_model : (f : ModelFault) (m : Meaning) → SaysOfText f → IsModelFault model f → IsModelText model m → ⊥
   no_model f m says refused is = (refused_of f model says refused).no_model m is
 

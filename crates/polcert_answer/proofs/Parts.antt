@@ -5,7 +5,7 @@ use Rattle.polcert_text.specs.Sink.{WritesText}
 use Rattle.polcert_text.proofs.Printing.Taking.{wrote_front}
 use Rattle.polcert_text.proofs.Printing.Written.{HasWritten, wrote, fails_at, fails_before}
 
--- a text, and the parts behind it
+-- a text, and the parts after it
 abbrev pub joined : List ℕ → List (List ℕ) → List ℕ
 joined text [] = text
 joined text (part ∷ parts) = joined (text ++ part) parts
@@ -21,7 +21,7 @@ module _ {S : Type 0} {writes : S → Option (List ℕ) → S → Type 0} {failu
     not_behind (part ∷ parts) text w = not_behind parts (text ++ part) (fails_before text part r is_err w)
 
   module _ {T E V F : Type 0} {x : F} {t : S} (r : Result T E) (is_err : IsErr r) where
-    -- the first part failed, and those behind it aren't written
+    -- the first part failed, and those after it aren't written
     pub fails_first : (first : List ℕ) (behind : List (List ℕ)) → WritesText {T = V} {E = F} writes failures from first (Err x) t → WritesText writes failures from (joined first behind) r t
     fails_first first behind w = not_behind r is_err behind first (wrote_front first r is_err w.err w.count)
 

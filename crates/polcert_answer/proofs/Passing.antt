@@ -95,7 +95,7 @@ module _ {T : Type 0} (r : Result T RunFault) (none : IfErr r IsNoReadFault) whe
   pub not_read : (x : RunFault) → IsReadFault x → r ≡ Err x → ⊥
   not_read x of same = no_read_fault x of (subst (λ (y : Result T RunFault). IfErr y IsNoReadFault) same none)
 
-  -- a source that the read did not name isn't named behind it
+  -- a source that the read did not name isn't named after it
   pub named_behind : {U : Type 0} (x : RunFault) → IsReadFault x → (u : U) (before after : ℕ) → IsNamedRightly (◌≡◌ {A = Result U RunFault} (Ok u) (Err x)) before after
       → IsNamedRightly (r ≡ Err x) before after
   named_behind x of u before after h = record {

@@ -1,4 +1,4 @@
--- What is said of a source that is read before or behind the one that is at fault.
+-- What is said of a source that is read before or after the one that is at fault.
 use Rattle.std.proofs.Common.{◌≡◌, ℕ, Result, Ok, Err}
 use Rattle.polcert_answer.specs.declared.fault.RunFault.{RunFault}
 use Rattle.polcert_answer.specs.Run.{IsNamedRightly}

@@ -21,7 +21,7 @@ pub model_refused : (fault : ModelFault) (text : List ℕ) → IsRefusedModelTex
 model_refused faults.Memory text r = tt
 model_refused _ text r = record { no_model = r.no_model; refusal = r.refusal; placed = r.placed }
 
--- want of memory aside, what is said of a model's refused text is that it is refused
+-- out of memory aside, what is said of a model's refused text is that it is refused
 pub refused_of : (fault : ModelFault) (text : List ℕ) → SaysOfText fault → IsModelFault text fault → IsRefused fault text
 refused_of faults.Memory text says refused = absurd says
 refused_of _ text says refused = refused
@@ -48,7 +48,7 @@ of_graph_in_order (runs.Text (texts.Graph f)) graph graph' vectors vectors' of s
 of_graph_in_order runs.ReadGraph graph graph' vectors vectors' of same = same
 of_graph_in_order _ graph graph' vectors vectors' of same = absurd of
 
--- behind it the source of the vectors is as it was
+-- after it the source of the vectors is as it was
 pub graph_in_order : {T G V : Type 0} (r : Result T RunFault) (given : RunFault) (graph graph' : G) (vectors vectors' : V) → IsErrAnd r (λ f. f ≡ given)
     → IsGraphReadFault given → vectors' ≡ vectors → IfErr r (λ fault. ReadsInOrder fault graph graph' vectors vectors')
 graph_in_order (Ok v) given graph graph' vectors vectors' is of same = tt

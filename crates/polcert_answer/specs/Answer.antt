@@ -53,7 +53,7 @@ pub record AreRoundedVectorsRefused (rounding : Rounding) (model graph : List �
   pub no_vectors : (m : Meaning) (p : PolicyGraph) → HasGraph model graph m p → IsNoRoundedVectorsText rounding p (states_of m) text fault
   pub refusal : (m : Meaning) (p : PolicyGraph) → HasGraph model graph m p → IsRoundedVectorsRefusal rounding p (states_of m) text fault
 
--- what a refusal says of the three texts; want of memory says nothing of the text that was being read
+-- what a refusal says of the three texts; out of memory says nothing of the text that was being read
 abbrev pub IsModelFault : List ℕ → ModelFault → Type 0
 IsModelFault model models.Memory = Unit {0}
 IsModelFault model fault = IsRefused fault model
@@ -77,14 +77,14 @@ IsAnswer model graph vectors result = IsRoundedAnswer Down IsVerdict model graph
 abbrev pub IsAnswerAbove : List ℕ → List ℕ → List ℕ → Result AboveVerdict Fault → Type 0
 IsAnswerAbove model graph vectors result = IsRoundedAnswer Up IsAboveVerdict model graph vectors result
 
--- want of memory, which may be answered to any text
+-- out of memory, which may be answered to any text
 abbrev pub IsWantOfMemory : Fault → Type 0
 IsWantOfMemory (Model models.Memory) = Unit {0}
 IsWantOfMemory (Graph graphs.Memory) = Unit {0}
 IsWantOfMemory (Vectors values.Memory) = Unit {0}
 IsWantOfMemory _ = ⊥
 
--- the answer is this verdict, but for want of memory
+-- the answer is this verdict, except out of memory
 abbrev pub IsButForMemory : {V : Type 0} → V → Result V Fault → Type 0
 IsButForMemory verdict (Ok answered) = answered ≡ verdict
 IsButForMemory verdict (Err fault) = IsWantOfMemory fault

@@ -2,7 +2,7 @@
 --
 -- Sources: the POMDP file format page and its grammar at pomdp.org (the model); pomdp-solve's descriptions of its policy
 -- graph and value function files (the graph and the vectors); the textbook step relation of a finite controller (the
--- promise). Each word is a definition of the crate that it comes from, and `docs/DEFINITIONS.md` walks through them all.
+-- promise). Each word is a definition of the crate that it comes from, and `tests/believe --print` prints them all.
 use Rattle.std.specs.Prelude.{ℕ, ◌<◌, List}
 use Rattle.polcert_text.specs.declared.number.Rounding.{Rounding}
 use Rattle.polcert_text.specs.declared.number.Rounding.TheVariants.{Down}

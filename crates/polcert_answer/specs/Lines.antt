@@ -18,7 +18,7 @@ use Rattle.polcert_check.specs.StartMost.{IsStartMost}
 use Rattle.polcert_answer.specs.declared.lines.VerdictLine.{VerdictLine}
 use Rattle.polcert_answer.specs.declared.lines.VerdictLine.TheVariants as lines
 
--- a count, and the words behind it
+-- a count, and the words after it
 abbrev pub counted : ℕ → List ℕ → List ℕ
 counted count words = decimal count ++ words
 
@@ -52,7 +52,7 @@ summary_line m = counts_text m ++ values_text m
 abbrev pub yes_line : ℕ → ℤ → List ℕ
 yes_line n worth = codes "yes: start node " ++ counted n (codes ", at least ") ++ scaled_text worth ++ codes "\n"
 
--- the beginning of a no, as far as the words behind the state
+-- the beginning of a no, as far as the words after the state
 abbrev pub pair_text : ℕ → ℕ → List ℕ → List ℕ
 pair_text n s words = codes "no: node " ++ counted n (codes ", state ") ++ counted s words
 

@@ -1,4 +1,4 @@
--- That three texts have one answer, want of memory aside, where these are the answers to three texts.
+-- That three texts have one answer, out of memory aside, where these are the answers to three texts.
 use Rattle.std.specs.Prelude.{◌≡◌, ◌≢◌, ℕ, List, Result, Ok, Err}
 use Rattle.polcert_format.specs.declared.fault.ModelFault.{ModelFault}
 use Rattle.polcert_model.specs.Refusals.{SaysOfText}
@@ -19,7 +19,7 @@ module _ {V : Type 0} (IsAnswer : List ℕ → List ℕ → List ℕ → Result 
         → IsAnswer model graph vectors (Ok x) → IsAnswer model graph vectors (Err fault)
         → IsWantOfMemory fault
 
-  -- Where the model is refused, the graph and the vectors are not, not even for want of memory; and where
+  -- Where the model is refused, the graph and the vectors are not, not even as out of memory; and where
   -- the graph is, the vectors are not.
   pub record RefusesTheFirst : Type 0 where
     pub model_before_graph : (model graph vectors : List ℕ) (f : ModelFault) (g : GraphFault) → SaysOfText f

@@ -84,7 +84,7 @@ pub record WritesAnswer {T W : Type 0} (writes : W → Option (List ℕ) → W �
     (result : Result T RunFault) (sink sink' : W) : Type 0 where
   -- the sink took exactly a text that belongs to the answer
   pub took : IfOk result (λ answer. (text : List ℕ) × Belongs answer text × Takes writes sink text sink')
-  -- where a write failed, what was written before is a beginning of such a text
+  -- if a write failed, what was written before is a beginning of such a text
   pub begun : IsErrOf result Write → (answer : T) × (text : List ℕ) × Belongs answer text × TakesFront writes sink text sink'
 
 -- ---- devices
@@ -111,7 +111,7 @@ IsPrintRunFault _ = ⊥
 
 -- ---- three sources
 
--- why the vectors aren't lowered: a reason of the definition, or want of memory where there is a constant
+-- why the vectors aren't lowered: a reason of the definition, or out of memory where there is a constant
 abbrev pub IsWhy : Controller → PolicyVectors → LowerFault → Type 0
 IsWhy c v Memory = HasLeastConstant c v
 IsWhy c v fault = IsNotLowered c v fault
@@ -125,8 +125,8 @@ text_of reads before after text = IsText reads before text after
 -- The three sources are the model's, the graph's and the vectors', each with its state before and after the
 -- call.
 
--- A text is refused rightly. No text that fits what was read of a source is a model's; or behind the first
--- text a graph's; or behind the first two the graph's vectors, each value rounded this way; and the fault
+-- A text is refused rightly. No text that fits what was read of a source is a model's; or after the first
+-- text a graph's; or after the first two the graph's vectors, each value rounded this way; and the fault
 -- is a right refusal of each of them.
 pub record RefusesRightly {T M G V : Type 0} (rounding : Rounding) (result : Result T RunFault)
     (model_reads : M → ℕ → Option (List ℕ) → M → Type 0) (model model' : M)
@@ -254,7 +254,7 @@ module _ (of_model of_graph of_vectors : List ℕ → Type 0) where
 
   -- This is the least constant by which the vectors of the third source can be lowered to pass, and the text is the full
   -- form of the vectors lowered by it. The answer to the first two texts and this one is yes, every answer to them is, but for
-  -- want of memory, and the headline holds of them.
+  -- out of memory, and the headline holds of them.
   pub record HasLowered (by : ℤ) (text : List ℕ) : Type 0 where
     pub texts : AreCertified
     pub least : (c : Certificate texts.model texts.graph texts.vectors) → IsLeastConstant (controller c) c.values by
@@ -265,7 +265,7 @@ module _ (of_model of_graph of_vectors : List ℕ → Type 0) where
     pub rewards : AreRewardsCertified texts.model texts.graph text
 
   -- The texts of the three sources denote a controller, and no constant lowers its vectors so that they pass, for this
-  -- reason; or there is such a constant, and memory was wanting.
+  -- reason; or there is such a constant, and memory ran out.
   pub record IsNotLowerable (fault : LowerFault) : Type 0 where
     pub texts : AreCertified
     pub reason : (c : Certificate texts.model texts.graph texts.vectors) → IsWhy (controller c) c.values fault

@@ -22,7 +22,7 @@ use Rattle.polcert_answer.specs.HeadlineAbove.{CertificateAbove, IsCertifiedAbov
 use Rattle.polcert_answer.specs.Lines.{yes_above_line, IsAboveVerdictLine}
 use Rattle.polcert_answer.specs.Run.{WritesAnswer, StopsRightly, IsCheckRunFault, IsRaiseRunFault, text_of, AreRoundedCertified, HasRoundedVerdict}
 
--- why the vectors aren't raised: a reason of the definition, or want of memory where there is a constant
+-- why the vectors aren't raised: a reason of the definition, or out of memory where there is a constant
 abbrev pub IsWhyNotRaised : Controller → PolicyVectors → RaiseFault → Type 0
 IsWhyNotRaised c v Memory = HasLeastRaise c v
 IsWhyNotRaised c v fault = IsNotRaised c v fault
@@ -62,7 +62,7 @@ module _ (of_model of_graph of_vectors : List ℕ → Type 0) where
 
   -- This is the least constant by which the vectors of the third source can be raised to pass from above, and the text is the full
   -- form of the vectors raised by it. The answer from above to the first two texts and this one is yes, every answer to them is,
-  -- but for want of memory, and the headline from above holds of them.
+  -- except out of memory, and the headline from above holds of them.
   pub record HasRaised (by : ℤ) (text : List ℕ) : Type 0 where
     pub texts : AreCertifiedAbove
     pub least : (c : CertificateAbove texts.model texts.graph texts.vectors) → IsLeastRaise (controller c) c.values by
@@ -73,7 +73,7 @@ module _ (of_model of_graph of_vectors : List ℕ → Type 0) where
     pub rewards : AreRewardsCertifiedAbove texts.model texts.graph text
 
   -- The texts of the three sources denote a controller, and no constant raises its vectors so that they pass from above, for this
-  -- reason; or there is such a constant, and memory was wanting.
+  -- reason; or there is such a constant, and memory ran out.
   pub record IsNotRaisable (fault : RaiseFault) : Type 0 where
     pub texts : AreCertifiedAbove
     pub reason : (c : CertificateAbove texts.model texts.graph texts.vectors) → IsWhyNotRaised (controller c) c.values fault

@@ -1,4 +1,4 @@
--- The exit status for a fault: 4 for want of memory, 3 for a device, 1 where the vectors can't be lowered or raised, 2 for a
+-- The exit status for a fault: 4 for out of memory, 3 for a device, 1 where the vectors can't be lowered or raised, 2 for a
 -- text that is refused and for a model that is too large to print. Of a verdict: 0 for a yes, 1 for a no.
 use Rattle.std.specs.Prelude.{ℕ}
 use Rattle.polcert_format.specs.declared.fault.ModelFault.TheVariants as models

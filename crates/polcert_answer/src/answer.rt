@@ -17,7 +17,7 @@ use std::alloc::Global;
 ///
 /// # Errors
 ///
-/// The first text that is none of its kind, with the reason and the place; or want of memory.
+/// The first text that is none of its kind, with the reason and the place; or out of memory.
 pub fn check_texts(
     alloc: Global,
     model: &[u8],
@@ -65,7 +65,7 @@ pub fn check_texts_above(
     ensures rewards { result ≡ Ok AboveVerdict.Yes
         → AreRewardsCertifiedAbove model.now graph.now vectors.now }
 
-    // And no vectors that pass from below are above these, where the discount is below 1.
+    // And no vectors that pass from below are above these, if the discount is below 1.
     ensures interval { result ≡ Ok AboveVerdict.Yes → BoundLowerVectors model.now graph.now vectors.now }
 
     // A no is refuted by one step: at the pair that it names the promise of one step is false, and a

@@ -24,7 +24,7 @@ pub struct Controller {
     pub vectors: Vectors,
 }
 
-// (Written and not derived, so that whoever lets one go proves one call, and not each part.)
+// (Written by hand so that callers prove one drop.)
 impl Drop for Controller {
     fn drop(self) {
         let Controller {

@@ -47,13 +47,13 @@ pub fn certified_texts_are_answered_yes()
         → (result : Result Verdict Fault) → IsAnswer model graph vectors result → IsButForMemory Yes result }
 {}
 
-/// Three texts have one answer, want of memory aside: one verdict, or a refusal of one of them. The refusal
+/// Three texts have one answer, out of memory aside: one verdict, or a refusal of one of them. The refusal
 /// of a graph or of vectors is one; that of a model is of its first wrong item or row.
 pub fn one_answer()
     // There is one verdict, and no refusal beside it.
     ensures verdict { HasOneVerdict IsAnswer }
 
-    // Where the model is refused, the graph and the vectors are not, not even for want of memory; and where
+    // If the model is refused, the graph and the vectors are not, not even as out of memory; and where
     // the graph is, the vectors are not.
     ensures first { RefusesTheFirst IsAnswer }
 
@@ -104,13 +104,13 @@ pub fn bounds_of_texts_are_an_interval()
         → value_of c.values n s ≤ℤ value_of d.values n s }
 {}
 
-/// Three texts have one answer from above, want of memory aside: one verdict, or a refusal of one of them.
+/// Three texts have one answer from above, out of memory aside: one verdict, or a refusal of one of them.
 /// The refusal of a graph or of vectors is one; that of a model is of its first wrong item or row.
 pub fn one_answer_above()
     // There is one verdict, and no refusal beside it.
     ensures verdict { HasOneVerdict IsAnswerAbove }
 
-    // Where the model is refused, the graph and the vectors are not, not even for want of memory; and where
+    // If the model is refused, the graph and the vectors are not, not even as out of memory; and where
     // the graph is, the vectors are not.
     ensures first { RefusesTheFirst IsAnswerAbove }
 

@@ -59,7 +59,7 @@ fn write_observations<W: Sink>(model: &Model, sink: &mut W) -> Result<(), SinkFa
     }
 }
 
-/// Writes a count and the words behind it.
+/// Writes a count and the words after it.
 fn write_count<W: Sink>(count: usize, words: &[u8], sink: &mut W) -> Result<(), SinkFailed>
     ensures { WritesText W.writes W.failures sink.old (counted count words.now) result sink.new }
 {
@@ -273,7 +273,7 @@ fn write_lack<W: Sink>(
     write_count(observation, b" has no successor\n", sink)
 }
 
-/// Writes the beginning of a no, and the words behind it.
+/// Writes the beginning of a no, and the words after it.
 fn write_pair<W: Sink>(
     node: usize,
     state: usize,

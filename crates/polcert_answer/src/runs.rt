@@ -28,8 +28,8 @@ use std::alloc::Global;
 ///
 /// # Errors
 ///
-/// `Text` where the text is refused or memory is wanting to read it, `ReadModel` where a read failed,
-/// `Write` where a write failed.
+/// `Text` if the text is refused or memory runs out while reading it, `ReadModel` if a read failed,
+/// `Write` if a write failed.
 pub fn run_model<S: Source, W: Sink>(
     alloc: Global,
     source: &mut S,
@@ -44,7 +44,7 @@ pub fn run_model<S: Source, W: Sink>(
         → SaysOfText fault
         → EachTextThatFits S.reads source.old source.new (IsRefused fault) }
 
-    // A device is named only where it failed in this call.
+    // A device is named only if it failed in this call.
     ensures read { IsErrOf result RunFault.ReadModel
         → HasFailed (S.failures source.old) (S.failures source.new) }
     ensures write { IsErrOf result RunFault.Write → HasFailed (W.failures sink.old) (W.failures sink.new) }
@@ -54,7 +54,7 @@ pub fn run_model<S: Source, W: Sink>(
         → S.failures source.new ≡ S.failures source.old }
     ensures no_write_failed { (result ≢ Err RunFault.Write) → W.failures sink.new ≡ W.failures sink.old }
 
-    // Where a write failed, what was written before is a beginning of the line.
+    // If a write failed, what was written before is a beginning of the line.
     ensures begun { IsErrOf result RunFault.Write
         → BeginsToSumUp S.reads W.writes source.old source.new sink.old sink.new }
 
@@ -75,8 +75,8 @@ pub fn run_model<S: Source, W: Sink>(
 ///
 /// # Errors
 ///
-/// `Text` where the text is refused or memory is wanting to read it, `ReadModel` where a read failed,
-/// `TooLargeToPrint` where the model is too large to print, `Write` where a write failed.
+/// `Text` if the text is refused or memory runs out while reading it, `ReadModel` if a read failed,
+/// `TooLargeToPrint` where the model is too large to print, `Write` if a write failed.
 pub fn run_print<S: Source, W: Sink>(
     alloc: Global,
     source: &mut S,
@@ -94,13 +94,13 @@ pub fn run_print<S: Source, W: Sink>(
     ensures refused { (fault : _) → IsErrOf result (RunFault.Text (Fault.Model fault))
         → EachTextThatFits S.reads source.old source.new (λ text. IsModelFault text fault) }
 
-    // A device is named only where it failed in this call, and no failure of one is passed over.
+    // A device is named only if it failed in this call, and no failure of one is passed over.
     ensures read { IsNamedRightly (IsErrOf result RunFault.ReadModel)
         (S.failures source.old) (S.failures source.new) }
     ensures write { IsNamedRightly (IsErrOf result RunFault.Write)
         (W.failures sink.old) (W.failures sink.new) }
 
-    // Where a write failed, what was written before is a beginning of the full form.
+    // If a write failed, what was written before is a beginning of the full form.
     ensures begun { IsErrOf result RunFault.Write
         → BeginsToPrint S.reads W.writes source.old source.new sink.old sink.new }
 
@@ -125,8 +125,8 @@ pub fn run_print<S: Source, W: Sink>(
 ///
 /// # Errors
 ///
-/// `Text` where a text is refused or memory is wanting to read it, `ReadModel`, `ReadGraph` or
-/// `ReadVectors` where a read of that source failed, `Write` where a write failed.
+/// `Text` if a text is refused or memory runs out while reading it, `ReadModel`, `ReadGraph` or
+/// `ReadVectors` if a read of that source failed, `Write` if a write failed.
 pub fn run_check<M: Source, G: Source, V: Source, W: Sink>(
     alloc: Global,
     model: &mut M,
@@ -134,7 +134,7 @@ pub fn run_check<M: Source, G: Source, V: Source, W: Sink>(
     vectors: &mut V,
     sink: &mut W,
 ) -> Result<Verdict, RunFault>
-    // The sink took exactly the line of the answer to the texts of the three sources; or where a write
+    // The sink took exactly the line of the answer to the texts of the three sources; or if a write
     // failed, a beginning of the line.
     ensures answered { WritesAnswer W.writes (HasVerdict (text_of M.reads model.old model.new)
         (text_of G.reads graph.old graph.new) (text_of V.reads vectors.old vectors.new))
@@ -173,7 +173,7 @@ pub fn run_check<M: Source, G: Source, V: Source, W: Sink>(
 
 /// The same, and `watch` is told how far the check is: of each node when all of its pairs have passed.
 /// What it promises is every clause of `run_check`.
-// (Six parameters: each of the devices is of a type of its own, and whoever calls has them apart.)
+// (Six parameters: each device has a type of its own, and callers hold them apart.)
 pub fn run_check_watched<M: Source, G: Source, V: Source, W: Sink, O: Watch>(
     alloc: Global,
     model: &mut M,
@@ -220,8 +220,8 @@ fn write_answer<W: Sink, O: Watch>(
 ///
 /// # Errors
 ///
-/// `Text` where a text is refused or memory is wanting to read it, `ReadModel`, `ReadGraph` or
-/// `ReadVectors` where a read of that source failed, `Write` where a write failed, and `Lower` where the
+/// `Text` if a text is refused or memory runs out while reading it, `ReadModel`, `ReadGraph` or
+/// `ReadVectors` if a read of that source failed, `Write` if a write failed, and `Lower` where the
 /// vectors can't be lowered to pass.
 pub fn run_lower<M: Source, G: Source, V: Source, W: Sink>(
     alloc: Global,
@@ -230,13 +230,13 @@ pub fn run_lower<M: Source, G: Source, V: Source, W: Sink>(
     vectors: &mut V,
     sink: &mut W,
 ) -> Result<i64, RunFault>
-    // The sink took exactly the lowered vectors in full form, or where a write failed, a beginning of them.
+    // The sink took exactly the lowered vectors in full form, or if a write failed, a beginning of them.
     // The answer to the model's text, the graph's text and this text is yes, and the headline holds of them.
     ensures lowered { WritesAnswer W.writes (HasLowered (text_of M.reads model.old model.new)
         (text_of G.reads graph.old graph.new) (text_of V.reads vectors.old vectors.new))
         result sink.old sink.new }
 
-    // Lowering is refused only where all three texts are accepted, for a right reason.
+    // Lowering is refused only if all three texts are accepted, for a right reason.
     ensures not_lowered { (fault : _) → IsErrOf result (RunFault.Lower fault)
         → IsNotLowerable (text_of M.reads model.old model.new) (text_of G.reads graph.old graph.new)
         (text_of V.reads vectors.old vectors.new) fault }
@@ -258,7 +258,7 @@ pub fn run_lower<M: Source, G: Source, V: Source, W: Sink>(
 
 /// The same, and `watch` is told how far it is: of each node once. What it promises is every clause of
 /// `run_lower`.
-// (Six parameters: each of the devices is of a type of its own, and whoever calls has them apart.)
+// (Six parameters: each device has a type of its own, and callers hold them apart.)
 pub fn run_lower_watched<M: Source, G: Source, V: Source, W: Sink, O: Watch>(
     alloc: Global,
     model: &mut M,

@@ -25,8 +25,8 @@ use std::alloc::Global;
 ///
 /// # Errors
 ///
-/// `Text` where a text is refused or memory is wanting to read it, `ReadModel`, `ReadGraph` or
-/// `ReadVectors` where a read of that source failed, `Write` where a write failed.
+/// `Text` if a text is refused or memory runs out while reading it, `ReadModel`, `ReadGraph` or
+/// `ReadVectors` if a read of that source failed, `Write` if a write failed.
 pub fn run_check_above<M: Source, G: Source, V: Source, W: Sink>(
     alloc: Global,
     model: &mut M,
@@ -34,7 +34,7 @@ pub fn run_check_above<M: Source, G: Source, V: Source, W: Sink>(
     vectors: &mut V,
     sink: &mut W,
 ) -> Result<AboveVerdict, RunFault>
-    // The sink took exactly the line of the answer from above to the texts of the three sources; or where a
+    // The sink took exactly the line of the answer from above to the texts of the three sources; or if a
     // write failed, a beginning of the line.
     ensures answered { WritesAnswer W.writes (HasVerdictAbove (text_of M.reads model.old model.new)
         (text_of G.reads graph.old graph.new) (text_of V.reads vectors.old vectors.new))
@@ -73,7 +73,7 @@ pub fn run_check_above<M: Source, G: Source, V: Source, W: Sink>(
 
 /// The same, and `watch` is told how far the check is: of each node when all of its pairs have passed.
 /// What it promises is every clause of `run_check_above`.
-// (Six parameters: each of the devices is of a type of its own, and whoever calls has them apart.)
+// (Six parameters: each device has a type of its own, and callers hold them apart.)
 pub fn run_check_above_watched<M: Source, G: Source, V: Source, W: Sink, O: Watch>(
     alloc: Global,
     model: &mut M,
@@ -120,8 +120,8 @@ fn write_answer_above<W: Sink, O: Watch>(
 ///
 /// # Errors
 ///
-/// `Text` where a text is refused or memory is wanting to read it, `ReadModel`, `ReadGraph` or
-/// `ReadVectors` where a read of that source failed, `Write` where a write failed, and `Raise` where the
+/// `Text` if a text is refused or memory runs out while reading it, `ReadModel`, `ReadGraph` or
+/// `ReadVectors` if a read of that source failed, `Write` if a write failed, and `Raise` where the
 /// vectors can't be raised to pass from above.
 pub fn run_raise<M: Source, G: Source, V: Source, W: Sink>(
     alloc: Global,
@@ -130,14 +130,14 @@ pub fn run_raise<M: Source, G: Source, V: Source, W: Sink>(
     vectors: &mut V,
     sink: &mut W,
 ) -> Result<i64, RunFault>
-    // The sink took exactly the raised vectors in full form, or where a write failed, a beginning of them.
+    // The sink took exactly the raised vectors in full form, or if a write failed, a beginning of them.
     // The answer from above to the model's text, the graph's text and this text is yes, and the headline
     // from above holds of them.
     ensures raised { WritesAnswer W.writes (HasRaised (text_of M.reads model.old model.new)
         (text_of G.reads graph.old graph.new) (text_of V.reads vectors.old vectors.new))
         result sink.old sink.new }
 
-    // Raising is refused only where all three texts are accepted, for a right reason.
+    // Raising is refused only if all three texts are accepted, for a right reason.
     ensures not_raised { (fault : _) → IsErrOf result (RunFault.Raise fault)
         → IsNotRaisable (text_of M.reads model.old model.new) (text_of G.reads graph.old graph.new)
         (text_of V.reads vectors.old vectors.new) fault }
@@ -159,7 +159,7 @@ pub fn run_raise<M: Source, G: Source, V: Source, W: Sink>(
 
 /// The same, and `watch` is told how far it is: of each node once. What it promises is every clause of
 /// `run_raise`.
-// (Six parameters: each of the devices is of a type of its own, and whoever calls has them apart.)
+// (Six parameters: each device has a type of its own, and callers hold them apart.)
 pub fn run_raise_watched<M: Source, G: Source, V: Source, W: Sink, O: Watch>(
     alloc: Global,
     model: &mut M,

@@ -7,7 +7,7 @@ use polcert_check::{AboveVerdict, LowerFault, RaiseFault, Verdict};
 use polcert_model::ModelFault;
 use polcert_policy::{GraphFault, VectorFault};
 
-/// The exit status for a fault: 4 for want of memory, 3 for a device that failed, 2 for a refused text or a
+/// The exit status for a fault: 4 for out of memory, 3 for a device that failed, 2 for a refused text or a
 /// model too large to print, and 1 where the vectors can't be lowered, or raised, to pass.
 pub fn status_of(fault: &RunFault) -> u8
     ensures { result ≡ status fault.now }

@@ -30,7 +30,7 @@ fn item(kind: ItemFault, item: u64, place: u64) -> RunFault {
     RunFault::Text(Fault::Model(ModelFault::Item { kind, item, place }))
 }
 
-/// How often FIRST is read in pieces of this size, where its line is written and no device fails.
+/// How often FIRST is read in pieces of this size, if its line is written and no device fails.
 fn reads_of_the_first(alloc: Global, most: usize) -> Option<u64> {
     let devices = Devices { most, ..SOUND };
     let outcome = over_devices(alloc, Run::Model, (FIRST, b"", b""), devices);
@@ -41,7 +41,7 @@ fn reads_of_the_first(alloc: Global, most: usize) -> Option<u64> {
     }
 }
 
-/// FIRST has 125 bytes. Each is read once, and behind the last a read finds the end.
+/// FIRST has 125 bytes. Each is read once, and after the last a read finds the end.
 #[test]
 fn reads_in_pieces(rt: HostRuntime) {
     for (most, reads) in [(1usize, 126u64), (2, 64), (3, 43), (7, 19)] {
@@ -76,7 +76,7 @@ fn too_large_to_print(rt: HostRuntime) -> Result<(), Fail> {
     Ok(())
 }
 
-/// How often this text is read in one piece by a source that fails behind it, where the source is named and nothing is written.
+/// How often this text is read in one piece by a source that fails after it, if the source is named and nothing is written.
 fn reads_before_a_failure(alloc: Global, text: &[u8]) -> Option<u64> {
     let devices = Devices {
         most: text.len(),
@@ -91,7 +91,7 @@ fn reads_before_a_failure(alloc: Global, text: &[u8]) -> Option<u64> {
     }
 }
 
-/// The first 123 bytes of FIRST are refused at their end; a source that fails behind them is no refused text.
+/// The first 123 bytes of FIRST are refused at their end; a source that fails after them is no refused text.
 #[test]
 fn a_failed_read_is_no_end(rt: HostRuntime) {
     assert_eq!(rt; reads_before_a_failure(rt.alloc(), &FIRST[..123]), Some(2));

@@ -69,7 +69,7 @@ last_is entries table indices =
     let found = some_last entries table indices in
     subst (IsLastCovering entries table indices) (last_is_one entries table indices found.0 found.1) found.1
 
--- places that fit the first indices fit them however they go on
+-- places that fit the first indices fit them however they continue
 fit_further : (ps : List Place) (row more : List ℕ) → fit_places ps row ≡ true → fit_places ps (row ++ more) ≡ true
 fit_further [] row more e = refl
 fit_further (p ∷ ps) [] more e = absurd (true≢false e refl)

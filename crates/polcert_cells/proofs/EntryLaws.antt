@@ -74,7 +74,7 @@ body_no_colon (rewards ns count) = numbers_no_colon ns
 body_no_colon (uniform w) = λ e. colon_not_name _ w.kind e
 body_no_colon (identity w) = λ e. colon_not_name _ w.kind e
 
--- what stands behind places doesn't begin with a colon, so the places end at one lexeme
+-- what stands after places doesn't begin with a colon, so the places end at one lexeme
 pub one_pattern : {ds : List Elements} {xs ys : List Lexeme} {ps qs : List Place} (u v : List Lexeme) → ArePlaces ds xs ps → ArePlaces ds ys qs
     → NoColonFirst u → NoColonFirst v → xs ++ u ≡ ys ++ v → (ps ≡ qs) × (u ≡ v)
 one_pattern u v none none p q e = (refl, e)

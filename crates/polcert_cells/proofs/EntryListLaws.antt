@@ -1,4 +1,4 @@
--- Entries as they are kept: what stands in lists that go on stays, and an entry that is put behind them stands there.
+-- Entries as they are kept: what stands in lists that continue stays, and an entry that is put after them stands there.
 use Rattle.std.proofs.Common.{◌≡◌, ◌∙◌, ◌+◌, ◌-◌, List, [], ◌∷◌, ◌++◌, length, take, drop, map, All, refl, ap, arith, length-append}
 use Rattle.std.proofs.lemmas.List.{drop-append-le, take-append-le, length-drop, map-append}
 use Rattle.std.proofs.lemmas.List.Elements.{All-head, All-tail, All-cons, All-nil, All-append, All-weaker}

@@ -1,4 +1,4 @@
--- The steps of a walk over a row that is lent.
+-- The steps of a walk over a row that is borrowed.
 use Rattle.std.proofs.Common.{◌≡◌, ◌∙◌, ℕ, zero, suc, ◌+◌, ◌<◌, ◌≤◌, Option, Some, None, List, [], ◌∷◌, length, get_or, refl, sym, ap, arith, add-one, subst, Bor}
 use Rattle.std.specs.List.{slice_get}
 use Rattle.polcert_cells.specs.declared.cell.Cell.{Cell}

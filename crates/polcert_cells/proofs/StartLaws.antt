@@ -1,4 +1,4 @@
--- The lexemes behind `start` give at most one start.
+-- The lexemes after `start` give at most one start.
 use Rattle.std.proofs.Common.{◌≡◌, ◌∙◌, ℕ, suc, ◌==◌, true, List, [], ◌∷◌, length, map, codes, ℤ, pos, refl, sym, ap, arith}
 use Rattle.std.specs.List.{AllZip}
 use Rattle.polcert_text.specs.Cut.{Lexeme}

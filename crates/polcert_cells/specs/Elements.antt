@@ -47,7 +47,7 @@ most_elements = most_states
 abbrev pub most_pairs : ℕ
 most_pairs = 5_000_000
 
--- The lexemes behind `states:`, `actions:` or `observations:` are a count, or different names: at most so many.
+-- The lexemes after `states:`, `actions:` or `observations:` are a count, or different names: at most so many.
 pub data AreElements (most : ℕ) : List Lexeme → Elements → Type 0 where
   counted : {l : Lexeme} {n : ℕ} → IsWhole l n → 1 ≤ n → n ≤ most → AreElements most (l ∷ []) (Count n)
   named : {ls : List Lexeme} → All IsName ls → 1 ≤ length ls → length ls ≤ most

@@ -1,7 +1,7 @@
 -- Entries: the lines of T, O and R. An entry is a table, a pattern of places, and a body that fills the cells which
 -- the places leave open, row after row.
 -- Source: the POMDP file format page at pomdp.org, "the transition probabilities", "the observation probabilities"
--- and "the rewards": these forms are its list of forms, written as one table (but for a matrix behind `R: a`, which is
+-- and "the rewards": these forms are its list of forms, written as one table (but for a matrix after `R: a`, which is
 -- taken in an MDP alone). Our own: `identity` stands for T alone, and an MDP's forms of R.
 use Rattle.std.specs.Prelude.{◌≡◌, ℕ, ◌*◌, ◌≤◌, ◌==◌, Bool, true, false, if◌then◌else◌, List, [], ◌∷◌, ◌++◌, length, drop, map, All, ℤ, pos, codes}
 use Rattle.std.specs.List.{list_any}
@@ -45,7 +45,7 @@ abbrev pub IsPlace : Elements → Lexeme → Place → Type 0
 IsPlace elements l Every = l.kind ≡ Star
 IsPlace elements l (Only index) = StandsFor elements l index
 
--- places, each behind a colon of its own
+-- places, each after a colon of its own
 pub data ArePlaces : List Elements → List Lexeme → List Place → Type 0 where
   none : {ds : List Elements} → ArePlaces ds [] []
   more : {d : Elements} {ds : List Elements} {colon l : Lexeme} {ls : List Lexeme} {p : Place} {ps : List Place}
@@ -58,7 +58,7 @@ pub data IsBody (cells : ℕ) : List Lexeme → Body → Type 0 where
   uniform : {l : Lexeme} → IsWord (codes "uniform") l → IsBody cells (l ∷ []) Uniform
   identity : {l : Lexeme} → IsWord (codes "identity") l → IsBody cells (l ∷ []) Identity
 
--- The lexemes behind the word of the table are this entry.
+-- The lexemes after the word of the table are this entry.
 pub record IsEntry (p : Preamble) (table : Table) (lexemes : List Lexeme) (entry : Entry) : Type 0 where
   pub pattern : List Lexeme
   pub rest : List Lexeme

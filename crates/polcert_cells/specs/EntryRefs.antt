@@ -1,4 +1,4 @@
--- An entry that is lent: the entry that it is.
+-- An entry that is borrowed: the entry that it is.
 use Rattle.polcert_cells.specs.declared.entry.Body.{Body}
 use Rattle.polcert_cells.specs.declared.entry.Body.TheVariants as bodies
 use Rattle.polcert_cells.specs.declared.entry.Entry.{Entry}

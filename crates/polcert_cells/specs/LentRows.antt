@@ -1,4 +1,4 @@
--- A row that is lent, and what its steps say of the weights.
+-- A row that is borrowed, and what its steps say of the weights.
 use Rattle.std.specs.Prelude.{◌≡◌, ℕ, zero, suc, ◌+◌, ◌<◌, List, [], ◌∷◌, Option, Some, None, length, slice_index}
 use Rattle.polcert_cells.specs.declared.cell.Cell.{Cell}
 use Rattle.polcert_cells.specs.declared.row.Row.{Row}
@@ -18,20 +18,20 @@ IsRowOf f count (Sparse cells) = IsRow count f cells.now
 IsRowOf f count (Filled weights) = AreWeights f count weights.now
 IsRowOf f count (Single cell) = IsRow count f (cell ∷ [])
 
--- the column that is reached behind the first cells: that behind the last of them
+-- the column that is reached after the first cells: that after the last of them
 abbrev pub behind_cells : ℕ → List Cell → ℕ → ℕ
 behind_cells low cells zero = low
 behind_cells low [] (suc k) = low
 behind_cells low (x ∷ xs) (suc k) = behind_cells (x.column + 1) xs k
 
--- the column that is reached at a place of a row, or where none is lent, of the columns
+-- the column that is reached at a place of a row, or where none is borrowed, of the columns
 abbrev pub reached : Option Row → ℕ → ℕ
 reached None at = at
 reached (Some (Sparse cells)) at = behind_cells 0 cells.now at
 reached (Some (Filled weights)) at = at
 reached (Some (Single cell)) at = behind_cells 0 (cell ∷ []) at
 
--- a step from a place of a row is to the next weight above 0, and names the place behind it; or there is none
+-- a step from a place of a row is to the next weight above 0, and names the place after it; or there is none
 abbrev pub IsStep : (ℕ → ℕ) → ℕ → Option Row → ℕ → Option Step → Type 0
 IsStep f count row at None = IsNext f count (reached row at) None
 IsStep f count row at (Some step) = IsNext f count (reached row at) (Some (step.column, step.weight)) × (reached row step.next ≡ step.column + 1)

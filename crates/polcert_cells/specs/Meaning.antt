@@ -60,7 +60,7 @@ observation_weight p entries a e z =
 abbrev pub reward_index : Preamble → ℕ → ℕ
 reward_index p z = if is_mdp p then 0 else z
 
--- what a complete preamble, a start item and entries denote; with no start item all states are alike
+-- what a complete preamble, a start item and entries denote; with no start item all states are equally likely
 abbrev pub meaning_of : Preamble → Option Shares → List Entry → Meaning
 meaning_of p start entries = record {
   preamble = p;

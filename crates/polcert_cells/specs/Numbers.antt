@@ -20,7 +20,7 @@ pub record IsMillionths (negative : Bool) (l : Lexeme) (h : ℤ) : Type 0 where
   pub readable : IsReadable l.bytes
   pub exact : IsExact negative l.bytes h
 
--- the lexemes are these numbers, one after another: each a numeral, perhaps behind a sign
+-- the lexemes are these numbers, one after another: each a numeral, perhaps after a sign
 pub data AreNumbers : List Lexeme → List ℤ → Type 0 where
   none : AreNumbers [] []
   unsigned : {l : Lexeme} {ls : List Lexeme} {h : ℤ} {hs : List ℤ} → IsMillionths false l h → AreNumbers ls hs → AreNumbers (l ∷ ls) (h ∷ hs)

@@ -33,14 +33,14 @@ is_positive p = not (p == 0)
 abbrev pub is_level : List ℕ → Bool
 is_level ps = list_all (λ p. list_all (λ q. p == 0 || q == 0 || p == q) ps) ps
 
--- Probabilities in millionths. Where all that are above 0 are the same, these states are alike; else they are the
--- shares themselves, and one is the total.
+-- Probabilities in millionths. If all that are above 0 are the same, these states are equally likely; else they are the
+-- shares themselves, and one is the total. So `0.5 0.5` and `uniform` over two states denote the same start.
 abbrev pub shares_of : List ℕ → Shares
 shares_of ps =
     if is_level ps then (let alike_ones : Shares = record { weights = map (λ p. if is_positive p then 1 else 0) ps; total = count_by is_positive ps } in alike_ones)
     else (let millionths : Shares = record { weights = ps; total = one } in millionths)
 
--- what stands behind `start:`
+-- what stands after `start:`
 pub data IsStartBody (states : Elements) : List Lexeme → Shares → Type 0 where
   uniform : {l : Lexeme} → IsWord (codes "uniform") l → IsStartBody states (l ∷ []) (all_states states)
   name : {l : Lexeme} {s : ℕ} → IsName l → number_of states l.bytes ≡ Some s → IsStartBody states (l ∷ []) (single states s)
@@ -57,7 +57,7 @@ included chosen s = list_any (λ n. n == s) chosen
 abbrev pub excluded : List ℕ → ℕ → Bool
 excluded chosen s = not (included chosen s)
 
--- The lexemes behind `start` give these shares. In the last two forms a state has to be left.
+-- The lexemes after `start` give these shares. In the last two forms a state has to be left.
 pub data IsStart (states : Elements) : List Lexeme → Shares → Type 0 where
   plain : {colon : Lexeme} {ls : List Lexeme} {found : Shares} → colon.kind ≡ Colon → IsStartBody states ls found → IsStart states (colon ∷ ls) found
   include : {word colon : Lexeme} {ls : List Lexeme} (chosen : List ℕ) → IsWord (codes "include") word → colon.kind ≡ Colon → AllZip (StandsFor states) ls chosen

@@ -7,6 +7,7 @@ use Rattle.polcert_cells.specs.Elements.{most_states, most_actions, most_observa
 use Rattle.polcert_cells.specs.Numbers.{one}
 use Rattle.polcert_cells.specs.Meaning.{Meaning, states_of, actions_of, observations_of, t_scale, o_scale, sum_below, IsCount}
 
+-- A model as a check sees it: counts, scales and cells.
 pub record CellTable : Type 0 where
   pub states : ℕ
   pub actions : ℕ

@@ -44,7 +44,7 @@ impl Elements {
         }
     }
 
-    /// The number of the element of this name: none where the elements have no names.
+    /// The number of the element of this name: none if the elements have no names.
     pub fn number_of(&self, name: &[u8]) -> Option<usize>
         requires { IsAscii name.now }
         ensures { result ≡ number_of self.now name.now }
@@ -55,7 +55,7 @@ impl Elements {
         }
     }
 
-    /// The name of the element of this number, where the elements have names.
+    /// The name of the element of this number, if the elements have names.
     pub fn name_of(&self, number: usize) -> Option<&str>
         ensures { option_map (λ name. name.now) result ≡ name_of self.now number }
     {

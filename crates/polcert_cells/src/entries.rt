@@ -45,7 +45,7 @@ pub enum BodyRef<'a> {
     Identity,
 }
 
-/// An entry that is lent from the list of entries.
+/// An entry that is borrowed from the list of entries.
 #[derive(Clone, Copy)]
 pub struct EntryRef<'a> {
     pub table: Table,
@@ -70,7 +70,7 @@ impl Pools {
         }
     }
 
-    /// Puts the places and numbers of an entry behind the others, and says where they stand. Where memory is wanting
+    /// Puts the places and numbers of an entry after the others, and says where they stand. If memory runs out
     /// some may stand there.
     fn put(&mut self, entry: &Entry) -> Result<Head, AllocError>
         ensures go_on { GoOn self.old self.new }
@@ -89,7 +89,7 @@ impl Pools {
         })
     }
 
-    /// Puts the numbers of a body behind the others.
+    /// Puts the numbers of a body after the others.
     fn put_body(&mut self, body: &Body) -> Result<(Filling, Span), AllocError>
         ensures places { self.new.places ≡ self.old.places }
         ensures go_on { GoOn self.old self.new }
@@ -184,7 +184,7 @@ impl Entries {
         self.pools.entry(self.heads[number])
     }
 
-    /// Puts the entry behind the others. Where memory is wanting the list stays as it was.
+    /// Puts the entry after the others. If memory runs out the list stays as it was.
     pub fn push(&mut self, entry: Entry) -> Result<(), AllocError>
         ensures ok { OnOk result (self.new ≡ self.old ++ entry ∷ []) }
         ensures err { OnErr result (self.new ≡ self.old) }
@@ -195,7 +195,7 @@ impl Entries {
     }
 }
 
-/// A count that fits into a byte. An entry of more places counts as want of memory: there is none.
+/// A count that fits into a byte. An entry of more places counts as out of memory: there is none.
 fn in_a_byte(count: usize) -> Result<u8, AllocError>
     ensures { IfOk result (λ n. n ≡ count) }
 {
@@ -214,7 +214,7 @@ fn part<T>(items: &[T], span: Span) -> &[T]
     &items[span.start as usize..span.end as usize]
 }
 
-/// Puts more items behind those of a list, and says where they stand. Where memory is wanting some may stand there.
+/// Puts more items after those of a list, and says where they stand. If memory runs out some may stand there.
 fn put<T: Copy + Drop>(items: &mut Vec<T>, more: &[T]) -> Result<Span, AllocError>
     ensures goes_on { GoesOn items.old.items items.new.items }
     ensures ok { OnOk result (items.new.items ≡ items.old.items ++ more.now) }

@@ -83,7 +83,7 @@ impl<T: Drop> Sequence<T> {
 }
 
 impl<T: Copy + Drop> Sequence<T> {
-    /// Puts the item behind the others. Where memory is wanting the list stays as it was.
+    /// Puts the item after the others. If memory runs out the list stays as it was.
     #[inline(always)]
     pub fn push(&mut self, item: T) -> Result<(), AllocError>
         ensures ok { OnOk result (self.new ≡ self.old ++ item ∷ []) }
@@ -176,7 +176,7 @@ impl Places {
         &self.items[..self.count]
     }
 
-    /// Puts the place behind the others. One more than an entry has counts as want of memory, and they stay as they were.
+    /// Puts the place after the others. One more than an entry has counts as out of memory, and they stay as they were.
     #[inline(always)]
     pub fn push(&mut self, place: Place) -> Result<(), AllocError>
         ensures ok { OnOk result (self.new ≡ self.old ++ place ∷ []) }

@@ -1,10 +1,10 @@
-//! Rows that are lent, to be walked from one weight above 0 to the next.
+//! Rows that are borrowed, to be walked from one weight above 0 to the next.
 ghost use Rattle.std.specs.Prelude.{◌≡◌, ℕ, ◌<◌, None};
 ghost use Rattle.polcert_cells.specs.LentRows.{IsRowOf, IsStep};
 
 use crate::Cell;
 
-/// A row of T or O, as it is kept: whoever walks it begins at the place 0 and goes on at the place that each step names.
+/// A row of T or O, as it is kept: a walk begins at place 0 and continues at the place that each step names.
 #[derive(Clone, Copy)]
 pub enum Row<'a> {
     /// The weights above 0 with their columns, in order.
@@ -15,7 +15,7 @@ pub enum Row<'a> {
     Single(Cell),
 }
 
-/// A weight above 0 of a row, its column, and the place where the walk goes on.
+/// A weight above 0 of a row, its column, and the place where the walk continues.
 #[derive(Clone, Copy)]
 pub struct Step {
     pub column: usize,
@@ -24,7 +24,7 @@ pub struct Step {
 }
 
 impl Row<'_> {
-    /// The first weight above 0 at this place of the row or behind it.
+    /// The first weight above 0 at this place of the row or after it.
     #[inline]
     pub fn step(&self, at: usize) -> Option<Step>
         ensures { (f : ℕ → ℕ) (count : ℕ) → IsRowOf f count self.now

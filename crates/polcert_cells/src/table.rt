@@ -60,7 +60,7 @@ pub trait Cells {
         requires observation { z < (table self.now).observations }
         ensures { result ≡ (table self.now).r a s e z };
 
-    /// The weights of all end states where action `a` is taken in state `s`, where they can be lent.
+    /// The weights of all end states where action `a` is taken in state `s`, if they can be borrowed.
     fn t_row(&self, a: usize, s: usize) -> Option<Row<'_>>
         requires action { a < (table self.now).actions }
         requires start { s < (table self.now).states }
@@ -69,7 +69,7 @@ pub trait Cells {
         None
     }
 
-    /// The weights of all observations where action `a` ends in state `e`, where they can be lent.
+    /// The weights of all observations where action `a` ends in state `e`, if they can be borrowed.
     fn o_row(&self, a: usize, e: usize) -> Option<Row<'_>>
         requires action { a < (table self.now).actions }
         requires end { e < (table self.now).states }
@@ -78,8 +78,8 @@ pub trait Cells {
         None
     }
 
-    /// Fills in the rewards of observation `first` and of those behind it, in millionths, where action `a` is taken in state `s` and
-    /// ends in state `e`: as many as there is room for, or as there are. What stands behind them may change.
+    /// Fills in the rewards of observation `first` and of those after it, in millionths, when action `a` is taken in state `s` and
+    /// ends in state `e`: as many as there is room for, or as there are. What stands after them may change.
     fn fill_rewards(&self, a: usize, s: usize, e: usize, first: usize, rewards: &mut [i64])
         requires action { a < (table self.now).actions }
         requires start { s < (table self.now).states }
@@ -93,7 +93,7 @@ pub trait Cells {
         }
     }
 
-    /// The reward where action `a` is taken in state `s` and ends in state `e`, where it is known at once that it is the
+    /// The reward where action `a` is taken in state `s` and ends in state `e`, if it is known at once that it is the
     /// same for every observation.
     fn r_alike(&self, a: usize, s: usize, e: usize) -> Option<i64>
         requires action { a < (table self.now).actions }
@@ -105,7 +105,7 @@ pub trait Cells {
         None
     }
 
-    /// The reward where action `a` is taken in state `s`, where it is known at once that it is the same for every end state and
+    /// The reward where action `a` is taken in state `s`, if it is known at once that it is the same for every end state and
     /// every observation.
     fn r_common(&self, a: usize, s: usize) -> Option<i64>
         requires action { a < (table self.now).actions }

@@ -75,7 +75,7 @@ pub record IsMoved (Least : Controller → PolicyVectors → ℤ → Type 0) (ad
 abbrev pub IsLowered : CellTable → PolicyGraph → PolicyVectors → ℤ × PolicyVectors → Type 0
 IsLowered t g v answer = IsMoved IsLeastConstant neg_ℤ Passes t g v answer
 
--- why none are answered: want of memory, where there is such a constant, or the reason why there is none
+-- why none are answered: out of memory, where there is such a constant, or the reason why there is none
 pub record RefusesToLower (t : CellTable) (g : PolicyGraph) (v : PolicyVectors) (fault : LowerFault) : Type 0 where
   pub refused : ((fault ≡ Memory) × HasLeastConstant (controller_of t g v) v) ⊎ IsNotLowered (controller_of t g v) v fault
   pub small : RefusesSmallAmount (controller_of t g v) fault

@@ -54,7 +54,7 @@ RefusesSmallRaise c Memory = ⊤
 abbrev pub IsRaised : CellTable → PolicyGraph → PolicyVectors → ℤ × PolicyVectors → Type 0
 IsRaised t g v answer = IsMoved IsLeastRaise (λ by. by) PassesAbove t g v answer
 
--- why none are answered: want of memory, where there is such a constant, or the reason why there is none
+-- why none are answered: out of memory, where there is such a constant, or the reason why there is none
 pub record RefusesToRaise (t : CellTable) (g : PolicyGraph) (v : PolicyVectors) (fault : RaiseFault) : Type 0 where
   pub refused : ((fault ≡ Memory) × HasLeastRaise (controller_of t g v) v) ⊎ IsNotRaised (controller_of t g v) v fault
   pub small : RefusesSmallRaise (controller_of t g v) fault

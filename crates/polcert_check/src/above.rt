@@ -76,7 +76,7 @@ pub fn check_above<C: Cells>(cells: &C, graph: &Graph, vectors: &Vectors) -> Abo
     // How large an amount can be.
     ensures small { NamesSmallAmountAbove (controller_of (C.table cells.now) graph.now vectors.now) result }
 
-    // Where the discount is below 1, vectors that pass from below are nowhere above these.
+    // If the discount is below 1, vectors that pass from below are nowhere above these.
     ensures interval { (result ≡ Yes) → AreNowhereExceeded (C.table cells.now) graph.now vectors.now }
 {
     check_above_watched(cells, graph, vectors, &mut Unwatched)

@@ -12,7 +12,7 @@ use crate::verdict::Verdict;
 pub(crate) enum Aim {
     /// The first pair that fails.
     Check,
-    /// The first pair that lacks an observation; or where none does, which no lowering would mend, how short the others are.
+    /// The first pair that lacks an observation; or if none does, which no lowering would mend, how short the others are.
     Lowering,
 }
 
@@ -20,9 +20,9 @@ pub(crate) enum Aim {
 #[derive(Clone, Copy)]
 pub(crate) struct Findings {
     pub aim: Aim,
-    /// The first pair that is sought, by node and then by state, and why it fails; yes where there is none.
+    /// The first pair that is sought, by node and then by state, and why it fails; yes if there is none.
     pub first: Verdict,
-    /// For a lowering the first pair that is short, and by how much; yes where there is none.
+    /// For a lowering the first pair that is short, and by how much; yes if there is none.
     pub short: Verdict,
     /// For a lowering the greatest shortfall, or 0.
     pub worst: u128,
@@ -47,7 +47,7 @@ fn names_until(verdict: Verdict, n: usize) -> bool
     }
 }
 
-/// What was found so far, where that names a pair of node `n` or of one before it, else what was found at a pair of `n`.
+/// What was found so far, if that names a pair of node `n` or of one before it, else what was found at a pair of `n`.
 fn earlier(so_far: Verdict, n: usize, found: Verdict) -> Verdict
     ensures { IsEarlier so_far n found result }
 {
@@ -74,14 +74,14 @@ impl Findings {
         }
     }
 
-    /// Whether the first pair that is sought is one of node `n` or of a node before it, whatever is found behind `n`.
+    /// Whether the first pair that is sought is one of node `n` or of a node before it, whatever is found after `n`.
     pub(crate) fn is_settled(&self, n: usize) -> bool
         ensures { IsTrue result ↔ NamesUntil self.now.first n }
     {
         names_until(self.first, n)
     }
 
-    /// Takes in what is found at the next pair, which is one of node `n`. True where the other pairs of the node cannot be the first that
+    /// Takes in what is found at the next pair, which is one of node `n`. True if the other pairs of the node cannot be the first that
     /// is sought.
     pub(crate) fn note(&mut self, n: usize, found: Verdict) -> bool
         ensures aim { self.new.aim ≡ self.old.aim }

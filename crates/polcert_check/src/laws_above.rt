@@ -12,8 +12,8 @@ ghost use Rattle.polcert_check.specs.Horizon.{Controller, Fits, controller_of};
 ghost use Rattle.polcert_check.specs.Raise.{IsLeastRaise, IsNotRaised};
 ghost use Rattle.polcert_check.specs.StartMost.{IsStartMost, StartPromiseAbove};
 
-/// Where every pair passes from above, the promise from above holds for every number of steps, with the vectors at the end and
-/// without; and where that of one step holds at a pair, the pair passes.
+/// If every pair passes from above, the promise from above holds for every number of steps, with the vectors at the end and
+/// without; and if that of one step holds at a pair, the pair passes.
 pub fn promise_above_for_every_horizon()
     ensures promised { (x : CellTable) (graph : PolicyGraph) (vectors : PolicyVectors) → IsProper x →
         IsProperGraph graph →
@@ -22,7 +22,7 @@ pub fn promise_above_for_every_horizon()
     ensures only_then { (c : Controller) (n s : ℕ) → PromiseAbove c 1 n s → PairPassesAbove c n s }
 {}
 
-/// Where the discount is below 1, vectors that pass from below are nowhere above vectors that pass from above: the two bound what
+/// If the discount is below 1, vectors that pass from below are nowhere above vectors that pass from above: the two bound what
 /// the graph earns from both sides.
 pub fn bounds_are_an_interval()
     ensures { (x : CellTable) (graph : PolicyGraph) (vectors : PolicyVectors) → IsProper x →

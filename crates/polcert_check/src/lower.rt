@@ -65,7 +65,7 @@ fn candidate<C: Cells>(certificate: &Certificate<'_, C>, worst: u128) -> u128
     ceil_quotient(worst, scale * (1_000_000 - cells.discount()) as u128)
 }
 
-/// Why vectors with this verdict are not lowered, where no lowering changes it.
+/// Why vectors with this verdict are not lowered, if no lowering changes it.
 fn refused(verdict: Verdict) -> Result<(), LowerFault>
     ensures passes { IfOk result (λ _. verdict ≡ Yes) }
     ensures refused { IfErr result (IsRefused verdict) }
@@ -117,7 +117,7 @@ fn least_passing<C: Cells>(
 ///
 /// # Errors
 ///
-/// Where an observation that can be received has no successor, where the discount is 1 and a value is short, and where the
+/// If an observation that can be received has no successor, if the discount is 1 and a value is short, and if the
 /// least constant takes a value out of range. It takes no memory.
 pub fn least_constant<C: Cells>(
     cells: &C,
@@ -173,7 +173,7 @@ fn least_watched<C: Cells, W: Watch>(
 ///
 /// # Errors
 ///
-/// Where there is no such constant, as `least_constant` says, and where memory ran out.
+/// If there is no such constant, as `least_constant` says, and if memory ran out.
 pub fn lowered<C: Cells>(
     alloc: Global,
     cells: &C,
@@ -185,7 +185,7 @@ pub fn lowered<C: Cells>(
     // The least constant, and with the lowered vectors every pair passes.
     ensures lowered { IfOk result (IsLowered (C.table cells.now) graph.now vectors.now) }
 
-    // Want of memory is answered only where there is such a constant.
+    // Out of memory is answered only if there is such a constant.
     ensures not_lowered { IfErr result (RefusesToLower (C.table cells.now) graph.now vectors.now) }
 {
     lowered_watched(alloc, cells, graph, vectors, &mut Unwatched)

@@ -46,7 +46,7 @@ fn raise_of(fault: LowerFault) -> RaiseFault
 ///
 /// # Errors
 ///
-/// Where an observation that can be received has no successor, where the discount is 1 and a value is too low, and where the
+/// If an observation that can be received has no successor, if the discount is 1 and a value is too low, and if the
 /// least constant takes a value out of range. It takes no memory.
 pub fn least_raise<C: Cells>(cells: &C, graph: &Graph, vectors: &Vectors) -> Result<i64, RaiseFault>
     requires fits { Fits (C.table cells.now) graph.now vectors.now }
@@ -82,7 +82,7 @@ fn least_watched<C: Cells, W: Watch>(
 ///
 /// # Errors
 ///
-/// Where there is no such constant, as `least_raise` says, and where memory ran out.
+/// If there is no such constant, as `least_raise` says, and if memory ran out.
 pub fn raised<C: Cells>(
     alloc: Global,
     cells: &C,
@@ -94,7 +94,7 @@ pub fn raised<C: Cells>(
     // The least constant, and with the raised vectors every pair passes from above.
     ensures raised { IfOk result (IsRaised (C.table cells.now) graph.now vectors.now) }
 
-    // Want of memory is answered only where there is such a constant.
+    // Out of memory is answered only if there is such a constant.
     ensures not_raised { IfErr result (RefusesToRaise (C.table cells.now) graph.now vectors.now) }
 {
     raised_watched(alloc, cells, graph, vectors, &mut Unwatched)

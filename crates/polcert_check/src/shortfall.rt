@@ -45,7 +45,7 @@ fn amount_at<C: Cells>(node: &Node<'_, C>, s: usize) -> i128
     shortfall(certificate.cells, value, reward, expected.value)
 }
 
-/// How far the value of node `n` at state `s` is above what the next step backs: above 0 where it is short.
+/// How far the value of node `n` at state `s` is above what the next step backs: above 0 if it is short.
 ///
 /// The amount is exact, on the scale of the weights of one step times 1,000,000, in millionths. In size it is at most
 /// three times the largest value on that scale, and so at most 1.5 * 10^38, which fits (`amounts_fit`).

@@ -33,7 +33,7 @@ pub fn start_most(model: &Model, graph: &Graph, vectors: &Vectors) -> i64
     // The greatest of the nodes' sums of share times value, over the total of the shares, rounded up.
     ensures most { IsStartMost (meaning model.now) vectors.now result }
 
-    // Where every pair passes from above, the promise from the start for every node and every number of steps.
+    // If every pair passes from above, the promise from the start for every node and every number of steps.
     ensures promise { PassesAbove (controller_of (table_of (meaning model.now)) graph.now vectors.now) →
         (k n : ℕ) → n < nodes graph.now →
         StartPromiseAbove (meaning model.now)

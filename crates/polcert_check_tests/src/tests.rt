@@ -8,7 +8,7 @@ use std::test::Fail;
 
 mod worked;
 
-/// Two states, each as likely as the other behind every step; one action; two observations, of which the first always
+/// Two states, each as likely as the other after every step; one action; two observations, of which the first always
 /// comes; a reward of -1; the discount is 1/2, or 1.
 #[derive(Clone, Copy)]
 struct Even {

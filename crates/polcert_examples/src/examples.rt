@@ -30,7 +30,7 @@ pub fn decimals_of_thirds()
     ensures exact { sum_below ((decimal_thirds 333_334).t 0 0) 3 ≡ t_scale (decimal_thirds 333_334) }
 {}
 
-/// Single cells behind a uniform row hold in its place.
+/// Single cells after a uniform row hold in its place.
 pub fn single_cells_behind_uniform()
     ensures row { first_row sixths 6 ≡ 3_000_000 ∷ 0 ∷ 0 ∷ 1_000_000 ∷ 1_000_000 ∷ 1_000_000 ∷ [] }
     ensures sum { sum_below (sixths.t 0 0) 6 ≡ t_scale sixths }
@@ -43,7 +43,7 @@ pub fn reward_patterns()
 {}
 
 /// Start items over two states: `0.5 0.5` is the uniform start, 0.25 and 0.75 stay millionths, and one state, listed
-/// states and all but some have a share of 1 each. Where no state is left, the sum isn't one, or one number is no
+/// states and all but some have a share of 1 each. If no state is left, the sum isn't one, or one number is no
 /// state's, the item isn't right. One state alone may be given by 0 or by one.
 pub fn starts()
     ensures uniform { IsStart a_b uniform_start (shares (1 ∷ 1 ∷ []) 2) }
@@ -108,7 +108,7 @@ pub fn first_text()
 {}
 
 /// Kinds of refusals where something else is found than is wanted: too few and too many numbers, a sign with nothing
-/// behind it, `*` where a state is wanted in a start item, and `reset` anywhere.
+/// after it, `*` where a state is wanted in a start item, and `reset` anywhere.
 pub fn kinds_of_misfits()
     ensures few { misfit Number None ≡ WrongNumberCount }
     ensures many { misfit EndOfNumbers (Some (numeral (codes "3"))) ≡ WrongNumberCount }
@@ -119,7 +119,7 @@ pub fn kinds_of_misfits()
 {}
 
 /// The full forms of six models: the tiger problem, one by numbers alone, one whose rows are thirds, one with
-/// single cells behind `uniform`, and an MDP, with rewards and with costs.
+/// single cells after `uniform`, and an MDP, with rewards and with costs.
 pub fn full_forms()
     ensures tiger { full_form tiger_model ≡ tiger_form }
     ensures first { full_form first_model ≡ first_form }

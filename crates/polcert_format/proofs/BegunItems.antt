@@ -21,6 +21,6 @@ within_goes_on seen l k t body w e = record {
   no_word = no_word_append body (l ∷ []) w.no_word (or_false_from (begins_item l) false e refl);
 }
 
--- behind right items, an item begins with its word
+-- after right items, an item begins with its word
 abbrev pub item_begins : (seen : List Lexeme) (word : Lexeme) (k : Known) (t : Topic) (a : AreRightItems seen k) → topic word ≡ Some t → IsWithinItem (seen ++ word ∷ []) k t []
 item_begins seen word k t a e = record { before = seen; word = word; whole = refl; items = a; topic_is = e; no_word = refl }

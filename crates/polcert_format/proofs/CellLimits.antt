@@ -69,7 +69,7 @@ limit_undecided ts n p q g a d =
 
 -- ---- no other refusal of such an entry
 
--- the same item, behind the same items
+-- the same item, after the same items
 record IsSameItem (a b : Item) (xs ys us vs : List Item) (j k : Known) : Type 0 where
   item : a ≡ b
   after : us ≡ vs

@@ -120,7 +120,7 @@ value_or_range : (count : ℕ) (body : List Lexeme) (p q : ℕ) (reason : Number
     → BeginsWithNumber body q IsNoFraction ys → ⊥
 value_or_range count body p q reason xs ys a b = fraction_not_refused false a.digits reason (digits_are_number count body p q _ IsNoFraction xs ys a b).0 a.holds
 
--- digits that end the body have nothing behind them
+-- digits that end the body have nothing after them
 end_or_behind : (count : ℕ) (body : List Lexeme) (p q : ℕ) (Is : Lexeme → Type 0) (next : Lexeme) (ys : List Lexeme) → BeginsWithDigits count body p Is [] → BeginsWithNumber body q IsNoFraction (next ∷ ys) → ⊥
 end_or_behind count body p q Is next ys a b = cons≢nil (sym (digits_are_number count body p q Is IsNoFraction [] (next ∷ ys) a b).2)
 

@@ -1,4 +1,4 @@
--- How numbers and places go on behind those that were read.
+-- How numbers and places continue after those that were read.
 use Rattle.std.proofs.Common.{◌≡◌, true, false, List, ◌∷◌, ◌++◌, ℤ, refl, sym, subst}
 use Rattle.polcert_text.specs.Cut.{Lexeme}
 use Rattle.polcert_text.specs.declared.lexeme.TokenKind.TheVariants.{Numeral, Plus, Minus}
@@ -6,7 +6,7 @@ use Rattle.polcert_cells.specs.Numbers.{IsMillionths, AreNumbers, none, unsigned
 use Rattle.polcert_cells.proofs.Basics.{cons≢nil, same_head, same_tail}
 use Rattle.polcert_cells.proofs.NumberLaws.{one_millionths, numeral_not_plus, numeral_not_minus, plus_not_minus}
 
--- the rest of some numbers, behind the first of them
+-- the rest of some numbers, after the first of them
 pub record RestOfNumbers (further : List Lexeme) (hs ks : List ℤ) : Type 0 where
   pub rest : List ℤ
   pub numbers : AreNumbers further rest
@@ -15,7 +15,7 @@ pub record RestOfNumbers (further : List Lexeme) (hs ks : List ℤ) : Type 0 whe
 one_further : {further : List Lexeme} {hs ks : List ℤ} (h k : ℤ) → h ≡ k → RestOfNumbers further hs ks → RestOfNumbers further (h ∷ hs) (k ∷ ks)
 one_further {hs = hs} h k e r = record { rest = r.rest; numbers = r.numbers; joined = λ i. sym e i ∷ r.joined i }
 
--- numbers that begin with numbers go on with numbers
+-- numbers that begin with numbers continue with numbers
 pub numbers_go_on : {ls xs : List Lexeme} {hs ks : List ℤ} (further : List Lexeme) → AreNumbers ls hs → AreNumbers xs ks → xs ≡ ls ++ further → RestOfNumbers further hs ks
 numbers_go_on {ks = ks} further none b e = record { rest = ks; numbers = subst (λ l. AreNumbers l ks) e b; joined = refl }
 numbers_go_on further (unsigned a more) none e = absurd (cons≢nil (sym e))

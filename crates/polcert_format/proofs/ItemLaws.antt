@@ -17,7 +17,7 @@ no_first l rest (x ∷ xs) none all e =
     let word : begins_item x.word ≡ true = (All-head IsItem x xs all).word in
     true≢false word (sym (ap begins_item (same_head e)) ∙ none)
 
--- items have one first front, if what comes behind has one division
+-- items have one first front, if what comes after has one division
 same_front : (xs : List Item) → All IsItem xs → ((ys : List Item) → All IsItem ys → all_lexemes xs ≡ all_lexemes ys → xs ≡ ys)
     → (f g : List Lexeme) (ys : List Item) → All IsItem ys → list_any begins_item f ≡ false → list_any begins_item g ≡ false
     → f ++ all_lexemes xs ≡ g ++ all_lexemes ys → (f ≡ g) × (xs ≡ ys)

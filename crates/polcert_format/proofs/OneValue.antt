@@ -18,7 +18,7 @@ use Rattle.polcert_format.proofs.FirstNumbers.{OfNumerals, no_fraction_numeral, 
 
 -- ---- one number
 
--- a number begins with this lexeme, of this kind, and goes on with these; this is so of its sign and numeral
+-- a number begins with this lexeme, of this kind, and continues with these; this is so of its sign and numeral
 abbrev NumberFrom : (Bool → Lexeme → Type 0) → TokenKind → Lexeme → List Lexeme → Type 0
 NumberFrom Is Plus x [] = ⊥
 NumberFrom Is Plus x (l ∷ ls) = Is false l

@@ -29,7 +29,7 @@ rises_split a b [] [] r = (r, omega arith)
 rises_split a b [] (y ∷ ys) r = (r.0, (omega arith, r.1))
 rises_split a b (x ∷ xs) ys r = let rest = rises_split x.place b xs ys r.1 in ((r.0, rest.0), rest.1)
 
--- what a token leaves ends where it ended before, and begins behind the token
+-- what a token leaves ends where it ended before, and begins after the token
 pub token_leaves : (old new : Rest) (token : Lexeme) → TakesToken old token new → (old.place ≤ token.place) × (token.place ≤ new.place) × (end_place new ≡ end_place old)
 token_leaves old new token t =
     let at : token.place ≡ old.place + t.gap = t.token_at.place_is in

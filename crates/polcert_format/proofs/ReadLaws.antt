@@ -1,4 +1,4 @@
--- The first wrong item, from the lexemes taken so far and however the text goes on.
+-- The first wrong item, from the lexemes taken so far and however the text continues.
 use Rattle.std.proofs.Common.{◌≡◌, ◌∙◌, ℕ, suc, ◌+◌, arith, length-append, true, false, Option, Some, None, List, [], ◌∷◌, ◌++◌, length, refl, sym, ap, subst}
 use Rattle.std.proofs.lemmas.List.{append_assoc, append-nil}
 use Rattle.polcert_text.specs.Cut.{Lexeme}
@@ -100,7 +100,7 @@ not_taken ts n p last (wrong_end items k d right e lacking z) clean text =
     let known : last ≡ k = one_known nothing_known items last k (subst (λ x. AreRight nothing_known x last) same.1 text.right) right in
     lacking p (subst (λ x. IsComplete x p) known text.complete)
 
--- items behind right ones, of which the first isn't taken, begin at one place
+-- items after right ones, of which the first isn't taken, begin at one place
 same_place : (k m n : Known) (xs ys : List Item) (x y : Item) (us vs : List Item) → AreRight k xs m → AreRight k ys n
     → ((t : Topic) → topic x.word ≡ Some t → IsWrong m t x.body) → ((t : Topic) → topic y.word ≡ Some t → IsWrong n t y.body) → xs ++ x ∷ us ≡ ys ++ y ∷ vs → length xs ≡ length ys
 same_place k m n [] [] x y us vs a b wrong other e = refl
@@ -120,7 +120,7 @@ pub no_empty : (xs : List Item) (x : Item) (ys : List Item) → xs ++ x ∷ ys �
 no_empty [] x ys e = cons≢nil e
 no_empty (z ∷ xs) x ys e = cons≢nil e
 
--- the last item of the text, behind right ones, where one of the items isn't taken
+-- the last item of the text, after right ones, where one of the items isn't taken
 place_of_last : (k m n : Known) (xs ys : List Item) (x y : Item) (us : List Item) → AreRight k xs m → AreRight k ys n
     → ((t : Topic) → topic x.word ≡ Some t → IsWrong m t x.body) → xs ++ x ∷ us ≡ ys ++ y ∷ [] → length xs ≡ length ys
 place_of_last k m n [] [] x y us a b wrong e = refl

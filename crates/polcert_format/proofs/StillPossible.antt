@@ -1,4 +1,4 @@
--- What is still possible: an entry with some places and numbers goes on with `: *` and zeros.
+-- What is still possible: an entry with some places and numbers continues with `: *` and zeros.
 use Rattle.std.proofs.Common.{◌≡◌, ℕ, zero, suc, ◌≤◌, Bool, true, false, List, [], ◌∷◌, ◌++◌, length, map, All, pos, codes, refl, ap, subst, arith, lit≤}
 use Rattle.std.proofs.lemmas.List.{append_assoc}
 use Rattle.std.proofs.lemmas.List.Elements.{All-cons, All-nil}
@@ -15,7 +15,7 @@ use Rattle.polcert_cells.specs.Entry.{forms}
 use Rattle.polcert_format.specs.Text.{Known}
 use Rattle.polcert_format.specs.Forms.{HasForm, IsPossible}
 
--- ---- lexemes to go on with
+-- ---- lexemes to continue with
 
 abbrev pub a_zero : Lexeme
 a_zero = record { kind = Numeral; place = 0; bytes = codes "0" }

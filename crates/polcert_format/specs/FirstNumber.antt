@@ -1,6 +1,6 @@
--- The first number of a start item, which is tested late. Digits alone behind `start:` are a state's number where nothing
+-- The first number of a start item, which is tested late. Digits alone after `start:` are a state's number where nothing
 -- follows them, and else the first of several numbers; and a first number has to be a probability only where another number
--- follows it. So what is wrong with it may be due only behind it, and then comes before anything else of the item.
+-- follows it. So what is wrong with it may be due only after it, and then comes before anything else of the item.
 -- Source: the POMDP file format page at pomdp.org, whose start items these are, read from left to right.
 use Rattle.std.specs.Prelude.{◌≡◌, ℕ, ◌+◌, ◌<◌, Bool, true, false, List, [], ◌∷◌, ◌++◌, length, Option, Some, None}
 use Rattle.polcert_text.specs.Cut.{Lexeme}
@@ -44,7 +44,7 @@ pub record BeginsWithDigits (count : ℕ) (body : List Lexeme) (place : ℕ) (Is
 abbrev pub IsNoState : ℕ → Lexeme → Type 0
 IsNoState count l = (s : ℕ) → IsWhole l s → s < count → ⊥
 
--- The refusal of the first number that is due behind it, among so many states; behind the body the item ends, or else the
+-- The refusal of the first number that is due after it, among so many states; after the body the item ends, or else the
 -- tokens do, in a fault.
 pub data IsLate (count : ℕ) (body : List Lexeme) (ends : Bool) (kind : ItemFault) (place : ℕ) : Type 0 where
   -- digits without a value, and something follows them
@@ -65,7 +65,7 @@ ends_cleanly _ _ = true
 abbrev pub states_known : Known → ℕ
 states_known k = count_of (preamble_in k).states
 
--- The item of this number is a start item that may stand behind the right items before it, and this refusal of its first
+-- The item of this number is a start item that may stand after the right items before it, and this refusal of its first
 -- number is due.
 pub record IsLateIn (ts : TextTokens) (number : ℕ) (kind : ItemFault) (place : ℕ) : Type 0 where
   pub before : List Item

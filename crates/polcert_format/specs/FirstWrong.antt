@@ -40,7 +40,7 @@ pub data IsFirstWrong (ts : TextTokens) (number : ℕ) : Type 0 where
   wrong_end : (items : List Item) (k : Known) → IsDivided ts.lexemes [] items → AreRight nothing_known items k → ts.ending ≡ None
       → ((p : Preamble) → IsComplete k p → ⊥) → number ≡ length items + 1 → IsFirstWrong ts number
 
--- where the word of an item stands; behind the last item the text ends
+-- where the word of an item stands; after the last item the text ends
 abbrev pub word_place : List Item → ℕ → ℕ → ℕ
 word_place [] end n = end
 word_place (item ∷ items) end zero = item.word.place

@@ -18,7 +18,7 @@ use Rattle.polcert_cells.specs.Words.{IsWord, IsName}
 use Rattle.polcert_format.specs.Limits.{HasFewCells}
 use Rattle.polcert_format.specs.Text.{Known, IsInPreamble, IsComplete, IsRight}
 
--- What stands behind `start:`, whatever its numbers sum to. One number alone may be any: only another number behind it makes
+-- What stands after `start:`, whatever its numbers sum to. One number alone may be any: only another number after it makes
 -- it a probability.
 pub data IsStartBodyForm (states : Elements) : List Lexeme → Type 0 where
   uniform : {l : Lexeme} → IsWord (codes "uniform") l → IsStartBodyForm states (l ∷ [])
@@ -28,20 +28,20 @@ pub data IsStartBodyForm (states : Elements) : List Lexeme → Type 0 where
   probabilities : {ls : List Lexeme} (ps : List ℕ) → 1 < count_of states → AreNumbers ls (map pos ps) → length ps ≡ count_of states → All (λ p. p ≤ one) ps
       → IsStartBodyForm states ls
 
--- The lexemes behind `start`, whichever states a list leaves.
+-- The lexemes after `start`, whichever states a list leaves.
 pub data IsStartForm (states : Elements) : List Lexeme → Type 0 where
   plain : {colon : Lexeme} {ls : List Lexeme} → colon.kind ≡ Colon → IsStartBodyForm states ls → IsStartForm states (colon ∷ ls)
   listed : {word colon : Lexeme} {ls : List Lexeme} (chosen : List ℕ) → IsWord (codes "include") word ⊎ IsWord (codes "exclude") word → colon.kind ≡ Colon
       → AllZip (StandsFor states) ls chosen → IsStartForm states (word ∷ colon ∷ ls)
 
--- An item of this topic and body has the form of one that may stand behind what is known: it is right, or only what is decided
+-- An item of this topic and body has the form of one that may stand after what is known: it is right, or only what is decided
 -- at its end may be wrong: of an entry, that it gives too many cells.
 pub data HasForm (k : Known) (t : Topic) (body : List Lexeme) : Type 0 where
   right : {after : Known} → IsRight k t body after → HasForm k t body
   entry : {p : Preamble} {table : Table} {e : Entry} → t ≡ Cells table → IsComplete k p → MayBeGiven p table → IsEntry p table body e → HasForm k t body
   start : {p : Preamble} → t ≡ Start → IsInPreamble k → IsComplete k p → IsStartForm p.states body → HasForm k t body
 
--- An entry that may stand behind what is known, and is right but for the limits of cells: with it, entries give too many.
+-- An entry that may stand after what is known, and is right but for the limits of cells: with it, entries give too many.
 pub record IsTooMuch (k : Known) (t : Topic) (body : List Lexeme) : Type 0 where
   pub p : Preamble
   pub table : Table
@@ -52,11 +52,12 @@ pub record IsTooMuch (k : Known) (t : Topic) (body : List Lexeme) : Type 0 where
   pub entry : IsEntry p table body e
   pub too_many : HasFewCells p (k.entries ++ e ∷ []) → ⊥
 
--- an item of this topic hasn't even the form of one, however its body goes on
+-- an item of this topic hasn't even the form of one, however its body continues
 abbrev pub IsFormless : Known → Topic → List Lexeme → Type 0
 IsFormless k t body = (more : List Lexeme) → HasForm k t (body ++ more) → ⊥
 
--- an item of this topic can have the form of one, with a body that begins so
+-- An item of this topic can have the form of one, with a body that begins so. With three states `0.7 0.7` is still possible, and refused
+-- at the item's end; `0.7 2.0` is not.
 pub record IsPossible (k : Known) (t : Topic) (body : List Lexeme) : Type 0 where
   pub more : List Lexeme
   pub form : HasForm k t (body ++ more)

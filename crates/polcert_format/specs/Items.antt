@@ -7,7 +7,7 @@ use Rattle.std.specs.List.{list_any}
 use Rattle.polcert_text.specs.Cut.{Lexeme}
 use Rattle.polcert_cells.specs.Words.{begins_item}
 
--- a word that begins an item, and what stands behind it
+-- a word that begins an item, and what stands after it
 pub record Item : Type 0 where
   pub word : Lexeme
   pub body : List Lexeme
@@ -15,7 +15,7 @@ pub record Item : Type 0 where
 abbrev pub lexemes_of : Item → List Lexeme
 lexemes_of item = item.word ∷ item.body
 
--- a word that begins an item, and behind it none
+-- a word that begins an item, and after it none
 pub record IsItem (item : Item) : Type 0 where
   pub word : begins_item item.word ≡ true
   pub body : list_any begins_item item.body ≡ false

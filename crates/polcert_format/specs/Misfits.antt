@@ -21,19 +21,19 @@ pub data Wanted : Type 0 where
   Listed : Wanted
   -- a count, or the first name
   CountOrName : Wanted
-  -- a further name, behind these, where there may be so many
+  -- a further name, after these, where there may be so many
   FurtherName : ℕ → List (List ℕ) → Wanted
-  -- `uniform`, a state's name or the first number, behind `start:`
+  -- `uniform`, a state's name or the first number, after `start:`
   StartBody : Wanted
-  -- a further number, behind digits that are a state's number where nothing follows them
+  -- a further number, after digits that are a state's number where nothing follows them
   NumberOrEnd : Wanted
   -- the first lexeme of a number
   Number : Wanted
-  -- the numeral behind a sign
+  -- the numeral after a sign
   Digits : Wanted
-  -- nothing more, behind as many numbers as there may be
+  -- nothing more, after as many numbers as there may be
   EndOfNumbers : Wanted
-  -- nothing more, behind a word or a count
+  -- nothing more, after a word or a count
   EndOfWord : Wanted
 
 -- an index that no element has: a number, a name, or something else
@@ -42,7 +42,7 @@ no_index Numeral bytes = if are_digits bytes then IndexOutOfRange else BadShape
 no_index Name bytes = if is_reserved bytes then BadShape else UnknownName
 no_index _ bytes = BadShape
 
--- what cannot stand behind these names: a name too many, one that stands there already, or something else
+-- what cannot stand after these names: a name too many, one that stands there already, or something else
 abbrev pub no_name : ℕ → List (List ℕ) → TokenKind → List ℕ → ItemFault
 no_name most names Name bytes = if is_reserved bytes then BadShape else (if length names == most then BadCount else DuplicateName)
 no_name most names _ bytes = BadShape

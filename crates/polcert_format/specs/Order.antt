@@ -16,7 +16,7 @@ abbrev pub has_entries : List Entry → Bool
 has_entries [] = false
 has_entries (e ∷ es) = true
 
--- An item of this topic came too late: a line of the preamble behind a start item or an entry, a start item behind an
+-- An item of this topic came too late: a line of the preamble after a start item or an entry, a start item after an
 -- entry.
 abbrev pub is_late : Known → Topic → Bool
 is_late k (Cells table) = false
@@ -33,7 +33,7 @@ came_before k Observations = is_some k.observations
 came_before k Start = is_some k.start
 came_before k (Cells table) = false
 
--- the start item and the entries stand behind a complete preamble
+-- the start item and the entries stand after a complete preamble
 abbrev pub ends_preamble : Topic → Bool
 ends_preamble Start = true
 ends_preamble (Cells table) = true
@@ -66,12 +66,13 @@ abbrev pub is_unobserved : Known → Topic → Bool
 is_unobserved k (Cells Observation) = is_none k.observations
 is_unobserved k _ = false
 
--- why an item of this topic cannot stand behind a preamble with this fault, if it has one
+-- why an item of this topic cannot stand after a preamble with this fault, if it has one
 abbrev pub fault_behind : Option ItemFault → Known → Topic → Option ItemFault
 fault_behind (Some fault) k t = Some fault
 fault_behind None k t = if is_unobserved k t then Some BadShape else None
 
--- why an item of this topic cannot stand behind what is known, whatever its body: the first of these reasons
+-- Why an item of this topic cannot stand after what is known, whatever its body: the first of too late, a second time, a missing line,
+-- too many pairs, and an entry of O in an MDP.
 abbrev pub word_fault : Known → Topic → Option ItemFault
 word_fault k t =
     if is_late k t then Some LateLine

@@ -1,4 +1,4 @@
--- What is settled by the lexemes taken so far, however the text goes on: as a reader of a slice or of a stream says it.
+-- What is settled by the lexemes taken so far, however the text continues: as a reader of a slice or of a stream says it.
 use Rattle.std.specs.Prelude.{◌≡◌, List, [], ◌∷◌, ◌++◌, false, Some}
 use Rattle.std.specs.List.{list_any}
 use Rattle.polcert_text.specs.Cut.{Lexeme}
@@ -7,13 +7,13 @@ use Rattle.polcert_cells.specs.Words.{topic, begins_item}
 use Rattle.polcert_format.specs.Items.{Item, IsDivided}
 use Rattle.polcert_format.specs.Text.{Known, nothing_known, IsRight, AreRight}
 
--- The lexemes are whole items, each right, and this is known behind them.
+-- The lexemes are whole items, each right, and this is known after them.
 pub record AreRightItems (seen : List Lexeme) (k : Known) : Type 0 where
   pub items : List Item
   pub divided : IsDivided seen [] items
   pub right : AreRight nothing_known items k
 
--- behind right items an item has begun, and these are its lexemes so far
+-- after right items an item has begun, and these are its lexemes so far
 pub record IsWithinItem (seen : List Lexeme) (k : Known) (t : Topic) (body : List Lexeme) : Type 0 where
   pub before : List Lexeme
   pub word : Lexeme
@@ -26,6 +26,6 @@ pub record IsWithinItem (seen : List Lexeme) (k : Known) (t : Topic) (body : Lis
 abbrev pub IsWrong : Known → Topic → List Lexeme → Type 0
 IsWrong k t body = (after : Known) → IsRight k t body after → ⊥
 
--- an item of this topic isn't right, however its body goes on
+-- an item of this topic isn't right, however its body continues
 abbrev pub CannotGoOn : Known → Topic → List Lexeme → Type 0
 CannotGoOn k t body = (more : List Lexeme) → IsWrong k t (body ++ more)

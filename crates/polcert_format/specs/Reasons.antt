@@ -116,7 +116,7 @@ abbrev pub IsLexemeFault : TokenFault → Type 0
 IsLexemeFault (token_faults.TextTooLong at) = ⊥
 IsLexemeFault _ = Unit {0}
 
--- What has to be so where an item is refused for this reason, at this place.
+-- What has to be so where an item is refused for this reason, at this place. `BadShape` (M4) and `WrongNumberCount` (M12) say nothing of the place.
 abbrev pub IsReason : TextTokens → ℕ → ℕ → ItemFault → Type 0
 IsReason ts number place (Token f) = (ts.ending ≡ Some f) × (place ≡ fault_place f) × IsLexemeFault f
 IsReason ts number place TextTooLong = ts.ending ≡ Some (token_faults.TextTooLong place)

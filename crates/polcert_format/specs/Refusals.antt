@@ -29,7 +29,7 @@ pub record IsItemRefusal (ts : TextTokens) (kind : ItemFault) (number place : �
   -- what is decided before the body comes before anything in it
   pub decided : (fault : ItemFault) (at : ℕ) → IsDecided ts number fault at → (kind ≡ fault) × (place ≡ at)
 
--- A row is refused only where all items are right, and is then the first that doesn't sum to its scale. Want of memory
+-- A row is refused only where all items are right, and is then the first that doesn't sum to its scale. Out of memory
 -- says nothing of the text.
 abbrev pub IsRefusal : TextTokens → ModelFault → Type 0
 IsRefusal ts (model_faults.Item kind item place) = IsItemRefusal ts kind item place
@@ -37,22 +37,22 @@ IsRefusal ts (RowSum table action row) =
     (ts.ending ≡ None) × ((p : Preamble) × (k : Known) × IsRightText ts.lexemes p k × IsFirstWrongRow (meaning_of p k.start k.entries) table action row)
 IsRefusal ts Memory = Unit {0}
 
--- want of memory says nothing of the text, and every other refusal that it is wrong
+-- out of memory says nothing of the text, and every other refusal that it is wrong
 abbrev pub SaysOfText : ModelFault → Type 0
 SaysOfText Memory = ⊥
 SaysOfText _ = Unit {0}
 
--- the text is no model's, or memory was wanting
+-- the text is no model's, or memory ran out
 abbrev pub IsNoModel : List ℕ → ModelFault → Type 0
 IsNoModel text Memory = Unit {0}
 IsNoModel text _ = (m : Meaning) → IsModelText text m → ⊥
 
--- where the first of the lexemes stands, or what is behind them
+-- where the first of the lexemes stands, or what is after them
 abbrev pub place_or : List Lexeme → ℕ → ℕ
 place_or [] behind = behind
 place_or (l ∷ ls) behind = l.place
 
--- Behind the lexemes taken the item hasn't even the form of one any more: with the next lexeme, or with the next two as a sign
+-- After the lexemes taken the item hasn't even the form of one any more: with the next lexeme, or with the next two as a sign
 -- and a numeral. Or nothing is left of it, and it isn't right as it is, and not only for the limits of cells. The kind is so of
 -- what this place is for and of what stands there.
 pub data Stops (k : Known) (t : Topic) (kind : ItemFault) (taken : List Lexeme) : List Lexeme → Type 0 where
@@ -99,14 +99,14 @@ pub record IsLastTaken (ts : TextTokens) (number : ℕ) : Type 0 where
   pub topic_is : topic item.word ≡ Some t
   pub possible : IsPossible k t item.body
 
--- The tokens end before the first lexeme, or behind what is still possible.
+-- The tokens end before the first lexeme, or after what is still possible.
 pub data EndsPossible (ts : TextTokens) (number : ℕ) : Type 0 where
   at_once : ts.lexemes ≡ [] → EndsPossible ts number
   in_item : IsLastTaken ts number → EndsPossible ts number
 
 -- Where the refusal of an item stands: it is decided before the item's body, or stands in the body as far as that is
 -- possible, or at the end of an entry that gives too many cells, or is that of a start item's first number, or a fault of the
--- tokens behind what is possible.
+-- tokens after what is possible.
 pub data StandsRight (ts : TextTokens) (kind : ItemFault) (number place : ℕ) : Type 0 where
   before_body : IsDecided ts number kind place → StandsRight ts kind number place
   in_body : StopsInBody ts kind number place → StandsRight ts kind number place
@@ -116,7 +116,7 @@ pub data StandsRight (ts : TextTokens) (kind : ItemFault) (number place : ℕ) :
 
 pub record IsItemPlaced (ts : TextTokens) (kind : ItemFault) (number place : ℕ) : Type 0 where
   pub stands : StandsRight ts kind number place
-  -- what is due of a start item's first number comes before anything behind it
+  -- what is due of a start item's first number comes before anything after it
   pub late : (fault : ItemFault) (at : ℕ) → IsLateIn ts number fault at → (kind ≡ fault) × (place ≡ at)
 
 abbrev pub IsPlacedRight : TextTokens → ModelFault → Type 0

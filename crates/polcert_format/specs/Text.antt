@@ -1,4 +1,4 @@
--- Right texts: each item is right behind those before it, and a text denotes a model where its rows sum to one.
+-- Right texts: each item is right after those before it, and a text denotes a model where its rows sum to one.
 -- Source: the POMDP file format page and its grammar at pomdp.org. The lines of the preamble stand in any order, each
 -- once, before the start item and all entries; at most one start item stands before all entries. Our own: MDP files, which
 -- have no line of observations; that no other line is missing; the limits of cells; and that rows sum exactly.
@@ -52,7 +52,7 @@ pub record IsComplete (k : Known) (p : Preamble) : Type 0 where
   pub lines : HasLines k p
   pub pairs : HasFewPairs p
 
--- An item of this topic and body is right behind what is known, and this is known behind it.
+-- An item of this topic and body is right after what is known, and this is known after it.
 pub data IsRight (k : Known) : Topic → List Lexeme → Known → Type 0 where
   discount : {colon : Lexeme} {ls : List Lexeme} {g : ℕ} → IsInPreamble k → k.discount ≡ None → colon.kind ≡ Colon
       → IsNumber ls (pos g) → g ≤ one → IsRight k Discount (colon ∷ ls) (record k { discount = Some g })
@@ -71,7 +71,7 @@ pub data IsRight (k : Known) : Topic → List Lexeme → Known → Type 0 where
   entry : {p : Preamble} {table : Table} {ls : List Lexeme} {e : Entry} → IsComplete k p → MayBeGiven p table
       → IsEntry p table ls e → HasFewCells p (k.entries ++ e ∷ []) → IsRight k (Cells table) ls (record k { entries = k.entries ++ e ∷ [] })
 
--- Each item is right behind those before it, from what was known to what is known at the end.
+-- Each item is right after those before it, from what was known to what is known at the end.
 pub data AreRight : Known → List Item → Known → Type 0 where
   none : {k : Known} → AreRight k [] k
   more : {k next last : Known} {item : Item} {items : List Item} (t : Topic) → topic item.word ≡ Some t

@@ -52,7 +52,7 @@ abbrev pub elements_want : ℕ → List Lexeme → Wanted
 elements_want most [] = Mark
 elements_want most (colon ∷ ls) = names_want most ls
 
--- behind an index: a colon and further places, a word, or numbers
+-- after an index: a colon and further places, a word, or numbers
 abbrev pub by_kind : TokenKind → Wanted → Wanted → Wanted
 by_kind kinds.Colon further other = further
 by_kind kinds.Name further other = EndOfWord
@@ -63,12 +63,12 @@ abbrev pub least_written : Bool → Table → ℕ
 least_written mdp Reward = if mdp then 1 else 2
 least_written mdp _ = 1
 
--- a place behind so many others: in an MDP the fourth is `*`
+-- a place after so many others: in an MDP the fourth is `*`
 abbrev pub place_wants : Preamble → ℕ → Wanted
 place_wants p written = if is_mdp p && written == 3 then Mark else Index
 
 -- An entry: whether a colon stands before the lexemes, and how many places were written. Numbers for the cells that
--- these leave open stand behind enough of them, and before that only a colon.
+-- these leave open stand after enough of them, and before that only a colon.
 abbrev pub entry_wants : Preamble → Table → Bool → ℕ → List Lexeme → Wanted
 entry_wants p table true written [] = place_wants p written
 entry_wants p table true written (l ∷ ls) = entry_wants p table false (written + 1) ls
@@ -80,7 +80,7 @@ abbrev pub cells_want : Preamble → Table → List Lexeme → Wanted
 cells_want p table [] = Mark
 cells_want p table (colon ∷ ls) = entry_wants p table true 0 ls
 
--- digits alone behind `start:` may be a state's number, unless there is one state
+-- digits alone after `start:` may be a state's number, unless there is one state
 abbrev pub may_be_state : ℕ → TokenKind → List ℕ → Bool
 may_be_state count kinds.Numeral bytes = if count == 1 then false else are_digits bytes
 may_be_state count _ bytes = false
@@ -105,7 +105,7 @@ abbrev pub start_wants : ℕ → List Lexeme → Wanted
 start_wants count [] = Mark
 start_wants count (l ∷ ls) = if is_colon l.kind then start_body_wants count ls else list_wants ls
 
--- The lexemes behind the item's word were taken: what the next place is for.
+-- The lexemes after the item's word were taken: what the next place is for.
 abbrev pub wanted : Known → Topic → List Lexeme → Wanted
 wanted k Discount taken = discount_wants taken
 wanted k Values taken = values_want taken

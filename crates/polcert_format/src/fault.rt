@@ -16,13 +16,13 @@ pub enum ItemFault {
     /// M3: a token stands before the first item word.
     #[error("a token before the first item")]
     BeforeFirstItem,
-    /// M4: no form of the item goes on like this.
+    /// M4: no form of the item continues like this.
     #[error("no form of an item goes on like this")]
     BadShape,
     /// M5: a line of the preamble, or the start item, stands for the second time.
     #[error("this line stands for the second time")]
     DuplicateLine,
-    /// M6: a line of the preamble behind a start item or an entry, or a start item behind an entry.
+    /// M6: a line of the preamble after a start item or an entry, or a start item after an entry.
     #[error("this line comes too late")]
     LateLine,
     /// M7: a line of the preamble is missing where the start item, an entry or the end stands.
@@ -54,7 +54,7 @@ pub enum ItemFault {
     #[error("the word `reset` is not supported")]
     Reset,
     /// M16: more than 5,000,000 pairs of a state and an observation; or, of a table of more than 16,777,216 cells, an entry of T or O
-    /// with which entries cover more than as many with a weight above 0, or an entry of R behind 1,048,576 others.
+    /// with which entries cover more than as many with a weight above 0, or an entry of R after 1,048,576 others.
     #[error("too many cells")]
     TooManyCells,
     /// M18: the start probabilities do not sum to one.
@@ -63,7 +63,7 @@ pub enum ItemFault {
     /// M19: no state is left to start in.
     #[error("no state is left to start in")]
     StartEmpty,
-    /// M20: the text goes on at the limit of 4,294,967,296 bytes.
+    /// M20: the text continues at the limit of 4,294,967,296 bytes.
     #[error("the text is too long")]
     TextTooLong,
 }

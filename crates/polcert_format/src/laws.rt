@@ -51,13 +51,13 @@ pub fn one_list_of_numbers()
     ensures { (lexemes : List Lexeme) (x y : List ℤ) → AreNumbers lexemes x → AreNumbers lexemes y → x ≡ y }
 {}
 
-/// The lexemes behind the word of a table are at most one entry.
+/// The lexemes after the word of a table are at most one entry.
 pub fn one_entry()
     ensures { (p : Preamble) (table : Table) (lexemes : List Lexeme) (x y : Entry) →
         IsEntry p table lexemes x → IsEntry p table lexemes y → x ≡ y }
 {}
 
-/// The lexemes behind `start` give at most one start.
+/// The lexemes after `start` give at most one start.
 pub fn one_start()
     ensures { (states : Elements) (lexemes : List Lexeme) (x y : Shares) →
         IsStart states lexemes x → IsStart states lexemes y → x ≡ y }
@@ -122,8 +122,8 @@ pub fn right_item_ends()
         IsWithinItem seen k t body → IsRight k t body after → AreRightItems seen after }
 {}
 
-/// Behind right items, the item that is the first wrong one is settled by the lexemes taken so far, however the text
-/// goes on: an item that cannot go on, one that isn't right where the next begins or the text ends, and one in which
+/// After right items, the item that is the first wrong one is settled by the lexemes taken so far, however the text
+/// continues: an item that cannot continue, one that isn't right where the next begins or the text ends, and one in which
 /// the tokens end in a fault.
 pub fn first_wrong_stays()
     ensures within { (seen body : List Lexeme) (k : Known) (t : Topic) (w : IsWithinItem seen k t body) →
@@ -186,7 +186,7 @@ pub fn one_decision()
         topic item.word ≡ Some t → word_fault k t ≡ None → IsDecided ts (length before + 1) f p → ⊥ }
 {}
 
-/// What is wrong with a start item's first number, where it is due only behind the number, is one kind at one place, and
+/// What is wrong with a start item's first number, if it is due only after the number, is one kind at one place, and
 /// nothing is decided before the item's body.
 pub fn one_late_refusal()
     ensures one { (ts : TextTokens) (n : ℕ) (f g : ItemFault) (p q : ℕ) →
@@ -209,14 +209,14 @@ pub fn one_refusal_of_cells()
         (kind ≡ ItemFault.TooManyCells) × (q ≡ p) }
 {}
 
-/// Where there are at most 1,000 states and 1,000 observations and no table has more cells than are printed, no limit of cells is
+/// If there are at most 1,000 states and 1,000 observations and no table has more cells than are printed, no limit of cells is
 /// passed, whatever the entries are.
 pub fn small_models_are_within_limits()
     ensures pairs { (p : Preamble) → count_of p.states ≤ 1000 → count_of (observed p) ≤ 1000 → HasFewPairs p }
     ensures cells { (p : Preamble) (es : List Entry) → IsPrintable p → HasFewCells p es }
 {}
 
-/// A text that is refused, but for want of memory, isn't the text of a model.
+/// A text that is refused, except out of memory, isn't the text of a model.
 pub fn refused_is_not_accepted()
     ensures { (text : List ℕ) (ts : TextTokens) (fault : ModelFault) (m : Meaning) →
         AreTokensOf text ts → IsRefusal ts fault → SaysOfText fault → IsModelText text m → ⊥ }

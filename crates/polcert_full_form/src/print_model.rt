@@ -46,7 +46,7 @@ impl StartForm {
 ///
 /// # Errors
 ///
-/// Where the sink failed, which then took a beginning of the text.
+/// If the sink failed, which then took a beginning of the text.
 pub fn write_model<W: Sink>(model: &Model, out: &mut W) -> Result<(), SinkFailed>
     requires printable { IsPrintable (meaning model.now).preamble }
     ensures written { WritesText W.writes W.failures out.old (full_form (meaning model.now)) result out.new }
@@ -114,7 +114,7 @@ fn values_line(is_cost: bool) -> &'static [u8]
     }
 }
 
-/// Writes the line of the elements of one kind, behind its word.
+/// Writes the line of the elements of one kind, after its word.
 fn write_elements<W: Sink>(word: &[u8], elements: &Elements, out: &mut W) -> Result<(), SinkFailed>
     ensures { WritesText W.writes W.failures out.old (elements_line word.now elements.now) result out.new }
 {

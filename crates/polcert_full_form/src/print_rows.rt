@@ -71,7 +71,7 @@ fn write_row<W: Sink>(
     write_body(&row, out)
 }
 
-/// Writes what stands behind the line of a row's indices.
+/// Writes what stands after the line of a row's indices.
 fn write_body<W: Sink>(row: &WeightRow<'_>, out: &mut W) -> Result<(), SinkFailed>
     ensures { WritesText W.writes W.failures out.old (row_body row.now) result out.new }
 {

@@ -1,4 +1,4 @@
--- An entry that goes on with several lexemes at once.
+-- An entry that continues with several lexemes at once.
 use Rattle.std.proofs.Common.{◌≡◌, ◌≢◌, ℕ, ◌+◌, ◌<◌, ◌≤◌, false, None, List, [], ◌∷◌, ◌++◌, length, drop, pos, refl, sym, ap, subst, append-nil, append_assoc, length-append, Result, Ok, Err, IfOk, arith}
 use Rattle.std.proofs.lemmas.List.{length-drop}
 use Rattle.polcert_text.specs.Beginning.{BeginWithNumber}
@@ -31,7 +31,7 @@ fed_both k a b c us vs first (more _ between _ ws l before fed) =
 pub fed_none : (k : Known) (r : EntryReader) (bytes : List ℕ) → FedAhead k r bytes 0 r
 fed_none k r bytes = record { within = omega arith; fed = λ place. ([], (begin_none place bytes, none r)) }
 
--- some, and others behind them
+-- some, and others after them
 pub fed_then : (k : Known) (a b c : EntryReader) (bytes : List ℕ) (m n : ℕ) → FedAhead k a bytes m b → FedAhead k b (drop m bytes) n c → FedAhead k a bytes (m + n) c
 fed_then k a b c bytes m n first second = record {
   within = omega (arith, first.within, second.within, length-drop m bytes);

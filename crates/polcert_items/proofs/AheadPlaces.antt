@@ -1,4 +1,4 @@
--- The places of an entry and the first number behind them, taken at once.
+-- The places of an entry and the first number after them, taken at once.
 use Rattle.std.proofs.Common.{◌≡◌, ◌∙◌, ⊎_elim, inl, ℕ, zero, suc, ◌+◌, ◌<◌, ◌≤◌, true, false, None, List, [], ◌∷◌, ◌++◌, length, drop, get_or, pos, refl, sym, ap, subst, length-append, arith, Bool, ◌||◌}
 use Rattle.std.proofs.lemmas.List.{length-drop}
 use Rattle.polcert_text.specs.Beginning.{BeginWithOne, BeginWithNumber, BeginWithDigits, moved}

@@ -39,7 +39,7 @@ count_alone most l n w xs ls e same (counted {l = m} {n = k} v least few) =
     (sym (same_tail same), ap Count (sym here.value ∙ w.value))
 count_alone most l n w xs ls e same (named all least few apart) = absurd (whole_not_name l n w (first_is_name l ls (subst (All IsName) same all)))
 
--- behind a count nothing comes
+-- after a count nothing comes
 pub count_takes : (most : ℕ) (l : Lexeme) (n : ℕ) → IsCountOf most l n → Takes (ElementsGo most) readers.First l (readers.Counted n)
 count_takes most l n c = record {
   back = λ ls e goes. subst (λ x. AreElements most (l ∷ x) e) (sym goes.0) (subst (AreElements most (l ∷ [])) (sym goes.1) (counted c.0 c.1 c.2));
@@ -83,7 +83,7 @@ at_seam : (xs : List (List ℕ)) (x : List ℕ) (ys : List (List ℕ)) (d : List
 at_seam [] x ys d = refl
 at_seam (y ∷ xs) x ys d = at_seam xs x ys d
 
--- a name that is among the others cannot stand behind them once more
+-- a name that is among the others cannot stand after them once more
 among_apart : (names : List (List ℕ)) (name : List ℕ) (further : List (List ℕ)) → list_any (bytes_eq name) names ≡ true → AllPairs (λ x y. x ≢ y) (names ++ name ∷ further) → ⊥
 among_apart names name further e apart =
     let found = Any-from_list_any (bytes_eq name) names e in
@@ -184,7 +184,7 @@ pub one_is : IsWhole a_one 1
 unfolding class_of
 one_is = record { kind = refl; digits = refl; value = refl }
 
--- a count of one behind a colon, and nothing behind a count or names
+-- a count of one after a colon, and nothing after a count or names
 pub elements_can_end : (most : ℕ) → 1 ≤ most → (r : ElementsReader) → IsElementsRead most r → (ls : List Lexeme) × ((e : Elements) × ElementsGo most r ls e)
 elements_can_end most some readers.Colon read = (a_colon ∷ a_one ∷ [], (Count 1, (refl, counted one_is (lit≤ tt) some)))
 elements_can_end most some readers.First read = (a_one ∷ [], (Count 1, counted one_is (lit≤ tt) some))

@@ -1,4 +1,4 @@
--- The first number of a start item: what is due of it behind the body that was taken is just what its reader has kept.
+-- The first number of a start item: what is due of it after the body that was taken is just what its reader has kept.
 use Rattle.std.proofs.Common.{◌≡◌, ◌∙◌, ℕ, ◌++◌, ◌⊎◌, inl, inr, Bool, false, true, Option, Some, None, Result, Ok, Err, List, [], ◌∷◌, ℤ, refl, sym, ap, subst}
 use Rattle.std.proofs.lemmas.List.{append-nil}
 use Rattle.polcert_text.specs.Cut.{Lexeme}
@@ -84,7 +84,7 @@ stops_start count body r w l x s same (at_once m why) = of (pending r) refl
         let d : IsDue r l y.kind y.place = held_due r l y e in
         first_number (λ more ends. due_is_late count body more l ends r x.kind x.place s (subst (λ (z : Refusal). IsDue r l z.kind z.place) (sym (same y d)) d))
 
--- ---- what is due of a body that goes on so
+-- ---- what is due of a body that continues so
 
 -- the first of the lexemes, and this is so of it
 abbrev HasNext : List Lexeme → (Lexeme → Type 0) → Type 0
@@ -100,7 +100,7 @@ abbrev DigitsDue : ℕ → Digits → List Lexeme → Bool → ItemFault → ℕ
 DigitsDue count d [] ends kind place = IsDueAtEnd count d ends kind place
 DigitsDue count d (l ∷ ls) ends kind place = IsDueValue d.value d.place l kind place
 
--- behind what was kept the lexemes make this due
+-- after what was kept the lexemes make this due
 abbrev DueBehind : ℕ → StartReader → List Lexeme → Bool → ItemFault → ℕ → Type 0
 DueBehind count (reader.Number f) tail ends kind place = HasNext tail (λ l. IsDueNumber f.value f.place l kind place)
 DueBehind count (reader.Digits d) tail ends kind place = DigitsDue count d tail ends kind place
@@ -156,7 +156,7 @@ form_due count body (l ∷ ls) e g =
     let same : l ≡ g.colon = same_head (sym (ap (λ (x : List Lexeme). x ++ l ∷ ls) e) ∙ g.whole) in
     ap (λ (x : Lexeme). x.kind) same ∙ g.is_colon
 
--- behind the colon
+-- after the colon
 held_digits : (count : ℕ) (c l : Lexeme) (body ls xs : List Lexeme) (place : ℕ) (Is : Lexeme → Type 0) → body ≡ c ∷ [] → BeginsWithDigits count (body ++ l ∷ ls) place Is xs → IsHeld count reader.Body l
 held_digits count c l body ls xs place Is e d =
     let same : d.digits ≡ l = same_head (same_tail (sym d.whole ∙ ap (λ (x : List Lexeme). x ++ l ∷ ls) e)) in
@@ -181,7 +181,7 @@ body_due count body (l ∷ ls) ends kind place b (no_value reason behind d more 
 body_due count body (l ∷ ls) ends kind place b (no_state d clean is) = held_digits count b.0 l body ls [] place _ b.1 d
 body_due count body (l ∷ ls) ends kind place b (out_of_range next behind n number is) = held_number count b.0 l body ls (next ∷ behind) place b.1 n
 
--- behind the first number's sign
+-- after the first number's sign
 sign_no_numeral : (sign : Sign) (s : Lexeme) → IsSignAt sign s → s.kind ≡ Numeral → ⊥
 sign_no_numeral sign s (steps.plus kind negative p) e = kinds_differ s s Plus Numeral refl kind e (λ x. cc)
 sign_no_numeral sign s (steps.minus kind negative p) e = kinds_differ s s Minus Numeral refl kind e (λ x. cc)
@@ -224,7 +224,7 @@ sign_due count sign body tail ends kind place b (no_value reason behind d more i
 sign_due count sign body tail ends kind place b (no_state d clean is) = absurd (sign_no_digits count sign body tail [] place _ b d)
 sign_due count sign body tail ends kind place b (out_of_range next behind n number is) = sign_number count sign body tail (next ∷ behind) place b n
 
--- behind the first number
+-- after the first number
 value_numeral : (h : ℤ) → OfNumerals (λ negative l. IsMillionths negative l h)
 value_numeral h negative l v = v.kind
 
@@ -259,7 +259,7 @@ number_due count body tail ends f kind place b late = at late
         let same = same_number (body ++ tail) f.place place (λ negative l. IsMillionths negative l f.value) IsNoFraction tail (next ∷ behind) (value_numeral f.value) no_fraction_numeral whole n in
         next_due f.value f.place tail next behind kind place same.behind number (outside_too f.value same.negative same.numeral same.first same.second) is (sym same.place)
 
--- behind digits alone
+-- after digits alone
 digits_due : (count : ℕ) (body tail : List Lexeme) (ends : Bool) (d : Digits) (kind : ItemFault) (place : ℕ) → BeginsWithDigits count body d.place (IsDigitsKept count d) [] → IsLate count (body ++ tail) ends kind place
     → DigitsDue count d tail ends kind place
 digits_due count body tail ends d kind place b late = at late
@@ -301,7 +301,7 @@ digits_due count body tail ends d kind place b late = at late
         let value = value_is d.value whole.digits whole.holds.value same.0 in
         out_wants tail value.0 next behind value.1 same.2 number value.2 is (sym same.1)
 
--- behind more numbers
+-- after more numbers
 fraction_numeral : OfNumerals IsFraction
 fraction_numeral negative l f = f.1.kind
 
@@ -336,9 +336,9 @@ due_behind count body tail ends (reader.Number f) kind place s late = number_due
 due_behind count body tail ends (reader.Digits d) kind place s late = digits_due count body tail ends d kind place s.body_is late
 due_behind count body tail ends (reader.Probabilities n) kind place s late = further_due count body tail ends kind place s.body_is late
 
--- ---- behind a lexeme, at the end, and at a fault of the tokens
+-- ---- after a lexeme, at the end, and at a fault of the tokens
 
--- what is due behind a lexeme is the reader's refusal, or is tested later
+-- what is due after a lexeme is the reader's refusal, or is tested later
 pub late_at_lexeme : (count : ℕ) (body more : List Lexeme) (l : Lexeme) (ends : Bool) (r : StartReader) (kind : ItemFault) (place : ℕ) → IsStartSeen count body r → IsLate count (body ++ l ∷ more) ends kind place
     → IsDue r l kind place ⊎ IsHeld count r l
 late_at_lexeme count body more l ends r kind place s late = of r (due_behind count body (l ∷ more) ends r kind place s late)

@@ -1,4 +1,4 @@
--- The form of an item, as its reader goes on with it: that of a start item, and of every other what is right.
+-- The form of an item, as its reader continues with it: that of a start item, and of every other what is right.
 use Rattle.std.proofs.Common.{◌≡◌, ◌∙◌, ◌⊎◌, inl, inr, None, List, ◌∷◌, refl, sym, subst, arith}
 use Rattle.polcert_text.specs.Cut.{Lexeme}
 use Rattle.polcert_cells.specs.declared.elements.Elements.{Elements}

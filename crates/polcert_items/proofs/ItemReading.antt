@@ -102,7 +102,7 @@ pub start_seen : (k : Known) (states : Elements) (item : ItemReader) (old : Star
     → IsStartSeen (count_of states) body old
 start_seen k states item old body known is s = subst (λ e. IsStartSeen (count_of e) body old) (known_states k states known) (subst (IsSeen (states_known k) body) is s)
 
--- why it cannot go on
+-- why it cannot continue
 start_stops : (k : Known) (states : Elements) (item : ItemReader) (old : StartReader) (body : List Lexeme) (l : Lexeme) (r : Refusal) → k.states ≡ Some states → item ≡ items.Start old
     → IsSeen (states_known k) body item → ((x : Refusal) → IsDue old l x.kind x.place → r ≡ x) → IsStop (IsDue old l) (start_sign old) (start_wants (count_of states) old []) l r.kind r.place
     → IfStart (topic_in item) (StopsStart (pending_in item) (states_known k) body (item_wants k item []) l r.kind r.place)

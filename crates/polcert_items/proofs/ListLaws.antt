@@ -102,7 +102,7 @@ fractions_in_range ps small = λ k d h. fraction_in_range _ (small k d h)
 pub small_fractions : (ps : List ℕ) → All (λ p. IsInRange Probability (pos p)) ps → All (λ p. p ≤ one) ps
 small_fractions ps fit = λ k d h. let f = fit k d h in subst (λ q. q ≤ one) (one_probability _ _ (sym f.1.0)) f.1.1
 
--- ---- what goes on to a number
+-- ---- what continues to a number
 
 any_reward : (h : ℤ) → All (IsInRange Reward) (h ∷ [])
 any_reward h = All-cons (IsInRange Reward) h [] tt (all_none (IsInRange Reward))

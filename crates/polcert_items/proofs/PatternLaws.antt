@@ -49,7 +49,7 @@ use Rattle.polcert_cells.proofs.EntryLaws.{NoColonFirst, body_no_colon, uniform_
 use Rattle.polcert_format.proofs.FurtherNumbers.{begins_no_number}
 
 module _ (preamble : Preamble) (table : Table) (before : List Place) where
-  -- behind a colon
+  -- after a colon
   one_more : (d : Elements) (es : List Elements) (p : Place) → drop (length before) (named preamble table) ≡ d ∷ es → drop (length (before ++ p ∷ [])) (named preamble table) ≡ es
   one_more d es p e =
       let len : length (before ++ p ∷ []) ≡ length before + 1 = length-append before (p ∷ []) in
@@ -107,7 +107,7 @@ module _ (preamble : Preamble) (table : Table) (before : List Place) where
     pub colon_takes : Takes (StateGoes preamble table before) states.Body l states.Place
     colon_takes = record { back = λ ls e r. colon_back ls e r; on = λ ls e b. colon_on ls e b }
 
-  -- behind a lexeme that is no colon: the body itself
+  -- after a lexeme that is no colon: the body itself
   record BodyHere (ls : List Lexeme) (e : Entry) : Type 0 where
     places_are : e.places ≡ before
     table_is : e.table ≡ table
@@ -129,7 +129,7 @@ module _ (preamble : Preamble) (table : Table) (before : List Place) where
           }
       at further pattern es same (entries.more {colon = c} colon place behind) whole places_are = absurd (no_colon (subst (λ (m : Lexeme). m.kind ≡ Colon) (sym (same_head whole)) colon))
 
-  -- the body itself behind the places
+  -- the body itself after the places
   there : (ls : List Lexeme) (e : Entry) → BodyHere ls e → IsEntryBehind preamble table before ls e
   there ls e h =
       let count : length before ≡ length e.places = ap length (sym h.places_are) in
@@ -216,7 +216,7 @@ one_to_four n low high = grind (arith, nat_tests)
 pub two_to_four : (n : ℕ) → 2 ≤ n → n ≤ 4 → list_any (λ k. k == n) (2 ∷ 3 ∷ 4 ∷ []) ≡ true
 two_to_four n low high = grind (arith, nat_tests)
 
--- rewards may stand behind enough places
+-- rewards may stand after enough places
 pub rewards_may_stand : (mdp : Bool) (n : ℕ) (hs : List ℤ) → least_written mdp Reward ≤ n → n ≤ 4 → MayStand mdp Reward (bodies.Rewards hs) n
 rewards_may_stand true n hs low high = one_to_four n low high
 rewards_may_stand false n hs low high = two_to_four n low high
@@ -340,7 +340,7 @@ colon_stuck preamble table before l colon full = λ ls e b. at ls e (colon_on pr
     at [] e r = r
     at (m ∷ ls) e r = subst (λ es. IsFirstPlace es m r.0) none r.1.0
 
--- numbers stand behind a place at least
+-- numbers stand after a place at least
 some_places : (n : ℕ) → list_any (λ k. k == n) (1 ∷ 2 ∷ 3 ∷ []) ≡ true → 1 ≤ n
 some_places n e = grind (arith, nat_tests)
 
@@ -366,7 +366,7 @@ few_stuck_at mdp cells n l ls table b few no_name (entries.rewards {hs} a count)
 few_stuck_at mdp cells n l ls table b few no_name (entries.uniform w) form = no_name w.kind
 few_stuck_at mdp cells n l ls table b few no_name (entries.identity w) form = no_name w.kind
 
--- no number is taken behind too few places
+-- no number is taken after too few places
 pub few_stuck : (preamble : Preamble) (table : Table) (before : List Place) (l : Lexeme) → BeginsNumber l.kind → (least_written (is_mdp preamble) table ≤ length before → ⊥) → CannotTake (StateGoes preamble table before) states.Body l
 few_stuck preamble table before l begins few = λ ls e b.
     let h = here preamble table before l ls e (number_not_colon l.kind begins) b in
@@ -409,7 +409,7 @@ on_ok_map (Err e) f p = tt
 pub probability_reason : (r : EntryReader) (n : Numbers ℕ) (l : Lexeme) (kind : ItemFault) (place : ℕ) → r.state ≡ states.Probabilities n → (r.table ≡ Reward → ⊥) → IsListReason Probability n.sign l kind place → IsEntryReason r l kind place
 probability_reason r n l kind place is not_reward reason = reasons.no_probability not_reward (subst (λ s. IsListReason Probability (entry_sign s) l kind place) (sym is) reason)
 
--- a list that is full goes on with nothing
+-- a list that is full continues with nothing
 pub full_list : {T : Type 0} (kind : ListKind T) (n : Numbers T) → IsFull n → NumberListGoes kind n [] (kind.body n.read)
 full_list kind n full = record {
   further = [];
@@ -432,7 +432,7 @@ none_mapped : {X Y : Type 0} (f : X → Y) (xs : List X) → map f xs ≡ [] →
 none_mapped f [] e = refl
 none_mapped f (x ∷ xs) e = absurd (cons≢nil e)
 
--- a list that goes on with nothing is full
+-- a list that continues with nothing is full
 pub list_full : {T : Type 0} (kind : ListKind T) (n : Numbers T) (body : Body) → NumberListGoes kind n [] body → IsFull n
 list_full kind n body g =
     let m = none_behind n.sign (map kind.worth g.further) g.numbers in
@@ -464,7 +464,7 @@ both_empty : {X : Type 0} (xs ys : List X) → [] ≡ xs ++ ys → ys ≡ []
 both_empty [] ys e = sym e
 both_empty (x ∷ xs) ys e = absurd (cons≢nil (sym e))
 
--- an entry doesn't end behind a place
+-- an entry doesn't end after a place
 pub no_end : (preamble : Preamble) (table : Table) (before : List Place) (e : Entry) → AreSome (dimensions preamble table) → IsEntryBehind preamble table before [] e → ⊥
 no_end preamble table before e some b =
     let none : b.rest ≡ [] = both_empty b.pattern b.rest b.whole in
@@ -476,7 +476,7 @@ cannot_end_in preamble r old is none = λ e goes. none e (subst (λ s. StateGoes
 pub ends_in : (preamble : Preamble) (r : EntryReader) (old : EntryState) (e : Entry) → r.state ≡ old → StateGoes preamble r.table r.places old [] e → EntryGoes preamble r [] e
 ends_in preamble r old e is goes = subst (λ s. StateGoes preamble r.table r.places s [] e) (sym is) goes
 
--- the numbers of an entry go on
+-- the numbers of an entry continue
 module _ {T : Type 0} (kind : ListKind T) (state : Numbers T → EntryState) (is_state : IsStateOf kind state) (p : Preamble) (r : EntryReader) (old : Numbers T) (l : Lexeme) (is : r.state ≡ state old) where
   pub list_in : (new : Numbers T) → Takes (NumberListGoes kind) old l new → Takes (EntryGoes p) r l (record r { state = state new })
   list_in new t = in_state p r (state old) (state new) l is (record {

@@ -15,7 +15,7 @@ use Rattle.polcert_items.specs.Steps.Numbers as steps
 use Rattle.polcert_cells.proofs.NumberLaws.{one_millionths}
 use Rattle.polcert_format.proofs.FurtherNumbers.{begins_no_number}
 
--- a lexeme that is no numeral doesn't go on behind a sign
+-- a lexeme that is no numeral doesn't continue after a sign
 no_numeral_behind : (sign : Sign) (l : Lexeme) (ls : List Lexeme) (hs : List ℤ) → (l.kind ≡ Numeral → ⊥) → AreNumbersBehind (Some sign) (l ∷ ls) hs → ⊥
 no_numeral_behind sign l ls [] other a = a
 no_numeral_behind sign l ls (h ∷ hs) other a = other a.0.kind
@@ -36,7 +36,7 @@ misplaced_reason range sign l Reset place m = m
 misplaced_reason range sign l BadShape place m = m
 misplaced_reason range sign l _ place m = absurd m
 
--- the first of some numbers behind a sign
+-- the first of some numbers after a sign
 pub record FirstIs (negative : Bool) (l : Lexeme) (ls : List Lexeme) (hs : List ℤ) : Type 0 where
   pub first : ℤ
   pub rest : List ℤ
@@ -55,7 +55,7 @@ first_unsigned l ls hs kind (unsigned {h} {hs = rest} v more) = record { first =
 first_unsigned l ls hs kind (plus sign v more) = absurd (numeral_not_plus l kind sign)
 first_unsigned l ls hs kind (minus sign v more) = absurd (numeral_not_minus l kind sign)
 
--- numbers that go on with a numeral begin with its value
+-- numbers that continue with a numeral begin with its value
 pub first_number : (sign : Option Sign) (l : Lexeme) (ls : List Lexeme) (hs : List ℤ) → l.kind ≡ Numeral → AreNumbersBehind sign (l ∷ ls) hs → FirstIs (is_negative sign) l ls hs
 first_number None l ls hs kind a = first_unsigned l ls hs kind a
 first_number (Some sign) l ls [] kind a = absurd a
@@ -86,7 +86,7 @@ refuses_range range sign l h kind place v out is at = record {
 one_number : {negative : Bool} (other : Bool) (l : Lexeme) (h : ℤ) → negative ≡ other → IsMillionths other l h → IsMillionths negative l h
 one_number {negative} other l h e v = subst (λ n. IsMillionths n l h) (sym e) v
 
--- a sign, and then the number behind it
+-- a sign, and then the number after it
 pub sign_back : (s : Sign) (l : Lexeme) (ls : List Lexeme) (hs : List ℤ) → IsSignAt s l → AreNumbersBehind (Some s) ls hs → AreNumbers (l ∷ ls) hs
 sign_back s l [] hs at a = absurd a
 sign_back s l (m ∷ ls) [] at a = absurd a
@@ -109,7 +109,7 @@ pub value_back : (sign : Option Sign) (l : Lexeme) (ls : List Lexeme) (h : ℤ) 
 value_back None l ls h hs v more = unsigned v more
 value_back (Some sign) l ls h hs v more = (v, more)
 
--- numbers that go on with a numeral are its value and further numbers
+-- numbers that continue with a numeral are its value and further numbers
 pub record Behind (h : ℤ) (ls : List Lexeme) (hs : List ℤ) : Type 0 where
   pub rest : List ℤ
   pub joined : hs ≡ h ∷ rest

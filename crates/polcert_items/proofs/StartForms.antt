@@ -72,7 +72,7 @@ either_word : (choice : Choice) (l : Lexeme) → IsWordOf choice l → IsWord (c
 either_word Include l word = inl word
 either_word Exclude l word = inr word
 
--- behind it the states are listed
+-- after it the states are listed
 module _ (states : Elements) (l : Lexeme) where
   list_formed : (choice : Choice) → IsWordOf choice l → (ls : List Lexeme) → BehindColon (ListGoes states choice (λ s. false)) ls None → IsStartForm states (l ∷ ls)
   list_formed choice word [] g = absurd g
@@ -217,7 +217,7 @@ module _ (states : Elements) (l : Lexeme) (name : l.kind ≡ Name) where
   no_numbers : {ls : List Lexeme} {hs : List ℤ} → AreNumbers (l ∷ ls) hs → ⊥
   no_numbers a = begins_no_number (λ e. cc) (λ e. cc) (λ e. cc) a
 
-  -- nothing stands behind a name
+  -- nothing stands after a name
   name_alone : (ls : List Lexeme) → IsStartBodyForm states (l ∷ ls) → ls ≡ []
   name_alone ls (shapes.uniform w) = refl
   name_alone ls (shapes.name n f) = refl

@@ -106,7 +106,7 @@ no_numeral l ls a = at (l ∷ ls) [] a refl refl
     at ms hs (numbers.plus s v more) e f = cons≢nil f
     at ms hs (numbers.minus s v more) e f = cons≢nil f
 
--- with another lexeme behind the first number there are more numbers, a probability for each of some states
+-- with another lexeme after the first number there are more numbers, a probability for each of some states
 more_fractions : (states : Elements) (h : ℤ) (further : List ℤ) (l : Lexeme) (ls : List Lexeme) (asked : Option Shares) → AreNumbers (l ∷ ls) further → AreGiven states (h ∷ further) asked
     → Fractions states h further asked
 more_fractions states h further l ls None a (alone k e) = absurd (no_numeral l ls (subst (AreNumbers (l ∷ ls)) (same_tail e) a))
@@ -124,7 +124,7 @@ more_given states h further l ls (Some v) a (only_state c (inl e) s) = absurd (n
 more_given states h further l ls (Some v) a (only_state c (inr e) s) = absurd (no_numeral l ls (subst (AreNumbers (l ∷ ls)) (same_tail e) a))
 more_given states h further l ls (Some v) a (probabilities ps m e c t s) = m
 
--- nothing goes on behind a number out of its range
+-- nothing continues after a number out of its range
 pub outside_stuck : (states : Elements) (f : FirstNumber) (l : Lexeme) → IsOutside f.value → CannotTake (StartGoes states) (reader.Number f) l
 outside_stuck states f l out = λ ls asked g.
     let parts = more_fractions states f.value g.further l ls asked g.numbers g.given in

@@ -106,7 +106,7 @@ begins_map body place Is Other ls f (begins.unsigned c l whole kind p so) = begi
 begins_map body place Is Other ls f (begins.plus c s l whole kind is p so) = begins.plus c s l whole kind is p (f false l so)
 begins_map body place Is Other ls f (begins.minus c s l whole kind is p so) = begins.minus c s l whole kind is p (f true l so)
 
--- and with more behind it
+-- and with more after it
 pub begins_more : (body : List Lexeme) (place : ℕ) (Is : Bool → Lexeme → Type 0) (ls further : List Lexeme) → BeginsWithNumber body place Is ls → BeginsWithNumber (body ++ further) place Is (ls ++ further)
 begins_more body place Is ls further (begins.unsigned c l whole kind p so) = begins.unsigned c l (ap (λ (b : List Lexeme). b ++ further) whole) kind p so
 begins_more body place Is ls further (begins.plus c s l whole kind is p so) = begins.plus c s l (ap (λ (b : List Lexeme). b ++ further) whole) kind is p so
@@ -118,7 +118,7 @@ begins_stands body place Is ls (begins.unsigned c l whole kind p so) = unsigned 
 begins_stands body place Is ls (begins.plus c s l whole kind is p so) = plus (c ∷ []) s l ls whole is p so
 begins_stands body place Is ls (begins.minus c s l whole kind is p so) = minus (c ∷ []) s l ls whole is p so
 
--- digits, with more behind them, are a number
+-- digits, with more after them, are a number
 pub digits_begin : (count : ℕ) (body : List Lexeme) (place : ℕ) (Is : Lexeme → Type 0) (Other : Bool → Lexeme → Type 0) (ls : List Lexeme) → ((l : Lexeme) → Is l → Other false l)
     → BeginsWithDigits count body place Is ls → BeginsWithNumber body place Other ls
 digits_begin count body place Is Other ls f d = begins.unsigned d.colon d.digits d.whole d.is_colon d.place_is (f d.digits d.holds)
@@ -140,7 +140,7 @@ digits_more count body place Is Other ls further f d = record {
 numeral_no_sign : (l : Lexeme) → l.kind ≡ Numeral → is_sign l.kind ≡ false
 numeral_no_sign l e = ap is_sign e
 
--- behind the colon, and a sign if there is one, a number begins the body
+-- after the colon, and a sign if there is one, a number begins the body
 number_begins : (sign : Option Sign) (body : List Lexeme) (l : Lexeme) (place : ℕ) (Is : Bool → Lexeme → Type 0) → IsBehindColon sign body → place ≡ number_place sign l → Is (is_negative sign) l
     → BeginsWithNumber (body ++ l ∷ []) place Is []
 number_begins None body l place Is b p so = begins.unsigned b.0 l (ap (λ (c : List Lexeme). c ++ l ∷ []) b.1) b.2 p so
@@ -204,7 +204,7 @@ digits_seen count body l d b k = record {
 word_seen : (body : List Lexeme) (l : Lexeme) → IsBehindColon None body → l.kind ≡ Name → IsWordBody (body ++ l ∷ [])
 word_seen body l b name = (b.0, l, ap (λ (c : List Lexeme). c ++ l ∷ []) b.1, name)
 
--- behind the colon
+-- after the colon
 pub body_seen : (count : ℕ) (body : List Lexeme) (l : Lexeme) (r : StartReader) → IsBehindColon None body → IsKept count l r → IsStartSeen count (body ++ l ∷ []) r
 body_seen count body l reader.Every b k = record { sign = sign_ends None body l (ap is_sign k); body_is = word_seen body l b k }
 body_seen count body l (reader.Only s) b k = record { sign = sign_ends None body l (ap is_sign k); body_is = word_seen body l b k }
@@ -213,7 +213,7 @@ body_seen count body l (reader.Sign s) b k = sign_seen count body l s b k.1.1
 body_seen count body l (reader.Number first) b k = first_seen count None body l first b k.1 (no_number_digits count body l b k.0)
 body_seen count body l _ b k = absurd k.1
 
--- behind the first number's sign
+-- after the first number's sign
 pub numeral_seen : (count : ℕ) (sign : Sign) (body : List Lexeme) (l : Lexeme) (r : StartReader) → IsBehindColon (Some sign) body → IsNumberKept (Some sign) l r → IsStartSeen count (body ++ l ∷ []) r
 numeral_seen count sign body l (reader.Number first) b k = first_seen count (Some sign) body l first b k (no_signed_digits count sign body l b)
 numeral_seen count sign body l (reader.Sign s) b k = absurd (none≢some (sym k.0))
@@ -375,7 +375,7 @@ digits_refused (Err (stops.Refused x)) states d l stuck stop =
     record { stuck = stuck; reason = λ body seen. digits_reason (count_of states) body d _ l x.kind x.place seen stop; stops = stop }
 digits_refused (Err stops.Memory) states d l stuck stop = tt
 
--- digits that are the first of more numbers, but these do not go on
+-- digits that are the first of more numbers, but these do not continue
 pub first_refused : {T : Type 0} (result : Result T Stop) (states : Elements) (d : Digits) (f : FirstNumber) (l : Lexeme) → Ok f ≡ first_of d.value d.place
     → On result (λ x. CannotTake (StartGoes states) (reader.Number f) l) → On result (λ x. IsStop (IsDueNumber f.value f.place l) None NumberOrEnd l x.kind x.place)
     → On result (RefusesInStart states (reader.Digits d) l)

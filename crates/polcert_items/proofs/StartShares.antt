@@ -39,7 +39,7 @@ unmarked_more count old new e are = subst (AreUnmarked (count + 1)) (sym e) (rec
 pub unmarked_all : (count counter : ℕ) (marks : List Bool) → counter ≤ count → count ≤ counter → AreUnmarked counter marks → AreUnmarked count marks
 unmarked_all count counter marks low high are = let same : counter ≡ count = omega arith in subst (λ n. AreUnmarked n marks) same are
 
--- ---- shares that are alike
+-- ---- shares that are the same
 
 abbrev one_if : Bool → ℕ
 one_if b = if b then 1 else 0

@@ -1,4 +1,4 @@
-//! An entry that goes on with several tokens at once: numbers that stand whole at the front of the bytes ahead.
+//! An entry that continues with several tokens at once: numbers that stand whole at the front of the bytes ahead.
 ghost use Rattle.std.specs.Prelude.{◌≡◌, ◌≢◌, ◌+◌, ◌<◌, ◌≤◌, ℕ, length, drop, get_or, IfOk, IfSome, IfNone, IsTrue};
 ghost use Rattle.polcert_cells.specs.Elements.{count_of, most_elements};
 ghost use Rattle.polcert_cells.specs.declared.elements.Elements.TheVariants.{Count};
@@ -27,8 +27,8 @@ pub struct FrontPlace {
 }
 
 impl ItemReader {
-    /// Goes on with tokens that stand whole at the front of the bytes, as far as it is known at once that it can, and answers how
-    /// many bytes they are. An error is want of memory.
+    /// Continues with tokens that stand whole at the front of the bytes, as far as it is known at once that it can, and answers how
+    /// many bytes they are. An error is out of memory.
     #[inline(always)]
     pub fn feed_ahead(
         &mut self,
@@ -65,7 +65,7 @@ impl EntryReader {
         }
     }
 
-    /// Goes on with places, each after a colon, and then with a number, which may be the first of more.
+    /// Continues with places, each after a colon, and then with a number, which may be the first of more.
     #[inline(never)]
     fn feed_line(&mut self, alloc: Global, known: &Known, bytes: &[u8]) -> Result<usize, AllocError>
         requires { IsWithinIndices (indices_in known.now self.old.table) self.old }
@@ -79,7 +79,7 @@ impl EntryReader {
         Ok(at + len)
     }
 
-    /// Goes on with a colon and a place, and answers how many bytes they are, if they come next.
+    /// Continues with a colon and a place, and answers how many bytes they are, if they come next.
     #[inline(always)]
     fn feed_place_ahead(&mut self, known: &Known, bytes: &[u8]) -> Option<usize>
         requires { IsWithinIndices (indices_in known.now self.old.table) self.old }
@@ -130,7 +130,7 @@ impl EntryReader {
         }
     }
 
-    /// The next place, where a token that is one comes next. Numbers are tried first, by a shorter way.
+    /// The next place, if a token that is one comes next. Numbers are tried first, by a shorter way.
     #[inline(always)]
     fn place_ahead(&self, known: &Known, bytes: &[u8]) -> Option<FrontPlace>
         requires { length self.now.places < length (indices_in known.now self.now.table) }
@@ -147,7 +147,7 @@ impl EntryReader {
         }
     }
 
-    /// The next place, where a name or `*` that is one comes next.
+    /// The next place, if a name or `*` that is one comes next.
     #[inline(always)]
     fn named_place_ahead(&self, known: &Known, bytes: &[u8]) -> Option<FrontPlace>
         requires { length self.now.places < length (indices_in known.now self.now.table) }
@@ -181,7 +181,7 @@ impl EntryReader {
         }
     }
 
-    /// Goes on with the body's first number.
+    /// Continues with the body's first number.
     #[inline(always)]
     fn begin_ahead(
         &mut self,
@@ -213,7 +213,7 @@ impl EntryReader {
     }
 }
 
-/// The body's numbers behind the first, which is so many millionths, where it is in their range.
+/// The body's numbers after the first, which is so many millionths, if it is in their range.
 #[inline(always)]
 fn begun_with(
     alloc: Global,
@@ -242,7 +242,7 @@ fn begun_with(
 }
 
 impl Numbers<u32> {
-    /// Goes on with the probabilities that the bytes begin with, up to the last that is needed, and answers how many bytes they are.
+    /// Continues with the probabilities that the bytes begin with, up to the last that is needed, and answers how many bytes they are.
     #[inline(never)]
     fn feed_ahead(&mut self, bytes: &[u8]) -> Result<usize, AllocError>
         ensures { IfOk result (λ count. (k : K) (r : R) → (r.table ≢ Table.Reward) →

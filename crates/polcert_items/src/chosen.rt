@@ -1,4 +1,4 @@
-//! The states that a start item lists, and the shares of states that are alike.
+//! The states that a start item lists, and the shares of states that are the same.
 ghost use Rattle.std.specs.Prelude.{◌≡◌, ◌<◌, ◌≤◌, [], false, List, length, Some, None};
 ghost use Rattle.std.specs.Prelude.{IfOk, OnOk, IfErr, OnErr, if◌then◌else◌};
 ghost use Rattle.polcert_text.specs.Cut.{Lexeme};
@@ -116,7 +116,7 @@ impl Chosen {
     }
 }
 
-/// The shares where all states are alike.
+/// The shares where all states are the same.
 pub(crate) fn every_state(alloc: Global, count: usize) -> Result<Shares, AllocError>
     requires { count ≤ most_states }
     ensures { (states : AnyElements) → count ≡ count_of states → IfOk result (λ s. s ≡ all_states states) }

@@ -1,4 +1,4 @@
-//! The states, actions or observations of a model, read token by token behind their word.
+//! The states, actions or observations of a model, read token by token after their word.
 ghost use Rattle.std.specs.Prelude.{◌≡◌, ◌<◌, ◌≤◌, ◌^◌, ◌↔◌, ℕ, List, [], ◌∷◌, ◌++◌, false, Some, None, OnOk, OnErr, IfOk, IfErr, IsTrue};
 ghost use Rattle.polcert_text.specs.Cut.{Lexeme};
 ghost use Rattle.polcert_text.specs.Reading.{lexeme_of};
@@ -25,18 +25,18 @@ use std::alloc::Global;
 /// `states:`, `actions:` or `observations:` and a count or names. Each call is told how many there may be at most.
 #[derive(Drop)]
 pub enum ElementsReader {
-    /// The colon behind the item's word.
+    /// The colon after the item's word.
     Colon,
-    /// A count or a name, behind the colon.
+    /// A count or a name, after the colon.
     First,
-    /// Nothing, behind a count.
+    /// Nothing, after a count.
     Counted(usize),
     /// A further name.
     Named(Names),
 }
 
 impl ElementsReader {
-    /// Goes on with a token of the line.
+    /// Continues with a token of the line.
     pub fn feed(&mut self, alloc: Global, most: usize, token: Token<'_>) -> Result<(), Stop>
         requires text { IsText (lexeme_of token) }
         requires within { IsElementsRead most self.old }
@@ -82,7 +82,7 @@ impl ElementsReader {
     }
 }
 
-/// What the first token behind the colon begins.
+/// What the first token after the colon begins.
 fn begin(alloc: Global, most: usize, token: Token<'_>) -> Result<ElementsReader, Stop>
     requires text { IsText (lexeme_of token) }
     requires some { 1 ≤ most }
@@ -128,7 +128,7 @@ fn count(most: usize, token: Token<'_>) -> Result<usize, Refusal>
     }
 }
 
-/// Puts the name that the token is behind the others, of which there may be so many at most.
+/// Puts the name that the token is after the others, of which there may be so many at most.
 fn add_name(names: &mut Names, alloc: Global, most: usize, token: Token<'_>) -> Result<(), Stop>
     requires text { IsText (lexeme_of token) }
     requires within { AreNamesRead most names.old }

@@ -1,4 +1,4 @@
-//! An entry, read token by token behind the word of its table.
+//! An entry, read token by token after the word of its table.
 ghost use Rattle.std.specs.Prelude.{◌≡◌, ◌<◌, ◌≤◌, ◌↔◌, [], List, Bool, length, drop, IsTrue, IfOk, OnOk, IfErr, OnErr, IfSome, IfNone, MatchOption, Some, None, false, unwrap_or};
 ghost use Rattle.polcert_text.specs.Reading.{lexeme_of};
 ghost use Rattle.std.specs.Option.{option_copied};
@@ -51,7 +51,7 @@ impl<T: Copy> Numbers<T> {
         }
     }
 
-    /// The list behind its first number.
+    /// The list after its first number.
     pub fn begun(alloc: Global, needed: usize, first: T) -> Result<Numbers<T>, AllocError>
         ensures { IfOk result (λ n. n ≡ one_number needed first) }
     {
@@ -83,7 +83,7 @@ impl<T: Copy> Numbers<T> {
 }
 
 impl<T: ListNumber> Numbers<T> {
-    /// Goes on with a token of the list.
+    /// Continues with a token of the list.
     #[inline(always)]
     pub fn feed(&mut self, token: Token<'_>) -> Result<(), Stop>
         requires { HasRoom self.old }
@@ -114,22 +114,22 @@ pub enum Word {
     Identity,
 }
 
-/// What an entry goes on with.
+/// What an entry continues with.
 #[derive(Debug, Drop)]
 pub enum EntryState {
-    /// The colon behind the table's word.
+    /// The colon after the table's word.
     Colon,
-    /// An index or `*`, behind a colon.
+    /// An index or `*`, after a colon.
     Place,
     /// A further colon, or the body.
     Body,
     Probabilities(Numbers<u32>),
     Rewards(Numbers<i64>),
-    /// Nothing, behind a word.
+    /// Nothing, after a word.
     Word(Word),
 }
 
-/// An entry behind the word of its table, as far as it has been read.
+/// An entry after the word of its table, as far as it has been read.
 #[derive(Debug, Drop)]
 pub struct EntryReader {
     pub table: Table,
@@ -149,7 +149,7 @@ impl EntryReader {
         }
     }
 
-    /// Goes on with a token that begins no item.
+    /// Continues with a token that begins no item.
     pub fn feed(&mut self, alloc: Global, known: &Known, token: Token<'_>) -> Result<(), Stop>
         requires within { IsWithinIndices (indices_in known.now self.old.table) self.old }
         requires text { IsText (lexeme_of token) }
@@ -173,7 +173,7 @@ impl EntryReader {
         }
     }
 
-    /// Goes on behind a colon.
+    /// Continues after a colon.
     #[inline(always)]
     fn feed_place(&mut self, known: &Known, token: Token<'_>) -> Result<(), Stop>
         requires state { self.old.state ≡ EntryState.Place }
@@ -213,7 +213,7 @@ impl EntryReader {
         place_of(token, known.elements(self.table, written))
     }
 
-    /// Goes on behind a place.
+    /// Continues after a place.
     #[inline(always)]
     fn feed_body(&mut self, alloc: Global, known: &Known, token: Token<'_>) -> Result<(), Stop>
         requires state { self.old.state ≡ EntryState.Body }
@@ -293,7 +293,7 @@ fn body_of(word: Word) -> Body
     }
 }
 
-/// The body's numbers behind their first token.
+/// The body's numbers after their first token.
 fn begin_numbers(
     alloc: Global,
     table: Table,
@@ -320,7 +320,7 @@ fn begin_numbers(
     }
 }
 
-/// Numbers of a list behind their first token.
+/// Numbers of a list after their first token.
 fn begin_list<T: ListNumber>(
     alloc: Global,
     needed: usize,
@@ -387,7 +387,7 @@ pub(crate) fn indices_of(table: Table) -> usize
     }
 }
 
-/// Whether numbers may stand behind so many places.
+/// Whether numbers may stand after so many places.
 #[inline(always)]
 pub(crate) fn takes_numbers(is_mdp: bool, table: Table, written: usize) -> bool
     ensures { IsTrue result ↔ (least_written is_mdp table ≤ written) }
@@ -398,7 +398,7 @@ pub(crate) fn takes_numbers(is_mdp: bool, table: Table, written: usize) -> bool
     }
 }
 
-/// The word that the token is in place of numbers behind so many places, if it may stand there.
+/// The word that the token is in place of numbers after so many places, if it may stand there.
 fn word_of(table: Table, written: usize, token: Token<'_>) -> Option<Word>
     ensures name { IfSome result (λ _. (lexeme_of token.entry).kind ≡ TokenKind.Name) }
     ensures word { (mdp : Bool) → IfSome result (IsWordBehind mdp table written (lexeme_of token.entry)) }

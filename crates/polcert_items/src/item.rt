@@ -1,4 +1,4 @@
-//! An item behind its word, read token by token.
+//! An item after its word, read token by token.
 ghost use Rattle.std.specs.Prelude.{◌≡◌, true, None, List, [], IfOk, IfErr};
 ghost use Rattle.polcert_text.specs.Cut.{Lexeme};
 ghost use Rattle.polcert_text.specs.Reading.{lexeme_of};
@@ -23,7 +23,7 @@ use polcert_format::ItemFault;
 use polcert_text::Token;
 use std::alloc::Global;
 
-/// An item behind its word, as far as it has been read.
+/// An item after its word, as far as it has been read.
 #[derive(Drop)]
 pub enum ItemReader {
     Discount(DiscountReader),
@@ -63,7 +63,7 @@ impl ItemReader {
         }
     }
 
-    /// Goes on with a token that begins no item.
+    /// Continues with a token that begins no item.
     #[inline(always)]
     pub fn feed(&mut self, alloc: Global, known: &Known, token: Token<'_>) -> Result<(), Stop>
         requires within { IsItemWithin known.now self.old }

@@ -80,7 +80,7 @@ impl Known {
     }
 
     /// Adds what a whole item says, unless it is an entry with which entries give too much of a large table.
-    /// Where memory is wanting, too, all stays as it was.
+    /// If memory runs out, too, all stays as it was.
     pub fn learn(&mut self, said: ItemContents) -> Result<(), Unlearned>
         requires within { AreContentsWithin said }
         requires next { MayBeLearned self.old said }
@@ -158,7 +158,7 @@ impl Known {
         Draft::of(alloc, preamble, start, entries)
     }
 
-    /// What the place of this number may name in an entry of the table, where it may name anything.
+    /// What the place of this number may name in an entry of the table, if it may name anything.
     pub fn elements(&self, table: Table, number: usize) -> Option<&Elements>
         requires { number < length (indices_in self.now table) }
         ensures elements { get_or (named_in self.now table) number (Count 0)

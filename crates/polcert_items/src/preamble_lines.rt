@@ -1,4 +1,4 @@
-//! The lines of the preamble, read token by token behind their word.
+//! The lines of the preamble, read token by token after their word.
 ghost use Rattle.std.specs.Prelude.{◌≡◌, false, None, OnOk, OnErr, IfOk, IfErr, [], ◌∷◌, ◌≢◌};
 ghost use Rattle.polcert_text.specs.Reading.{lexeme_of};
 ghost use Rattle.polcert_items.specs.Steps.Numbers.{IsMisplaced, SignIs};
@@ -23,7 +23,7 @@ pub enum DiscountReader {
 }
 
 impl DiscountReader {
-    /// Goes on with a token of the line.
+    /// Continues with a token of the line.
     pub fn feed(&mut self, token: Token<'_>) -> Result<(), Refusal>
         ensures fed { Feeds IfRefusal DiscountGoes discount_wants (DiscountReason self.old)
             self.old (lexeme_of token.entry) self.new result }
@@ -67,7 +67,7 @@ pub enum ValuesReader {
 }
 
 impl ValuesReader {
-    /// Goes on with a token of the line.
+    /// Continues with a token of the line.
     pub fn feed(&mut self, token: Token<'_>) -> Result<(), Refusal>
         ensures fed { Feeds IfRefusal ValuesGoes values_want IsMisplaced
             self.old (lexeme_of token.entry) self.new result }
@@ -115,7 +115,7 @@ fn costs_of(token: Token<'_>) -> Result<bool, Refusal>
     Err(misplaced(token))
 }
 
-/// The colon behind an item's word.
+/// The colon after an item's word.
 pub fn colon(token: Token<'_>) -> Result<(), Refusal>
     ensures ok { OnOk result ((lexeme_of token.entry).kind ≡ TokenKind.Colon) }
     ensures refused { OnErr result ((lexeme_of token.entry).kind ≢ TokenKind.Colon) }

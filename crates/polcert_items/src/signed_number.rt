@@ -1,4 +1,4 @@
-//! A number of an item: a numeral, perhaps behind a sign.
+//! A number of an item: a numeral, perhaps after a sign.
 ghost use Rattle.std.specs.Prelude.{◌≡◌, IfOk, IfErr, MatchOption, Some, false};
 ghost use Rattle.polcert_text.specs.Reading.{lexeme_of};
 ghost use Rattle.polcert_items.specs.Steps.Numbers.{IsStep, RefusesNumber, IsMisplaced, IsBehindNumbers};
@@ -42,7 +42,7 @@ pub enum Step {
     Value(i64),
 }
 
-/// What the token says in a number's place, behind this sign.
+/// What the token says in a number's place, after this sign.
 #[inline(always)]
 pub fn number_step(sign: Option<Sign>, token: Token<'_>, range: Range) -> Result<Step, Refusal>
     ensures step { IfOk result (IsStep range sign (lexeme_of token.entry)) }
@@ -148,7 +148,7 @@ pub fn misplaced(token: Token<'_>) -> Refusal
     }
 }
 
-/// A token behind the last number of a list.
+/// A token after the last number of a list.
 pub fn behind_numbers(token: Token<'_>) -> Refusal
     ensures reason { IsBehindNumbers (lexeme_of token.entry) result.kind result.place }
     ensures kind { result.kind ≡ misfit EndOfNumbers (Some (lexeme_of token.entry)) }

@@ -41,7 +41,7 @@ pub struct Digits {
 }
 
 impl FirstNumber {
-    /// The numbers, where one more token follows the first of them.
+    /// The numbers, if one more token follows the first of them.
     pub(crate) fn go_on(
         self,
         alloc: Global,
@@ -89,7 +89,7 @@ impl FirstNumber {
         })
     }
 
-    /// The shares where this number is all there is, behind `start:`.
+    /// The shares where this number is all there is, after `start:`.
     pub(crate) fn end(self, alloc: Global, states: &Elements) -> Result<Shares, ItemEnd>
         requires { IsCount most_states (count_of states.now) }
         ensures said { IfOk result (StartGives states.now (reader.Number self) []) }
@@ -112,7 +112,7 @@ impl FirstNumber {
 }
 
 impl Digits {
-    /// The first number, where something follows the digits; or its refusal, where they have no value.
+    /// The first number, if something follows the digits; or its refusal, if they have no value.
     pub(crate) fn first_number(self) -> Result<FirstNumber, Refusal>
         ensures { result ≡ first_of self.value self.place }
     {

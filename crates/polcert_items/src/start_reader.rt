@@ -1,4 +1,4 @@
-//! A start item, read token by token behind its word.
+//! A start item, read token by token after its word.
 ghost use Rattle.std.specs.Prelude.{◌≡◌, ◌≢◌, ◌<◌, ◌⊎◌, ◌++◌, ◌∷◌, [], ℕ, List, false, None, Some};
 ghost use Rattle.std.specs.Prelude.{is_some, IfOk, OnOk, IfErr, OnErr, MatchOption};
 ghost use Rattle.polcert_text.specs.Cut.{Lexeme};
@@ -34,28 +34,28 @@ use polcert_format::ItemFault;
 use polcert_text::{Token, TokenKind, scaled_of, whole_number};
 use std::alloc::Global;
 
-/// A start item behind its word, as far as it has been read: what it goes on with.
+/// A start item after its word, as far as it has been read: what it continues with.
 #[derive(Debug, Drop)]
 pub enum StartReader {
     /// A colon, or the word `include` or `exclude`.
     Form,
-    /// The colon behind `include` or `exclude`.
+    /// The colon after `include` or `exclude`.
     Colon(Choice),
     /// Further states of a list.
     List(Chosen),
-    /// `uniform`, a state or numbers, behind `start:`.
+    /// `uniform`, a state or numbers, after `start:`.
     Body,
-    /// Nothing, behind `uniform`.
+    /// Nothing, after `uniform`.
     Every,
-    /// Nothing, behind a state's name.
+    /// Nothing, after a state's name.
     Only(usize),
-    /// The numeral behind the first number's sign.
+    /// The numeral after the first number's sign.
     Sign(Sign),
-    /// Further numbers, behind the first one.
+    /// Further numbers, after the first one.
     Number(FirstNumber),
-    /// Further numbers, or nothing where the digits are a state's number.
+    /// Further numbers, or nothing if the digits are a state's number.
     Digits(Digits),
-    /// Further probabilities, behind more than one.
+    /// Further probabilities, after more than one.
     Probabilities(Numbers<u32>),
 }
 
@@ -67,7 +67,7 @@ impl StartReader {
         StartReader::Form
     }
 
-    /// Goes on with a token that begins no item.
+    /// Continues with a token that begins no item.
     pub fn feed(&mut self, alloc: Global, states: &Elements, token: Token<'_>) -> Result<(), Stop>
         requires count { IsCount most_states (count_of states.now) }
         requires text { IsText (lexeme_of token) }
@@ -154,7 +154,7 @@ impl StartReader {
     }
 }
 
-/// What the item goes on with behind its first token.
+/// What the item continues with after its first token.
 fn form_of(token: Token<'_>) -> Result<StartReader, Refusal>
     ensures begun { (states : AnyElements) →
         IfOk result (Takes (StartGoes states) StartReader.Form (lexeme_of token.entry)) }
@@ -178,7 +178,7 @@ fn form_of(token: Token<'_>) -> Result<StartReader, Refusal>
     Ok(StartReader::Body)
 }
 
-/// What the item goes on with behind the first token of the plain form: `uniform`, a state's name, digits
+/// What the item continues with after the first token of the plain form: `uniform`, a state's name, digits
 /// that may be a state's number, or the first number.
 fn begin_body(states: &Elements, token: Token<'_>) -> Result<StartReader, Refusal>
     requires count { IsCount most_states (count_of states.now) }
@@ -209,7 +209,7 @@ fn begin_body(states: &Elements, token: Token<'_>) -> Result<StartReader, Refusa
     }
 }
 
-/// What is kept of a numeral of digits alone, where there is more than one state.
+/// What is kept of a numeral of digits alone, if there is more than one state.
 fn digits_of(count: usize, token: Token<'_>) -> Option<Digits>
     requires count { IsCount most_states count }
     requires numeral { token.kind ≡ TokenKind.Numeral }
@@ -227,7 +227,7 @@ fn digits_of(count: usize, token: Token<'_>) -> Option<Digits>
     })
 }
 
-/// The first number behind this sign, or its sign.
+/// The first number after this sign, or its sign.
 fn first_number(sign: Option<Sign>, token: Token<'_>) -> Result<StartReader, Refusal>
     ensures begun { (states : AnyElements) → IfOk result (λ r.
         Begins (NumbersGo states [] sign) (lexeme_of token.entry) (StartGoes states r)) }

@@ -47,7 +47,7 @@ fn sum_of(numbers: &[u32]) -> u64
     numbers.iter().map(|number| *number as u64).sum()
 }
 
-/// The shares where each state has a probability: alike, where those above 0 are.
+/// The shares where each state has a probability: alike, if those above 0 are.
 fn shares_of(alloc: Global, probabilities: Sequence<u32>) -> Result<Shares, AllocError>
     requires { length probabilities ≤ most_states }
     ensures { IfOk result (λ s. s ≡ shares_of probabilities) }
@@ -68,7 +68,7 @@ fn is_level(probabilities: &[u32]) -> bool
     is_level_at(first_above_0(probabilities), probabilities)
 }
 
-/// The first of them that is above 0; 0, where none is.
+/// The first of them that is above 0; 0, if none is.
 fn first_above_0(probabilities: &[u32]) -> u32
     ensures { result ≡ first_above_0 probabilities.now }
 {

@@ -17,7 +17,7 @@ use std::alloc::Global;
 /// The most bytes that a run writes here.
 const ROOM: usize = 600;
 
-/// A text was refused; that is want of memory.
+/// A text was refused; that is out of memory.
 fn refused(fault: Fault) -> Ended {
     match fault {
         Fault::Model(fault) => Ended::memory(Want::Model, fault == ModelFault::Memory),
@@ -26,7 +26,7 @@ fn refused(fault: Fault) -> Ended {
     }
 }
 
-/// A run stopped; that is want of memory (for one of the three texts, for lowering or for raising), with the status of that and with
+/// A run stopped; that is out of memory (for one of the three texts, for lowering or for raising), with the status of that and with
 /// nothing written.
 fn stopped(fault: RunFault, written: &[u8]) -> Ended {
     if status_of(&fault) != 4 || !written.is_empty() {

@@ -22,7 +22,7 @@ pub enum Want {
 pub enum Ended {
     /// With the answer that it has with ample memory.
     Done,
-    /// With want of memory, and with nothing written.
+    /// With out of memory, and with nothing written.
     Memory(Want),
     /// With anything else.
     Wrong,
@@ -34,7 +34,7 @@ impl Ended {
         if is_right { Ended::Done } else { Ended::Wrong }
     }
 
-    /// The call answered a fault; this is whether it is want of memory, and nothing was written.
+    /// The call answered a fault; this is whether it is out of memory, and nothing was written.
     pub fn memory(want: Want, is_memory: bool) -> Ended {
         if is_memory {
             Ended::Memory(want)

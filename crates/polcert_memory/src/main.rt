@@ -1,4 +1,4 @@
-//! Makes one call of polcert behind some other allocations: so each allocation of the call can be refused in turn, by one
+//! Makes one call of polcert after some other allocations: so each allocation of the call can be refused in turn, by one
 //! number of `rt try --fail-alloc` and one build. The words are the call's name and how many allocations come before it; the
 //! line that is printed is `done`, `memory` (and for what: `memory model`), or `wrong`.
 #![tactic(auto)]
@@ -52,7 +52,7 @@ fn call(alloc: Global, name: &str) -> Option<Ended> {
     }
 }
 
-/// Makes the call that the words of the command line name; none where they name none.
+/// Makes the call that the words of the command line name; none if they name none.
 fn run<R: Env + AllocGlobal>(rt: &R) -> Option<Ended> {
     let words = env::args(rt).ok()?.collect::<Vec<String>>(rt.alloc()).ok()?;
     let name = words.get(1)?;

@@ -1,4 +1,4 @@
--- What an item's reader holds is still possible: the item can go on, with `: *`, zeros and the like, to its end.
+-- What an item's reader holds is still possible: the item can continue, with `: *`, zeros and the like, to its end.
 use Rattle.std.proofs.Common.{◌≡◌, ◌∙◌, ℕ, zero, suc, ◌+◌, ◌-◌, ◌<◌, ◌≤◌, ◌==◌, ◌⊎◌, inl, inr, ⊎_elim, Bool, true, false, Option, Some, None, unwrap_or, Result, Ok, Err, List, [], ◌∷◌, ◌++◌, length, drop, map, ℤ, pos, codes, refl, sym, ap, subst, arith, lit≤, length-append}
 use Rattle.std.proofs.lemmas.List.{map-id}
 use Rattle.std.specs.List.{list_any}
@@ -196,7 +196,7 @@ state_continues k table places (states.Word w) within = record { more = []; entr
 
 -- ---- start items
 
--- a start item's reader that can go on to the form of one
+-- a start item's reader that can continue to the form of one
 record StartContinues (elements : Elements) (r : StartReader) : Type 0 where
   more : List Lexeme
   goes : StartGoes elements r more None
@@ -230,7 +230,7 @@ start_continues elements (starts.Probabilities n) within free =
 
 -- ---- items
 
--- an item's reader that can go on to the form of the item
+-- an item's reader that can continue to the form of the item
 pub record CanEnd (k : Known) (item : ItemReader) : Type 0 where
   pub more : List Lexeme
   pub forms : ItemForms k item more tt

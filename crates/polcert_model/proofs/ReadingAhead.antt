@@ -1,4 +1,4 @@
--- A text's reader that goes on with several lexemes at once.
+-- A text's reader that continues with several lexemes at once.
 use Rattle.std.proofs.Common.{◌≡◌, ℕ, Option, Some, List, [], ◌∷◌, ◌++◌, refl, sym, ap, subst, append_assoc, arith}
 use Rattle.std.proofs.lemmas.List.{append-nil}
 use Rattle.polcert_text.specs.Beginning.{passed}

@@ -56,7 +56,7 @@ use Rattle.polcert_model.proofs.Shaped.{right_shaped, too_much_shaped}
 pub none≢some : {A : Type 0} {x : A} → None ≡ Some x → ⊥
 none≢some e = cc
 
--- an item of the text with this number, topic and body, behind right ones
+-- an item of the text with this number, topic and body, after right ones
 pub record Here (ts : TextTokens) (n : ℕ) (k : Known) (t : Topic) (body : List Lexeme) : Type 0 where
   pub before : List Item
   pub word : Lexeme
@@ -188,7 +188,7 @@ number_stands (Some sign) body more l place Is ends p so = signed_stands sign bo
 
 -- ---- a token that is refused
 
--- the place and the reason of a refusal at the lexeme behind the body, or at the sign before it
+-- the place and the reason of a refusal at the lexeme after the body, or at the sign before it
 record Refused (ts : TextTokens) (n place : ℕ) (kind : ItemFault) : Type 0 where
   lies : LiesIn ts n place
   reason : IsReason ts n place kind
@@ -255,7 +255,7 @@ module _ {ts : TextTokens} {n : ℕ} (place : ℕ) {k : Known} {t : Topic} (sign
   refused_here WrongNumberCount unfit m = at_lexeme WrongNumberCount unfit m tt
   refused_here _ unfit m = absurd m
 
--- the item doesn't go on with the lexeme
+-- the item doesn't continue with the lexeme
 stuck : (seen : List Lexeme) (r : TextReader) (w : IsItemRead seen r) (l : Lexeme) → CannotTake (ItemGoes r.known) w.item l
     → CannotGoOn r.known w.t (w.body ++ l ∷ [])
 stuck seen r w l none more after taken =
@@ -267,7 +267,7 @@ without_form : (seen : List Lexeme) (r : TextReader) (w : IsItemRead seen r) (l 
 without_form seen r w l none formless more f =
     forms_stuck r.known w.item l none formless more tt (w.read.forms (l ∷ more) (subst (HasForm r.known w.t) (append_assoc w.body (l ∷ []) more) f))
 
--- what stands in a body stands in it with more behind
+-- what stands in a body stands in it with more after
 stands_further : (body more : List Lexeme) (place : ℕ) (Is : Lexeme → Type 0) → StandsIn body place Is → StandsIn (body ++ more) place Is
 stands_further body more place Is s = record {
   before = s.before;
@@ -335,7 +335,7 @@ due_at_fault ts n k t body item f kind place h last ending topics seen w =
     of (items.Start r) e s late = late_at_fault (states_known k) body r kind place s late
     of _ e s late = absurd (cc)
 
--- a start item in which the tokens end in a fault behind a number without a value
+-- a start item in which the tokens end in a fault after a number without a value
 pub pending_refused : (seen : List Lexeme) (r : TextReader) (f : TokenFault) (x : Refusal) → (w : IsItemRead seen r) → pending_in w.item ≡ Some x
     → (text : List ℕ) (ts : TextTokens) → AreTokensOf text ts → ts.lexemes ≡ seen → ts.ending ≡ Some f → Refuses ts (model_faults.Item x.kind r.number x.place)
 pending_refused seen r f x w e text ts tokens same ending =

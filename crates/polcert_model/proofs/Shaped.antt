@@ -58,7 +58,7 @@ too_much_shaped k t body m = (
 nothing_much : (p : Preamble) (es : List Entry) → es ≡ [] → HasFewCells p es
 nothing_much p es e = subst (HasFewCells p) (sym e) (record { transitions = λ l. omega arith; observations = λ l. omega arith; rewards = λ l. omega arith })
 
--- what is right and no entry has no entries behind it
+-- what is right and no entry has no entries after it
 few_behind : (k : Known) (t : Topic) (body : List Lexeme) (next : Known) → ((table : Table) → t ≡ Cells table → ⊥) → IsRight k t body next → HasFewCells (preamble_in k) next.entries
 few_behind k t body next other (texts.discount p e c n l) = nothing_much _ _ p.no_entry
 few_behind k t body next other (texts.rewards p e c w) = nothing_much _ _ p.no_entry

@@ -1,4 +1,4 @@
--- An item as its reader goes on with it, from its word on: the same as what is right of it.
+-- An item as its reader continues with it, from its word on: the same as what is right of it.
 use Rattle.std.proofs.Common.{ℕ, ◌≡◌, ◌∙◌, ◌≤◌, ◌⊎◌, inl, inr, true, false, Option, Some, None, unwrap_or, List, [], ◌∷◌, ◌++◌, refl, sym, ap, subst, arith, append_assoc}
 use Rattle.std.proofs.lemmas.List.Elements.{All-cons, All-nil}
 use Rattle.polcert_text.specs.Cut.{Lexeme}
@@ -44,9 +44,9 @@ use Rattle.polcert_format.proofs.LimitLaws.{CountWithin, counts_within}
 use Rattle.polcert_format.proofs.OrderLaws.{discount_may_stand, values_may_stand, states_may_stand, actions_may_stand, observations_may_stand, start_may_stand, entry_may_stand}
 use Rattle.polcert_items.proofs.PatternLaws.{colon_takes}
 
--- ---- what is right goes on
+-- ---- what is right continues
 
--- an entry behind its word
+-- an entry after its word
 entry_goes : (k : Known) (p : Preamble) (table : Table) (ls : List Lexeme) (e : Entry) → IsComplete k p → IsEntry p table ls e → EntryGoes (preamble_in k) (new_entry table) ls e
 entry_goes k p table ls e complete a =
     let b = entry_begins p table ls e a in
@@ -71,7 +71,7 @@ pub taken_goes : (k : Known) (t : Topic) (body : List Lexeme) (next : Known) →
 taken_goes k (Cells table) body next s = (s.e, (entry_goes k s.p table body s.e s.complete s.entry, s.next_is))
 taken_goes k t body next s = right_goes k t body next s
 
--- ---- what goes on is right
+-- ---- what continues is right
 
 discount_taken : (k : Known) (body : List Lexeme) (next : Known) → word_fault k Discount ≡ None → ItemGoes k (items.Discount discount.Colon) body next → IsRight k Discount body next
 discount_taken k [] next free (g, (goes, e)) = absurd goes
@@ -139,7 +139,7 @@ new_topic : (t : Topic) → topic_in (new_item t) ≡ t
 new_topic Discount = refl
 new_topic _ = refl
 
--- what goes on to the form of an item has it
+-- what continues to the form of an item has it
 forms_formed : (k : Known) (t : Topic) (body : List Lexeme) → word_fault k t ≡ None → ItemForms k (new_item t) body tt → HasForm k t body
 forms_formed k Start body free g =
     let stands = start_may_stand k free in
@@ -150,7 +150,7 @@ forms_formed k t body free g = shapes.right (goes_taken k t body g.0 free g.1)
 start_no_cells : {table : Table} → Start ≡ Cells table → ⊥
 start_no_cells e = cc
 
--- and what has it goes on so
+-- and what has it continues so
 formed_forms : (k : Known) (t : Topic) (body : List Lexeme) → HasForm k t body → ItemForms k (new_item t) body tt
 formed_forms k t body f = of (is_start t)
   where

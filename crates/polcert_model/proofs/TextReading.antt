@@ -1,4 +1,4 @@
--- A text's reader, step by step: what it holds behind one more lexeme, and behind an item.
+-- A text's reader, step by step: what it holds after one more lexeme, and after an item.
 use Rattle.std.proofs.Common.{◌≡◌, ◌∙◌, ℕ, ◌+◌, true, false, Option, Some, None, List, [], ◌∷◌, ◌++◌, refl, sym, ap, subst, append_assoc, length-append}
 use Rattle.std.proofs.lemmas.List.{append-nil}
 use Rattle.polcert_text.specs.Cut.{Lexeme}

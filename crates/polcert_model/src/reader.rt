@@ -52,7 +52,7 @@ impl TextReader {
         }
     }
 
-    /// Goes on with the next token.
+    /// Continues with the next token.
     #[inline(always)]
     fn take(&mut self, alloc: Global, token: Token<'_>) -> Result<(), ModelFault>
         requires read { (seen : List Lexeme) × IsTextRead seen self.old }
@@ -73,7 +73,7 @@ impl TextReader {
         }
     }
 
-    /// Goes on with a token that begins no item.
+    /// Continues with a token that begins no item.
     #[inline(always)]
     fn feed(&mut self, alloc: Global, token: Token<'_>) -> Result<(), ModelFault>
         requires read { (seen : List Lexeme) × IsTextRead seen self.old }
@@ -94,8 +94,8 @@ impl TextReader {
         }
     }
 
-    /// Goes on with tokens that stand whole at the front of the bytes, as far as it is known at once that it can, and answers how
-    /// many bytes they are. An error is want of memory.
+    /// Continues with tokens that stand whole at the front of the bytes, as far as it is known at once that it can, and answers how
+    /// many bytes they are. An error is out of memory.
     #[inline(always)]
     fn feed_ahead(&mut self, alloc: Global, bytes: &[u8]) -> Result<usize, AllocError>
         requires { (seen : List Lexeme) × IsTextRead seen self.old }
@@ -217,7 +217,7 @@ fn read_text(alloc: Global, text: &[u8]) -> Result<Known, ModelFault>
     }
 }
 
-/// Goes on with the tokens ahead that were read whole, as far as it is known at once that it can.
+/// Continues with the tokens ahead that were read whole, as far as it is known at once that it can.
 #[inline(always)]
 fn read_ahead(
     alloc: Global,
@@ -289,7 +289,7 @@ fn read_text_from<S: Source>(
     }
 }
 
-/// The model of what the items of a whole text say, where each row of its tables sums to its scale.
+/// The model of what the items of a whole text say, if each row of its tables sums to its scale.
 fn model_of(alloc: Global, known: Known) -> Result<Model, ModelFault>
     requires { (text : List ℕ) × IsTextOf text known }
     ensures { (text : List ℕ) → IsTextOf text known → MatchResult result
@@ -328,7 +328,7 @@ pub fn read_model(alloc: Global, text: &[u8]) -> Result<Model, ModelFault>
 ///
 /// # Errors
 ///
-/// `Device` where a read failed, and else what `read_model` refuses. A text that is refused before its source fails is
+/// `Device` if a read failed, and else what `read_model` refuses. A text that is refused before its source fails is
 /// refused.
 pub fn read_model_from<S: Source>(
     alloc: Global,

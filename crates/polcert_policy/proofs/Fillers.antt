@@ -93,7 +93,7 @@ module _ {way : Rounding} where
     rounded = zero_rounded way false;
   }
 
-  -- so is `0` behind a sign
+  -- so is `0` after a sign
   pub signed_zero_value : (s : Lexeme) → sign_kind s.kind ≡ true → IsValuePart way (signed_zero s) (pos 0)
   signed_zero_value s sign = record {
     part = record { numeral = refl; signed = λ u e. subst (λ x. sign_kind x.kind ≡ true) (same_some s u e) sign };

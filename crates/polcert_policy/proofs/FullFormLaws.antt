@@ -81,7 +81,7 @@ value_part way place (negsuc n) r =
 action_part : (place a : ℕ) → a < 2 ^ 64 → IsActionPart a (part_with place false (decimal a))
 action_part place a l = let was = action_spelled a l in record { unsigned = refl; whole = was.whole; value = was.value }
 
--- what stands behind a number
+-- what stands after a number
 record Behind (bs : List ℕ) : Type 0 where
   blank : list_all is_blank bs ≡ true
   first : ℕ

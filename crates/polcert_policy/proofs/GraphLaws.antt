@@ -110,7 +110,7 @@ step_action a o ts t node cs ss some old apart whole known =
       few_begun = λ l. old.few_begun (omega arith);
     }
 
--- the place behind the z-th of so many places, of which the first is in this column
+-- the place after the z-th of so many places, of which the first is in this column
 pub record IsBehind (first o node z n c : ℕ) : Type 0 where
   pub inside : suc z < o → (n ≡ node) × (c ≡ first + suc z)
   pub last : suc z ≡ o → (n ≡ suc node) × (c ≡ 0)
@@ -207,7 +207,7 @@ zero_whole : is_whole digit_0 ≡ true
 unfolding class_of
 zero_whole = refl
 
--- behind whole fronts of a node, successors that name no node complete it
+-- after whole fronts of a node, successors that name no node complete it
 possible_successors : (a o : ℕ) (left : ℕ) (ts : List Lexeme) (node z : ℕ) (cs : List ℕ) (ss : List (Option ℕ))
     → suc z + left ≡ o → AreNodesUpTo a o ts node (2 + z) cs ss → IsPossible a o ts
 possible_successors a o zero ts node z cs ss e old =
@@ -247,7 +247,7 @@ possible a o ts node (suc zero) cs ss some_a some_o old = possible_action a o ts
 possible a o ts node (suc (suc z)) cs ss some_a some_o old =
     possible_successors a o (o - suc z) ts node z cs ss (omega (arith, old.within)) (subst (λ c. AreNodesUpTo a o ts node c cs ss) (omega arith) old)
 
--- a graph that goes on from what is read has the next token at its place
+-- a graph that continues from what is read has the next token at its place
 pub needed : (a o : ℕ) (ts more : List Lexeme) (t : Lexeme) (node column : ℕ) (cs : List ℕ) (ss : List (Option ℕ)) (g : PolicyGraph)
     → AreNodesUpTo a o ts node column cs ss → IsLooseGraph a o (ts ++ t ∷ more) g
     → Fits a o node column t g.chosen g.successors
@@ -260,7 +260,7 @@ needed a o ts more t node column cs ss g old loose =
       next = λ z e. loose.records.next node z t (omega (arith, e, old.within)) (subst (λ c. At (node * width o + c)) e here);
     }
 
--- a graph that goes on behind whole nodes has more of them
+-- a graph that continues after whole nodes has more of them
 pub needed_node : (a o : ℕ) (ts more : List Lexeme) (t : Lexeme) (node : ℕ) (cs : List ℕ) (ss : List (Option ℕ)) (g : PolicyGraph)
     → AreNodesUpTo a o ts node 0 cs ss → IsLooseGraph a o (ts ++ t ∷ more) g → node < most_nodes
 needed_node a o ts more t node cs ss g old loose = at (order node (nodes g))

@@ -71,8 +71,8 @@ module _ (P : List Lexeme → Type 0) (front : (ts us : List Lexeme) → P (ts +
       let behind = cut_taken rest x us ts end taken cut in
       none (front us behind.0 (subst P behind.1.0 possible))
 
-  -- Why a text is refused, where this says why a token can't stand behind others, and that how the text ends: one of its tokens can't
-  -- stand behind those before it, or the text ends so.
+  -- Why a text is refused, where this says why a token can't stand after others, and that how the text ends: one of its tokens can't
+  -- stand after those before it, or the text ends so.
   module _ {F : Type 0} (IsWrong : List Lexeme → Lexeme → F → Type 0) (EndsFor : List Lexeme → Option TokenFault → F → Type 0) (rest : Rest) where
     abbrev pub HasReason : F → Type 0
     HasReason f = ((tokens : List Lexeme) × ((new : Rest) × Taken rest tokens new × StopFor P (λ before token. IsWrong before token f) tokens))

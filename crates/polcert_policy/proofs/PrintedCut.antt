@@ -1,4 +1,4 @@
--- The tokens of numbers that are written one behind another, with blanks or line ends behind each.
+-- The tokens of numbers that are written one after another, with blanks or line ends after each.
 use Rattle.std.proofs.Common.{◌≡◌, ◌∙◌, ℕ, ◌+◌, ◌≤◌, Bool, true, false, Some, None, List, [], ◌∷◌, ◌++◌, length, refl, ap, subst, arith, length-append}
 use Rattle.std.specs.List.{list_all}
 use Rattle.polcert_text.specs.Bytes.{is_blank}
@@ -10,7 +10,7 @@ use Rattle.polcert_text.proofs.Printing.PrintedCut.{rest_at}
 use Rattle.polcert_text.proofs.Printing.PrintedWords.{Word, plain, minus, word_text, spelled, IsSpelling, text_word, word_printed, numeral_piece}
 use Rattle.polcert_policy.specs.Vectors.{Part, tokens_of}
 
--- a number as it is written, and what stands behind it
+-- a number as it is written, and what stands after it
 pub record Printed : Type 0 where
   pub negative : Bool
   pub numeral : List ℕ

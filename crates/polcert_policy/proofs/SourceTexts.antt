@@ -1,4 +1,4 @@
--- What is said of the text of a source that ended cleanly behind the tokens taken.
+-- What is said of the text of a source that ended cleanly after the tokens taken.
 use Rattle.std.proofs.Common.{◌≡◌, ℕ, ◌-◌, ◌<◌, ◌≤◌, Option, None, List, [], ◌∷◌, ◌++◌, length, arith}
 use Rattle.polcert_text.specs.Cut.{Lexeme, IsCut, text_rest, text_limit}
 use Rattle.polcert_text.specs.Source.{IsText, EachTextThatFits}
@@ -17,7 +17,7 @@ module _ {S : Type 0} (reads : S → ℕ → Option (List ℕ) → S → Type 0)
   pub of_each_text : EachTextThatFits reads first u P
   of_each_text = each_whole reads first of_its_text.0 u P of_its_text.1 of_its_text.2
 
--- behind a token less of the text is left
+-- after a token less of the text is left
 pub less_left : {S : Type 0} (reads : S → ℕ → Option (List ℕ) → S → Type 0) (failures : S → ℕ) (first : S) (ts : List Lexeme) (old : Stream) (s : S) (t : Lexeme) (new : Stream) (u : S)
     → TakenFrom reads failures text_limit first ts old s → GivesToken reads failures old.ahead s t new.ahead u → new.stop ≡ None → text_limit - new.ahead.place < text_limit - old.ahead.place
 less_left reads failures first ts old s t new u was gives goes_on =

@@ -83,7 +83,7 @@ part_of_value o ps node vs x count filled k e =
     (n, s, part.0, place, l, part.1)
 
 module _ {way : Rounding} where
-  -- the parts of vectors are numerals, perhaps behind a sign
+  -- the parts of vectors are numerals, perhaps after a sign
   pub vector_parts : (g : PolicyGraph) (states : ℕ) (ps : List Part) (vs : List ℤ) → AreVectors way g states ps vs → AreParts ps
   vector_parts g states ps vs h k p e =
       let row = row_of (1 + states) k (omega arith) in at row.0 row.1.0 row.1.1 row.1.2

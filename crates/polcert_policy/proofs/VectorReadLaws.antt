@@ -1,4 +1,4 @@
--- What is read of vectors behind one more token, and why a token is refused.
+-- What is read of vectors after one more token, and why a token is refused.
 use Rattle.std.proofs.Common.{◌≡◌, ◌∙◌, ℕ, ℤ, suc, ◌+◌, ◌-◌, ◌*◌, ◌^◌, ◌<◌, ◌≤◌, true, false, ◌||◌, if◌then◌else◌, pos, Option, Some, None, Err, List, [], ◌∷◌, ◌++◌, length, slice_get, option_map, refl, sym, ap, subst, arith, append_assoc, append-nil, length-append}
 use Rattle.std.proofs.Math.Path.{transport⁻¹, subst₂, subst⁻¹}
 use Rattle.polcert_text.specs.Cut.{Lexeme}
@@ -114,7 +114,7 @@ other_kind Plus a b c = absurd (b refl)
 other_kind Minus a b c = absurd (c refl)
 other_kind _ a b c = (refl, refl)
 
--- what comes next in vectors that go on with a token
+-- what comes next in vectors that continue with a token
 pub record NextPart (way : Rounding) (g : PolicyGraph) (o : ℕ) (ps : List Part) (node column : ℕ) (ws : List ℤ) (x : Lexeme) (more : List Lexeme) : Type 0 where
   pub part : Part
   pub rest : List Part
@@ -123,7 +123,7 @@ pub record NextPart (way : Rounding) (g : PolicyGraph) (o : ℕ) (ps : List Part
   pub fits : FitsVectors way g o node column part ws
   pub count : length ps + suc (length rest) ≡ nodes g * (1 + o)
 
--- no vectors go on so
+-- no vectors continue so
 abbrev GoesOn : Rounding → PolicyGraph → ℕ → List Part → Option Lexeme → Lexeme → Type 0
 GoesOn way g o ps sign t = (more : List Lexeme) (v : PolicyVectors) → IsRoundedVectors way g o (tokens_of ps ++ (with_sign sign t ++ more)) v → ⊥
 
@@ -160,7 +160,7 @@ module _ {way : Rounding} where
       at None e tokens = (e, head_of t n.part.token _ _ tokens)
       at (Some s) e tokens = absurd (not_sign s t (sym (head_of t s _ _ tokens)) (n.is_part.signed s e) numeral)
 
-  -- behind a sign that comes next stands the number's numeral
+  -- after a sign that comes next stands the number's numeral
   pub signed_part : (g : PolicyGraph) (o : ℕ) (ps : List Part) (node column : ℕ) (ws : List ℤ) (s t : Lexeme) (more : List Lexeme)
       → sign_kind s.kind ≡ true → (n : NextPart way g o ps node column ws s (t ∷ more)) → (n.part.sign ≡ Some s) × (t ≡ n.part.token)
   signed_part g o ps node column ws s t more sign n = at n.part.sign refl n.tokens
@@ -297,7 +297,7 @@ module _ {way : Rounding} where
         shape None = (λ i. no_numeral i || no_sign i)
         shape (Some s) = no_numeral
 
-    -- a sign behind a sign
+    -- a sign after a sign
     pub refuse_second_sign : (u : OpenSign) → 0 < r.column → r.sign ≡ Some u → sign_kind t.kind ≡ true → StopVectorsFor way g r.states (seen ++ t ∷ []) (faults.BadShape u.place)
     refuse_second_sign u begun e sign =
         let open_one = sym e ∙ h.kept in

@@ -45,6 +45,6 @@ number_at _ n = None
 abbrev pub successor_of : Lexeme → Option ℕ
 successor_of t = number_at t.kind (whole_of t)
 
--- a `-`, and directly behind it a numeral
+-- a `-`, and directly after it a numeral
 abbrev pub is_joined : Lexeme → Lexeme → Bool
 is_joined s t = minus_kind s.kind && (numeral_kind t.kind && (t.place == s.place + length s.bytes))

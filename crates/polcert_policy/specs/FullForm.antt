@@ -7,7 +7,7 @@ use Rattle.polcert_text.specs.Millionths.{scaled_text}
 use Rattle.polcert_policy.specs.Graphs.{PolicyGraph, nodes, action_of}
 use Rattle.polcert_policy.specs.Vectors.{PolicyVectors, value_of}
 
--- what stands behind the value of state s: a blank, or behind the last value a line end and an empty line
+-- what stands after the value of state s: a blank, or after the last value a line end and an empty line
 abbrev pub behind_value : ℕ → ℕ → List ℕ
 behind_value states s = if suc s == states then codes "\n\n" else codes " "
 

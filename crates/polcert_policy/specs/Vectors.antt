@@ -38,7 +38,7 @@ abbrev pub with_sign : Option Lexeme → Lexeme → List Lexeme
 with_sign None t = t ∷ []
 with_sign (Some s) t = s ∷ t ∷ []
 
--- the tokens of the parts, one part behind another
+-- the tokens of the parts, one part after another
 abbrev pub tokens_of : List Part → List Lexeme
 tokens_of [] = []
 tokens_of (p ∷ ps) = with_sign p.sign p.token ++ tokens_of ps

@@ -103,7 +103,7 @@ impl GraphReading {
         }
     }
 
-    /// Goes on to the place of the next token.
+    /// Continues to the place of the next token.
     fn advance(&mut self)
         requires { 0 < self.old.column ⊎ self.old.node < most_nodes }
         ensures { Advanced self.old self.new }
@@ -160,7 +160,7 @@ impl GraphReading {
         }
     }
 
-    /// Refuses a numeral directly behind a `-`.
+    /// Refuses a numeral directly after a `-`.
     fn check_apart(&self, token: Token<'_>) -> Result<(), GraphFault>
         ensures { let t = lexeme_of token.entry in (seen : List Lexeme) → IsRead seen self.now
             → MatchResult result
@@ -194,7 +194,7 @@ impl GraphReading {
         Ok(())
     }
 
-    /// The graph, where the text ends here.
+    /// The graph, if the text ends here.
     fn finish(self, end: u64) -> Result<Graph, GraphFault>
         requires { (seen : List Lexeme) × IsRead seen self }
         ensures { (seen : List Lexeme) → IsRead seen self → MatchResult result
@@ -241,8 +241,8 @@ fn first_beyond(successors: &[Successor], count: usize) -> Option<usize>
 ///
 /// # Errors
 ///
-/// The first token that can't stand at its place (G1 to G4, G8); a numeral directly behind a `-` is refused at the `-`. A
-/// clean end of the text inside a node or before the first (G6, G7), or else, in a text that ends cleanly behind a node, the
+/// The first token that can't stand at its place (G1 to G4, G8); a numeral directly after a `-` is refused at the `-`. A
+/// clean end of the text inside a node or before the first (G6, G7), or else, in a text that ends cleanly after a node, the
 /// first successor by node and observation that isn't a node (G5). G9 where memory ran out.
 pub fn read_graph(
     alloc: Global,
@@ -258,7 +258,7 @@ pub fn read_graph(
         (IsNoGraphText actions observations text.now) }
     ensures refused { IfErr result (IsGraphRefusal actions observations text.now) }
 
-    // Where only the bound on successors fails, the first that breaks it by node and observation is named.
+    // If only the bound on successors fails, the first that breaks it by node and observation is named.
     ensures beyond { (n z : ℕ) → HasFirstBeyond actions observations text.now n z →
         IsErrAnd result (NamesSuccessor n z) }
 {
@@ -278,7 +278,7 @@ pub fn read_graph(
 ///
 /// # Errors
 ///
-/// `Device` where a read failed, and else what `read_graph` refuses. A text that is refused before its source fails is
+/// `Device` if a read failed, and else what `read_graph` refuses. A text that is refused before its source fails is
 /// refused.
 pub fn read_graph_from<S: Source>(
     alloc: Global,

@@ -1,4 +1,4 @@
-//! One more item behind others.
+//! One more item after others.
 ghost use Rattle.std.specs.Prelude.{◌≡◌, ◌++◌, ◌∷◌, [], IfOk};
 
 use std::alloc::AllocError;

@@ -16,7 +16,7 @@ pub fn one_graph()
         IsGraphText actions observations text g → IsGraphText actions observations text h → g ≡ h }
 {}
 
-/// A text is refused as a graph for at most one reason, and at one place, want of memory aside.
+/// A text is refused as a graph for at most one reason, and at one place, out of memory aside.
 pub fn one_graph_refusal()
     ensures { (actions observations : ℕ) (text : List ℕ) (f g : GraphFault) →
         f ≢ GraphFault.Memory → g ≢ GraphFault.Memory →
@@ -35,7 +35,7 @@ pub fn graph_within_limits()
     ensures successors { (actions observations : ℕ) (text : List ℕ) (g : PolicyGraph) →
         IsGraphText actions observations text g → HasNodesOnly g }
 
-    // So, where the counts are within theirs, it is what is true of every graph.
+    // So, if the counts are within theirs, it is what is true of every graph.
     ensures proper { (actions observations : ℕ) (text : List ℕ) (g : PolicyGraph) →
         actions ≤ most_actions → 1 ≤ observations → observations ≤ most_observations →
         IsGraphText actions observations text g → IsProperGraph g }
@@ -51,7 +51,7 @@ pub fn one_vectors()
         → v ≡ w }
 {}
 
-/// A text is refused as vectors of a graph for at most one reason, and at one place, want of memory aside.
+/// A text is refused as vectors of a graph for at most one reason, and at one place, out of memory aside.
 pub fn one_vectors_refusal()
     ensures down { (graph : PolicyGraph) (states : ℕ) (text : List ℕ) (f g : VectorFault) →
         f ≢ VectorFault.Memory → g ≢ VectorFault.Memory →
@@ -72,7 +72,7 @@ pub fn vectors_within_limits()
         IsVectorsText graph states text v → (n s : ℕ) → n < nodes graph → s < states
         → IsInRange (value_of v n s) }
 
-    // So, where the counts are within theirs, they are what is true of all vectors.
+    // So, if the counts are within theirs, they are what is true of all vectors.
     ensures proper { (graph : PolicyGraph) (states : ℕ) (text : List ℕ) (v : PolicyVectors) →
         1 ≤ nodes graph → nodes graph ≤ most_nodes → 1 ≤ states → states ≤ most_states →
         IsVectorsText graph states text v → AreProperVectors v }

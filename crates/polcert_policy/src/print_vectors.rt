@@ -15,7 +15,7 @@ use polcert_text::{Rounding, Sink, SinkFailed, write_all, write_scaled};
 ///
 /// # Errors
 ///
-/// Where the sink failed, which then took a beginning of the text.
+/// If the sink failed, which then took a beginning of the text.
 pub fn write_vectors<W: Sink>(
     graph: &Graph,
     vectors: &Vectors,
@@ -91,7 +91,7 @@ fn write_value<W: Sink>(
     write_all(out, separator(vectors.states(), state))
 }
 
-/// What stands behind a value: a blank, or behind the last of a vector its line end and an empty line.
+/// What stands after a value: a blank, or after the last of a vector its line end and an empty line.
 fn separator(states: usize, state: usize) -> &'static [u8]
     requires { state < states }
     ensures { result.now ≡ behind_value states state }

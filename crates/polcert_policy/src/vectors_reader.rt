@@ -69,7 +69,7 @@ impl VectorsReading {
         Ok(())
     }
 
-    /// Goes on to the place of the next value, or to the next vector.
+    /// Continues to the place of the next value, or to the next vector.
     fn advance(&mut self)
         requires { 0 < self.old.column }
         ensures { AdvancedValue self.old self.new }
@@ -175,7 +175,7 @@ impl VectorsReading {
         }
     }
 
-    /// The vectors, where the text ends here.
+    /// The vectors, if the text ends here.
     fn finish(self, graph: &Graph, end: u64) -> Result<Vectors, VectorFault>
         requires { (rounding : Rounding) × ((seen : List Lexeme) × HasVectors rounding graph.now seen self) }
         ensures { (rounding : Rounding) (seen : List Lexeme) → HasVectors rounding graph.now seen self
@@ -198,8 +198,8 @@ impl VectorsReading {
 ///
 /// # Errors
 ///
-/// The first token or number that can't stand at its place (V1 to V4, V6); a number, and what stands in its place behind a
-/// sign (V2, V3), at the sign. A clean end of the text inside a vector (V5), or behind fewer vectors than nodes (V6). V7
+/// The first token or number that can't stand at its place (V1 to V4, V6); a number, and what stands in its place after a
+/// sign (V2, V3), at the sign. A clean end of the text inside a vector (V5), or after fewer vectors than nodes (V6). V7
 /// where memory ran out.
 pub fn read_vectors(
     alloc: Global,
@@ -274,7 +274,7 @@ pub fn read_rounded_vectors(
 ///
 /// # Errors
 ///
-/// `Device` where a read failed, and else what `read_vectors` refuses. A text that is refused before its source fails is
+/// `Device` if a read failed, and else what `read_vectors` refuses. A text that is refused before its source fails is
 /// refused.
 pub fn read_vectors_from<S: Source>(
     alloc: Global,

@@ -29,7 +29,7 @@ abbrev pub digit : Place → ℕ
 digit Every = 1
 digit (Only n) = n + 2
 
--- the key of these places behind those of the key `low`, where there is room for so many digits to the base
+-- the key of these places after those of the key `low`, where there is room for so many digits to the base
 abbrev pub key_in : ℕ → ℕ → List Place → ℕ
 key_in levels low [] = low
 key_in zero low (p ∷ ps) = low
@@ -59,7 +59,7 @@ table_key table = table_digit table * key_base ^ most_places
 abbrev pub key_of : Entry → ℕ
 key_of entry = key_in most_places (table_key entry.table) entry.places
 
--- The key is that of some places, behind those of the key `low`, that fit the first of these indices.
+-- The key is that of some places, after those of the key `low`, that fit the first of these indices.
 pub record Fits (levels low : ℕ) (indices : List ℕ) (key : ℕ) : Type 0 where
   pub places : List Place
   pub fits : fit_places places indices ≡ true

@@ -9,8 +9,8 @@ later None b = b
 later (Some m) None = Some m
 later (Some m) (Some n) = if nat_le m n then Some n else Some m
 
--- The key is that of some places, behind those of the key `low`, that fit the first of these indices: it is `low` itself, where
--- there are none, or it goes on with `*`, or with the first index, and the places behind fit the indices behind.
+-- The key is that of some places, after those of the key `low`, that fit the first of these indices: it is `low` itself, where
+-- there are none, or it continues with `*`, or with the first index, and the places after fit the indices after.
 abbrev pub fits_key : ℕ → ℕ → List ℕ → ℕ → Bool
 fits_key levels low [] key = key == low
 fits_key zero low (i ∷ indices) key = key == low
@@ -22,6 +22,6 @@ abbrev pub newest_by : (ℕ → Bool) → List Rule → Option ℕ
 newest_by passes [] = None
 newest_by passes (r ∷ rs) = if passes r.key then later (Some r.number) (newest_by passes rs) else newest_by passes rs
 
--- the greatest number of the rules whose keys, behind `low`, fit these indices
+-- the greatest number of the rules whose keys, after `low`, fit these indices
 abbrev pub newest_in : ℕ → ℕ → List Rule → List ℕ → Option ℕ
 newest_in levels low rules indices = newest_by (fits_key levels low indices) rules

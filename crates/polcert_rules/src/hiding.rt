@@ -1,4 +1,4 @@
-//! The cells of a row: what covers the whole row, where no newer single cell of weight 0 hides it, and newer cells.
+//! The cells of a row: what covers the whole row, if no newer single cell of weight 0 hides it, and newer cells.
 ghost use Rattle.std.specs.Prelude.{◌≡◌, ◌+◌, ◌<◌, All, IfOk, IfSome};
 ghost use Rattle.polcert_cells.specs.declared.cell.Cell.{Cell as C};
 ghost use Rattle.polcert_rules.specs.Keys.{key_base};

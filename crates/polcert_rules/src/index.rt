@@ -37,7 +37,7 @@ impl Model for Index {
 }
 
 impl Index {
-    /// The index of these entries. An error is want of memory.
+    /// The index of these entries. An error is out of memory.
     pub fn of(alloc: Global, entries: &Entries) -> Result<Index, AllocError>
         requires { AreKeyed entries.now }
         ensures { IfOk result (IsIndexOf entries.now) }

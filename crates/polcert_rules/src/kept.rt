@@ -252,7 +252,7 @@ fn has_cells(kept: &[Kept], number: usize, cells: &[Cell]) -> bool
     kept[number].cells.as_slice() == cells
 }
 
-/// The number of the row so many before the one that comes next, where there is one.
+/// The number of the row so many before the one that comes next, if there is one.
 fn neighbour(numbers: &[usize], back: usize) -> Option<usize>
     requires { 0 < back }
     ensures { ForSome result (Contains numbers.now) }
@@ -294,7 +294,7 @@ fn is_same(one: Source, other: Source) -> bool
     }
 }
 
-/// Keeps a row behind the others, and gives its number.
+/// Keeps a row after the others, and gives its number.
 fn keep(
     kept: &mut Vec<Kept>,
     source: Source,

@@ -22,7 +22,7 @@ pub(crate) fn merged(alloc: Global, base: &[Cell], newer: &[Cell]) -> Result<Vec
     Ok(cells)
 }
 
-/// Puts the cells before a column behind the others, and gives those behind it.
+/// Puts the cells before a column after the others, and gives those after it.
 fn add_before<'a>(
     cells: &mut Vec<Cell>,
     base: &'a [Cell],

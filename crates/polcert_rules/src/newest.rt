@@ -35,8 +35,8 @@ pub(crate) fn newest(rules: &[Rule], low: u64, levels: usize, indices: &[usize])
     }
 }
 
-/// The rules that go on with a place for an index: with `*`, or with the index itself; what their keys follow, and how many places
-/// may come behind.
+/// The rules that continue with a place for an index: with `*`, or with the index itself; what their keys follow, and how many places
+/// may come after.
 #[derive(Clone, Copy)]
 pub(crate) struct NextPlace<'a> {
     pub levels: usize,
@@ -46,7 +46,7 @@ pub(crate) struct NextPlace<'a> {
     pub of_only: &'a [Rule],
 }
 
-/// Of the rules whose places follow those of the key `low`, at most so many, those that go on with a place for an index.
+/// Of the rules whose places follow those of the key `low`, at most so many, those that continue with a place for an index.
 #[inline(always)]
 pub(crate) fn next_place(rules: &[Rule], low: u64, levels: usize, index: usize) -> NextPlace<'_>
     requires rising { IsRising rules.now }
@@ -68,7 +68,7 @@ pub(crate) fn next_place(rules: &[Rule], low: u64, levels: usize, index: usize) 
     }
 }
 
-/// The number of the rule with this key, where no rule has a lower one.
+/// The number of the rule with this key, if no rule has a lower one.
 pub(crate) fn first_at(rules: &[Rule], key: u64) -> Option<usize>
     requires rising { IsRising rules.now }
     requires from { (r : R) → Contains rules.now r → key ≤ r.key }
@@ -98,7 +98,7 @@ pub(crate) fn span(levels: usize) -> u64
     }
 }
 
-/// The greater of two numbers, where there are any.
+/// The greater of two numbers, if there are any.
 pub(crate) fn later(one: Option<usize>, other: Option<usize>) -> Option<usize>
     ensures { result ≡ later one other }
 {

@@ -10,9 +10,9 @@ use crate::Rule;
 use crate::newest::{first_at, later, next_place};
 use crate::part::{between, from};
 
-/// Notes, for as many numbers from `first` on as there is room for, each as the last index behind these, the newest rule that fits,
+/// Notes, for as many numbers from `first` on as there is room for, each as the last index after these, the newest rule that fits,
 /// where it is later than what is noted. The places of the rules follow those of the key `low`.
-// (Six parameters: it goes on with a part of the rules and of the indices, so that a struct of them would be
+// (Six parameters: it continues with a part of the rules and of the indices, so that a struct of them would be
 // made anew at each step.)
 pub(crate) fn note(
     rules: &[Rule],

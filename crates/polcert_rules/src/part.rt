@@ -36,7 +36,7 @@ pub(crate) fn between_at(rules: &[Rule], low: u64, high: u64, span: RuleSpan) ->
     from_at(front, low, span.start as usize)
 }
 
-/// Where a part of a list of rules may stand. More rules than there are such numbers count as want of memory.
+/// Where a part of a list of rules may stand. More rules than there are such numbers count as out of memory.
 pub(crate) fn span_of(start: usize, end: usize) -> Result<RuleSpan, AllocError> {
     Ok(RuleSpan {
         start: in_half(start)?,
@@ -44,7 +44,7 @@ pub(crate) fn span_of(start: usize, end: usize) -> Result<RuleSpan, AllocError> 
     })
 }
 
-/// The place of the first rule from this place on that is not before the key, or the place behind the last.
+/// The place of the first rule from this place on that is not before the key, or the place after the last.
 pub(crate) fn place_of(rules: &[Rule], from: usize, key: u64) -> usize {
     let mut place = from;
     while place < rules.len() && rules[place].key < key {

@@ -45,9 +45,9 @@ pub(crate) struct Known {
 /// Rows that may come again.
 #[derive(Drop)]
 pub(crate) struct Repeats {
-    /// The last row that may be that of a state behind it.
+    /// The last row that may be that of a state after it.
     of_action: Option<Known>,
-    /// Of each state the last row that may be that of an action behind it, if this is looked for.
+    /// Of each state the last row that may be that of an action after it, if this is looked for.
     of_states: Vec<Option<Known>>,
     /// Whether rows of one action are compared.
     compares_states: bool,
@@ -107,7 +107,7 @@ impl Repeats {
         }
     }
 
-    /// The number of this row, where it is known to be a row of before.
+    /// The number of this row, if it is known to be a row of before.
     pub(crate) fn number_of(&self, bodies: Bodies<'_>, row: Outline) -> Option<usize>
         requires { IfSome row.whole (λ n. n < length bodies.entries.now) }
         ensures { IfSome result (λ n. (columns : ℕ) (table : T) (rules : List R) (kept : List K) →

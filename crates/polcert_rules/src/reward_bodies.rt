@@ -18,7 +18,7 @@ const NO_BODY: RewardBody = RewardBody {
     places: 0,
 };
 
-/// The bodies of some entries of R, each as far behind the first as its entry is behind the entry `first`, and the numbers of
+/// The bodies of some entries of R, each as far after the first as its entry is after the entry `first`, and the numbers of
 /// all of them.
 #[derive(Drop)]
 pub(crate) struct RewardBodies {
@@ -89,7 +89,7 @@ fn first_number(rules: &[Rule]) -> usize
     first
 }
 
-/// A number that each rule's is below, where each is below the limit.
+/// A number that each rule's is below, if each is below the limit.
 fn behind_last(rules: &[Rule], limit: usize) -> usize
     requires { (r : R) → Contains rules.now r → r.number < limit }
     ensures { (r : R) → Contains rules.now r → r.number < result }
@@ -103,7 +103,7 @@ fn behind_last(rules: &[Rule], limit: usize) -> usize
     end
 }
 
-/// A number in half the bits. More numbers than these count as want of memory.
+/// A number in half the bits. More numbers than these count as out of memory.
 pub(crate) fn in_half(number: usize) -> Result<u32, AllocError>
     ensures { IfOk result (λ n. n ≡ number) }
 {
@@ -113,7 +113,7 @@ pub(crate) fn in_half(number: usize) -> Result<u32, AllocError>
     Ok(number as u32)
 }
 
-/// Puts the rewards of a body behind the others, each as it is worth.
+/// Puts the rewards of a body after the others, each as it is worth.
 fn add_numbers(numbers: &mut Vec<i64>, costs: bool, body: BodyRef<'_>) -> Result<(), AllocError>
     ensures { OnOk result
         (numbers.new.items ≡ numbers.old.items ++ map (worth costs) (rewards_in (body_of body.entry))) }
@@ -149,7 +149,7 @@ pub(crate) fn cell_in(rows: usize, columns: usize, left: &[usize]) -> usize
     }
 }
 
-/// The indices behind so many places.
+/// The indices after so many places.
 pub(crate) fn behind(places: usize, indices: &[usize]) -> &[usize]
     ensures { result.now ≡ drop places indices.now }
 {

@@ -10,7 +10,7 @@ use crate::newest::{next_place, span};
 use crate::part::between;
 
 /// Whether one of the rules, whose places follow those of the key `low`, begins with a place for each of these indices
-/// that fits it, and goes on with a key of at least `least`: 0 for no matter what, 2 for a last place that isn't `*`.
+/// that fits it, and continues with a key of at least `least`: 0 for no matter what, 2 for a last place that isn't `*`.
 pub(crate) fn some_begins(
     rules: &[Rule],
     low: u64,

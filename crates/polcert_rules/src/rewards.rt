@@ -26,10 +26,10 @@ use polcert_cells::{Entries, Table};
 use std::alloc::{AllocError, Global};
 use std::marker::Model;
 
-/// What a key goes on with, at least, where its last place is an index.
+/// What a key continues with, at least, if its last place is an index.
 const AN_INDEX: u64 = 2;
 
-/// What a key goes on with, at least, where one of its last two places is an index.
+/// What a key continues with, at least, if one of its last two places is an index.
 const AN_END_OR_OBSERVATION: u64 = KEY_BASE + AN_INDEX;
 
 /// So many observations are few: what rules are noted in is then cleared sooner.
@@ -62,7 +62,7 @@ impl Model for Rewards {
 
 impl Rewards {
     /// The rewards of these entries, of which `index` is the index, in a model of this shape. The index is
-    /// given up. An error is want of memory.
+    /// given up. An error is out of memory.
     pub fn of(
         alloc: Global,
         shape: RewardShape,
@@ -94,7 +94,7 @@ impl Rewards {
         self.shape
     }
 
-    /// The reward, in millionths, where this action is taken in the start state, ends in the end state and
+    /// The reward, in millionths, when this action is taken in the start state, ends in the end state and
     /// the observation is made.
     pub fn at(&self, action: usize, start: usize, end: usize, observation: usize) -> i64
         requires action { action < self.now.shape.actions }
@@ -109,9 +109,9 @@ impl Rewards {
         self.given(body, &[action, start, end, observation])
     }
 
-    /// Fills in the rewards of observation `first` and of those behind it, in millionths, where this action
+    /// Fills in the rewards of observation `first` and of those after it, in millionths, if this action
     /// is taken in the start state and ends in the end state: as many as there is room for, or as there are.
-    /// What stands behind them may change.
+    /// What stands after them may change.
     pub fn fill(&self, action: usize, start: usize, end: usize, first: usize, rewards: &mut [i64])
         requires action { action < self.now.shape.actions }
         requires start { start < self.now.shape.states }
@@ -154,8 +154,8 @@ impl Rewards {
         }
     }
 
-    /// The same, where nothing is noted yet for any of these observations, nor for one more. What is noted
-    /// there is a guess at what is noted for most of them: behind the last observation stands one that no
+    /// The same, if nothing is noted yet for any of these observations, nor for one more. What is noted
+    /// there is a guess at what is noted for most of them: after the last observation stands one that no
     /// entry names.
     fn fill_noted(
         &self,
@@ -235,7 +235,7 @@ impl Rewards {
         }
     }
 
-    /// Whether any entry of R is about this action and start state. Where none is, all rewards are 0.
+    /// Whether any entry of R is about this action and start state. If none is, all rewards are 0.
     pub fn is_paid(&self, action: usize, start: usize) -> bool
         requires action { action < self.now.shape.actions }
         requires start { start < self.now.shape.states }
@@ -277,7 +277,7 @@ impl Rewards {
         }
     }
 
-    /// What a body gives each cell that it is the last of, where it has a single number, or there is none.
+    /// What a body gives each cell that it is the last of, if it has a single number, or there is none.
     fn single(&self, body: Option<RewardBody>) -> Option<i64>
         ensures { (p : Preamble) (entries : List E) → AreRewardsOf p entries self.now →
             ForSome result (λ h. (cell : List ℕ) →
@@ -294,7 +294,7 @@ impl Rewards {
         }
     }
 
-    /// The same as `given`, where it may be known what the body gives each cell.
+    /// The same as `given`, if it may be known what the body gives each cell.
     fn single_or_given(
         &self,
         single: Option<i64>,
@@ -326,7 +326,7 @@ impl Rewards {
         newest(self.rules.rules.as_slice(), LOW, MOST_PLACES, indices)
     }
 
-    /// The body of the last entry that covers the cell at an action, a start state and the indices behind
+    /// The body of the last entry that covers the cell at an action, a start state and the indices after
     /// them, if one does.
     fn newest_body(&self, action: usize, start: usize, rest: &[usize]) -> Option<RewardBody>
         requires { AreIndices most_places (action ∷ start ∷ rest.now) }
@@ -350,7 +350,7 @@ impl Rewards {
     }
 }
 
-/// Whether a body of so many places has one number behind an action and a start state, where there are so
+/// Whether a body of so many places has one number after an action and a start state, if there are so
 /// many observations.
 fn is_single(places: usize, observations: usize) -> bool
     ensures { IsTrue result → IsSingle observations places }

@@ -29,7 +29,7 @@ pub(crate) struct Row<'a> {
 }
 
 impl<'a> Row<'a> {
-    /// The row of a table at this action and state, where the entry of this number covers the whole row.
+    /// The row of a table at this action and state, if the entry of this number covers the whole row.
     // (Six parameters: three numbers that say which row it is, and what it is made of.)
     pub(crate) fn of(
         alloc: Global,
@@ -98,7 +98,7 @@ pub(crate) fn cells(
     Ok(newest_of_each(alloc, cells.as_slice())?)
 }
 
-/// Puts the single cells that begin at this key behind the others.
+/// Puts the single cells that begin at this key after the others.
 fn add_columns(cells: &mut Vec<Rule>, rules: &[Rule], start: u64) -> Result<(), AllocError>
     requires rising { IsRising rules.now }
     requires room { start + (key_base - 2) * key_base < 2 ^ 64 }

@@ -20,7 +20,7 @@ use std::alloc::{AllocError, Global};
 /// The key that those of R follow.
 pub(crate) const LOW: u64 = 2 * TABLE;
 
-/// The digits of places in a key: none, `*`, and behind these the indices.
+/// The digits of places in a key: none, `*`, and after these the indices.
 const NO_PLACE: usize = 0;
 
 const EVERY: usize = 1;
@@ -30,10 +30,10 @@ const INDICES: usize = 2;
 /// So many rules are few: they are searched at once.
 const FEW_RULES: usize = 64;
 
-/// How many places there are behind the first two.
+/// How many places there are after the first two.
 const PLACES_LEFT: usize = 2;
 
-/// The rules of R by their keys; and where they are not few, for each first place, by each second place, where the rules that
+/// The rules of R by their keys; and if they are not few, for each first place, by each second place, where the rules that
 /// have both may stand. No answer depends on where they may: only how soon it comes.
 #[derive(Drop)]
 pub(crate) struct RowRules {
@@ -79,7 +79,7 @@ impl RowRules {
         })
     }
 
-    /// The newest of the rules that fit an action, a start state and the indices behind them.
+    /// The newest of the rules that fit an action, a start state and the indices after them.
     pub(crate) fn newest(&self, action: usize, start: usize, rest: &[usize]) -> Option<usize>
         requires rising { IsRising self.now.rules.items }
         requires indices { AreIndices most_places (action ∷ start ∷ rest.now) }
@@ -94,7 +94,7 @@ impl RowRules {
         later(here, later(of_every, of_only))
     }
 
-    /// The same behind a first place, which has this digit.
+    /// The same after a first place, which has this digit.
     fn newest_behind(&self, digit: usize, low: u64, start: usize, rest: &[usize]) -> Option<usize>
         requires rising { IsRising self.now.rules.items }
         requires room { low + key_base ^ 3 < 2 ^ 64 }
@@ -131,7 +131,7 @@ impl RowRules {
         self.note_behind(at.action + INDICES, only, at, first, noted);
     }
 
-    /// The same behind a first place, which has this digit.
+    /// The same after a first place, which has this digit.
     fn note_behind(
         &self,
         digit: usize,
@@ -157,8 +157,8 @@ impl RowRules {
         note(rules_of_only, only, PLACES_LEFT, &rest, first, noted);
     }
 
-    /// Whether one of the rules begins with a place for an action, one for a start state and one for each of the indices behind them
-    /// that fits it, and goes on with a key of at least `least`.
+    /// Whether one of the rules begins with a place for an action, one for a start state and one for each of the indices after them
+    /// that fits it, and continues with a key of at least `least`.
     pub(crate) fn some_begins(
         &self,
         action: usize,
@@ -178,7 +178,7 @@ impl RowRules {
             || self.some_begins_behind(action + INDICES, only, start, rest, least)
     }
 
-    /// The same behind a first place, which has this digit.
+    /// The same after a first place, which has this digit.
     fn some_begins_behind(
         &self,
         digit: usize,

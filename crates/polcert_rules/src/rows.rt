@@ -51,7 +51,7 @@ impl Model for Rows {
 }
 
 impl Rows {
-    /// The rows of a table of weights, from the index of its entries. An error is want of memory.
+    /// The rows of a table of weights, from the index of its entries. An error is out of memory.
     pub fn of(
         alloc: Global,
         shape: Shape,

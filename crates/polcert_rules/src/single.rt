@@ -43,7 +43,7 @@ pub(crate) fn is_newer(under: Option<usize>, number: usize) -> bool
     }
 }
 
-/// What the entry of this number gives, where it gives one number.
+/// What the entry of this number gives, if it gives one number.
 fn single_weight(entries: &Entries, number: usize, columns: usize) -> u64
     requires few { columns ≤ most_elements }
     requires number { IsNumber entries.now number }

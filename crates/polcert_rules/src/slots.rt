@@ -24,7 +24,7 @@ pub(crate) struct Slots {
 }
 
 impl Slots {
-    /// Slots for the rows of this table. More of them than 32 bits can count are taken for want of memory.
+    /// Slots for the rows of this table. More of them than 32 bits can count are taken for out of memory.
     pub(crate) fn of(
         alloc: Global,
         entries: &Entries,
@@ -49,7 +49,7 @@ impl Slots {
         }
     }
 
-    /// Notes the number of the row that is made of this. One beyond 32 bits is taken for want of memory.
+    /// Notes the number of the row that is made of this. One beyond 32 bits is taken for out of memory.
     pub(crate) fn note(&mut self, source: Source, number: usize) -> Result<(), AllocError> {
         if let Some(slot) = self.slot_of(source) {
             if slot < self.numbers.len() {

@@ -22,14 +22,14 @@ pub(crate) struct SplitRules<'a> {
 /// The rules that are no zeros.
 #[derive(Drop)]
 pub(crate) enum Others<'a> {
-    /// All rules, where there are no zeros.
+    /// All rules, if there are no zeros.
     Lent(&'a [Rule]),
     /// Those without the zeros.
     Listed(Vec<Rule>),
 }
 
 impl<'a> SplitRules<'a> {
-    /// These rules of these entries. An error is want of memory.
+    /// These rules of these entries. An error is out of memory.
     pub(crate) fn of(
         alloc: Global,
         rules: &'a [Rule],

@@ -26,7 +26,7 @@ observation_test k Reward a s x y t e f = absurd (cc)
 before_or_same : (x a : ℕ) → x < a + 1 → (x < a) ⊎ (x ≡ a)
 before_or_same x a l = grind arith
 
--- behind all rows of an action the next action begins
+-- after all rows of an action the next action begins
 pub next_action : (m : Meaning) (table : Table) (a s : ℕ) → AreProperBefore m table a s → states_of m ≤ s → AreProperBefore m table (a + 1) 0
 next_action m table a s b all = record {
   earlier_actions = λ x r i j. ⊎_elim (λ less. b.earlier_actions x r less j)
@@ -34,7 +34,7 @@ next_action m table a s b all = record {
   same_action = λ r i. absurd (omega (arith, i));
 }
 
--- behind all rows of T those of O
+-- after all rows of T those of O
 pub then_observations : (m : Meaning) (result : Option WrongRow) → AreProper m Transition
     → MatchOption result (AreProper m Observation) (λ w. (w.table ≡ Observation) × IsFirstWrongIn m Observation w.action w.row)
     → MatchOption result (HasProperRows m) (λ w. IsFirstWrongRow m w.table w.action w.row)

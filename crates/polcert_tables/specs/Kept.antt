@@ -23,7 +23,7 @@ abbrev pub observed_at : Preamble → Option RowTable → ℕ → ℕ → ℕ �
 observed_at p (Some rows) a e z = weight_at (row_at rows a e) z
 observed_at p None a e z = if e == z then one * count_of p.states else 0
 
--- what they denote; with no start item all states are alike
+-- what they denote; with no start item all states are equally likely
 abbrev pub meaning : Kept → Meaning
 meaning k = record {
   preamble = k.preamble;

@@ -96,7 +96,7 @@ impl Cells for DenseModel {
 }
 
 /// The model with filled tables that says what this model says: the same counts, discount, scales and cells. `printable` tells
-/// whether a model's tables may be filled. Want of memory is the only error.
+/// whether a model's tables may be filled. Out of memory is the only error.
 pub fn dense_of(alloc: Global, model: &Model) -> Result<DenseModel, AllocError>
     requires printable { IsPrintable (meaning model.now).preamble }
     ensures { IfOk result (λ dense. HasSameCells (table_of (meaning model.now)) (filled_table dense.lists)) }

@@ -24,7 +24,7 @@ use std::marker;
 /// How many things a reward of an MDP depends on beside the action and the states.
 const ONE_THING: usize = 1;
 
-/// The share of each state in a start where all states are alike.
+/// The share of each state in a start where all states are the same.
 const ALIKE: u64 = 1;
 
 /// What the items of a text say: a model whose rows aren't tested yet. Its readers answer as those of `Model`
@@ -149,7 +149,7 @@ impl Draft {
         self.preamble.observations.is_none()
     }
 
-    /// The observations' line, where there is one.
+    /// The observations' line, if there is one.
     pub fn observations_line(&self) -> Option<&Elements>
         ensures { option_copied result ≡ (meaning self.now).preamble.observations }
     {
@@ -212,7 +212,7 @@ impl Draft {
         }
     }
 
-    /// R: the reward, in millionths, where action `a` is taken in state `s`, ends in state `e` and
+    /// R: the reward, in millionths, when action `a` is taken in state `s`, ends in state `e` and
     /// observation `z` is made.
     pub fn r(&self, a: usize, s: usize, e: usize, z: usize) -> i64
         requires action { a < actions_of (meaning self.now) }
@@ -232,7 +232,7 @@ impl Draft {
         if self.is_mdp() { 0 } else { z }
     }
 
-    /// The reward where action `a` is taken in state `s` and ends in state `e`, where it is known at once
+    /// The reward where action `a` is taken in state `s` and ends in state `e`, if it is known at once
     /// that it is the same for every observation.
     pub fn r_alike(&self, a: usize, s: usize, e: usize) -> Option<i64>
         requires action { a < actions_of (meaning self.now) }
@@ -247,7 +247,7 @@ impl Draft {
         }
     }
 
-    /// The reward where action `a` is taken in state `s`, where it is known at once that it is the same for
+    /// The reward where action `a` is taken in state `s`, if it is known at once that it is the same for
     /// every end state and every observation.
     pub fn r_common(&self, a: usize, s: usize) -> Option<i64>
         requires action { a < actions_of (meaning self.now) }
@@ -259,9 +259,9 @@ impl Draft {
         self.rewards.common(a, s)
     }
 
-    /// Fills in the rewards of observation `first` and of those behind it, in millionths, where action `a` is
+    /// Fills in the rewards of observation `first` and of those after it, in millionths, when action `a` is
     /// taken in state `s` and ends in state `e`: as many as there is room for, or as there are. What stands
-    /// behind them may change.
+    /// after them may change.
     pub fn fill_rewards(&self, a: usize, s: usize, e: usize, first: usize, rewards: &mut [i64])
         requires action { a < actions_of (meaning self.now) }
         requires start { s < states_of (meaning self.now) }
@@ -381,7 +381,7 @@ pub fn count_or(count: usize, elements: &Option<Elements>) -> usize
     }
 }
 
-/// The rows of O, where there are observations.
+/// The rows of O, if there are observations.
 fn observed_rows(
     alloc: Global,
     shape: Shape,

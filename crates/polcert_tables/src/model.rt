@@ -32,7 +32,7 @@ pub struct Model {
     ghost writable: { IsWritable (kept.meaning draft) },
 }
 
-// (Written and not derived, so that whoever lets one go proves one call, and not each part.)
+// (Written by hand so that callers prove one drop.)
 impl Drop for Model {
     fn drop(self) {
         let Model { draft: _ } = self;
@@ -89,7 +89,7 @@ impl Model {
         self.draft.observations()
     }
 
-    /// The name of the state, action or observation of this number, where the text gives names and not a
+    /// The name of the state, action or observation of this number, if the text gives names and not a
     /// count.
     pub fn name_of(&self, kind: Kind, index: usize) -> Option<&str>
         requires { index < count_of (elements_of (meaning self.now) kind) }
@@ -184,7 +184,7 @@ impl Model {
         self.draft.o(a, e, z)
     }
 
-    /// R: the reward, in millionths, where action `a` is taken in state `s`, ends in state `e` and
+    /// R: the reward, in millionths, when action `a` is taken in state `s`, ends in state `e` and
     /// observation `z` is made: minus what is written where the text gives costs. `a`, `s`, `e` and `z` are
     /// the numbers of an action, two states and an observation.
     pub fn r(&self, a: usize, s: usize, e: usize, z: usize) -> i64

@@ -1,5 +1,5 @@
 //! Readers and writers of std that give and take a few bytes at a call, and count their calls. One that fails does so once:
-//! asked again, it would go on.
+//! asked again, it would continue.
 use std::alloc::Global;
 use std::io;
 use std::io::{Read, Write};

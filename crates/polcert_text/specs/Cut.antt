@@ -27,7 +27,7 @@ pub record Rest : Type 0 where
 abbrev pub end_place : Rest → ℕ
 end_place rest = rest.place + length rest.bytes
 
--- a numeral and, directly behind it, a letter, `_` or a point
+-- a numeral and, directly after it, a letter, `_` or a point
 abbrev pub is_glued : TokenKind → List ℕ → Bool
 is_glued Numeral (b ∷ bs) = is_glue b
 is_glued _ _ = false
@@ -48,14 +48,15 @@ pub record HasLongLexeme (bytes : List ℕ) : Type 0 where
   pub lexeme : kind_of (take len bytes) ≡ Some kind
   pub long : 400 < len
 
--- the bytes begin with no token, for this reason
+-- The bytes begin with no token, for this reason: no front is a lexeme; some front of more than 400 bytes is one (this comes first);
+-- the longest lexeme is a numeral with a letter, `_` or point directly after it.
 abbrev pub IsFaultAt : ℕ → List ℕ → TokenFault → Type 0
 IsFaultAt place bytes (BadByte at) = (at ≡ place) × NoLexeme bytes
 IsFaultAt place bytes (TokenTooLong at) = (at ≡ place) × HasLongLexeme bytes
 IsFaultAt place bytes (Glued at) = (at ≡ place) × ((n : ℕ) × IsLongestLexeme bytes Numeral n × (n ≤ 400) × (is_glued Numeral (drop n bytes) ≡ true))
 IsFaultAt place bytes (TextTooLong at) = ⊥
 
--- behind a gap comes this token, and behind the token the new rest
+-- after a gap comes this token, and after the token the new rest
 pub record TakesToken (old : Rest) (token : Lexeme) (new : Rest) : Type 0 where
   pub gap : ℕ
   pub longest : IsLongestGap old.bytes gap
@@ -67,7 +68,7 @@ abbrev pub EndsAt : ℕ → List ℕ → Option TokenFault → Option TokenFault
 EndsAt place [] ending answer = answer ≡ ending
 EndsAt place (b ∷ bs) ending answer = MatchOption answer ⊥ (IsFaultAt place (b ∷ bs))
 
--- behind a gap comes no token: the end of the text, or a fault
+-- after a gap comes no token: the end of the text, or a fault
 pub record Ends (rest : Rest) (answer : Option TokenFault) : Type 0 where
   pub gap : ℕ
   pub longest : IsLongestGap rest.bytes gap

@@ -1,5 +1,5 @@
 -- What a lexeme is: a name, a numeral, or one of `: * + -`.
--- Source: the POMDP file format page and its grammar (pomdp.org): names begin with a letter and go on with letters,
+-- Source: the POMDP file format page and its grammar (pomdp.org): names begin with a letter and continue with letters,
 -- digits, `_` and `-`; numbers may have a point and an exponent. Our own: a point may end the digits, or begin them.
 use Rattle.std.specs.Prelude.{ℕ, Bool, true, false, not, ◌||◌, ◌&&◌, Option, Some, None, List, [], ◌∷◌, if◌then◌else◌}
 use Rattle.std.specs.List.{list_all, list_any}
@@ -13,7 +13,7 @@ abbrev pub is_empty : List ℕ → Bool
 is_empty [] = true
 is_empty (b ∷ bs) = false
 
--- what stands before the first byte that passes the test, and what stands behind it
+-- what stands before the first byte that passes the test, and what stands after it
 abbrev pub before : (ℕ → Bool) → List ℕ → List ℕ
 before p [] = []
 before p (b ∷ bs) = if p b then [] else b ∷ before p bs
@@ -31,17 +31,17 @@ is_name (b ∷ bs) = is_letter b && list_all is_name_byte bs
 abbrev pub are_digits : List ℕ → Bool
 are_digits bs = list_all is_digit bs && not (is_empty bs)
 
--- digits, and behind a point further digits; on one side of the point there may be none
+-- digits, and after a point further digits; on one side of the point there may be none
 abbrev pub is_mantissa : List ℕ → Bool
 is_mantissa bs =
     list_all is_digit (before is_point bs) && list_all is_digit (after is_point bs) && list_any is_digit bs
 
--- digits, perhaps behind a sign
+-- digits, perhaps after a sign
 abbrev pub is_exponent : List ℕ → Bool
 is_exponent [] = false
 is_exponent (b ∷ bs) = if is_sign b then are_digits bs else are_digits (b ∷ bs)
 
--- a mantissa, and behind `e` or `E`, if that stands there, an exponent
+-- a mantissa, and after `e` or `E`, if that stands there, an exponent
 abbrev pub is_numeral : List ℕ → Bool
 is_numeral bs =
     is_mantissa (before is_exponent_mark bs)

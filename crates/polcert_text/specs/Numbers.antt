@@ -12,14 +12,14 @@ use Rattle.polcert_text.specs.declared.number.Rounding.TheVariants.{Down, Up}
 use Rattle.polcert_text.specs.declared.number.NumberFault.{NumberFault}
 use Rattle.polcert_text.specs.declared.number.NumberFault.TheVariants.{NotANumeral, TooLong, TooLarge, TooFine}
 
--- the digits before the point, and those behind it
+-- the digits before the point, and those after it
 abbrev pub whole_of : List ℕ → List ℕ
 whole_of bs = before is_point (before is_exponent_mark bs)
 
 abbrev pub fraction_of : List ℕ → List ℕ
 fraction_of bs = after is_point (before is_exponent_mark bs)
 
--- what stands behind `e` or `E`, or nothing
+-- what stands after `e` or `E`, or nothing
 abbrev pub exponent_of : List ℕ → List ℕ
 exponent_of bs = after is_exponent_mark bs
 
@@ -43,7 +43,7 @@ without_sign (b ∷ bs) = if is_sign b then bs else b ∷ bs
 unfoldable pub exponent_size : List ℕ → ℕ
 exponent_size bs = digits_value 10 (without_sign (exponent_of bs))
 
--- the written exponent less the number of digits behind the point, and 1000
+-- the written exponent less the number of digits after the point; 1000 is added so that no power is negative
 unfoldable pub power_of : List ℕ → ℕ
 power_of bs =
     if is_lowering (exponent_of bs) then 1000 - exponent_size bs - length (fraction_of bs)

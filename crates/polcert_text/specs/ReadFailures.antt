@@ -2,7 +2,7 @@
 use Rattle.std.specs.Prelude.{ℕ, Bool, List, Option}
 use Rattle.polcert_text.specs.Source.{GivesThenFails, Reads}
 
--- Of the reads between two states of a source some went well, then one failed, and behind it nothing was read.
+-- Of the reads between two states of a source some went well, then one failed, and after it nothing was read.
 pub record EndsInFailure {S : Type 0} (reads : S → ℕ → Option (List ℕ) → S → Type 0) (from to : S) : Type 0 where
   pub between : S
   pub given : List ℕ

@@ -16,7 +16,7 @@ pub record ReadsText {S V F : Type 0} (reads : S → ℕ → Option (List ℕ) �
   pub refused : (fault : F) → IsErrOf result (Refused fault) → EachTextThatFits reads old new (Refuses fault)
   -- that the source failed is answered only where it did
   pub device : IsErrOf result Device → HasFailed (failures old) (failures new)
-  -- the source isn't read again behind the read that failed
+  -- the source isn't read again after the read that failed
   pub device_last : IsErrOf result Device → EndsInFailure reads old new
   -- no failure is passed over
   pub same_count : (result ≢ Err Device) → failures new ≡ failures old

@@ -13,7 +13,7 @@ lexeme_of token = record { kind = token.kind; place = token.place; bytes = token
 abbrev pub IsReadAt : ℕ → List ℕ → Token → Type 0
 IsReadAt place bytes token = IsTokenAt place bytes (lexeme_of token) × (token.stop ≡ place + length token.bytes.now)
 
--- a token leaves the rest behind it; a refusal and the clean end leave all as it was
+-- a token leaves the rest after it; a refusal and the clean end leave all as it was
 abbrev pub GivesNext : Rest → Option (Result Token TokenFault) → Rest → Type 0
 GivesNext old None new = Ends old None × (new ≡ old)
 GivesNext old (Some (Ok token)) new = TakesToken old (lexeme_of token) new × (token.stop ≡ token.place + length token.bytes.now)

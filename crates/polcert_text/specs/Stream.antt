@@ -13,7 +13,7 @@ use Rattle.polcert_text.specs.declared.stream_tokens.LastAnswer.{LastAnswer}
 use Rattle.polcert_text.specs.declared.stream_tokens.LastAnswer.TheVariants.{End, Fault}
 
 -- The bytes that were read and are not yet given, the offset of the first, the limit of the text, an offset too, and
--- whether the true end was seen behind them.
+-- whether the true end was seen after them.
 pub record Ahead : Type 0 where
   pub place : ℕ
   pub kept : List ℕ
@@ -76,7 +76,7 @@ pub record IsAtEnd (ahead : Ahead) (answer : Option TokenFault) : Type 0 where
   pub whole : answer ≡ None → (ahead.is_whole ≡ true) × (ahead.kept ≡ [])
 
 module _ {S : Type 0} (reads : S → ℕ → Option (List ℕ) → S → Type 0) (failures : S → ℕ) where
-  -- Whatever follows what was read, this token comes next behind the bytes that were kept, and behind it comes what is
+  -- Whatever follows what was read, this token comes next after the bytes that were kept, and after it comes what is
   -- ahead then.
   pub record GivesToken (old : Ahead) (source : S) (token : Lexeme) (new : Ahead) (source' : S) : Type 0 where
     pub given : List ℕ
@@ -100,7 +100,7 @@ module _ {S : Type 0} (reads : S → ℕ → Option (List ℕ) → S → Type 0)
     pub failed : GivesThenFails reads source given source'
     pub count : HasFailed (failures source) (failures source')
 
-  -- what is answered, where a token shows a lexeme; `Device` first where a read failed in the call
+  -- what is answered, where a token shows a lexeme; `Device` first if a read failed in the call
   abbrev pub Answers : {T : Type 0} → (T → Lexeme) → Stream → S → Result (Option T) StreamFault → Stream → S → Type 0
   Answers lexeme old source (Ok (Some token)) new source' =
       GivesToken old.ahead source (lexeme token) new.ahead source' × (old.stop ≡ None) × (new.stop ≡ None)

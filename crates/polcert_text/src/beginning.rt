@@ -29,7 +29,7 @@ pub fn front_colon(bytes: &[u8]) -> Option<usize>
     None
 }
 
-/// The token that the bytes begin with, where it is a name or a mark and a byte follows it. Its place and its end are counted from
+/// The token that the bytes begin with, if it is a name or a mark and a byte follows it. Its place and its end are counted from
 /// the first of the bytes. `None` says nothing.
 #[inline(always)]
 pub fn front_token(bytes: &[u8]) -> Option<Token<'_>>
@@ -52,7 +52,7 @@ pub fn front_token(bytes: &[u8]) -> Option<Token<'_>>
     }
 }
 
-/// The number in millionths that the bytes begin with, where a blank or a line end follows its numeral: digits, perhaps with a point
+/// The number in millionths that the bytes begin with, if a blank or a line end follows its numeral: digits, perhaps with a point
 /// and at most six digits. `None` says nothing.
 #[inline(always)]
 pub fn front_number(bytes: &[u8]) -> Option<FrontNumber>
@@ -68,7 +68,7 @@ pub fn front_number(bytes: &[u8]) -> Option<FrontNumber>
     }
 }
 
-/// The number that the bytes begin with, where it is a few digits and a blank or a line end follows them. `None` says nothing.
+/// The number that the bytes begin with, if it is a few digits and a blank or a line end follows them. `None` says nothing.
 #[inline(always)]
 pub fn front_digits(bytes: &[u8]) -> Option<FrontNumber>
     ensures { IfSome result (λ number. (place : ℕ) → BeginWithDigits place bytes.now number) }

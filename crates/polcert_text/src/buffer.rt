@@ -42,7 +42,7 @@ impl Buffer {
         &self.bytes[..self.len]
     }
 
-    /// Puts a front of the piece behind the bytes, as much as there is room for, and answers how much that is.
+    /// Puts a front of the piece after the bytes, as much as there is room for, and answers how much that is.
     pub fn fill(&mut self, piece: &[u8]) -> usize
         ensures filled { self.new ≡ self.old ++ take result piece.now }
         ensures count { result ≡ min (length piece.now) (4096 - length self.old) }

@@ -65,7 +65,7 @@ pub fn rounding_either_way()
         IsFloor negative bs h → IsCeil negative bs k → h ≤ℤ k }
 {}
 
-/// Bytes are refused for one reason, and only where they are not readable, or have no exact value.
+/// Bytes are refused for one reason, and only if they are not readable, or have no exact value.
 pub fn one_refusal()
     ensures exact { (negative : Bool) (bs : List ℕ) (f g : NumberFault) →
         IsRefusedExactly negative bs f → IsRefusedExactly negative bs g → f ≡ g }
@@ -80,7 +80,7 @@ pub fn text_of_a_slice()
     ensures { (rest after text : List ℕ) → IsText ReadsSlice rest text after → text ≡ rest }
 {}
 
-/// The text of a reader of std that is read whole is what it had left, where that is known.
+/// The text of a reader of std that is read whole is what it had left, if that is known.
 pub fn text_of_a_reader()
     ensures { (rest after : Option (List ℕ)) (text : List ℕ) →
         IsText ReadsKnown rest text after → IfSome rest (λ xs. text ≡ xs) }
@@ -98,7 +98,7 @@ pub fn any_text_of_standard_output<P: Print>()
         Takes ⟦<WriterSink<Printer<'static, P>> as Sink>⟧.writes old text new }
 {}
 
-/// A writer of std holds, behind what it held, what it took, where that is known.
+/// A writer of std holds, after what it held, what it took, if that is known.
 pub fn bytes_of_a_writer()
     ensures { (held after : Option (List ℕ)) (bytes : List ℕ) →
         Takes WritesKnown held bytes after → Appends held after bytes }

@@ -64,7 +64,7 @@ pub enum State {
 }
 
 impl State {
-    /// Behind the first byte.
+    /// After the first byte.
     #[inline(always)]
     fn first(class: ByteClass) -> State
         ensures { result ≡ state_after State.Start class }
@@ -81,7 +81,7 @@ impl State {
         }
     }
 
-    /// Behind one more byte.
+    /// After one more byte.
     #[inline(always)]
     pub fn after(self, class: ByteClass) -> State
         ensures { result ≡ state_after self class }
@@ -158,7 +158,7 @@ pub fn gap_len(bytes: &[u8]) -> usize
     len
 }
 
-/// How many bytes go on the gap, and where the gap then stands.
+/// How many bytes continue the gap, and where the gap then stands.
 #[inline(always)]
 pub fn seen_gap(gap: Gap, bytes: &[u8]) -> (usize, Gap)
     requires { gap ≡ Gap.Ended → ⊥ }
@@ -193,7 +193,7 @@ pub fn seen_gap(gap: Gap, bytes: &[u8]) -> (usize, Gap)
     (bytes.len(), gap)
 }
 
-/// How many bytes go on a comment, up to the end of its line and with it, and where the gap then stands.
+/// How many bytes continue a comment, up to the end of its line and with it, and where the gap then stands.
 #[inline(never)]
 fn seen_comment(bytes: &[u8]) -> (usize, Gap)
     requires { 0 < length bytes.now }
@@ -258,7 +258,7 @@ impl LexemeScan {
         }
     }
 
-    /// Whether no lexeme goes on, whatever bytes follow.
+    /// Whether no lexeme continues, whatever bytes follow.
     #[inline(always)]
     pub fn is_stuck(self) -> bool
         ensures { result ≡ is_stuck self.state }
@@ -266,7 +266,7 @@ impl LexemeScan {
         matches!(self.state, State::Stuck)
     }
 
-    /// Goes on over bytes of which it was fed a front, up to the last or one that no lexeme goes on with.
+    /// Continues over bytes of which it was fed a front, up to the last or one that no lexeme continues with.
     #[inline(always)]
     pub fn through(self, bytes: &[u8]) -> LexemeScan
         requires fed { IsScanOf (take self.len bytes.now) self }
@@ -283,7 +283,7 @@ impl LexemeScan {
         scan
     }
 
-    /// Goes on over the digits, or the rest of a name, that it stands in.
+    /// Continues over the digits, or the rest of a name, that it stands in.
     #[inline(always)]
     fn along(self, bytes: &[u8]) -> LexemeScan
         requires fed { IsScanOf (take self.len bytes.now) self }
@@ -367,7 +367,7 @@ fn name_end(bytes: &[u8], from: usize) -> usize
     at
 }
 
-/// Whether a name goes on with the byte. Of most bytes a test tells that is quicker than their class.
+/// Whether a name continues with the byte. Of most bytes a test tells that is quicker than their class.
 #[inline(always)]
 fn goes_on_name(byte: u8) -> bool
     ensures on { IsTrue result → state_after State.Name (class_of byte) ≡ State.Name }
@@ -413,7 +413,7 @@ fn digits_end(bytes: &[u8], from: usize) -> usize
     at
 }
 
-/// The lexeme at the front, where a byte after it is there and ends it: a name, a mark, or a numeral of digits, perhaps with a
+/// The lexeme at the front, if a byte after it is there and ends it: a name, a mark, or a numeral of digits, perhaps with a
 /// point and digits, before a blank or a line end. Most are, and these are cut without a step for each byte. `None` says nothing.
 #[inline(always)]
 pub fn ended_lexeme(bytes: &[u8]) -> Option<Front>
@@ -428,7 +428,7 @@ pub fn ended_lexeme(bytes: &[u8]) -> Option<Front>
     ended_name_or_mark(bytes)
 }
 
-/// The name or the mark at the front, where a byte after it is there and ends it. `None` says nothing.
+/// The name or the mark at the front, if a byte after it is there and ends it. `None` says nothing.
 #[inline(always)]
 pub fn ended_name_or_mark(bytes: &[u8]) -> Option<Front>
     requires { 1 < length bytes.now }

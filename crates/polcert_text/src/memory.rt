@@ -75,7 +75,7 @@ impl SliceSink<'_> {
 impl Sink for SliceSink<'_> {
     ghost failures = { λ s. s.failures };
 
-    // Behind the same reference, so that who lent the slice knows what it holds.
+    // After the same reference, so that who lent the slice knows what it holds.
     ghost writes = { λ s answer t. WritesSlice s.buffer.now s.len answer t.buffer.now t.len
         × (t.buffer.ghost_name ≡ s.buffer.ghost_name) };
 

@@ -100,7 +100,7 @@ impl ScaledText {
 ghost use Rattle.polcert_text.specs.Numbers.{Denotes};
 ghost use Rattle.polcert_text.specs.Sink.{WritesText};
 
-/// Writes a number of millionths: a `-` if it is negative, the whole part, and behind a point the decimals without
+/// Writes a number of millionths: a `-` if it is negative, the whole part, and after a point the decimals without
 /// trailing zeros, if one is left.
 pub fn write_scaled<W: Sink>(scaled: i64, out: &mut W) -> Result<(), SinkFailed>
     ensures written { WritesText W.writes W.failures out.old (scaled_text scaled) result out.new }

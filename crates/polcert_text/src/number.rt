@@ -24,7 +24,7 @@ pub enum NumberFault {
     /// N3: its value is beyond 10,000,000 in size.
     #[error("a number beyond 10,000,000")]
     TooLarge,
-    /// N4: a digit past the sixth decimal isn't 0, where the exact value is asked for.
+    /// N4: a digit past the sixth decimal isn't 0, if the exact value is asked for.
     #[error("a number with more than six decimals")]
     TooFine,
 }
@@ -39,7 +39,7 @@ pub enum Rounding {
 }
 
 impl Rounding {
-    /// Whether a number is rounded away from 0, where it is negative or not.
+    /// Whether a number is rounded away from 0, if it is negative or not.
     #[inline(always)]
     fn is_away(self, negative: bool) -> bool
         ensures { result ≡ is_away self negative }
@@ -191,7 +191,7 @@ fn separates(separator: Separator, byte: u8) -> bool
     }
 }
 
-/// What stands before the first such byte, and what stands behind it.
+/// What stands before the first such byte, and what stands after it.
 fn split_at_first(bytes: &[u8], separator: Separator) -> (&[u8], &[u8])
     ensures before { result.0.now ≡ before (separates separator) bytes.now }
     ensures after { result.1.now ≡ after (separates separator) bytes.now }
@@ -204,7 +204,7 @@ fn split_at_first(bytes: &[u8], separator: Separator) -> (&[u8], &[u8])
     (bytes, &[])
 }
 
-/// A number that is cut off behind so many digits, read digit by digit.
+/// A number that is cut off after so many digits, read digit by digit.
 #[derive(Clone, Copy)]
 struct Scaling {
     floor: u64,
@@ -265,7 +265,7 @@ pub(crate) fn with_zeros(number: u64, zeros: usize) -> u64
     number
 }
 
-/// The parts of a numeral: the digits before the point and those behind it, and the exponent.
+/// The parts of a numeral: the digits before the point and those after it, and the exponent.
 #[derive(Clone, Copy)]
 struct Parts<'a> {
     whole: &'a [u8],
@@ -291,7 +291,7 @@ fn parts_of(numeral: &[u8]) -> Parts<'_>
     }
 }
 
-/// Whether a minus stands first, and what stands behind a sign.
+/// Whether a minus stands first, and what stands after a sign.
 fn split_sign(exponent: &[u8]) -> (bool, &[u8])
     ensures is_lowering { result.0 ≡ is_lowering exponent.now }
     ensures digits { result.1.now ≡ without_sign exponent.now }
@@ -355,7 +355,7 @@ fn has_nonzero(digits: &[u8]) -> bool
     digits.iter().any(|digit| *digit != b'0')
 }
 
-/// So many units, where they are less than the largest number. `None` says nothing.
+/// So many units, if they are less than the largest number. `None` says nothing.
 #[inline(always)]
 fn whole_size(number: u64) -> Option<Size>
     ensures floor { IfSome result (λ size. size.floor ≡ number * 1000000) }
@@ -371,7 +371,7 @@ fn whole_size(number: u64) -> Option<Size>
     })
 }
 
-/// The size of a numeral of digits, perhaps with a point and digits, where it is not too large: what most numerals are, measured in 64 bits.
+/// The size of a numeral of digits, perhaps with a point and digits, if it is not too large: what most numerals are, measured in 64 bits.
 /// `None` says nothing.
 #[inline(always)]
 fn plain_size(numeral: &[u8]) -> Option<Size>
@@ -447,7 +447,7 @@ fn general_size(numeral: &[u8]) -> Result<Size, NumberFault>
     Ok(size)
 }
 
-/// How many digits count: those before the point and six behind it, moved by the exponent.
+/// How many digits count: those before the point and six after it, moved by the exponent.
 fn kept_digits(whole: usize, is_lowering: bool, exponent: usize) -> usize
     requires whole { whole ≤ 400 }
     requires exponent { exponent ≤ 400 }

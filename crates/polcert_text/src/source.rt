@@ -50,7 +50,7 @@ const PIECE: usize = 4096;
 ///
 /// # Errors
 ///
-/// `Device` where a read failed, `Memory` where memory ran out.
+/// `Device` if a read failed, `Memory` where memory ran out.
 pub fn read_all<S: Source>(alloc: Global, source: &mut S, limit: u64) -> Result<Vec<u8>, ReadFault>
     requires { limit < 2 ^ 64 - 1 }
 
@@ -58,7 +58,7 @@ pub fn read_all<S: Source>(alloc: Global, source: &mut S, limit: u64) -> Result<
     ensures whole { IfOk result (λ bytes. length bytes.items ≤ limit
         → IsText S.reads source.old bytes.items source.new) }
 
-    // Past it, they are one byte more than the limit, and the text goes on from there or not.
+    // Past it, they are one byte more than the limit, and the text continues from there or not.
     ensures beyond { IfOk result (λ bytes. limit < length bytes.items
         → (length bytes.items ≡ limit + 1) × Gives S.reads source.old bytes.items source.new) }
 

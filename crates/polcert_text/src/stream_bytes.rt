@@ -56,7 +56,7 @@ impl StreamBytes {
         self.place
     }
 
-    /// What stands in place of a clean end, where no byte below the limit is left.
+    /// What stands in place of a clean end, if no byte below the limit is left.
     pub fn ending(&self) -> Option<TokenFault>
         ensures { result ≡ end_of self.now }
     {
@@ -109,7 +109,7 @@ impl StreamBytes {
         }
     }
 
-    /// Whether it takes a read to know what comes next, where the bytes so far go on a gap.
+    /// Whether it takes a read to know what comes next, if the bytes so far continue a gap.
     #[inline(always)]
     fn lacks_byte(&self) -> bool
         ensures lacks { result ≡ true → (length self.now.kept ≡ 0) × (self.now.is_whole ≡ false) }
@@ -121,7 +121,7 @@ impl StreamBytes {
         self.window.as_bytes().is_empty()
     }
 
-    /// Takes the bytes that go on the gap off the front, and answers where the gap then stands.
+    /// Takes the bytes that continue the gap off the front, and answers where the gap then stands.
     #[inline(always)]
     fn skip_seen(&mut self, gap: Gap) -> Gap
         requires { gap ≡ Gap.Ended → ⊥ }
@@ -136,7 +136,7 @@ impl StreamBytes {
         next
     }
 
-    /// Takes the gap off the front. True where a byte below the limit comes behind it.
+    /// Takes the gap off the front. True if a byte below the limit comes after it.
     #[inline(always)]
     pub fn skip_gap<S: Source>(&mut self, source: &mut S) -> Result<bool, SourceFailed>
         ensures { SkipsGapOrFails S.reads S.failures self.old source.old result self.new source.new }

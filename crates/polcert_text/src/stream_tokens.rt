@@ -38,7 +38,7 @@ impl LastAnswer {
     }
 }
 
-/// Reads the tokens of a text that comes from a source, through a buffer of 4,096 bytes. The source is lent to each
+/// Reads the tokens of a text that comes from a source, through a buffer of 4,096 bytes. The source is borrowed to each
 /// call, and no memory is taken.
 #[derive(Drop)]
 pub struct StreamTokens {
@@ -86,7 +86,7 @@ impl StreamTokens {
         }
     }
 
-    /// The next token, or `None` at the clean end. It reads only where the next token needs a byte that the buffer
+    /// The next token, or `None` at the clean end. It reads only if the next token needs a byte that the buffer
     /// lacks. After a fault or the end every further call answers the same, and reads nothing.
     #[inline(always)]
     pub fn next_token<'t, S: Source>(
@@ -105,7 +105,7 @@ impl StreamTokens {
         }
     }
 
-    /// The offset of the first byte that is not given yet: behind the clean end, the number of the text's bytes.
+    /// The offset of the first byte that is not given yet: after the clean end, the number of the text's bytes.
     pub fn place(&self) -> u64
         ensures { result ≡ self.now.ahead.place }
     {

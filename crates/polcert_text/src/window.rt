@@ -5,7 +5,7 @@ ghost use Rattle.polcert_text.specs.Steps.Streaming.{FailsAt};
 use crate::{BUFFER_SIZE, Source, SourceFailed};
 use std::marker::Model;
 
-/// Up to 4,096 bytes, kept in the value itself. They are taken at the front, and come from a source behind. Contracts
+/// Up to 4,096 bytes, kept in the value itself. They are taken at the front, and come from a source after. Contracts
 /// see them as a list.
 #[derive(Drop)]
 pub struct Window {
@@ -54,7 +54,7 @@ impl Window {
         self.start += count;
     }
 
-    /// Puts the bytes of one read behind those that it has, and answers how many they are; none come at the true end.
+    /// Puts the bytes of one read after those that it has, and answers how many they are; none come at the true end.
     pub fn fill<S: Source>(&mut self, source: &mut S) -> Result<usize, SourceFailed>
         requires { length self.old < 4096 }
         ensures ok { IfOk result (λ count. (given : List ℕ)

@@ -39,7 +39,7 @@ pub enum Answer {
 }
 
 impl Run {
-    /// Whether the run reads a graph and vectors behind its model.
+    /// Whether the run reads a graph and vectors after its model.
     pub fn reads_all(self) -> bool {
         self != Run::Model && self != Run::Print
     }
@@ -177,7 +177,7 @@ impl Outcome {
         self.failures == 1 && self.has_given(Err(fault), b"")
     }
 
-    /// Whether the run stopped with this fault behind so many writes, one of its devices failed once, and this was written.
+    /// Whether the run stopped with this fault after so many writes, one of its devices failed once, and this was written.
     pub fn has_stopped(&self, fault: RunFault, writes: u64, written: &[u8]) -> bool {
         self.failures == 1 && self.writes == writes && self.has_given(Err(fault), written)
     }

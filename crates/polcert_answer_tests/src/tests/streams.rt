@@ -75,7 +75,7 @@ fn the_same_in_any_pieces(rt: HostRuntime) {
     }
 }
 
-/// What summing up a model answers, whose source gives a byte at a time and fails behind the text.
+/// What summing up a model answers, whose source gives a byte at a time and fails after the text.
 fn failed_behind(alloc: Global, text: &[u8]) -> Result<Answer, RunFault> {
     let devices = Devices {
         model: Some(text.len() as u64),
@@ -84,7 +84,7 @@ fn failed_behind(alloc: Global, text: &[u8]) -> Result<Answer, RunFault> {
     over_devices(alloc, Run::Model, (text, b"", b""), devices).answer
 }
 
-/// A model whose last number could go on.
+/// A model whose last number could continue.
 const TEN: &[u8] =
     b"discount: 0.5 values: reward states: 1 actions: 1 observations: 1 T: 0 identity O: 0 uniform R: 0 : 0 : 0 : 0 -10";
 
@@ -99,8 +99,8 @@ fn first_wrong_failure(alloc: Global, rows: &[(&[u8], RunFault)]) -> Option<usiz
     None
 }
 
-/// A text is refused for what stands in it, also where its source fails behind it; a text that could go on isn't. `tiger`
-/// is the front of a model that ends in a reward of -100, cut off behind `-10`.
+/// A text is refused for what stands in it, also where its source fails after it; a text that could continue isn't. `tiger`
+/// is the front of a model that ends in a reward of -100, cut off after `-10`.
 #[test]
 fn refused_before_the_source_fails(rt: HostRuntime) {
     let glued = item(ItemFault::Token(TokenFault::Glued(10)), 1, 10);

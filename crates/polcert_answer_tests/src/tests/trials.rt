@@ -129,7 +129,7 @@ impl Text {
         }
     }
 
-    /// The texts, this one without what is behind its first `len` bytes.
+    /// The texts, this one without what is after its first `len` bytes.
     fn cut(self, texts: Texts<'_>, len: usize) -> Texts<'_> {
         let text = self.of(texts);
         let (front, _) = text.split_at(len.min(text.len()));
@@ -146,7 +146,7 @@ fn is_read(run: Run, text: Text) -> bool {
     text == Text::Model || run.reads_all()
 }
 
-/// How often the run reads this text where no device fails: each byte once, and behind the last a read finds the end.
+/// How often the run reads this text where no device fails: each byte once, and after the last a read finds the end.
 fn reads_wanted(run: Run, texts: Texts<'_>, text: Text) -> u64 {
     if !is_read(run, text) {
         return 0;
@@ -187,7 +187,7 @@ fn first_not_read_once(alloc: Global, trials: &[Trial], text: Text) -> Option<us
     None
 }
 
-/// Each byte is read once, and behind the last of each text a read finds the end. Each byte of the answer is written once.
+/// Each byte is read once, and after the last of each text a read finds the end. Each byte of the answer is written once.
 #[test]
 fn each_byte_is_read_and_written_once(rt: HostRuntime) {
     assert_eq!(rt; first_not_written_once(rt.alloc(), &written()), None);
@@ -229,7 +229,7 @@ fn first_unnamed(alloc: Global, trials: &[Trial], text: Text) -> Option<(usize, 
     None
 }
 
-/// A source that fails is named, nothing is written, and neither it nor what comes behind it is asked again.
+/// A source that fails is named, nothing is written, and neither it nor what comes after it is asked again.
 #[test]
 fn each_read_fails(rt: HostRuntime) {
     for text in TEXTS {
@@ -246,7 +246,7 @@ fn reads_behind(alloc: Global, run: Run, texts: Texts<'_>, text: Text) -> (u64, 
     over_devices(alloc, run, texts, text.failing(0)).reads
 }
 
-/// Whether no text is read behind a model that fails, nor vectors behind a graph that fails.
+/// Whether no text is read after a model that fails, nor vectors after a graph that fails.
 fn reads_nothing_behind(alloc: Global, run: Run, texts: Texts<'_>) -> bool {
     let (model, graph, vectors) = reads_behind(alloc, run, texts, Text::Model);
     if model != 1 || graph != 0 || vectors != 0 {
@@ -259,7 +259,7 @@ fn reads_nothing_behind(alloc: Global, run: Run, texts: Texts<'_>) -> bool {
     graph == 1 && vectors == 0
 }
 
-/// The first of the trials that reads a text behind one that fails.
+/// The first of the trials that reads a text after one that fails.
 fn first_that_goes_on(alloc: Global, trials: &[Trial]) -> Option<usize> {
     for row in 0..trials.len() {
         let (run, texts, _, _) = trials[row];
@@ -270,20 +270,20 @@ fn first_that_goes_on(alloc: Global, trials: &[Trial]) -> Option<usize> {
     None
 }
 
-/// The first read of a model fails, and no other text is read; nor are vectors behind a graph that fails.
+/// The first read of a model fails, and no other text is read; nor are vectors after a graph that fails.
 #[test]
 fn nothing_is_read_behind_a_failed_source(rt: HostRuntime) {
     assert_eq!(rt; first_that_goes_on(rt.alloc(), &written()), None);
 }
 
-/// Whether a sink that fails so behind this text is named, and not asked again.
+/// Whether a sink that fails so after this text is named, and not asked again.
 fn is_cut_off(alloc: Global, run: Run, texts: Texts<'_>, sink: Failing, written: &[u8]) -> bool {
     let devices = Devices { sink, ..SOUND };
     let writes = (written.len() as u64).saturating_add(1);
     over_devices(alloc, run, texts, devices).has_stopped(RunFault::Write, writes, written)
 }
 
-/// The first failure of a write that is answered otherwise, where the run would write this.
+/// The first failure of a write that is answered otherwise, if the run would write this.
 fn first_wrong_write(alloc: Global, run: Run, texts: Texts<'_>, written: &[u8]) -> Option<Failing> {
     for write in 0..written.len() {
         let front = &written[..write];
@@ -316,7 +316,7 @@ fn each_write_fails(rt: HostRuntime) {
     assert_eq!(rt; first_cut_off_wrongly(rt.alloc(), &written()), None);
 }
 
-/// Whether the run stops with this fault behind one failure, and nothing is written.
+/// Whether the run stops with this fault after one failure, and nothing is written.
 fn stops(alloc: Global, run: Run, texts: Texts<'_>, devices: Devices, fault: RunFault) -> bool {
     over_devices(alloc, run, texts, devices).has_stopped_unwritten(fault)
 }
@@ -634,7 +634,7 @@ fn endless() -> ReaderSource<Endless> {
     ReaderSource::new(Endless::new(b'1'))
 }
 
-/// What a run over three sources answers, where it writes nothing.
+/// What a run over three sources answers, if it writes nothing.
 fn unwritten<M: Source, G: Source, V: Source>(
     alloc: Global,
     run: Run,

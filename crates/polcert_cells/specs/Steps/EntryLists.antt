@@ -48,12 +48,12 @@ pub record IsWithin (p : Pools) (h : Head) : Type 0 where
   pub has_places : LiesIn (length p.places.items) (places_of h)
   pub has_numbers : HasNumbers p h.filling h.numbers
 
--- the list goes on with more
+-- the list continues with more
 pub record GoesOn {X : Type 0} (xs ys : List X) : Type 0 where
   pub more : List X
   pub whole : ys ≡ xs ++ more
 
--- each list goes on
+-- each list continues
 pub record GoOn (p q : Pools) : Type 0 where
   pub places : GoesOn p.places.items q.places.items
   pub probabilities : GoesOn p.probabilities.items q.probabilities.items

@@ -21,7 +21,7 @@ gap f i (suc j) l h = go (cases_lt j i) (λ k. gap f i j k (λ n a b. h n a (ome
 pub no_weight : (w : ℕ) (x : ℤ) → w ≡ 0 → pos w *ℤ x ≡ pos 0
 no_weight w x e = rw e (zero-*ℤ x)
 
--- one entry more, behind a gap
+-- one entry more, after a gap
 pub past_gap : (f : ℕ → ℤ) (i j : ℕ) (sum x : ℤ) → i ≤ j → ((k : ℕ) → i ≤ k → k < j → f k ≡ pos 0) → sum ≡ total_below f i → x ≡ f j → sum +ℤ x ≡ total_below f (suc j)
 past_gap f i j sum x l h before is =
     let skipped : total_below f j ≡ total_below f i = gap f i j l h in

@@ -1,4 +1,4 @@
--- What an action earns at a state: how large it is, and what it is where rewards are alike.
+-- What an action earns at a state: how large it is, and what it is where rewards are the same.
 use Rattle.std.proofs.Common.{◌≡◌, ℕ, ◌*◌, ◌<◌, ◌≤◌, ℤ, pos, ◌*ℤ◌, unsigned_abs, sym, ap, subst, ◌∙◌, arith}
 use Rattle.std.proofs.Math.IntN.{*ℤ_comm}
 use Rattle.std.proofs.Math.Nat.{mul-le-mul}

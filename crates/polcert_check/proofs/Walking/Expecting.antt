@@ -1,4 +1,4 @@
--- What a node expects behind an end state, and ahead of a start state: the steps of the sums, and that they fit.
+-- What a node expects after an end state, and ahead of a start state: the steps of the sums, and that they fit.
 use Rattle.std.proofs.Common.{◌≡◌, ℕ, suc, ◌+◌, ◌*◌, ◌<◌, ◌≤◌, ℤ, pos, ◌+ℤ◌, unsigned_abs, FitsSigned, to_z, of_z, Option, Some, None, refl, sym, ◌∙◌, arith, lit<}
 use mir.Syntax.{w128}
 use Rattle.polcert_text.specs.Numbers.{largest}
@@ -38,7 +38,7 @@ pub value_done : (c : Controller) (n e from : ℕ) (sum : ℤ) → from ≤ c.ce
 value_done c n e from sum fl none before =
     before ∙ sym (gap (λ z. value_term c n e z (c.next n z)) from c.cells.observations fl (λ k kl kh. no_value c n e k (c.next n k) (none k kl kh)))
 
--- what is behind an end state is small
+-- what is after an end state is small
 pub value_at_end_le : (c : Controller) → IsController c → ValuesAreWithin c → (n e : ℕ) → n < c.nodes → e < c.cells.states → unsigned_abs (value_at_end c n e) ≤ c.cells.o_scale * largest
 value_at_end_le c p values n e nl el = value_part_le c p values n e c.cells.observations nl el (omega arith)
 

@@ -57,7 +57,7 @@ found_wider c P Q f is into from =
       worst = worst_wider c P Q f.worst m.worst into back;
     }
 
--- ---- one pair more, which is behind the others at its node
+-- ---- one pair more, which is after the others at its node
 
 pub record IsNext (P Q : Pairs) (n s : ℕ) : Type 0 where
   pub into : (m t : ℕ) → P m t → Q m t

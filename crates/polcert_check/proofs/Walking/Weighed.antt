@@ -17,7 +17,7 @@ pub record IsWeighed (w : ℕ → ℕ) (count scale b : ℕ) : Type 0 where
   pub small : scale < 2 ^ 63
   pub room : scale * b ≤ most_sum
 
--- the end states of a step, and the observations behind one of them
+-- the end states of a step, and the observations after one of them
 module _ (m : CellTable) (p : IsProper m) (limits : IsWithinLimits m) where
   pub ends_weighed : (a s : ℕ) → a < m.actions → s < m.states → IsWeighed (m.t a s) m.states m.t_scale (m.o_scale * largest)
   ends_weighed a s al sl = record { all = t_rows m p a s al sl; small = (scales_small m limits).0; room = ahead_room m limits }

@@ -3,7 +3,7 @@ use Rattle.std.specs.Prelude.{ℕ, zero, suc, ◌*◌, ℤ, pos, neg_ℤ, Option
 use Rattle.polcert_cells.specs.Tables.{CellTable}
 use Rattle.polcert_check.specs.Horizon.{Controller}
 
--- one state and one action; the observations are alike; the discount is one half, and each step earns -1
+-- one state and one action; the observations are the same; the discount is one half, and each step earns -1
 abbrev pub one_state : ℕ → CellTable
 one_state observations = record {
   states = 1;

@@ -3,7 +3,7 @@ use Rattle.std.specs.Prelude.{ℕ, zero, suc, Bool, true, false, pos, neg_ℤ}
 use Rattle.std.proofs.Common.{◌≤◌, refl, lit<}
 use Rattle.polcert_cells.specs.Tables.{CellTable, IsProper, IsWithinLimits}
 
--- the table of the tests' model: two states, each as likely as the other behind every step; one action; two
+-- the table of the tests' model: two states, each as likely as the other after every step; one action; two
 -- observations, of which the first always comes; a reward of -1
 
 abbrev pub first_always : ℕ → ℕ

@@ -17,7 +17,7 @@ struct Parts {
     vectors: Vectors,
 }
 
-/// The parts, where the texts are read.
+/// The parts, if the texts are read.
 fn read_parts(alloc: Global, model: &[u8], graph: &[u8], vectors: &[u8]) -> Option<Parts> {
     let model = read_model(alloc, model).ok()?;
     let graph = read_graph(alloc, graph, model.actions(), model.observations()).ok()?;
@@ -78,7 +78,7 @@ impl Parts {
     }
 }
 
-/// The verdict, where the parts fit.
+/// The verdict, if the parts fit.
 fn verdict_over<C: Cells>(cells: &C, graph: &Graph, vectors: &Vectors) -> Option<Verdict> {
     if fits(cells, graph, vectors) {
         Some(check(cells, graph, vectors))
@@ -87,7 +87,7 @@ fn verdict_over<C: Cells>(cells: &C, graph: &Graph, vectors: &Vectors) -> Option
     }
 }
 
-/// The least constant, where the parts fit.
+/// The least constant, if the parts fit.
 fn constant_over<C: Cells>(
     cells: &C,
     graph: &Graph,
@@ -100,12 +100,12 @@ fn constant_over<C: Cells>(
     }
 }
 
-/// The verdict over filled tables, where the texts are read and fit.
+/// The verdict over filled tables, if the texts are read and fit.
 fn dense_verdict(alloc: Global, model: &[u8], graph: &[u8], vectors: &[u8]) -> Option<Verdict> {
     read_parts(alloc, model, graph, vectors)?.dense_verdict(alloc)
 }
 
-/// The least constant over filled tables, where the texts are read and fit.
+/// The least constant over filled tables, if the texts are read and fit.
 fn dense_constant(
     alloc: Global,
     model: &[u8],
@@ -115,12 +115,12 @@ fn dense_constant(
     read_parts(alloc, model, graph, vectors)?.dense_constant(alloc)
 }
 
-/// The verdict, where the texts are read and fit.
+/// The verdict, if the texts are read and fit.
 fn verdict(alloc: Global, model: &[u8], graph: &[u8], vectors: &[u8]) -> Option<Verdict> {
     read_parts(alloc, model, graph, vectors)?.verdict()
 }
 
-/// The least constant, where the texts are read and fit.
+/// The least constant, if the texts are read and fit.
 fn constant(
     alloc: Global,
     model: &[u8],
@@ -331,7 +331,7 @@ fn ends(vectors: &Vectors) -> Option<(i64, i64)> {
     Some((vectors.at(0, 0), vectors.at(node, state)))
 }
 
-/// The least constant, and the first and the last value lowered by it, where the texts are read and fit.
+/// The least constant, and the first and the last value lowered by it, if the texts are read and fit.
 fn lowering(
     alloc: Global,
     model: &[u8],
@@ -441,7 +441,7 @@ fn the_largest_amount(rt: HostRuntime) -> Result<(), Fail> {
     Ok(())
 }
 
-/// A text that begins with these values and goes on with zeros.
+/// A text that begins with these values and continues with zeros.
 fn then_zeros(alloc: Global, values: &[u8], zeros: usize) -> Result<Vec<u8>, AllocError> {
     let mut text = Vec::new(alloc);
     text.extend_from_slice(values)?;
@@ -449,7 +449,7 @@ fn then_zeros(alloc: Global, values: &[u8], zeros: usize) -> Result<Vec<u8>, All
     Ok(text)
 }
 
-/// More end states than are gone through at once: what is behind the last of them counts too.
+/// More end states than are gone through at once: what is after the last of them counts too.
 #[test]
 fn behind_the_first_thousands(rt: HostRuntime) -> Result<(), Fail> {
     let alloc = rt.alloc();
@@ -474,7 +474,7 @@ fn the_last_of_two_thousand_observations(rt: HostRuntime) -> Result<(), Fail> {
     Ok(())
 }
 
-/// A start state behind more of them than are gone through at once.
+/// A start state after more of them than are gone through at once.
 #[test]
 fn from_behind_the_first_thousands(rt: HostRuntime) -> Result<(), Fail> {
     let alloc = rt.alloc();
@@ -490,7 +490,7 @@ fn from_behind_the_first_thousands(rt: HostRuntime) -> Result<(), Fail> {
     Ok(())
 }
 
-/// The best node from the start and its worth, where the texts are read and fit.
+/// The best node from the start and its worth, if the texts are read and fit.
 fn worth(alloc: Global, model: &[u8], graph: &[u8], vectors: &[u8]) -> Option<(usize, i64)> {
     read_parts(alloc, model, graph, vectors)?.worth()
 }

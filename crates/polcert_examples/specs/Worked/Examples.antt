@@ -44,7 +44,7 @@ decimal_thirds last = plain 3 (transition (Only 0 ∷ Only 0 ∷ []) (Probabilit
 abbrev pub one_cell : ℕ → ℕ → Entry
 one_cell column p = transition (Only 0 ∷ Only 0 ∷ Only column ∷ []) (Probabilities (p ∷ []))
 
--- `T: 0 : 0 uniform`, and behind it the single cells 0.5, 0, 0 and 0.5 at the columns 0, 1, 2 and 0
+-- `T: 0 : 0 uniform`, and after it the single cells 0.5, 0, 0 and 0.5 at the columns 0, 1, 2 and 0
 abbrev pub sixths : Meaning
 sixths = plain 6 (transition (Only 0 ∷ Only 0 ∷ []) Uniform ∷ one_cell 0 500_000 ∷ one_cell 1 0 ∷ one_cell 2 0 ∷ one_cell 0 500_000 ∷ [])
 

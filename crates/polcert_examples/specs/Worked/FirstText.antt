@@ -32,7 +32,7 @@ first_entries =
     ∷ observation (Only 0 ∷ []) (Probabilities (850_000 ∷ 150_000 ∷ 150_000 ∷ 850_000 ∷ []))
     ∷ rewards (Only 0 ∷ Only 0 ∷ Only 0 ∷ Only 0 ∷ []) (minus_whole 1 ∷ []) ∷ []
 
--- what is known behind the preamble and some entries
+-- what is known after the preamble and some entries
 abbrev pub first_known : List Entry → Known
 first_known entries = record {
   discount = Some 950_000;

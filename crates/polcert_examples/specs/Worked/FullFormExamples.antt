@@ -104,7 +104,7 @@ thirds_form =
     ++ codes "O: 0 : 2\n"
     ++ codes "uniform\n"
 
--- behind `uniform` the columns of another weight, one by one
+-- after `uniform` the columns of another weight, one by one
 abbrev pub sixths_form : List ℕ
 sixths_form =
     codes "discount: 1\n"
@@ -147,7 +147,7 @@ two_states costs = meaning_of (record { discount = 500_000; costs = costs; state
     (transition (Only 0 ∷ []) (Probabilities (0 ∷ 1_000_000 ∷ 1_000_000 ∷ 0 ∷ []))
     ∷ rewards (Only 0 ∷ Only 0 ∷ Only 1 ∷ []) (whole 1 ∷ []) ∷ [])
 
--- where this stands behind `values:`
+-- where this stands after `values:`
 abbrev pub two_states_form : List ℕ → List ℕ
 two_states_form values =
     codes "discount: 0.5\n"

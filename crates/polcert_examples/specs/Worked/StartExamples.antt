@@ -1,4 +1,4 @@
--- Start items over two named states, `a` and `b`: the lexemes behind `start`.
+-- Start items over two named states, `a` and `b`: the lexemes after `start`.
 use Rattle.std.specs.Prelude.{ℕ, List, [], ◌∷◌, codes}
 use Rattle.polcert_text.specs.Cut.{Lexeme}
 use Rattle.polcert_cells.specs.declared.elements.Elements.{Elements}

@@ -65,7 +65,7 @@ tiger_entries =
     ∷ rewards (Only 2 ∷ Only 0 ∷ Every ∷ Every ∷ []) (whole 10 ∷ [])
     ∷ rewards (Only 2 ∷ Only 1 ∷ Every ∷ Every ∷ []) (minus_whole 100 ∷ []) ∷ []
 
--- what is known behind the preamble and some entries
+-- what is known after the preamble and some entries
 abbrev pub tiger_known : List Entry → Known
 tiger_known entries = record {
   discount = Some 950_000;

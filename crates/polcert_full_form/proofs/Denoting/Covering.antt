@@ -30,11 +30,11 @@ module _ (p : Entry → Bool) where
       let turned : reverse (x ∷ xs) ++ ys ≡ reverse xs ++ x ∷ ys = ap (λ (l : List Entry). l ++ ys) (reverse-append (x ∷ []) xs) ∙ append_assoc (reverse xs) (x ∷ []) ys in
       ap (find p) turned ∙ passed_over xs (x ∷ ys) both.1 ∙ ap (λ b. cond b (Some x) (find p ys)) both.0
 
-  -- behind, the last is the last
+  -- after, the last is the last
   pub last_behind : (xs ys : List Entry) (e : Entry) → last_of ys ≡ Some e → last_of (xs ++ ys) ≡ Some e
   last_behind xs ys e h = ap (find p) (reverse-append xs ys) ∙ found_first (reverse ys) (reverse xs) e h
 
-  -- what is behind doesn't count, if none passes there
+  -- what is after doesn't count, if none passes there
   pub last_before : (xs ys : List Entry) → none_of ys ≡ false → last_of (xs ++ ys) ≡ last_of xs
   last_before xs ys h = ap (find p) (reverse-append xs ys) ∙ passed_over ys (reverse xs) h
 

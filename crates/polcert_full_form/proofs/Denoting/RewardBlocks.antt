@@ -81,7 +81,7 @@ module _ (r : ℕ → ℤ) (n first size : ℕ) (block : List ℤ) (filled : IsF
       ap (λ k. for_each k (block_text costs first (take size block))) size_is
       ∙ same_for_each size (block_text costs first (take size block)) (λ i. reward_text costs r (first + i)) (λ i l. ap (λ h. number_text (first + i) (written costs h)) (each_is i l))
 
-  -- behind those from `start` on
+  -- after those from `start` on
   pub block_more : (costs : Bool) (start : ℕ) → start ≤ first
       → for_each (first - start) (λ i. reward_text costs r (start + i)) ++ for_each (length (take size block)) (block_text costs first (take size block))
       ≡ for_each (first + size - start) (λ i. reward_text costs r (start + i))

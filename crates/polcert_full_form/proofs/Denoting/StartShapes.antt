@@ -13,7 +13,7 @@ use Rattle.polcert_format.specs.FullForm.{is_choice}
 use Rattle.polcert_format.specs.Writable.{IsMillionthsStart}
 use Rattle.polcert_full_form.proofs.Denoting.RowEntries.{test_itself}
 
--- states that are alike, or millionths
+-- states that are the same, or millionths
 abbrev pub HasShape : ℕ → Shares → Type 0
 HasShape n start = (is_choice start ≡ true) ⊎ IsMillionthsStart n start
 

@@ -1,4 +1,4 @@
--- Lines and rows as a printer's loop makes them: part by part, each behind those so far.
+-- Lines and rows as a printer's loop makes them: part by part, each after those so far.
 use Rattle.std.proofs.Common.{◌≡◌, ◌∙◌, ℕ, zero, suc, ◌+◌, List, [], ◌∷◌, ◌++◌, flat_map, map, codes, refl, sym, ap, arith, append_assoc, append-nil, decimal}
 use Rattle.std.specs.List.{range_with_len}
 use Rattle.std.proofs.lemmas.List.FromFn.{map-range_with_len_more}
@@ -10,7 +10,7 @@ use Rattle.polcert_format.specs.FullForm.{for_each, values, millionths_text, tab
 abbrev behind_blank : List ℕ → List ℕ
 behind_blank w = codes " " ++ w
 
--- the first word, each further one behind a blank, and a line end
+-- the first word, each further one after a blank, and a line end
 pub line_is : (w : List ℕ) (ws : List (List ℕ)) → line (w ∷ ws) ≡ w ++ flat_map behind_blank ws ++ codes "\n"
 line_is w [] = ap (λ bs. bs ++ codes "\n") (sym (append-nil w))
 line_is w (v ∷ ws) =
@@ -35,7 +35,7 @@ further_words (suc n) f =
 pub values_line : (n : ℕ) (f : ℕ → List ℕ) → line (values (suc n) f) ≡ f 0 ++ for_each n (λ i. codes " " ++ f (i + 1)) ++ codes "\n"
 values_line n f = line_is (f 0) (map f (range_with_len 1 n)) ∙ ap (λ bs. f 0 ++ bs ++ codes "\n") (further_words n f)
 
--- ---- the lines that begin an entry, part behind part
+-- ---- the lines that begin an entry, part after part
 pub cell_line_is : (table : Table) (a s c q : ℕ) → line (row_words table a s ++ codes ":" ∷ decimal c ∷ millionths_text q ∷ [])
     ≡ table_word table ++ codes " " ++ decimal a ++ codes " : " ++ decimal s ++ codes " : " ++ decimal c ++ codes " " ++ millionths_text q ++ codes "\n"
 cell_line_is table a s c q = simp append_assoc

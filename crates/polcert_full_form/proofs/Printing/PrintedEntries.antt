@@ -69,7 +69,7 @@ name_at place bytes = record { kind = Name; place = place; bytes = bytes }
 abbrev pub colon_at : ℕ → Lexeme
 colon_at place = record { kind = Colon; place = place; bytes = codes ":" }
 
--- what is known behind a whole preamble, a start item and some entries
+-- what is known after a whole preamble, a start item and some entries
 abbrev pub known_of : Preamble → Shares → List Entry → Known
 known_of p start es = record {
   discount = Some p.discount;
@@ -88,7 +88,7 @@ complete p start es room = record {
 }
 
 module _ (p : Preamble) (start : Shares) (room : HasRoom p) where
-  -- The text is further entries behind any that came before.
+  -- The text is further entries after any that came before.
   abbrev pub PrintsEntries : List ℕ → List Entry → Type 0
   PrintsEntries text new = (es : List Entry) → Prints text (known_of p start es) (known_of p start (es ++ new))
 

@@ -1,4 +1,4 @@
--- Texts that are whole items, each right behind those before it.
+-- Texts that are whole items, each right after those before it.
 use Rattle.std.proofs.Common.{◌≡◌, ◌∙◌, ℕ, ◌+◌, ◌≤◌, false, Some, None, List, [], ◌∷◌, ◌++◌, length, flat_map, All, refl, sym, ap, subst, append-nil}
 use Rattle.std.specs.List.{list_any}
 use Rattle.std.proofs.lemmas.Bool.{le-ltb}
@@ -22,7 +22,7 @@ pub record AreItems (ls : List Lexeme) (k next : Known) : Type 0 where
   pub each : All IsItem items
   pub right : AreRight k items next
 
--- The text is whole items, right behind what is known, and this is known behind them.
+-- The text is whole items, right after what is known, and this is known after them.
 pub record Prints (text : List ℕ) (k next : Known) : Type 0 where
   pub lexemes : List Printed
   pub text_is : text_of lexemes ≡ text

@@ -58,7 +58,7 @@ pub flat_each : {A : Type 0} (f : A → List ℕ) (xs : List A) (d : A) → flat
 flat_each f [] d = refl
 flat_each f (x ∷ xs) d = ap (λ bs. f x ++ bs) (flat_each f xs d) ∙ sym (each_front (length xs) (λ i. f (get_or (x ∷ xs) i d)))
 
--- a word, and others each behind a blank
+-- a word, and others each after a blank
 pub words_line : (w : List ℕ) (ws : List (List ℕ)) → w ++ for_each (length ws) (name_text ws) ++ codes "\n" ≡ line (w ∷ ws)
 words_line w ws = ap (λ bs. w ++ bs ++ codes "\n") (sym (flat_each behind_blank ws [])) ∙ sym (lines.line_is w ws)
 

@@ -78,7 +78,7 @@ length-map_bytes : (ls : List Lexeme) → length (map (λ (l : Lexeme). l.bytes)
 length-map_bytes [] = refl
 length-map_bytes (l ∷ ls) = ap suc (length-map_bytes ls)
 
--- what stands behind the colon of such a line
+-- what stands after the colon of such a line
 record IsElementsLine (most : ℕ) (word : List ℕ) (elements : Elements) : Type 0 where
   lexemes : List Printed
   text_is : text_of (record { kind = Name; bytes = word; behind = [] } ∷ record { kind = Colon; bytes = codes ":"; behind = codes " " } ∷ lexemes) ≡ line (word_text (key word) ∷ element_words elements)
@@ -184,7 +184,7 @@ elements_print most few word t elements k next w e right =
     }
 
 -- ---- the preamble
--- what is known behind these lines
+-- what is known after these lines
 abbrev pub lines_known : Preamble → Known
 lines_known p = record nothing_known {
   discount = Some p.discount;

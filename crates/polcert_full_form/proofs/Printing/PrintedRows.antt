@@ -94,7 +94,7 @@ module _ (p : Preamble) (start : Shares) (room : HasRoom p) (few_actions : count
   Entries text new = PrintsEntries p start room text new
 
   module _ (table : Table) (a s n : ℕ) (w : ℕ → ℕ) (t : HasRows p table n) (l : a < count_of p.actions) (k : s < count_of p.states) (some : 0 < n) (few : n ≤ most_elements) where
-    -- a body behind the line of the row
+    -- a body after the line of the row
     row_then : (us : List Printed) (body : Body) → ArePrinted us → list_any (λ k. k == 2) (forms (is_mdp p) table body) ≡ true
         → ((place : ℕ) → IsBody (cells_in (t.column ∷ [])) (lexemes_at place us) body) → ((place : ℕ) → list_any begins_item (lexemes_at place us) ≡ false)
         → Entries (line (row_words table a s) ++ text_of us) (whole_row table a s body ∷ [])

@@ -201,7 +201,7 @@ module _ (p : Preamble) (start : Shares) (room : HasRoom p) (few : count_of p.st
           (starts.plain refl (subst (IsStartBody p.states _) (shares_back (w ∷ ws) (ap is_level (sym is) ∙ m.uneven) is m.total_is)
           (starts.probabilities (w ∷ ws) m.several (numbers_at (pos w) (map pos ws) small _) (sym (ap length is) ∙ count) (sym (ap sum is) ∙ adds ∙ m.total_is)))))
 
-  -- states that are alike, or millionths
+  -- states that are the same, or millionths
   pub start_prints : sum start.weights ≡ start.total → 0 < start.total → (is_choice start ≡ true) ⊎ IsMillionthsStart (count_of p.states) start → Prints (start_text start) (lines_known p) (known_of p start [])
   start_prints adds some form = at (is_whole start) (is_choice start) refl refl
     where

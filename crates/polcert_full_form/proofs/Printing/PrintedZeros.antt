@@ -9,7 +9,7 @@ zero_text : 48 ∷ [] ≡ scaled_text (pos 0)
 unfolding digits
 zero_text = refl
 
--- behind a blank in all places but the first
+-- after a blank in all places but the first
 pub zero_at : (place : ℕ) → (if place == 0 then codes "0" else codes " 0") ≡ number_text place (pos 0)
 zero_at zero = zero_text
 zero_at (suc k) =

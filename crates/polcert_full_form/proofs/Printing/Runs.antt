@@ -6,7 +6,7 @@ use Rattle.polcert_cells.specs.Cursors.{IsNext}
 use Rattle.polcert_format.specs.FullForm.{for_each}
 use Rattle.polcert_full_form.proofs.Denoting.SameForms.{same_for_each}
 
--- so many parts, and so many behind them
+-- so many parts, and so many after them
 pub each_add : (m k : ℕ) (f : ℕ → List ℕ) → for_each (m + k) f ≡ for_each m f ++ for_each k (λ i. f (m + i))
 each_add m zero f = let none : m + 0 ≡ m = omega arith in ap (λ n. for_each n f) none ∙ sym (append-nil (for_each m f))
 each_add m (suc k) f =
@@ -17,7 +17,7 @@ each_add m (suc k) f =
 pub each_from : (from to : ℕ) (f : ℕ → List ℕ) → from ≤ to → for_each to f ≡ for_each from f ++ for_each (to - from) (λ i. f (from + i))
 each_from from to f l = let whole : to ≡ from + (to - from) = omega (arith, l) in ap (λ n. for_each n f) whole ∙ each_add from (to - from) f
 
--- Of the parts of n columns those where f is 0 are alike.
+-- Of the parts of n columns those where f is 0 are the same.
 module _ (f : ℕ → ℕ) (n : ℕ) (part none : ℕ → List ℕ) (nothing_there : (c : ℕ) → c < n → f c ≡ 0 → none c ≡ part c) where
   zeros_are : (from to : ℕ) → from ≤ to → to ≤ n → ((i : ℕ) → from ≤ i → i < to → f i ≡ 0)
       → for_each from part ++ for_each (to - from) (λ i. none (from + i)) ≡ for_each to part
@@ -53,7 +53,7 @@ module _ {S T E : Type 0} {writes : S → Option (List ℕ) → S → Type 0} {f
       as_text (sym (each_from m n part l)) (fails_before _ _ r is_err (as_text whole (fails_at _ _ r is_err so_far run.err run.count)))
 
 -- ---- runs from one part on
--- a run goes on
+-- a run continues
 pub run_more : (first from count : ℕ) (f : ℕ → List ℕ) → first ≤ from
     → for_each (from - first) (λ i. f (first + i)) ++ for_each count (λ i. f (from + i)) ≡ for_each (from + count - first) (λ i. f (first + i))
 run_more first from count f l =
@@ -69,7 +69,7 @@ run_more first from count f l =
 run_start : (count : ℕ) (f : ℕ → List ℕ) → for_each count (λ i. f (0 + i)) ≡ for_each count f
 run_start count f = same_for_each count (λ i. f (0 + i)) f (λ i l. ap f (zero-add i))
 
--- parts that are alike, and those behind them
+-- parts that are the same, and those after them
 pub run_behind : (first n : ℕ) (none f : ℕ → List ℕ) → first ≤ n → ((i : ℕ) → i < first → none i ≡ f i)
     → for_each first (λ i. none (0 + i)) ++ for_each (n - first) (λ i. f (first + i)) ≡ for_each n f
 run_behind first n none f l same =

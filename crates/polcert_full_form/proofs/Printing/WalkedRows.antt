@@ -22,7 +22,7 @@ at_start (Filled weights) = refl
 at_start (Single cell) = refl
 
 -- ---- tests of all columns
--- a test goes on holding
+-- a test continues holding
 test_on : (test : ℕ → Bool) (k j : ℕ) → true ≡ all_below k test → ((i : ℕ) → i < j → test (k + i) ≡ true) → true ≡ all_below (k + j) test
 test_on test k zero before h = let same : k ≡ k + 0 = omega arith in subst (λ n. true ≡ all_below n test) same before
 test_on test k (suc j) before h =

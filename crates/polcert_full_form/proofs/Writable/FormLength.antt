@@ -29,7 +29,7 @@ use Rattle.polcert_format.specs.Writable.{IsWritableName}
 use Rattle.polcert_full_form.proofs.Denoting.Observing.{one_rewarded, seen_rewarded}
 
 -- ---- lines
--- the bytes of the words, and one behind each
+-- the bytes of the words, and one after each
 abbrev words_length : List (List ℕ) → ℕ
 words_length [] = 0
 words_length (w ∷ ws) = length w + 1 + words_length ws

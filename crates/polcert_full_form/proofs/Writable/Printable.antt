@@ -4,7 +4,7 @@ use Rattle.polcert_cells.specs.Meaning.{Meaning, HasLimitedNumbers}
 use Rattle.polcert_format.specs.Limits.{HasFewPairs}
 use Rattle.polcert_format.specs.Printable.{IsPrintable}
 
--- there is room for what is printed behind this preamble, and for the cells of a text
+-- there is room for what is printed after this preamble, and for the cells of a text
 pub record HasRoom (p : Preamble) : Type 0 where
   pub printable : IsPrintable p
   pub pairs : HasFewPairs p

@@ -15,7 +15,7 @@ use Rattle.polcert_full_form.specs.Steps.Printing.{number_text, decimal_text, ce
 abbrev pub row_weights : WeightRow → ℕ → ℕ
 row_weights r = row_of r.draft.now r.table r.action r.state
 
--- what stands behind the line of its indices
+-- what stands after the line of its indices
 abbrev pub row_body : WeightRow → List ℕ
 row_body r = body_text r.table r.action r.state r.columns (row_weights r)
 

@@ -1,4 +1,4 @@
--- The full form as its printer writes it: part behind part.
+-- The full form as its printer writes it: part after part.
 -- Nobody has to believe this file: only private functions cite it.
 use Rattle.std.specs.Prelude.{◌≡◌, ℕ, ◌+◌, ◌*◌, ◌/◌, ◌<◌, ◌≤◌, ◌==◌, Bool, true, false, Option, Some, None, if◌then◌else◌, List, [], ◌∷◌, ◌++◌, length, slice_index_or, get_or, ℤ, pos, decimal, codes}
 use Rattle.std.specs.Coded.{Unit-prop}
@@ -92,7 +92,7 @@ decimal_text n w c = number_text c (pos (w c / n))
 abbrev pub cell_line : Table → ℕ → ℕ → ℕ → ℤ → List ℕ
 cell_line table a s c h = pattern_text table (a ∷ s ∷ c ∷ []) ++ codes " " ++ scaled_text h ++ codes "\n"
 
--- what stands behind the line of a row's indices
+-- what stands after the line of a row's indices
 abbrev pub body_text : Table → ℕ → ℕ → ℕ → (ℕ → ℕ) → List ℕ
 body_text table a s n w =
     if is_uniform n w then line (codes "uniform" ∷ [])

@@ -1,4 +1,4 @@
--- An entry that goes on with several lexemes at once: those that stand whole at the front of some bytes.
+-- An entry that continues with several lexemes at once: those that stand whole at the front of some bytes.
 -- Nobody has to believe this: only contracts of the readers of items and texts cite it.
 use Rattle.std.specs.Prelude.{◌≡◌, ℕ, ◌≤◌, ◌⊎◌, false, List, [], ◌∷◌, ◌++◌, length, pos}
 use Rattle.polcert_text.specs.Beginning.{BeginWith}
@@ -60,7 +60,7 @@ pub record BeginWithPlace (ds : List Elements) (position : ℕ) (bytes : List �
 abbrev pub AwaitsColon : EntryState → Type 0
 AwaitsColon s = (s ≡ states.Colon) ⊎ (s ≡ states.Body)
 
--- the body's numbers behind the first, which is so many millionths and in their range
+-- the body's numbers after the first, which is so many millionths and in their range
 abbrev pub AreBegunWith : Table → ℕ → ℕ → EntryState → Type 0
 AreBegunWith Reward needed v s = s ≡ states.Rewards (one_number needed (pos v))
 AreBegunWith _ needed v s = (s ≡ states.Probabilities (one_number needed v)) × (v ≤ one)

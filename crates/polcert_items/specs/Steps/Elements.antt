@@ -64,14 +64,14 @@ ElementsReason old l DuplicateName place = (place ≡ l.place) × IsName l × Is
 ElementsReason old l BadCount place = place ≡ l.place
 ElementsReason old l kind place = IsMisplaced l kind place
 
--- a colon, and behind it these names
+-- a colon, and after it these names
 pub record AreNamesSeen (body : List Lexeme) (names : List (List ℕ)) : Type 0 where
   pub colon : Lexeme
   pub further : List Lexeme
   pub whole : body ≡ colon ∷ further
   pub names_are : names ≡ map (λ l. l.bytes) further
 
--- the lexemes behind the item's word, as far as the reader keeps them
+-- the lexemes after the item's word, as far as the reader keeps them
 abbrev pub AreElementsSeen : List Lexeme → ElementsReader → Type 0
 AreElementsSeen body readers.Colon = body ≡ []
 AreElementsSeen body readers.First = (colon : Lexeme) × (body ≡ colon ∷ [])

@@ -32,7 +32,7 @@ use Rattle.polcert_format.specs.Reasons.{IsDigits}
 use Rattle.polcert_items.specs.Steps.Numbers.{AreNumbersBehind, IsInRange, ListKind, of_probabilities, of_rewards, IsNumberReason, IsMisplaced, IsBehindNumbers}
 use Rattle.polcert_items.specs.Steps.Lines.{BehindColon, Takes, CannotTake}
 
--- behind these places the lexemes go on as this entry
+-- after these places the lexemes continue as this entry
 pub record IsEntryBehind (p : Preamble) (table : Table) (before : List Place) (ls : List Lexeme) (entry : Entry) : Type 0 where
   pub further : List Place
   pub pattern : List Lexeme
@@ -90,7 +90,7 @@ StateGoes p table places (states.Word w) ls entry = (ls ≡ []) × (entry ≡ en
 abbrev pub EntryGoes : Preamble → EntryReader → List Lexeme → Entry → Type 0
 EntryGoes p r ls entry = StateGoes p r.table r.places r.state ls entry
 
--- one more number is awaited behind a sign
+-- one more number is awaited after a sign
 abbrev pub awaited : Option Sign → ℕ
 awaited None = 0
 awaited (Some sign) = 1
@@ -132,13 +132,13 @@ pub data IsListReason (range : Range) (sign : Option Sign) (l : Lexeme) (kind : 
   no_number : IsNumberReason range sign l kind place → IsListReason range sign l kind place
   no_further : IsBehindNumbers l kind place → IsListReason range sign l kind place
 
--- why a token is refused in an entry: as no place, or as no number behind the sign before it
+-- why a token is refused in an entry: as no place, or as no number after the sign before it
 pub data IsEntryReason (r : EntryReader) (l : Lexeme) (kind : ItemFault) (place : ℕ) : Type 0 where
   no_place : IsPlaceReason l kind place → IsEntryReason r l kind place
   no_probability : (r.table ≢ Reward) → IsListReason ranges.Probability (entry_sign r.state) l kind place → IsEntryReason r l kind place
   no_reward : IsListReason ranges.Reward (entry_sign r.state) l kind place → IsEntryReason r l kind place
 
--- a refusal for which this holds, or want of memory
+-- a refusal for which this holds, or out of memory
 abbrev pub IfRefused : Stop → (Refusal → Type 0) → Type 0
 IfRefused (Refused r) P = P r
 IfRefused Memory P = Unit {0}
@@ -152,7 +152,7 @@ word_text words.Identity = codes "identity"
 abbrev pub MayStand : Bool → Table → Body → ℕ → Type 0
 MayStand mdp table body written = list_any (λ n. n == written) (forms mdp table body) ≡ true
 
--- the lexeme is this word, and it may stand behind so many places
+-- the lexeme is this word, and it may stand after so many places
 abbrev pub IsWordBehind : Bool → Table → ℕ → Lexeme → Word → Type 0
 IsWordBehind mdp table written l w = IsWord (word_text w) l × MayStand mdp table (body_of w) written
 
@@ -160,7 +160,7 @@ IsWordBehind mdp table written l w = IsWord (word_text w) l × MayStand mdp tabl
 abbrev pub no_numbers : {T : Type 0} → ℕ → Numbers T
 no_numbers needed = record { read = []; needed = needed; sign = None }
 
--- behind the first number
+-- after the first number
 abbrev pub one_number : {T : Type 0} → ℕ → T → Numbers T
 one_number needed first = record { read = first ∷ []; needed = needed; sign = None }
 

@@ -19,11 +19,11 @@ use Rattle.polcert_items.specs.Steps.Lines.{Takes, CannotTake, CannotEnd}
 use Rattle.polcert_items.specs.Steps.Start.{StartGoes, IsStartWithin, IsStartSeen, IsStartReason, IsStop, IsDue, start_sign}
 use Rattle.polcert_items.specs.Steps.Wants.{Leads, entry_wants, start_wants}
 
--- A reader whose state goes on so, and wants this, takes the lexeme; or nothing goes on with it, and it is refused for such a reason.
--- (What holds of an error that is a refusal is said by `If`: another error is want of memory.)
+-- A reader whose state continues so, and wants this, takes the lexeme; or nothing continues with it, and it is refused for such a reason.
+-- (What holds of an error that is a refusal is said by `If`: another error is out of memory.)
 pub record Feeds {S V E : Type 0} (If : E → (Refusal → Type 0) → Type 0) (Goes : S → List Lexeme → V → Type 0) (wants : S → List Lexeme → Wanted)
     (Reason : Lexeme → ItemFault → ℕ → Type 0) (old : S) (l : Lexeme) (new : S) (result : Result Unit E) : Type 0 where
-  -- what goes on behind the lexeme is what went on from before it
+  -- what continues after the lexeme is what went on from before it
   pub takes : OnOk result (Takes Goes old l new)
   -- and what is wanted there is what was wanted before it
   pub leads : OnOk result (Leads (wants old) l (wants new))
@@ -39,7 +39,7 @@ IfRefusal r P = P r
 abbrev pub FeedsEntry : Known → (Lexeme → ItemFault → ℕ → Type 0) → EntryReader → Lexeme → EntryReader → Result Unit Stop → Type 0
 FeedsEntry k Reason old l new result = Feeds IfRefused (EntryGoes (preamble_in k)) (entry_wants (preamble_in k)) Reason old l new result
 
--- A line whose state goes on so, and wants this, ends with what it says; or nothing ends it here, for a reason of its topic.
+-- A line whose state continues so, and wants this, ends with what it says; or nothing ends it here, for a reason of its topic.
 pub record EndsLine {S V : Type 0} (Goes : S → List Lexeme → V → Type 0) (wants : S → List Lexeme → Wanted)
     (topic : Topic) (s : S) (result : Result V ItemFault) : Type 0 where
   pub said : IfOk result (Goes s [])

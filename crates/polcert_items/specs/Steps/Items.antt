@@ -37,7 +37,7 @@ use Rattle.polcert_items.specs.Steps.Known.{learned}
 use Rattle.polcert_items.specs.Steps.Wants.{Leads, item_wants, IfNotStart, IfStart}
 use Rattle.polcert_format.specs.Misfits.{IsMisfit}
 
--- the lexemes end the item, and this is known behind it
+-- the lexemes end the item, and this is known after it
 abbrev pub ItemGoes : Known → ItemReader → List Lexeme → Known → Type 0
 ItemGoes k (items.Discount r) ls next = (g : ℕ) × (DiscountGoes r ls g × (next ≡ learned k (said.Discount g)))
 ItemGoes k (items.Values r) ls next = (b : Bool) × (ValuesGoes r ls b × (next ≡ learned k (said.Costs b)))
@@ -102,7 +102,7 @@ IsSeen count body (items.Observations r) = (ends_in_sign body ≡ false) × AreE
 IsSeen count body (items.Start r) = IsStartSeen count body r
 IsSeen count body item = SignEnds (sign_in item) body
 
--- why a token is refused in an item of this topic, behind this sign and body; some reasons are of some topics alone
+-- why a token is refused in an item of this topic, after this sign and body; some reasons are of some topics alone
 abbrev pub IsTokenReason : Topic → Option Sign → List Lexeme → Lexeme → ItemFault → ℕ → Type 0
 IsTokenReason t sign body l DiscountRange place = (t ≡ Discount) × (place ≡ number_place sign l) × IsNoFraction (is_negative sign) l
 IsTokenReason t sign body l ProbabilityRange place = IsOfProbabilities t × IsReasonAt sign l ProbabilityRange place

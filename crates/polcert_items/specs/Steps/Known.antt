@@ -34,7 +34,7 @@ known_of discount costs states actions observations start entries = record {
 abbrev pub IsCountIn : ℕ → Option Elements → Type 0
 IsCountIn most elements = ForSome elements (λ e. IsCount most (count_of e))
 
--- what is known behind an item that says this
+-- what is known after an item that says this
 abbrev pub learned : Known → ItemContents → Known
 learned k (says.Discount g) = record k { discount = Some g }
 learned k (says.Costs b) = record k { costs = Some b }
@@ -61,7 +61,7 @@ AreContentsWithin (says.Actions e) = IsCount most_actions (count_of e)
 AreContentsWithin (says.Observations e) = IsCount most_observations (count_of e)
 AreContentsWithin _ = Unit {0}
 
--- What may be learned behind what is known: an entry behind a complete preamble, and elements before all entries.
+-- What may be learned after what is known: an entry after a complete preamble, and elements before all entries.
 abbrev pub MayBeLearned : Known → ItemContents → Type 0
 MayBeLearned k (says.Entry e) = (preamble_fault k ≡ None) × IsSoundEntry (preamble_in k) e
 MayBeLearned k (says.States e) = k.entries ≡ []

@@ -14,13 +14,13 @@ use Rattle.polcert_cells.specs.Words.{IsWord}
 use Rattle.polcert_cells.specs.Numbers.{one}
 use Rattle.polcert_items.specs.Steps.Numbers.{AreNumbersBehind, IsNumberReason, IsBehindNumbers, IsMisplaced}
 
--- A reader's state goes on as lexemes that end its item, with what the item says: `Goes state lexemes said`.
--- One more lexeme was taken: what goes on behind it is what went on from before it.
+-- A reader's state continues as lexemes that end its item, with what the item says: `Goes state lexemes said`.
+-- One more lexeme was taken: what continues after it is what went on from before it.
 pub record Takes {S V : Type 0} (Goes : S → List Lexeme → V → Type 0) (old : S) (l : Lexeme) (new : S) : Type 0 where
   pub back : (ls : List Lexeme) (v : V) → Goes new ls v → Goes old (l ∷ ls) v
   pub on : (ls : List Lexeme) (v : V) → Goes old (l ∷ ls) v → Goes new ls v
 
--- nothing goes on with this lexeme
+-- nothing continues with this lexeme
 abbrev pub CannotTake : {S V : Type 0} → (S → List Lexeme → V → Type 0) → S → Lexeme → Type 0
 CannotTake {V = V} Goes old l = (ls : List Lexeme) (v : V) → Goes old (l ∷ ls) v → ⊥
 

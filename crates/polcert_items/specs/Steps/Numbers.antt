@@ -1,4 +1,4 @@
--- A number of an item, token by token: what is still to come of a list of numbers behind a sign, and what a token says
+-- A number of an item, token by token: what is still to come of a list of numbers after a sign, and what a token says
 -- in a number's place.
 -- Nobody has to believe this: only contracts of private functions cite it.
 use Rattle.std.specs.Prelude.{◌≡◌, ℕ, ◌≤◌, Bool, true, false, Option, Some, None, List, [], ◌∷◌, ◌++◌, ℤ, pos, codes, All}
@@ -18,7 +18,7 @@ use Rattle.polcert_cells.specs.declared.entry.Body.TheVariants as bodies
 use Rattle.polcert_cells.specs.Numbers.{IsMillionths, AreNumbers, one}
 use Rattle.polcert_format.specs.Reasons.{IsRefusedNumber, IsNoFraction, is_sign, ends_in_sign}
 
--- behind a sign, if there is one, the lexemes go on as these numbers
+-- after a sign, if there is one, the lexemes continue as these numbers
 abbrev pub AreNumbersBehind : Option Sign → List Lexeme → List ℤ → Type 0
 AreNumbersBehind None ls hs = AreNumbers ls hs
 AreNumbersBehind (Some sign) (l ∷ ls) (h ∷ hs) = IsMillionths sign.negative l h × AreNumbers ls hs
@@ -60,7 +60,7 @@ abbrev pub IsStep : Range → Option Sign → Lexeme → Step → Type 0
 IsStep range sign l (steps.Sign s) = (sign ≡ None) × IsSignAt s l
 IsStep range sign l (steps.Value h) = IsMillionths (is_negative sign) l h × IsInRange range h
 
--- no numbers in the range go on with this lexeme
+-- no numbers in the range continue with this lexeme
 abbrev pub IsNoNumber : Range → Option Sign → Lexeme → Type 0
 IsNoNumber range sign l = (ls : List Lexeme) (hs : List ℤ) → AreNumbersBehind sign (l ∷ ls) hs → All (IsInRange range) hs → ⊥
 
@@ -70,7 +70,7 @@ IsMisplaced l Reset place = (place ≡ l.place) × IsWord (codes "reset") l
 IsMisplaced l BadShape place = place ≡ l.place
 IsMisplaced l _ place = ⊥
 
--- why a token behind the last number is refused
+-- why a token after the last number is refused
 abbrev pub IsBehindNumbers : Lexeme → ItemFault → ℕ → Type 0
 IsBehindNumbers l WrongNumberCount place = place ≡ l.place
 IsBehindNumbers l kind place = IsMisplaced l kind place
@@ -82,7 +82,7 @@ IsNumberReason range sign l DiscountRange place = (range ≡ ranges.Discount) ×
 IsNumberReason range sign l ProbabilityRange place = (range ≡ ranges.Probability) × (place ≡ number_place sign l) × IsNoFraction (is_negative sign) l
 IsNumberReason range sign l kind place = IsMisplaced l kind place
 
--- no number goes on with this lexeme, and it is refused for this reason at this place
+-- no number continues with this lexeme, and it is refused for this reason at this place
 pub record RefusesNumber (range : Range) (sign : Option Sign) (l : Lexeme) (kind : ItemFault) (place : ℕ) : Type 0 where
   pub none : IsNoNumber range sign l
   pub reason : IsNumberReason range sign l kind place

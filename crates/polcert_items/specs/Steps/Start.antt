@@ -56,7 +56,7 @@ chosen_with chosen further s = chosen s || included further s
 abbrev pub listed : Elements → Choice → (ℕ → Bool) → Shares
 listed states choice chosen = alike (count_of states) (picks choice chosen)
 
--- What goes on is asked for some shares, or for none: then only for the form of the item, and nothing that is decided at its
+-- What continues is asked for some shares, or for none: then only for the form of the item, and nothing that is decided at its
 -- end has to hold.
 
 -- these are the shares that are asked for, if any are
@@ -89,13 +89,13 @@ abbrev pub AreGiven : Elements → List ℤ → Option Shares → Type 0
 AreGiven states hs None = AreFormed states hs
 AreGiven states hs (Some v) = AreShares states hs v
 
--- behind these numbers, and a sign if there is one, the lexemes are the further numbers
+-- after these numbers, and a sign if there is one, the lexemes are the further numbers
 pub record NumbersGo (states : Elements) (before : List ℤ) (sign : Option Sign) (ls : List Lexeme) (asked : Option Shares) : Type 0 where
   pub further : List ℤ
   pub numbers : AreNumbersBehind sign ls further
   pub given : AreGiven states (before ++ further) asked
 
--- Digits behind `start:`: the number of a state where nothing follows, or else the first of more numbers.
+-- Digits after `start:`: the number of a state where nothing follows, or else the first of more numbers.
 pub data DigitsGo (states : Elements) (digits : Digits) (ls : List Lexeme) (asked : Option Shares) : Type 0 where
   state_number : (s : ℕ) → ls ≡ [] → digits.state ≡ Some s → AreAsked (single states s) asked → DigitsGo states digits ls asked
   first_of_more : (h : ℤ) → digits.value ≡ Ok h → NumbersGo states (h ∷ []) None ls asked → DigitsGo states digits ls asked
@@ -198,13 +198,13 @@ IsFormed l (reader.Colon choice) = l.kind ≡ Name
 IsFormed l reader.Body = l.kind ≡ Colon
 IsFormed l _ = ⊥
 
--- what is kept of a lexeme of the first number, behind this sign
+-- what is kept of a lexeme of the first number, after this sign
 abbrev pub IsNumberKept : Option Sign → Lexeme → StartReader → Type 0
 IsNumberKept sign l (reader.Sign s) = (sign ≡ None) × IsSignAt s l
 IsNumberKept sign l (reader.Number first) = (first.place ≡ number_place sign l) × IsMillionths (is_negative sign) l first.value
 IsNumberKept sign l _ = ⊥
 
--- what is kept of the lexeme behind the colon, with so many states
+-- what is kept of the lexeme after the colon, with so many states
 abbrev pub IsKept : ℕ → Lexeme → StartReader → Type 0
 IsKept count l reader.Every = l.kind ≡ Name
 IsKept count l (reader.Only s) = l.kind ≡ Name
@@ -242,7 +242,7 @@ pub record IsDigitsKept (count : ℕ) (digits : Digits) (l : Lexeme) : Type 0 wh
 abbrev pub IsFraction : Bool → Lexeme → Type 0
 IsFraction negative l = (h : ℤ) × IsMillionths negative l h × (IsOutside h → ⊥)
 
--- behind the first number, a probability, more was taken
+-- after the first number, a probability, more was taken
 pub record IsFurtherBody (body : List Lexeme) : Type 0 where
   pub place : ℕ
   pub next : Lexeme
@@ -300,17 +300,17 @@ IsDue (reader.Number first) l kind place = IsDueNumber first.value first.place l
 IsDue (reader.Digits digits) l kind place = IsDueValue digits.value digits.place l kind place
 IsDue _ l kind place = ⊥
 
--- why a token is refused, behind this sign and where this is wanted: for the first number, or for itself
+-- why a token is refused, after this sign and where this is wanted: for the first number, or for itself
 pub data IsStop (Due : ItemFault → ℕ → Type 0) (sign : Option Sign) (w : Wanted) (l : Lexeme) (kind : ItemFault) (place : ℕ) : Type 0 where
   due : Due kind place → IsStop Due sign w l kind place
   at_once : IsMisfit w l kind → IsReasonAt sign l kind place → IsStop Due sign w l kind place
 
--- what goes on to a number, behind this sign: another sign doesn't
+-- what continues to a number, after this sign: another sign doesn't
 abbrev pub IsNumberHeld : Option Sign → Lexeme → Type 0
 IsNumberHeld None l = (is_sign l.kind ≡ true) ⊎ ((h : ℤ) × IsMillionths false l h)
 IsNumberHeld (Some sign) l = (h : ℤ) × IsMillionths sign.negative l h
 
--- what goes on to the first number, or to its end, and is tested later
+-- what continues to the first number, or to its end, and is tested later
 abbrev pub IsHeld : ℕ → StartReader → Lexeme → Type 0
 IsHeld count reader.Form l = l.kind ≡ Colon
 IsHeld count reader.Body l = (may_be_state count l.kind l.bytes ≡ true) ⊎ IsNumberHeld None l
@@ -350,31 +350,31 @@ abbrev pub IsAtEnd : ItemEnd → Type 0
 IsAtEnd (ends.At r) = ⊥
 IsAtEnd _ = Unit {0}
 
--- Digits that are no state's number are why a start item cannot end behind them, and nothing else is told before its end.
+-- Digits that are no state's number are why a start item cannot end after them, and nothing else is told before its end.
 abbrev pub IsEndDue : StartReader → ItemEnd → Type 0
 IsEndDue (reader.Digits digits) (ends.At r) = (digits.state ≡ None) × (r.kind ≡ IndexOutOfRange) × (r.place ≡ digits.place)
 IsEndDue (reader.Digits digits) (ends.AtEnd kind) = ⊥
 IsEndDue (reader.Digits digits) ends.Memory = Unit {0}
 IsEndDue _ e = IsAtEnd e
 
--- the item cannot end for this refusal, or memory was wanting
+-- the item cannot end for this refusal, or memory ran out
 abbrev pub IsLateEnd : ItemEnd → Refusal → Type 0
 IsLateEnd (ends.At r) late = (r.kind ≡ late.kind) × (r.place ≡ late.place)
 IsLateEnd (ends.AtEnd kind) late = ⊥
 IsLateEnd ends.Memory late = Unit {0}
 
--- Why a start item cannot go on with this lexeme behind the body, where this is wanted: for its first number, which is
+-- Why a start item cannot continue with this lexeme after the body, where this is wanted: for its first number, which is
 -- refused late, or for the lexeme itself, where no refusal of that number is held back.
 pub data StopsStart (held : Option Refusal) (count : ℕ) (body : List Lexeme) (w : Wanted) (l : Lexeme) (kind : ItemFault) (place : ℕ) : Type 0 where
   first_number : ((more : List Lexeme) (ends : Bool) → IsLate count (body ++ l ∷ more) ends kind place) → StopsStart held count body w l kind place
   token : (sign : Option Sign) → held ≡ None → SignEnds sign body → IsMisfit w l kind → IsReasonAt sign l kind place → StopsStart held count body w l kind place
 
--- this holds, or memory was wanting
+-- this holds, or memory ran out
 abbrev pub IfNotMemory : ItemEnd → Type 0 → Type 0
 IfNotMemory ends.Memory P = Unit {0}
 IfNotMemory _ P = P
 
--- what goes on behind one more lexeme is what went on from before it
+-- what continues after one more lexeme is what went on from before it
 pub record Begins (Old : List Lexeme → Option Shares → Type 0) (l : Lexeme) (New : List Lexeme → Option Shares → Type 0) : Type 0 where
   pub back : (ls : List Lexeme) (asked : Option Shares) → New ls asked → Old (l ∷ ls) asked
   pub on : (ls : List Lexeme) (asked : Option Shares) → Old (l ∷ ls) asked → New ls asked
@@ -388,6 +388,6 @@ abbrev pub first_above_0 : List ℕ → ℕ
 first_above_0 [] = 0
 first_above_0 (p ∷ ps) = if p == 0 then first_above_0 ps else p
 
--- the share of a number where the numbers above 0 are alike
+-- the share of a number where the numbers above 0 are the same
 abbrev pub level_share : ℕ → ℕ
 level_share p = if not (p == 0) then 1 else 0

@@ -1,4 +1,4 @@
--- What each place of an item's body is for, behind what its reader holds.
+-- What each place of an item's body is for, after what its reader holds.
 -- Nobody has to believe this: only contracts of private functions cite it.
 use Rattle.std.specs.Prelude.{◌≡◌, ℕ, ◌-◌, true, false, Option, Some, None, is_some, List, [], ◌∷◌, length}
 use Rattle.polcert_text.specs.Cut.{Lexeme}
@@ -33,11 +33,11 @@ use Rattle.polcert_format.specs.Misfits.{Wanted, Mark, Listed, FurtherName, Numb
 use Rattle.polcert_format.specs.Wants as wants
 use Rattle.polcert_format.specs.Wants.{numbers_want}
 
--- behind one more lexeme the places are for what they were for before it
+-- after one more lexeme the places are for what they were for before it
 pub record Leads (old : List Lexeme → Wanted) (l : Lexeme) (new : List Lexeme → Wanted) : Type 0 where
   pub same : (ls : List Lexeme) → old (l ∷ ls) ≡ new ls
 
--- what a number wants behind this sign
+-- what a number wants after this sign
 abbrev pub number_wants : Option Sign → Wanted
 number_wants None = Number
 number_wants (Some sign) = Digits
@@ -77,7 +77,7 @@ state_wants p table places (states.Word w) ls = EndOfWord
 abbrev pub entry_wants : Preamble → EntryReader → List Lexeme → Wanted
 entry_wants p r ls = state_wants p r.table r.places r.state ls
 
--- behind digits that may be a state's number
+-- after digits that may be a state's number
 abbrev pub digits_want : ℕ → List Lexeme → Wanted
 digits_want count [] = NumberOrEnd
 digits_want count (l ∷ ls) = numbers_want false (count - 1) (l ∷ ls)

@@ -1,4 +1,4 @@
--- A text, item by item: what its reader holds behind the lexemes so far.
+-- A text, item by item: what its reader holds after the lexemes so far.
 -- Nobody has to believe this: only contracts of private functions cite it.
 use Rattle.std.specs.Prelude.{◌≡◌, ℕ, ◌+◌, ◌≤◌, true, Option, Some, None, List, [], ◌∷◌, ◌++◌, length}
 use Rattle.polcert_text.specs.Beginning.{BeginWith, passed}
@@ -33,7 +33,7 @@ use Rattle.polcert_items.specs.Steps.Wants.{item_wants}
 use Rattle.polcert_items.specs.Steps.Items.{ItemGoes, ItemForms, IsItemWithin, IsSeen, topic_in, pending_in}
 use Rattle.polcert_items.specs.Steps.Known.{IsWholeRead}
 
--- an entry of this body, right but perhaps for the limits of cells, and what is known behind it
+-- an entry of this body, right but perhaps for the limits of cells, and what is known after it
 pub record IsEntryTo (k : Known) (table : Table) (body : List Lexeme) (next : Known) : Type 0 where
   pub p : Preamble
   pub e : Entry
@@ -60,7 +60,7 @@ pub record IsBodyRead (k : Known) (t : Topic) (body : List Lexeme) (item : ItemR
   pub possible : pending_in item ≡ None → IsPossible k t body
   pub wants : (ls : List Lexeme) → wanted k t (body ++ ls) ≡ item_wants k item ls
 
--- within an item, behind right ones
+-- within an item, after right ones
 pub record IsItemRead (seen : List Lexeme) (r : TextReader) : Type 0 where
   pub t : Topic
   pub body : List Lexeme
@@ -94,7 +94,7 @@ pub record IsPassed (old : TextReader) (tokens : Stream) (new : TextReader) (pas
   pub tokens_are : passed_tokens ≡ passed count tokens
   pub read : (seen : List Lexeme) → IsTextRead seen old → IsTextRead (seen ++ ls) new
 
--- behind right items, before the next
+-- after right items, before the next
 pub record AreItemsRead (seen : List Lexeme) (r : TextReader) : Type 0 where
   pub items : AreRightItems seen r.known
   pub item_is : r.item ≡ None
@@ -109,7 +109,7 @@ pub record Refuses (ts : TextTokens) (fault : ModelFault) : Type 0 where
 abbrev pub IsRefusedBehind : List Lexeme → ModelFault → Type 0
 IsRefusedBehind seen fault = (text : List ℕ) (ts : TextTokens) (further : List Lexeme) → AreTokensOf text ts → ts.lexemes ≡ seen ++ further → Refuses ts fault
 
--- an item ends at this place behind the lexemes: at the next item's word, or at the clean end of the text
+-- an item ends at this place after the lexemes: at the next item's word, or at the clean end of the text
 pub data EndsItem (ts : TextTokens) (seen : List Lexeme) (place : ℕ) : Type 0 where
   at_word : (next : Lexeme) (further : List Lexeme) → ts.lexemes ≡ seen ++ next ∷ further → begins_item next ≡ true → place ≡ next.place → EndsItem ts seen place
   at_end : ts.lexemes ≡ seen → ts.ending ≡ None → place ≡ ts.end → EndsItem ts seen place

@@ -161,7 +161,7 @@ fn is_row_alike<C: Cells, D: Cells>(first: &C, second: &D, a: usize, s: usize) -
     true
 }
 
-/// The first end state from a number on that has a weight above 0, and the weight, by the row that is lent.
+/// The first end state from a number on that has a weight above 0, and the weight, by the row that is borrowed.
 fn lent_t<C: Cells>(cells: &C, a: usize, s: usize, from: usize) -> Option<(usize, u64)> {
     if a < cells.actions() && s < cells.states() {
         first_from(cells.t_row(a, s)?, from, cells.states())
@@ -170,7 +170,7 @@ fn lent_t<C: Cells>(cells: &C, a: usize, s: usize, from: usize) -> Option<(usize
     }
 }
 
-/// The same of observations behind an end state.
+/// The same of observations after an end state.
 fn lent_o<C: Cells>(cells: &C, a: usize, e: usize, from: usize) -> Option<(usize, u64)> {
     if a < cells.actions() && e < cells.states() {
         first_from(cells.o_row(a, e)?, from, cells.observations())

@@ -3,7 +3,7 @@ use crate::tests::numbers::{counts_and_printable, first_wrong_refusal};
 use polcert_model::ItemFault;
 use polcert_testing::RefusedModel;
 
-/// Texts, why each is refused, the item, and the place: that of a word, where the preamble has too many pairs, and an item's end,
+/// Texts, why each is refused, the item, and the place: that of a word, if the preamble has too many pairs, and an item's end,
 /// where entries give too many cells.
 const REFUSED: [RefusedModel; 17] = [
     (

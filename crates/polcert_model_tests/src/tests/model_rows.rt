@@ -57,7 +57,7 @@ fn single_cells_behind_a_uniform_row(rt: HostRuntime) {
     assert_eq!(rt; first_wrong(rt.alloc(), SINGLE, &numbers), None);
 }
 
-/// A row of six weights, and behind it newer cells: one before all others, one over a cell, one of weight 0 beside them, and one
+/// A row of six weights, and after it newer cells: one before all others, one over a cell, one of weight 0 beside them, and one
 /// of weight 0 over a cell.
 const NEWER: &[u8] =
     b"discount: 1 values: reward states: 1 actions: 1 observations: 6 T: 0 identity O: 0 : 0 0 0.2 0 0.3 0 0.5 O: 0 : 0 : 0 0.1 O: 0 : 0 : 3 0.7 O: 0 : 0 : 4 0 O: 0 : 0 : 5 0";
@@ -76,7 +76,7 @@ fn newer_cells_hide_those_below(rt: HostRuntime) {
     assert_eq!(rt; first_wrong(rt.alloc(), NEWER, &numbers), None);
 }
 
-/// A matrix for each action, `identity` for two of them, another matrix for one, and behind them `uniform` and single cells for
+/// A matrix for each action, `identity` for two of them, another matrix for one, and after them `uniform` and single cells for
 /// states of their own.
 const LINES: &[u8] = b"discount: 1 values: reward states: 3 actions: 4 observations: 1 O: * uniform
 T: *
@@ -131,7 +131,7 @@ const OBSERVED: usize = 4;
 const ZEROS_OVER_ROWS: &[u8] =
     b"discount: 1 values: reward states: 2 actions: 2 observations: 4 T: * identity O: * uniform O: * : * : 0 0 O: * : 1 : 1 0 O: 1 : * : 2 0 O: 1 : 1 : 3 0 O: 0 : 0 : 0 0.25 O: 0 : 1 : 1 0.5 O: 1 : 0 : 0 0.5 O: 1 : 1 : 2 1";
 
-/// A weight of each pattern over a zero of each pattern, and what is wanting in the other rows.
+/// A weight of each pattern over a zero of each pattern, and what is missing in the other rows.
 const WEIGHTS_OVER_ZEROS: &[u8] =
     b"discount: 1 values: reward states: 2 actions: 2 observations: 4 T: * identity O: 1 : 1 : 0 0 O: 1 : * : 1 0 O: * : 1 : 2 0 O: * : * : 3 0 O: * : * : 0 0.1 O: * : 1 : 1 0.2 O: 1 : * : 2 0.3 O: 1 : 1 : 3 0.4 O: 1 : 0 : 1 0.6 O: 0 : 1 : 3 0.7 O: 0 : 0 : 3 0.9";
 
@@ -143,7 +143,7 @@ const ZEROS_OVER_WEIGHTS: &[u8] =
 const ROWS_BETWEEN: &[u8] =
     b"discount: 1 values: reward states: 2 actions: 2 observations: 4 T: * identity O: * : * : 0 0 O: * : * : 1 0.3 O: 0 uniform O: 1 : * : 2 0.7 O: 0 : 1 : 2 0 O: 0 : 1 : 3 0.5";
 
-/// The first cell of O that is not this one, where there is one: rows by action and state, in hundredths.
+/// The first cell of O that is not this one, if there is one: rows by action and state, in hundredths.
 fn first_wrong_cell(alloc: Global, text: &[u8], rows: &[[u32; OBSERVED]; 4]) -> Option<Number> {
     for row in 0..4 {
         for column in 0..OBSERVED {
@@ -319,7 +319,7 @@ fn the_first_wrong_row(rt: HostRuntime) {
 const TEN: &[u8] =
     b"discount: 0.5 values: reward states: 1 actions: 1 observations: 1 T: 0 identity O: 0 uniform R: 0 : 0 : 0 : 0 -10";
 
-/// A text that could go on, at a clean end.
+/// A text that could continue, at a clean end.
 #[test]
 fn a_number_at_the_end(rt: HostRuntime) {
     let paid = [(Number::R(0, 0, 0, 0), -10_000_000)];

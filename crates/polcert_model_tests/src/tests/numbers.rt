@@ -20,7 +20,7 @@ pub enum Number {
     StartTotal,
 }
 
-/// The first of these numbers that is not the model's, where there is one: the very first where the text is no model's.
+/// The first of these numbers that is not the model's, if there is one: the very first where the text is no model's.
 pub fn first_wrong(alloc: Global, text: &[u8], numbers: &[(Number, i128)]) -> Option<Number> {
     let model = read_model(alloc, text).ok();
     for (number, value) in numbers {
@@ -53,7 +53,7 @@ fn number_of(model: &Model, number: Number) -> Option<i128> {
     }
 }
 
-/// The cell of T, where there are such elements.
+/// The cell of T, if there are such elements.
 pub fn t<C: Cells>(cells: &C, action: usize, start: usize, end: usize) -> Option<u64> {
     if action < cells.actions() && start < cells.states() && end < cells.states() {
         Some(cells.t(action, start, end))
@@ -62,7 +62,7 @@ pub fn t<C: Cells>(cells: &C, action: usize, start: usize, end: usize) -> Option
     }
 }
 
-/// The cell of O, where there are such elements.
+/// The cell of O, if there are such elements.
 pub fn o<C: Cells>(cells: &C, action: usize, end: usize, observation: usize) -> Option<u64> {
     if action < cells.actions() && end < cells.states() && observation < cells.observations() {
         Some(cells.o(action, end, observation))
@@ -71,7 +71,7 @@ pub fn o<C: Cells>(cells: &C, action: usize, end: usize, observation: usize) -> 
     }
 }
 
-/// The cell of R, where there are such elements.
+/// The cell of R, if there are such elements.
 pub fn r<C: Cells>(
     cells: &C,
     action: usize,
@@ -113,13 +113,13 @@ fn has_start(model: &Model, weights: &[u64], total: u64) -> bool {
     model.states() == weights.len() && model.start_total() == total
 }
 
-/// Whether the text's model gives costs, where the text is a model's.
+/// Whether the text's model gives costs, if the text is a model's.
 pub fn read_is_cost(alloc: Global, text: &[u8]) -> Option<bool> {
     let model = read_model(alloc, text).ok()?;
     Some(model.is_cost())
 }
 
-/// Whether the text's model is an MDP, where the text is a model's.
+/// Whether the text's model is an MDP, if the text is a model's.
 pub fn read_is_mdp(alloc: Global, text: &[u8]) -> Option<bool> {
     let model = read_model(alloc, text).ok()?;
     Some(model.is_mdp())

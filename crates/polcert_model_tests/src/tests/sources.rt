@@ -3,7 +3,7 @@ use polcert_model::{ModelFault, read_model_from};
 use polcert_text::{Source, SourceFailed, SourceFault};
 use std::alloc::Global;
 
-/// Gives bytes in pieces of at most `most` bytes, and knows whether it was read again behind its end.
+/// Gives bytes in pieces of at most `most` bytes, and knows whether it was read again after its end.
 #[derive(Drop)]
 struct Pieces<'a> {
     rest: &'a [u8],
@@ -28,7 +28,7 @@ impl Source for Pieces<'_> {
     }
 }
 
-/// Why the text is refused, where it is, in pieces of this size, and where the source is not read again behind its end.
+/// Why the text is refused, if it is, in pieces of this size, and where the source is not read again after its end.
 pub fn refusal_in_pieces(alloc: Global, text: &[u8], most: usize) -> Option<ModelFault> {
     let mut source = Pieces {
         rest: text,

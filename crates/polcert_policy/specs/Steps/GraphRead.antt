@@ -54,7 +54,7 @@ pub record IsUnfinished (actions observations : ℕ) (ts : List Lexeme) (node co
   pub unfinished : (g : PolicyGraph) → IsLooseGraph actions observations ts g → ⊥
   pub column_is : IsColumn observations ts node column
 
--- why these tokens aren't a graph, where the text ends behind them
+-- why these tokens aren't a graph, where the text ends after them
 abbrev pub IsEndRefusal : ℕ → ℕ → List Lexeme → ℕ → GraphFault → Type 0
 IsEndRefusal actions observations ts end (faults.Truncated place) = (place ≡ end) × ((n : ℕ) × ((column : ℕ) × IsUnfinished actions observations ts n column × (0 < column)))
 IsEndRefusal actions observations ts end (faults.NoNodes place) = (place ≡ end) × IsUnfinished actions observations ts 0 0
@@ -85,7 +85,7 @@ ReadAction actions t (Err (faults.BadShape place)) = (place ≡ t.place) × (is_
 ReadAction actions t (Err (faults.ActionOutOfRange place)) = (place ≡ t.place) × (is_whole t ≡ true) × (actions ≤ whole_of t)
 ReadAction actions t (Err _) = ⊥
 
--- the place goes on to the next token's
+-- the place continues to the next token's
 pub record Advanced (old new : GraphReading) : Type 0 where
   pub actions_same : new.actions ≡ old.actions
   pub observations_same : new.observations ≡ old.observations

@@ -20,7 +20,7 @@ pub record AreVectorsUpTo (rounding : Rounding) (graph : PolicyGraph) (states : 
   pub few : node ≤ nodes graph
   pub few_begun : 0 < column → node < nodes graph
 
--- a sign behind which no numeral came yet
+-- a sign after which no numeral came yet
 abbrev pub open_of : Option Lexeme → List Lexeme
 open_of None = []
 open_of (Some s) = s ∷ []
@@ -69,7 +69,7 @@ CheckedAction graph node t (Err (faults.BadShape place)) = (place ≡ t.place) �
 CheckedAction graph node t (Err (faults.ActionMismatch place)) = (place ≡ t.place) × (node < nodes graph) × (is_whole t ≡ true) × (whole_of t ≢ action_of graph node)
 CheckedAction graph node t (Err _) = ⊥
 
--- the place goes on to the next value's, or to the next vector
+-- the place continues to the next value's, or to the next vector
 pub record AdvancedValue (old new : VectorsReading) : Type 0 where
   pub states_same : new.states ≡ old.states
   pub values_same : new.values ≡ old.values
@@ -82,7 +82,7 @@ pub record AreUnfinished (rounding : Rounding) (graph : PolicyGraph) (states : �
   pub unfinished : (v : PolicyVectors) → IsRoundedVectors rounding graph states ts v → ⊥
   pub column_is : IsPartColumn states ts vector column
 
--- why these tokens aren't vectors, where the text ends behind them
+-- why these tokens aren't vectors, where the text ends after them
 abbrev pub AreEndRefusal : Rounding → PolicyGraph → ℕ → List Lexeme → ℕ → VectorFault → Type 0
 AreEndRefusal rounding graph states ts end (faults.Truncated place) = (place ≡ end) × ((n : ℕ) × ((column : ℕ) × AreUnfinished rounding graph states ts n column × (0 < column)))
 AreEndRefusal rounding graph states ts end (faults.WrongVectorCount place) = (place ≡ end) × ((n : ℕ) × AreUnfinished rounding graph states ts n 0 × (n < nodes graph))

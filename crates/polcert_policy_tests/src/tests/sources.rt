@@ -74,7 +74,7 @@ fn value_of(vectors: &Vectors) -> i64 {
     }
 }
 
-/// Each byte is read once, and behind the last a read finds the end.
+/// Each byte is read once, and after the last a read finds the end.
 #[test]
 fn the_same_in_any_pieces(rt: HostRuntime) {
     for (most, graph_reads, vector_reads) in [

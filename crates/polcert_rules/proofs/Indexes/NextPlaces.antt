@@ -1,4 +1,4 @@
--- Rules that go on with a place for an index: what is known of their keys, and that what is found among them is found behind `low`.
+-- Rules that continue with a place for an index: what is known of their keys, and that what is found among them is found after `low`.
 use Rattle.std.proofs.Common.{ℕ, zero, suc, ◌+◌, ◌*◌, ◌-◌, ◌^◌, ◌≤◌, List, [], ◌∷◌, refl, sym, subst, arith, Contains}
 use Rattle.polcert_rules.specs.declared.rule.Rule.{Rule}
 use Rattle.polcert_rules.specs.declared.newest.NextPlace.{NextPlace}
@@ -11,7 +11,7 @@ first_index zero i indices a = elim a [ ]
 first_index (suc zero) i indices a = (a.0, tt)
 first_index (suc (suc m)) i indices a = (a.0, tt)
 
--- what the search goes on with
+-- what the search continues with
 pub record GoesDeeper (rules : List Rule) (m low i : ℕ) (indices : List ℕ) (next : NextPlace) : Type 0 where
   pub deeper : IsDeeper m low i indices (key_base ^ (m - 1))
   pub few : next.levels ≤ most_places
@@ -39,7 +39,7 @@ goes_deeper rules m low i indices next few a n =
       span_only = subst (λ k. IsSpan rules next.of_only.now k (key_base ^ (m - 1))) n.only_is n.of_only;
     }
 
--- what is so behind the next keys is so at their numbers
+-- what is so after the next keys is so at their numbers
 pub at_every : (P : ℕ → ℕ → Type 0) (rules : List Rule) (m low i : ℕ) (next : NextPlace) → IsNextPlace rules low m i next → P next.levels next.every → P (m - 1) (low + key_base ^ (m - 1))
 at_every P rules m low i next n p = subst (P (m - 1)) n.every_is (subst (λ k. P k next.every) n.levels_are p)
 

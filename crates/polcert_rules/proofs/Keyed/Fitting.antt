@@ -1,4 +1,4 @@
--- Keys that fit indices: in which range they lie, and how they go on place by place.
+-- Keys that fit indices: in which range they lie, and how they continue place by place.
 use Rattle.std.proofs.Common.{◌≡◌, ◌∙◌, ℕ, zero, suc, ◌+◌, ◌*◌, ◌^◌, ◌<◌, ◌≤◌, Bool, true, false, ◌&&◌, ◌⊎◌, inl, inr, List, [], ◌∷◌, refl, ap, arith}
 use Rattle.std.specs.Prelude.{◌==◌}
 use Rattle.std.proofs.Math.Nat.{mul-le-mul_left, mul_comm, pow-succ', mul-suc}

@@ -18,7 +18,7 @@ use Rattle.polcert_rules.proofs.RewardLaws.RewardKeys.{begins_behind}
 use Rattle.polcert_rules.proofs.RewardLaws.RewardAlike.{NoneBegins, covering}
 use Rattle.polcert_rules.proofs.RewardLaws.RewardValues.{is_open, body_reward, no_reward}
 
--- what names an end state begins with the action and the start state, and goes on with a key that is no lower
+-- what names an end state begins with the action and the start state, and continues with a key that is no lower
 end_begins : (low a s e z : ℕ) (p q : Place) (n : ℕ) (rest : List Place) (key : ℕ) → fit_places (p ∷ q ∷ Only n ∷ rest) (a ∷ s ∷ e ∷ z ∷ []) ≡ true
     → AreDigits most_places (p ∷ q ∷ Only n ∷ rest) → key ≡ key_in most_places low (p ∷ q ∷ Only n ∷ rest) → Begins most_places low (a ∷ s ∷ []) (key_base + 2) key
 end_begins low a s e z p q n [] key fits digits is =
@@ -30,7 +30,7 @@ end_begins low a s e z p q n (r ∷ []) key fits digits is =
     begins_behind most_places low (p ∷ q ∷ []) (Only n ∷ r ∷ []) (a ∷ s ∷ []) (e ∷ z ∷ []) _ key refl fits (omega arith) (omega arith)
 end_begins low a s e z p q n (r ∷ x ∷ xs) key fits digits is = absurd digits.1.1.1.1
 
--- and so does what names an observation behind any end state
+-- and so does what names an observation after any end state
 seen_begins : (low a s e z : ℕ) (p q : Place) (n : ℕ) (rest : List Place) (key : ℕ) → fit_places (p ∷ q ∷ Every ∷ Only n ∷ rest) (a ∷ s ∷ e ∷ z ∷ []) ≡ true
     → AreDigits most_places (p ∷ q ∷ Every ∷ Only n ∷ rest) → key ≡ key_in most_places low (p ∷ q ∷ Every ∷ Only n ∷ rest) → Begins most_places low (a ∷ s ∷ []) (key_base + 2) key
 seen_begins low a s e z p q n [] key fits digits is =
@@ -55,7 +55,7 @@ fits_moved a s e y f z (p ∷ q ∷ Every ∷ Only n ∷ rest) ends seen = absur
 fits_moved a s e y f z (p ∷ q ∷ Only n ∷ rest) ends seen = absurd (ends p q n rest refl)
 
 module _ (p : Preamble) (entries : List Entry) (rewards : RewardRules) (a s : ℕ) (are : AreRewardsOf p entries rewards) (unnamed : NoneBegins rewards (a ∷ s ∷ []) (key_base + 2)) where
-  -- what covers one cell behind the action and the start state covers each
+  -- what covers one cell after the action and the start state covers each
   moved : (e y f z k : ℕ) (x : Entry) → slice_get entries k ≡ Some x → covers Reward (a ∷ s ∷ e ∷ y ∷ []) x ≡ true → covers Reward (a ∷ s ∷ f ∷ z ∷ []) x ≡ true
   moved e y f z k x is c =
       let d = covering p entries rewards (a ∷ s ∷ e ∷ y ∷ []) k x are is c in

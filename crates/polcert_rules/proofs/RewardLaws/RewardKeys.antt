@@ -11,7 +11,7 @@ use Rattle.polcert_rules.specs.Steps.RewardSearch.{Begins, IsAnswer}
 use Rattle.polcert_rules.proofs.Keyed.Fitting.{and_true, same_number, equal_numbers, power_next, digit_below, key_low, fit_digits}
 use Rattle.polcert_rules.proofs.Indexes.Newer.{IsSpan, IsDeeper}
 
--- room for what goes on behind the places
+-- room for what continues after the places
 pub key_room : (m low : ℕ) (ps : List Place) → AreDigits m ps → key_in m low ps + key_base ^ (m - length ps) ≤ low + key_base ^ m
 key_room m low [] a =
     let e : m - 0 ≡ m = omega arith in
@@ -26,7 +26,7 @@ key_room (suc m) low (p ∷ ps) a =
     let next = power_next m in
     omega arith
 
--- a key behind places that fit goes on from there, whatever places come behind them
+-- a key after places that fit continues from there, whatever places come after them
 fits_front : (ps rest : List Place) (is more : List ℕ) → length ps ≡ length is → fit_places (ps ++ rest) (is ++ more) ≡ true → fit_places ps is ≡ true
 fits_front [] rest is more size fits = refl
 fits_front (p ∷ ps) rest [] more size fits = absurd (omega arith)
@@ -48,7 +48,7 @@ begins_high m low indices least key a b =
     let t = b.to in
     omega arith
 
--- with no index left the key goes on from here
+-- with no index left the key continues from here
 begins_end : (m low least key : ℕ) → Begins m low [] least key → (low + least ≤ key) × (key < low + key_base ^ m)
 begins_end m low least key b = at b.places b.all b.from b.to
   where

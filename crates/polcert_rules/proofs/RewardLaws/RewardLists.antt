@@ -37,7 +37,7 @@ pub first_of_taken : (rules : List Rule) (i first : ℕ) → ((r : Rule) → Con
 first_of_taken rules i first of_each r among =
     of_each r (subst (λ (xs : List Rule). Contains xs r) (take-append-drop i rules) (Contains-append_left (take i rules) (drop i rules) r among))
 
--- ---- numbers behind others
+-- ---- numbers after others
 get_behind : (xs ys : List ℤ) (k : ℕ) → slice_get (xs ++ ys) (length xs + k) ≡ slice_get ys k
 get_behind [] ys k = let e : 0 + k ≡ k = omega arith in ap (slice_get ys) e
 get_behind (x ∷ xs) ys k =

@@ -9,7 +9,7 @@ at_front : {X : Type 0} (done k i : ℕ) (xs ys : List X) (d : X) → done ≤ l
 at_front done k i xs ys d within l =
     sym (get_or-take (done + length ys) (put_mid done k xs ys) i d l) ∙ ap (λ zs. get_or zs i d) (take-put_mid done k xs ys (done + length ys) refl within)
 
--- What was written before stays, and what was written in the part from there on stands behind it.
+-- What was written before stays, and what was written in the part from there on stands after it.
 pub filled_part : {X : Type 0} (P : ℕ → X → Type 0) (done size k : ℕ) (xs ys : List X) (d : X) → done ≤ length xs → size ≤ length ys
     → ((i : ℕ) → i < done → P i (get_or xs i d)) → ((i : ℕ) → i < size → P (done + i) (get_or ys i d))
     → (i : ℕ) → i < done + size → P i (get_or (put_mid done k xs ys) i d)

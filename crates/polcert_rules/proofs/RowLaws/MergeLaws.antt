@@ -6,7 +6,7 @@ use Rattle.polcert_cells.specs.Sparse.{weight_at, IsRow}
 use Rattle.polcert_rules.specs.Steps.Merging.{before, behind, with_cell, merged, weight_over, Rises}
 use Rattle.polcert_cells.proofs.SparseLaws.{Climbs, climbs_lower, climbs_from, sparse_from, weight_head, weight_tail, weight_below}
 
--- ---- the cells before a column and behind it
+-- ---- the cells before a column and after it
 climbs_before : (low n k : ℕ) (base rest : List Cell) → Climbs low n base → low ≤ k → Climbs k n rest → Climbs low n (before k base ++ rest)
 climbs_before low n k [] rest h le g = climbs_lower low k n rest le g
 climbs_before low n k (x ∷ xs) rest h le g = at (ltb x.column k) refl (λ l. climbs_before (x.column + 1) n k xs rest h.3 l g)

@@ -37,7 +37,7 @@ abbrev pub from : ℕ → List Cell → List Cell
 from column [] = []
 from column (x ∷ xs) = if nat_lt x.column column then from column xs else (x ∷ xs)
 
--- the cells behind a column
+-- the cells after a column
 abbrev pub behind : ℕ → List Cell → List Cell
 behind column [] = []
 behind column (x ∷ xs) = if nat_lt x.column column then behind column xs else (if x.column == column then xs else (x ∷ xs))

@@ -1,4 +1,4 @@
--- Rules that go on with a place for an index.
+-- Rules that continue with a place for an index.
 -- Nobody has to believe this file: only private functions cite it.
 use Rattle.std.specs.Prelude.{◌≡◌, ℕ, ◌+◌, ◌*◌, ◌-◌, ◌^◌, ◌<◌, ◌≤◌, ◌↔◌, List, Contains}
 use Rattle.polcert_rules.specs.declared.rule.Rule.{Rule}
@@ -6,7 +6,7 @@ use Rattle.polcert_rules.specs.declared.newest.NextPlace.{NextPlace}
 use Rattle.polcert_rules.specs.Keys.{key_base}
 use Rattle.polcert_rules.specs.Steps.Newest.{IsRising}
 
--- behind the key `low` a place more: `*`, or this index
+-- after the key `low` a place more: `*`, or this index
 pub record IsNextPlace (rules : List Rule) (low levels index : ℕ) (next : NextPlace) : Type 0 where
   pub levels_are : next.levels ≡ levels - 1
   pub every_is : next.every ≡ low + key_base ^ (levels - 1)

@@ -17,6 +17,6 @@ abbrev pub AreNoted : List Rule → ℕ → ℕ → List ℕ → ℕ → List (O
 AreNoted rules levels low indices first old new =
     (i : ℕ) → i < length old → IsNoted rules (Fits levels low (indices ++ (first + i) ∷ [])) (slice_index_or old i None) (slice_index_or new i None)
 
--- behind the key `low` the key has one place more, that fits z
+-- after the key `low` the key has one place more, that fits z
 abbrev pub IsLastPlace : ℕ → ℕ → ℕ → Type 0
 IsLastPlace low z key = (key ≡ low + 1) ⊎ (key ≡ low + (z + 2))

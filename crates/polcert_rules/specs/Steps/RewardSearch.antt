@@ -14,7 +14,7 @@ use Rattle.polcert_rules.specs.Steps.Newest.{IsLastNumber}
 use Rattle.polcert_rules.specs.Steps.Rewards.{AreRewardsOf, IsBodyOf}
 use Rattle.polcert_rules.specs.RewardAt.{RewardRules}
 
--- The key begins with places, one for each of these indices, that fit them, and goes on with at least so much.
+-- The key begins with places, one for each of these indices, that fit them, and continues with at least so much.
 pub record Begins (levels low : ℕ) (indices : List ℕ) (least key : ℕ) : Type 0 where
   pub places : List Place
   pub fits : fit_places places indices ≡ true
@@ -38,7 +38,7 @@ AreWithin [] [] = Unit {0}
 AreWithin (count ∷ counts) (i ∷ indices) = (i < count) × AreWithin counts indices
 AreWithin _ _ = ⊥
 
--- a body of so many places has one number behind an action and a start state: all places, or all but that of the only observation
+-- a body of so many places has one number after an action and a start state: all places, or all but that of the only observation
 abbrev pub IsSingle : ℕ → ℕ → Type 0
 IsSingle observations places = (4 ≤ places) ⊎ ((places ≡ 3) × (observations ≡ 1))
 

@@ -103,7 +103,7 @@ pub record HasCells (kept : List Kept) (number : ℕ) (cells : List Cell) : Type
   pub is : slice_get kept number ≡ Some row
   pub same : row.cells.items ≡ cells
 
--- one row more is kept, behind the others
+-- one row more is kept, after the others
 pub record IsBehind (columns : ℕ) (source : Source) (cells : List Cell) (old new : List Kept) : Type 0 where
   pub row : Kept
   pub is : new ≡ old ++ row ∷ []

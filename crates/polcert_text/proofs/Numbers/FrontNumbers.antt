@@ -37,7 +37,7 @@ whole_read bs p some high digits =
     let all : 1 + (p - 1) ≡ p = omega arith in
     ap (λ k. state_through Start (take k bs)) (sym all) ∙ run bs 1 (p - 1) Whole (omega arith) refl begun (λ k l. digits (1 + k) (omega arith) (omega arith))
 
--- and behind a point as its decimals
+-- and after a point as its decimals
 pub fraction_read : (bs : List ℕ) (p n : ℕ) → 0 < p → p + 1 ≤ n → n ≤ length bs → AreDigitsAt bs 0 p → class_of (get_or bs p 0) ≡ Point → AreDigitsAt bs (p + 1) n → state_through Start (take n bs) ≡ Fraction
 fraction_read bs p n some low high first point second =
     let behind = at_point bs p (omega arith) (whole_read bs p some (omega arith) first) point in

@@ -124,7 +124,7 @@ numeral_by_kind bs = at (is_numeral bs) refl
     at true e = ap is_numeral_kind (kind_from_numeral bs e) ∙ sym e
     at false e = not_numeral (kind_of bs) (λ h. true≢false (numeral_from_kind bs h) e) ∙ sym e
 
--- what the state behind the bytes says of them
+-- what the state after the bytes says of them
 pub numeral_at_state : (bs : List ℕ) (state : State) → state_through Start bs ≡ state → is_numeral_kind (kind_at state) ≡ is_numeral bs
 numeral_at_state bs state e = ap (λ s. is_numeral_kind (kind_at s)) (sym e) ∙ ap is_numeral_kind (sym (kind_of-through bs)) ∙ numeral_by_kind bs
 

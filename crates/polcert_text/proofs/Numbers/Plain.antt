@@ -83,7 +83,7 @@ below_ceiling : (floor : ℕ) (is_inexact : Bool) → floor < largest → ceilin
 below_ceiling floor true small = omega arith
 below_ceiling floor false small = omega arith
 
--- behind `from` all are digits
+-- after `from` all are digits
 pub digits_at : (bs : List ℕ) (from k : ℕ) → list_all is_digit (drop from bs) ≡ true → from ≤ k → k < length bs → class_of (get_or bs k 0) ≡ Digit
 digits_at bs from k all low high =
     let n : ℕ = k - from in
@@ -126,7 +126,7 @@ module _ (bs : List ℕ) (p : ℕ) (plain : IsPlain bs p) where
   unfolding exponent_size
   no_exponent = ap (λ xs. digits_value 10 (without_sign xs)) exponent
 
-  -- what is kept: the digits before the point, and six behind it, or all
+  -- what is kept: the digits before the point, and six after it, or all
   pub plain_measures : (number floor kept : ℕ) (is_inexact : Bool) → length bs ≤ 400 → kept ≡ min (length bs) (p + 7)
       → number ≡ digits_value 10 (take p bs ++ take (kept - (p + 1)) (drop (p + 1) bs)) → number ≤ largest
       → ((n : ℕ) → number ≡ min cap n → floor ≡ min cap (n * 10 ^ (p + 7 - kept))) → floor < largest

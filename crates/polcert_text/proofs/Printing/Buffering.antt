@@ -6,7 +6,7 @@ use Rattle.polcert_text.specs.Steps.Buffer.{PassesOn, WritesBuffered}
 use Rattle.polcert_text.proofs.Printing.Taking.{took_then, front_then, front_after, wrote_next}
 
 module _ {S : Type 0} {writes : S → Option (List ℕ) → S → Type 0} {failures : S → ℕ} {from : S} where
-  -- bytes that found room are held behind the others
+  -- bytes that found room are held after the others
   pub holds : (held bytes held' : List ℕ) → held' ≡ held ++ bytes → PassesOn writes failures from held bytes from held'
   holds held bytes held' e = record { passed = []; took = nothing; same_count = refl; whole = sym e }
 
@@ -71,7 +71,7 @@ module _ {S B N : Type 0} (writes : B → Option (List ℕ) → B → Type 0) (f
     pub stopped_name : name t ≡ name s
     stopped_name = f.failed.1 ∙ (passes_on f.took).1
 
--- what is said of a sink is said of what is left behind the reference to it
+-- what is said of a sink is said of what is left after the reference to it
 pub left_behind : {S T E : Type 0} {writes : S → Option (List ℕ) → S → Type 0} {failures : S → ℕ} {from to final : S} {text : List ℕ} {r : Result T E}
     → WritesText writes failures from text r to → final ≡ to → WritesText writes failures from text r final
 left_behind {writes = writes} {failures = failures} {from = from} {text = text} {r = r} w e = subst (λ s. WritesText writes failures from text r s) (sym e) w

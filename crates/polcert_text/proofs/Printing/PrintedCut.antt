@@ -1,4 +1,4 @@
--- The lexemes of a text that is written lexeme by lexeme, each with blanks, line ends or nothing behind it.
+-- The lexemes of a text that is written lexeme by lexeme, each with blanks, line ends or nothing after it.
 use Rattle.std.proofs.Common.{◌≡◌, ◌∙◌, ℕ, ◌+◌, ◌<◌, ◌≤◌, true, false, Some, None, List, [], ◌∷◌, ◌++◌, length, take, drop, refl, sym, ap, subst, arith, append_assoc, append-nil, length-append, take_all}
 use Rattle.std.specs.List.{list_all}
 use Rattle.std.proofs.Math.Seq.{drop-append_seam, get_or-append_seam}
@@ -62,7 +62,7 @@ ends_blank place gap h = record {
   ends_at = subst (λ bs. EndsAt (place + length gap) bs None None) (sym (drop_all (length gap) gap (omega arith))) refl;
 }
 
--- a lexeme with which no longer one goes on
+-- a lexeme with which no longer one continues
 longest_before : (w : List ℕ) (kind : TokenKind) (b : ℕ) (more : List ℕ) → kind_of w ≡ Some kind → state_after (state_through states.Start w) (class_of b) ≡ states.Stuck → IsLongestLexeme (w ++ b ∷ more) kind (length w)
 longest_before w kind b more is stuck =
     let state : state_through states.Start (w ++ b ∷ []) ≡ states.Stuck = state_through-append states.Start w (b ∷ []) ∙ stuck in
@@ -87,7 +87,7 @@ blank_no_glue classes.Blank h = refl
 blank_no_glue classes.LineEnd h = refl
 blank_no_glue _ h = cc
 
--- the next token behind blanks
+-- the next token after blanks
 takes_next : (place : ℕ) (gap w : List ℕ) (kind : TokenKind) (x : ℕ) (xs : List ℕ) (b : ℕ) (more after : List ℕ) → list_all is_blank gap ≡ true → w ≡ x ∷ xs → gap_after Between (class_of x) ≡ Ended
     → after ≡ b ∷ more → kind_of w ≡ Some kind → state_after (state_through states.Start w) (class_of b) ≡ states.Stuck → is_glued kind (b ∷ more) ≡ false → length w ≤ 400
     → TakesToken (rest_at place (gap ++ (w ++ after))) (record { kind = kind; place = place + length gap; bytes = w }) (rest_at (place + length gap + length w) after)
@@ -111,7 +111,7 @@ takes_next place gap w kind x xs b more after h begins stop after_is is stuck ap
     }
 
 -- ---- lexeme by lexeme
--- a lexeme's kind and bytes, and what stands behind it
+-- a lexeme's kind and bytes, and what stands after it
 pub record Printed : Type 0 where
   pub kind : TokenKind
   pub bytes : List ℕ
@@ -126,7 +126,7 @@ abbrev pub lexemes_at : ℕ → List Printed → List Lexeme
 lexemes_at place [] = []
 lexemes_at place (u ∷ us) = record { kind = u.kind; place = place; bytes = u.bytes } ∷ lexemes_at (place + length u.bytes + length u.behind) us
 
--- the lexeme doesn't go on with what follows
+-- the lexeme doesn't continue with what follows
 pub record Stops (kind : TokenKind) (bytes after : List ℕ) : Type 0 where
   pub first : ℕ
   pub more : List ℕ
@@ -179,7 +179,7 @@ cut_printed (u ∷ us) place gap all h =
     let whole : IsCut (rest_at place (gap ++ (u.bytes ++ (u.behind ++ text_of us)))) (lexemes_at (place + length gap) (u ∷ us)) None = (_, next, go) in
     subst (λ bs. IsCut (rest_at place (gap ++ bs)) (lexemes_at (place + length gap) (u ∷ us)) None) (sym (append_assoc u.bytes u.behind (text_of us))) whole
 
--- ---- one list behind another
+-- ---- one list after another
 pub text-append : (us vs : List Printed) → text_of (us ++ vs) ≡ text_of us ++ text_of vs
 text-append [] vs = refl
 text-append (u ∷ us) vs = ap (λ bs. u.bytes ++ u.behind ++ bs) (text-append us vs) ∙ sym (append_assoc (u.bytes ++ u.behind) (text_of us) (text_of vs))

@@ -105,7 +105,7 @@ minus_piece : IsPiece Minus (45 ∷ [])
 unfolding class_of
 minus_piece = record { kind_is = refl; short = omega arith }
 
--- no name goes on with a colon
+-- no name continues with a colon
 name_state : (s : State) → kind_at s ≡ Some Name → state_after s classes.Colon ≡ states.Stuck
 name_state states.Name e = refl
 name_state (states.Single kind) e = refl

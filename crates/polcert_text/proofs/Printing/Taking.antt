@@ -34,7 +34,7 @@ module _ {S : Type 0} {writes : S → Option (List ℕ) → S → Type 0} {from 
   took_then {s} {t} {first} took (more {bytes} {front} more_took call) =
       let all = more (took_then took more_took) call in rw (← append_assoc) all
 
--- more is written behind what was
+-- more is written after what was
 pub front_then : {S : Type 0} {writes : S → Option (List ℕ) → S → Type 0} {from t : S} {first : List ℕ} (second : List ℕ)
     → TakesFront writes from first t → TakesFront writes from (first ++ second) t
 front_then {first = first} second f = record {

@@ -25,7 +25,7 @@ module _ {S : Type 0} {writes : S → Option (List ℕ) → S → Type 0} {failu
   fails_at {t = t} first second r is_err h took count =
       wrote_front (first ++ second) r is_err (front_after first h.took took) (subst (λ n. HasFailed n (failures t)) h.same count)
 
-  -- and what would come behind it isn't written
+  -- and what would come after it isn't written
   pub fails_before : {T E : Type 0} {t : S} (first second : List ℕ) (r : Result T E) → IsErr r → WritesText writes failures from first r t
       → WritesText writes failures from (first ++ second) r t
   fails_before first second (Ok v) is_err w = cc
@@ -36,14 +36,14 @@ module _ {S : Type 0} {writes : S → Option (List ℕ) → S → Type 0} {failu
       → WritesText writes failures s second r t → WritesText writes failures from (first ++ second) r t
   ends_with first second r h w = wrote_next first second r h.took h.same w
 
--- ---- a call of several writes, one behind another
+-- ---- a call of several writes, one after another
 module _ {S : Type 0} {writes : S → Option (List ℕ) → S → Type 0} {failures : S → ℕ} {from : S} where
-  -- one went well, and another is behind it
+  -- one went well, and another is after it
   pub and_then : {T U E F : Type 0} {s t : S} {first second : List ℕ} {u : U} {r : Result T E} → WritesText {E = F} writes failures from first (Ok u) s
       → WritesText writes failures s second r t → WritesText writes failures from (first ++ second) r t
   and_then {first = first} {second = second} {r = r} w v = wrote_next first second r w.ok w.same_count v
 
-  -- one failed, and what would come behind it isn't written
+  -- one failed, and what would come after it isn't written
   pub unwritten : {T E : Type 0} {t : S} {first : List ℕ} (second : List ℕ) {e : E} → WritesText {T = T} writes failures from first (Err e) t
       → WritesText {T = T} writes failures from (first ++ second) (Err e) t
   unwritten second w = record { ok = tt; same_count = tt; err = front_then second w.err; count = w.count }

@@ -18,7 +18,7 @@ abbrev others_right : List (List ℕ) → Bool
 others_right [] = true
 others_right (line ∷ lines) = list_all is_gap_line lines
 
--- the bytes go on what has been read so far as a gap
+-- the bytes continue what has been read so far as a gap
 abbrev pub goes_on : Gap → List ℕ → Bool
 goes_on Between bs = is_gap bs
 goes_on Comment bs = others_right (slice_split is_line_end bs)
@@ -43,7 +43,7 @@ all-onto_other : (b : ℕ) (lines : List (List ℕ)) → is_hash b ≡ false →
 all-onto_other b [] e f = simp (before_first-pass is_hash b [] e, f)
 all-onto_other b (line ∷ lines) e f = simp (before_first-pass is_hash b line e, f)
 
--- one more byte: what goes on from before it is what goes on from behind it
+-- one more byte: what continues from before it is what continues from after it
 goes_on_at : (gap : Gap) (b : ℕ) (bs : List ℕ) (c : ByteClass) → class_of b ≡ c → goes_on gap (b ∷ bs) ≡ goes_on (gap_after gap c) bs
 goes_on_at Between b bs Blank e = simp e (all-onto_blank b (slice_split is_line_end bs) (ap hash_class e) (ap blank_class e))
 goes_on_at Between b bs LineEnd e = simp e
@@ -77,7 +77,7 @@ gap_until_open bs h = is_gap-through bs ∙ open_goes_on (gap_through Between bs
 pub gap_through_more : (bs : List ℕ) (i : ℕ) → i < length bs → gap_through Between (take (i + 1) bs) ≡ gap_after (gap_through Between (take i bs)) (class_of (get_or bs i 0))
 gap_through_more bs i h = ap (gap_through Between) (take_more bs i 0 h) ∙ gap_through-append Between (take i bs) (get_or bs i 0 ∷ [])
 
--- behind the end of a gap nothing is one
+-- after the end of a gap nothing is one
 no_gap_past : (bs : List ℕ) (n k : ℕ) → n ≤ k → gap_through Between (take n bs) ≡ Ended → is_gap (take k bs) ≡ false
 no_gap_past bs n k h ended =
     let front : take n (take k bs) ≡ take n bs = take-take n k bs h in

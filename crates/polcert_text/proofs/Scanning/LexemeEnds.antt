@@ -22,7 +22,7 @@ none_pending Mark kind e = absurd (cc)
 none_pending Sign kind e = absurd (cc)
 none_pending _ kind e = refl
 
--- a byte more is one more that waits, where it ends no lexeme and one may go on
+-- a byte more is one more that waits, where it ends no lexeme and one may continue
 pub one_pending : (state : State) (c : ByteClass) → kind_at (state_after state c) ≡ None → is_stuck (state_after state c) ≡ false → pending (state_after state c) ≡ pending state + 1
 one_pending Start classes.Point k s = refl
 one_pending Whole classes.ExponentMark k s = refl
@@ -32,7 +32,7 @@ one_pending Mark classes.Minus k s = refl
 one_pending _ classes.Digit k s = absurd (cc)
 one_pending _ _ k s = absurd (cc)
 
--- a scan that may go on was no dead end before
+-- a scan that may continue was no dead end before
 pub was_open : (state : State) (c : ByteClass) → is_stuck (state_after state c) ≡ false → is_stuck state ≡ false
 was_open Stuck c s = s
 was_open _ c s = refl
@@ -49,7 +49,7 @@ behind_none state next c longest len is none was not_stuck =
     let same : pending next ≡ pending (state_after state c) = ap pending is in
     omega arith
 
--- a scan that went through all bytes, or up to a byte that no lexeme goes on with, has found the longest lexeme
+-- a scan that went through all bytes, or up to a byte that no lexeme continues with, has found the longest lexeme
 pub scanned : (bs : List ℕ) (scan : LexemeScan) → IsScanOf (take scan.len bs) scan
     → (is_stuck scan.state ≡ false → scan.len ≡ length bs) → IsFrontOf bs scan.longest
 scanned bs scan was all = go (is_stuck scan.state) refl

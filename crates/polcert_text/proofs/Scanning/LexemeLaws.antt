@@ -15,7 +15,7 @@ use Rattle.polcert_text.specs.declared.lexeme.TokenKind.TheVariants as kinds
 use Rattle.polcert_text.specs.declared.lexeme.State.{State}
 use Rattle.polcert_text.specs.declared.lexeme.State.TheVariants.{Start, Name, Whole, Point, Fraction, Mark, Sign, Exponent, Single, Stuck}
 
--- the bytes behind the mantissa are an exponent or nothing
+-- the bytes after the mantissa are an exponent or nothing
 abbrev exponent_fits : List ℕ → Bool
 exponent_fits bs = not (list_any is_exponent_mark bs) || is_exponent (after is_exponent_mark bs)
 
@@ -91,7 +91,7 @@ module _ (b : ℕ) (bs : List ℕ) where
   start_at classes.Minus e = no_numeral_at classes.Minus e refl refl
   start_at c e = no_numeral_at c e refl refl ∙ cond-same (is_empty bs) None
 
-  -- one more byte: what the bytes complete from before it, they complete from behind it
+  -- one more byte: what the bytes complete from before it, they complete from after it
   completed_at : (state : State) (c : ByteClass) → class_of b ≡ c → completed state (b ∷ bs) ≡ completed (state_after state c) bs
   completed_at Start c e = start_at c e
   completed_at (Single kind) c e = refl
@@ -116,7 +116,7 @@ completed-none : (state : State) → completed state [] ≡ kind_at state
 completed-none Start = refl
 completed-none _ = refl
 
--- the kind of a list is the kind of the state behind it
+-- the kind of a list is the kind of the state after it
 pub kind_of-through : (bs : List ℕ) → kind_of bs ≡ kind_at (state_through Start bs)
 kind_of-through bs = ap kind_of (sym (append-nil bs)) ∙ completed_through Start bs [] ∙ completed-none (state_through Start bs)
 
@@ -131,7 +131,7 @@ state_step bs i state c next h read class_is next_is =
 le_or_ge : (k n : ℕ) → (k ≤ n) ⊎ (n ≤ k)
 le_or_ge k n = grind arith
 
--- behind a byte that no lexeme goes on with nothing is one
+-- after a byte that no lexeme continues with nothing is one
 none_past : (bs : List ℕ) (n k : ℕ) → n ≤ k → state_through Start (take n bs) ≡ Stuck → kind_of (take k bs) ≡ None
 none_past bs n k h stuck =
     let front : take n (take k bs) ≡ take n bs = take-take n k bs h in
@@ -176,7 +176,7 @@ module _ (read : List ℕ) (b : ℕ) where
   pub state_fed : (state next : State) (c : ByteClass) → state_through Start read ≡ state → c ≡ class_of b → next ≡ state_after state c → state_through Start (read ++ b ∷ []) ≡ next
   state_fed state next c was class_is next_is = state_through-append Start read (b ∷ []) ∙ (λ j. state_after (was j) (sym class_is j)) ∙ sym next_is
 
--- where no lexeme goes on, bytes that follow change nothing
+-- where no lexeme continues, bytes that follow change nothing
 pub front_whatever_follows : (read tail : List ℕ) (front : Option Front) → IsFrontOf read front → state_through Start read ≡ Stuck → IsFrontOf (read ++ tail) front
 front_whatever_follows read tail front was stuck = go front was
   where
@@ -198,7 +198,7 @@ front_whatever_follows read tail front was stuck = go front was
       longest = λ k more _. none (front.len + 1) k (λ k from h. was.longest k (omega arith) h) (omega arith);
     }
 
--- nor do bytes that follow one with which no lexeme goes on
+-- nor do bytes that follow one with which no lexeme continues
 pub front_before : (read : List ℕ) (b : ℕ) (tail : List ℕ) (front : Option Front) → IsFrontOf read front → state_through Start (read ++ b ∷ []) ≡ Stuck → IsFrontOf (read ++ b ∷ tail) front
 front_before read b tail front was stuck =
     let keeps = front_keeps read b front was (kind_of-through (read ++ b ∷ []) ∙ ap kind_at stuck) in

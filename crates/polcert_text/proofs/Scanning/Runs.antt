@@ -1,4 +1,4 @@
--- Runs of bytes that leave a state as it is: digits, the rest of a name, a comment; and the lexemes that end behind one.
+-- Runs of bytes that leave a state as it is: digits, the rest of a name, a comment; and the lexemes that end after one.
 use Rattle.std.proofs.Common.{◌≡◌, ◌∙◌, ◌⊎◌, ⊎_elim, ◌++◌, ℕ, zero, suc, ◌+◌, ◌<◌, ◌≤◌, ◌==◌, ◌||◌, Bool, true, false, cond, Some, List, [], ◌∷◌, length, take, drop, take_all, append-nil, append_assoc, get_or, refl, sym, ap, subst, arith}
 use Rattle.std.proofs.Math.Seq.{take-add}
 use Rattle.std.proofs.lemmas.Bool.{eqb-true}
@@ -40,7 +40,7 @@ unfolding class_of
 line_end_is b h =
     line_chain (b == 9 || b == 13 || b == 32) (b == 10) (b == 35) (b == 101 || b == 69) (is_ascii_alphabetic b) (is_ascii_digit b) (b == 95) (b == 46) (b == 58) (b == 42) (b == 43) (b == 45) h
 
--- a comment goes on over bytes that are no line end
+-- a comment continues over bytes that are no line end
 comment_through : (bs : List ℕ) (n : ℕ) → n ≤ length bs → ((k : ℕ) → k < n → (get_or bs k 0 == 10) ≡ true → ⊥) → gap_through Comment (take n bs) ≡ Comment
 comment_through bs zero h none = refl
 comment_through bs (suc n) h none =
@@ -57,7 +57,7 @@ comment_ends bs n h none line =
     let is : class_of (get_or bs n 0) ≡ classes.LineEnd = ap class_of (eqb-true (get_or bs n 0) 10 line) ∙ line_end_at_10 in
     skipped_step Comment bs n Comment Between h (comment_through bs n (omega arith) none) (sym (ap (gap_after Comment) is))
 
--- a gap that goes on in the bytes behind a front
+-- a gap that continues in the bytes after a front
 pub gap_joined : (start : Gap) (bs : List ℕ) (at count : ℕ) (gap next : Gap) → gap_through start (take at bs) ≡ gap → gap_through gap (take count (drop at bs)) ≡ next → gap_through start (take (at + count) bs) ≡ next
 gap_joined start bs at count gap next was on =
     ap (gap_through start) (take-add at count bs)
@@ -116,7 +116,7 @@ ends_within bs n state kind h read is none ends =
           subst (λ xs. IsLongestLexeme xs kind n) all on;
     }
 
--- with nothing behind the bytes
+-- with nothing after the bytes
 pub ended_front : (bs : List ℕ) (front : Front) → EndsWithin bs front → IsFrontOf bs (Some front)
 ended_front bs front ends = subst (λ xs. IsLongestLexeme xs front.kind front.len) (append-nil bs) (ends.longest [])
 

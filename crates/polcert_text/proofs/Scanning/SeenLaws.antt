@@ -20,7 +20,7 @@ pub front_or_long : (bs : List ℕ) (front : Option Front) → IsFrontOf bs fron
 front_or_long bs None was = was
 front_or_long bs (Some f) was = inl was
 
--- with nothing behind the bytes
+-- with nothing after the bytes
 pub seen_whole : (bs : List ℕ) (front : Option Front) → IsFrontOf bs front → IsSeen bs [] front
 seen_whole bs front was = record {
   front_is = subst (λ xs. IsFrontOrLong xs front) (sym (append-nil bs)) (front_or_long bs front was);
@@ -32,7 +32,7 @@ pub front_within : (bs : List ℕ) (front : Option Front) → IsFrontOf bs front
 front_within bs None was = omega arith
 front_within bs (Some f) was = was.within
 
--- where no lexeme goes on, the last byte is none of the longest
+-- where no lexeme continues, the last byte is none of the longest
 true≢false : {b : Bool} → b ≡ true → b ≡ false → ⊥
 true≢false e f = cc
 
@@ -54,7 +54,7 @@ front_short read (Some f) was stuck some =
     none : kind_of read ≡ None
     none = kind_of-through read ∙ ap kind_at stuck
 
--- the bytes that a scan went through tell the lexeme, where none goes on
+-- the bytes that a scan went through tell the lexeme, where none continues
 seen_stuck : (bs tail : List ℕ) (scan : LexemeScan) → IsScanOf (take scan.len bs) scan → is_stuck scan.state ≡ true → IsSeen bs tail scan.longest
 seen_stuck bs tail scan was stuck =
     let read = take scan.len bs in

@@ -36,7 +36,7 @@ module _ {S V F : Type 0} {reads : S → ℕ → Option (List ℕ) → S → Typ
       same_fault : {f e : F} → IsErrOf {T = V} (Err (Refused f)) (Refused e) → f ≡ e
       same_fault is = cc
 
-  -- a read failed behind the tokens taken
+  -- a read failed after the tokens taken
   pub read_failed : (limit : ℕ) (tokens : List Lexeme) (old : Stream) (s : S) → TakenFrom reads failures limit first tokens old s → Fails reads failures s u
       → ReadsText reads failures first u Denotes Refuses (Err Device)
   read_failed limit tokens old s was failed = record {

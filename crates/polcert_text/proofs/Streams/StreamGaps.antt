@@ -17,7 +17,7 @@ use Rattle.std.proofs.lemmas.Bool.Decides.{nat_tests}
 use Rattle.polcert_text.proofs.Scanning.GapLaws.{gap_through-append, gap_until_open, longest_gap_at}
 use Rattle.polcert_text.proofs.Streams.StreamLaws.{rest_bytes, tail_of, visible_len, no_tail, reads_nothing, reads_skip, reads_fill}
 
--- a byte that no gap goes on with ends the longest gap, whatever follows
+-- a byte that no gap continues with ends the longest gap, whatever follows
 found : (skipped : List ℕ) (b : ℕ) (more : List ℕ) (gap : Gap) → gap_through Between skipped ≡ gap → (gap ≡ Ended → ⊥) → gap_after gap (class_of b) ≡ Ended → IsLongestGap (skipped ++ b ∷ more) (length skipped)
 found skipped b more gap was goes_on ends =
     let all = skipped ++ b ∷ more in
@@ -28,7 +28,7 @@ found skipped b more gap was goes_on ends =
     let gap_is : is_gap (take (length skipped) all) ≡ true = ap is_gap front ∙ gap_until_open skipped (λ e. goes_on (sym was ∙ e)) in
     longest_gap_at all (length skipped) (omega (arith, length-append skipped (b ∷ more))) gap_is ended
 
--- a gap with nothing behind it
+-- a gap with nothing after it
 all_gap : (skipped : List ℕ) (gap : Gap) → gap_through Between skipped ≡ gap → (gap ≡ Ended → ⊥) → IsLongestGap (skipped ++ []) (length skipped)
 all_gap skipped gap was goes_on = subst (λ xs. IsLongestGap xs (length skipped)) (sym (append-nil skipped)) (record {
   within = omega arith;
@@ -65,7 +65,7 @@ ended_from Comment LineEnd e goes_on = absurd (cc)
 ended_from Comment c e goes_on = absurd (cc)
 ended_from Ended c e goes_on = absurd (goes_on refl)
 
--- behind the gap comes no other
+-- after the gap comes no other
 pub no_gap : (a : Ahead) (gap : Gap) → (gap ≡ Ended → ⊥)
     → (0 < length (visible a) → gap_after gap (class_of (get_or a.kept 0 0)) ≡ Ended)
     → (length (visible a) ≡ 0 → IsComplete a)
@@ -122,7 +122,7 @@ module _ {S : Type 0} (reads : S → ℕ → Option (List ℕ) → S → Type 0)
   gap_goes_on old s gap now t mid u next new was unended f skips =
       skipped_next old s was.skipped (was.given ++ f.given) mid u gap next new (reads_fill reads failures old s was.skipped was.given now t true mid u was.on unended f) was.read skips
 
-  -- behind the gap
+  -- after the gap
   pub gap_ends : (old : Ahead) (s : S) (gap : Gap) (now : Ahead) (t : S) (is_found : Bool) → InGap old s gap now t
       → (now.is_whole ≡ true) ⊎ (0 < length now.kept) → (is_found ≡ true → 0 < length (visible now)) → (is_found ≡ false → length (visible now) ≡ 0)
       → SkipsGap reads failures old s is_found now t

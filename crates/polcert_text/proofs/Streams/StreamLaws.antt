@@ -108,7 +108,7 @@ module _ {S : Type 0} (reads : S → ℕ → Option (List ℕ) → S → Type 0)
   fails_from false true s t u given room was unended call = absurd (true≢false refl unended)
   fails_from false false s t u given room was unended call = record { before = t; room = room; gave = was; failed = call }
 
-  -- a read that failed, behind those that did not
+  -- a read that failed, after those that did not
   pub reads_fail : (old : Ahead) (s : S) (skipped given : List ℕ) (now : Ahead) (t u : S) → ReadsOn reads failures old s skipped given now t
       → now.is_whole ≡ false → FailsAt reads failures t u → Fails reads failures s u
   reads_fail old s skipped given now t u on unended f = record {

@@ -19,7 +19,7 @@ front_stays a given n few =
 scanned_few : (bs : List ℕ) (scan : LexemeScan) → IsScanOf (take scan.len bs) scan → scan.len ≤ length bs
 scanned_few bs scan was = omega (arith, was.len, length-take scan.len bs)
 
--- a scan of a front goes on over more bytes
+-- a scan of a front continues over more bytes
 pub scan_stays : (now new : Ahead) (given : List ℕ) (scan : LexemeScan) → new ≡ with_read now given → IsScanOf (take scan.len (visible now)) scan → IsScanOf (take scan.len (visible new)) scan
 scan_stays now new given scan is was =
     let same : take scan.len (visible new) ≡ take scan.len (visible now) = ap (λ a. take scan.len (visible a)) is ∙ front_stays now given scan.len (scanned_few (visible now) scan was) in

@@ -23,7 +23,7 @@ no_bytes : (bs : List ℕ) → length bs ≡ 0 → bs ≡ []
 no_bytes [] e = refl
 no_bytes (b ∷ bs) e = absurd (omega arith)
 
--- behind a gap comes what the rest behind it begins with
+-- after a gap comes what the rest after it begins with
 record Behind (rest : Rest) (skipped : List ℕ) (behind : Rest) : Type 0 where
   bytes : rest.bytes ≡ skipped ++ behind.bytes
   place : behind.place ≡ rest.place + length skipped
@@ -136,7 +136,7 @@ module _ {S : Type 0} (reads : S → ℕ → Option (List ℕ) → S → Type 0)
     below = b.below;
   }
 
-  -- the rest of the text behind what was skipped is what is ahead then
+  -- the rest of the text after what was skipped is what is ahead then
   rest_on : (old : Ahead) (s : S) (skipped given : List ℕ) (new : Ahead) (t : S) (more : List ℕ) → ReadsOn reads failures old s skipped given new t
       → IsLongestGap (skipped ++ (rest_with new more).bytes) (length skipped) → Behind (rest_with old (given ++ more)) skipped (rest_with new more)
   rest_on old s skipped given new t more on longest =
@@ -150,7 +150,7 @@ module _ {S : Type 0} (reads : S → ℕ → Option (List ℕ) → S → Type 0)
         longest = longest;
       }
 
-  -- a read fails behind those of the gap
+  -- a read fails after those of the gap
   pub fails_behind : (old : Ahead) (s : S) (mid : Ahead) (t u : S) (is_found : Bool) → SkipsGap reads failures old s is_found mid t → mid.is_whole ≡ false
       → Fails reads failures t u → Fails reads failures s u
   fails_behind old s mid t u is_found g not_whole f = record {
@@ -173,7 +173,7 @@ module _ {S : Type 0} (reads : S → ℕ → Option (List ℕ) → S → Type 0)
   size_on : {old new : Ahead} {s t : S} (skipped given : List ℕ) → ReadsOn reads failures old s skipped given new t → end_of_kept new ≡ end_of_kept old + length given
   size_on {old} {new} skipped given on = omega (arith, on.place, ap length on.bytes, length-append old.kept given, length-append skipped new.kept)
 
-  -- the end comes behind the gap
+  -- the end comes after the gap
   pub gives_end : (old : Ahead) (s : S) (new : Ahead) (t : S) → SkipsGap reads failures old s false new t → GivesEnd reads failures old s (end_of new) new t
   gives_end old s new t g =
       let at = g.end refl in
@@ -190,12 +190,12 @@ module _ {S : Type 0} (reads : S → ℕ → Option (List ℕ) → S → Type 0)
         };
       }
 
-  -- a lexeme at the front, behind the gap
+  -- a lexeme at the front, after the gap
   module _ (old : Ahead) (s : S) (mid : Ahead) (t : S) (front : Option Front) (new : Ahead) (u : S) (g : SkipsGap reads failures old s true mid t) (l : ScansLexeme reads failures mid t front new u) where
     on : ReadsOn reads failures old s g.skipped (g.given ++ l.given) new u
     on = reads_both old s g.skipped g.given mid t l.given new u g.reads_on l.reads_on
 
-    -- what is ahead of the lexeme is what is ahead behind the gap
+    -- what is ahead of the lexeme is what is ahead after the gap
     same_rest : (more : List ℕ) → (rest_with mid (l.given ++ more)).bytes ≡ (rest_with new more).bytes
     same_rest more =
         let room : mid.limit - mid.place ≡ new.limit - new.place = omega (arith, l.reads_on.place, l.reads_on.limit) in
@@ -270,7 +270,7 @@ module _ {S : Type 0} (reads : S → ℕ → Option (List ℕ) → S → Type 0)
     pub fault_given : (fault : TokenFault) → ((more : List ℕ) → CanFollow new more → IsFaultAt new.place (visible new ++ tail_of new more) fault) → GivesEnd reads failures old s (Some fault) new u
     fault_given fault is = gives_fault fault (λ more can. subst (λ bs. IsFaultAt new.place bs fault) (sym (rest_bytes new more)) (is more can))
 
-  -- the same, with nothing skipped behind it
+  -- the same, with nothing skipped after it
   pub ended_as : (old ahead : Ahead) (s : S) (answer other : Option TokenFault) (new : Ahead) (u : S) → old ≡ ahead → answer ≡ other → GivesEnd reads failures old s answer new u
       → GivesEnd reads failures ahead s other (skip 0 new) u
   ended_as old ahead s answer other new u is same e =

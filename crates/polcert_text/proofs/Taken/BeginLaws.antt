@@ -35,7 +35,7 @@ begin_none place bytes = record {
       subst (λ p. Taken (rest_at place (bytes ++ tail) ending) [] (rest_at p (bytes ++ tail) ending)) same (nothing (rest_at place (bytes ++ tail) ending));
 }
 
--- some, and others behind them
+-- some, and others after them
 pub begin_then : (place : ℕ) (bytes : List ℕ) (m n : ℕ) (us vs : List Lexeme) → BeginWith place bytes m us → BeginWith (place + m) (drop m bytes) n vs → BeginWith place bytes (m + n) (us ++ vs)
 begin_then place bytes m n us vs first second = record {
   within = omega (arith, first.within, second.within, length-drop m bytes);
@@ -54,7 +54,7 @@ glue_stays kind [] tail some = absurd (omega arith)
 glue_stays Name (b ∷ bs) tail some = refl
 glue_stays _ (b ∷ bs) tail some = refl
 
--- the lexeme at the front of the bytes behind a gap
+-- the lexeme at the front of the bytes after a gap
 abbrev pub front_lexeme : ℕ → List ℕ → ℕ → TokenKind → ℕ → Lexeme
 front_lexeme place bytes gap kind n = record { kind = kind; place = place + gap; bytes = take n (drop gap bytes) }
 

@@ -6,7 +6,7 @@ use Rattle.polcert_text.specs.TakenTokens.{Taken, nothing, token}
 use Rattle.polcert_text.specs.declared.tokens.TokenFault.{TokenFault}
 use Rattle.polcert_text.proofs.TextLaws.{token_or_end, one_next_token}
 
--- behind the tokens taken comes the rest's cut
+-- after the tokens taken comes the rest's cut
 pub taken_cut : (old new : Rest) (seen ts : List Lexeme) (end : Option TokenFault) → Taken old seen new → IsCut new ts end → IsCut old (seen ++ ts) end
 taken_cut old new seen ts end (nothing _) cut = cut
 taken_cut old new seen ts end (token _ between _ us t before takes) cut =

@@ -11,7 +11,7 @@ module _ {S : Type 0} (writes : S → Option (List ℕ) → S → Type 0) (failu
     pub same_count : failures to ≡ failures from
     pub whole : held ++ bytes ≡ passed ++ held'
 
-  -- A write of the sink below failed, which took a beginning of what was held. Nothing is held behind it.
+  -- A write of the sink below failed, which took a beginning of what was held. Nothing is held after it.
   pub record FailsBelow (to : S) (held' : List ℕ) : Type 0 where
     pub took : TakesFront writes from held to
     pub count : HasFailed (failures from) (failures to)

@@ -31,7 +31,7 @@ is_over state = is_stuck state
 abbrev pub IsFrontOf : List ℕ → Option Front → Type 0
 IsFrontOf bytes front = MatchOption front (NoLexeme bytes) (λ f. IsLongestLexeme bytes f.kind f.len)
 
--- how many bytes were read since the last lexeme, where one may go on
+-- how many bytes were read since the last lexeme, where one may continue
 abbrev pub pending : State → ℕ
 pending Point = 1
 pending Mark = 1
@@ -57,12 +57,12 @@ pub record IsScanOf (read : List ℕ) (scan : LexemeScan) : Type 0 where
 abbrev pub scan_at : State → TokenKind → ℕ → LexemeScan
 scan_at state kind len = record { state = state; len = len; longest = Some (record { kind = kind; len = len }) }
 
--- this lexeme is the longest at the front of the bytes, whatever follows them, and a byte stands behind it
+-- this lexeme is the longest at the front of the bytes, whatever follows them, and a byte stands after it
 pub record EndsWithin (bytes : List ℕ) (front : Front) : Type 0 where
   pub within : front.len < length bytes
   pub longest : (tail : List ℕ) → IsLongestLexeme (bytes ++ tail) front.kind front.len
 
--- the lexeme at the front of the bytes is a name or a mark, before which no gap goes on
+-- the lexeme at the front of the bytes is a name or a mark, before which no gap continues
 pub record IsNameOrMark (bytes : List ℕ) (front : Front) : Type 0 where
   pub begins : gap_after Between (class_of (slice_index bytes 0)) ≡ Ended
   pub apart : (rest : List ℕ) → is_glued front.kind rest ≡ false

@@ -6,7 +6,7 @@ use Rattle.polcert_text.specs.Stream.{Stream, end_of_kept, rest_with, CanFollow}
 use Rattle.polcert_text.specs.TakenTokens.{Taken}
 
 -- Since the first state of the source, a stream has read some bytes and given these tokens. Each text that begins with
--- these bytes (is just them, where the true end was seen) begins with these tokens, and what is ahead comes behind.
+-- these bytes (is just them, where the true end was seen) begins with these tokens, and what is ahead comes after.
 pub record TakenFrom {S : Type 0} (reads : S → ℕ → Option (List ℕ) → S → Type 0) (failures : S → ℕ) (limit : ℕ) (first : S)
     (tokens : List Lexeme) (stream : Stream) (source : S) : Type 0 where
   pub given : List ℕ

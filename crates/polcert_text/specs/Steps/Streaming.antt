@@ -17,7 +17,7 @@ use Rattle.polcert_text.specs.declared.stream_tokens.LastAnswer.TheVariants.{End
 use Rattle.polcert_text.specs.declared.tokens.TokenFault.{TokenFault}
 use Rattle.polcert_text.specs.declared.tokens.TokenFault.TheVariants.{TextTooLong}
 
--- further bytes come behind those that are kept, or the true end
+-- further bytes come after those that are kept, or the true end
 abbrev pub with_read : Ahead → List ℕ → Ahead
 with_read a given = record { place = a.place; kept = a.kept ++ given; limit = a.limit; is_whole = is_empty given }
 
@@ -79,7 +79,7 @@ module _ {S : Type 0} (reads : S → ℕ → Option (List ℕ) → S → Type 0)
     pub limit : new.limit ≡ old.limit
     pub below : new.place ≤ new.limit
 
-  -- the gap at the front was skipped: a byte that no gap goes on with comes next, or the end
+  -- the gap at the front was skipped: a byte that no gap continues with comes next, or the end
   pub record SkipsGap (old : Ahead) (source : S) (is_found : Bool) (new : Ahead) (source' : S) : Type 0 where
     pub skipped : List ℕ
     pub given : List ℕ

@@ -44,7 +44,7 @@ fn stops_past_the_limit(rt: HostRuntime) -> Result<(), Fail> {
     Ok(())
 }
 
-/// One read of a slice, or of a reader of std, is one read of what is below, and leaves the piece behind what it gave as it was.
+/// One read of a slice, or of a reader of std, is one read of what is below, and leaves the piece after what it gave as it was.
 /// The end is answered again, each time by one read.
 #[test]
 fn one_read_for_one_read(rt: HostRuntime) {

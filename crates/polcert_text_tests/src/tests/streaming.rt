@@ -121,7 +121,7 @@ fn a_failed_read_is_no_end(rt: HostRuntime) {
     }
 }
 
-/// What is refused is refused before the read behind it, which would fail.
+/// What is refused is refused before the read after it, which would fail.
 #[test]
 fn reads_no_further_than_it_must(rt: HostRuntime) {
     let mut source = Pieces::new(b"discount: 2ab", 1, true);
@@ -162,7 +162,7 @@ fn a_mark_is_given_with_its_byte(rt: HostRuntime) {
     }
 }
 
-/// 4,095 blanks and a name of so many bytes, and a line end behind it.
+/// 4,095 blanks and a name of so many bytes, and a line end after it.
 fn long_name(count: usize) -> [u8; 4500] {
     let mut text = [b' '; 4500];
     for at in 4095..4095 + count.min(401) {

@@ -6,7 +6,7 @@ use polcert_policy::{read_graph, read_vectors_up};
 use polcert_testing::{NUMBERED_MDP, TIGER, TWO_STATES};
 use std::alloc::Global;
 
-/// The parts, where the texts are read, with values rounded up.
+/// The parts, if the texts are read, with values rounded up.
 fn read_parts_up(alloc: Global, model: &[u8], graph: &[u8], vectors: &[u8]) -> Option<Parts> {
     let model = read_model(alloc, model).ok()?;
     let graph = read_graph(alloc, graph, model.actions(), model.observations()).ok()?;
@@ -65,7 +65,7 @@ impl Parts {
     }
 }
 
-/// What no node is worth more than from the start, where the texts are read, with values rounded up, and fit.
+/// What no node is worth more than from the start, if the texts are read, with values rounded up, and fit.
 fn most(alloc: Global, model: &[u8], graph: &[u8], vectors: &[u8]) -> Option<i64> {
     read_parts_up(alloc, model, graph, vectors)?.most()
 }
@@ -115,7 +115,7 @@ fn most_from_the_start(rt: HostRuntime) {
     }
 }
 
-/// The verdict from above, where the texts are read, with values rounded up, and fit.
+/// The verdict from above, if the texts are read, with values rounded up, and fit.
 fn verdict_above(
     alloc: Global,
     model: &[u8],
@@ -208,7 +208,7 @@ fn verdicts_from_above(rt: HostRuntime) {
     }
 }
 
-/// The least constant that raises the vectors, where the texts are read, with values rounded up, and fit.
+/// The least constant that raises the vectors, if the texts are read, with values rounded up, and fit.
 fn raise(
     alloc: Global,
     model: &[u8],
