@@ -1,7 +1,8 @@
 """The recipes of docs/GUIDE.md: files in the forms of each solver, from examples/recipes to a certificate, and what is refused in them."""
+import io
 import re
 
-from support import EXAMPLES, PROGRAM, TOP, FolderTest, Said, polcert, run_script
+from support import EXAMPLES, PROGRAM, TOP, FolderTest, Said, load_file, polcert, run_script
 from polcert_files import FileError, Graph, Source, read_graph, read_model, read_source, read_vectors
 from polcert_policies import Solved, read_solved
 
@@ -109,13 +110,23 @@ class Recipes(RecipeTest):
         said = self.from_graph(str(TIGER), "ai-toolbox/tiger.solved", 19.371368)
         self.assertIn("the vectors claim 4.428530, 14.942838 less", said)
 
+    def test_a_program_of_your_own(self) -> None:
+        written = load_file("write_model", RECIPES / "python/write_model.py")
+        text = io.StringIO()
+        written.write_model(text, **written.PRESS)
+        said = run_script("polcert-mend", "-q", self.file("press", text.getvalue().encode()))
+        self.assertIn("10 numbers rewritten, 0 rows mended", said.err)
+        model, graph = self.file("exact", said.out), str(RECIPES / "python/press.pg")
+        said = run_script("polcert-evaluate", model, graph)
+        self.certified(model, graph, self.file("vectors", said.out), 2320 / 247)
+
     def test_each_folder_is_in_the_guide_and_says_what_it_holds(self) -> None:
         guide = (TOP / "docs" / "GUIDE.md").read_text()
         for folder in RECIPES.iterdir():
             self.assertRegex(guide, rf"\n\$ .* ?recipes/{folder.name}/")
             page = (folder / "README.md").read_text()
-            for file in folder.iterdir():
-                self.assertTrue(file.name == "README.md" or f"`{file.name}`" in page, file)
+            for file in (file for file in folder.iterdir() if file.is_file() and file.name != "README.md"):
+                self.assertIn(f"`{file.name}`", page)
 
 
 class FormTest(RecipeTest):
