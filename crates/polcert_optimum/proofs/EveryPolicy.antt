@@ -1,0 +1,39 @@
+-- A value for each state that dominates its backup bounds every policy and every mixture, and only such a value does.
+use Rattle.std.proofs.Common.{◌≡◌, ℕ, zero, suc, ◌*◌, ◌^◌, ◌<◌, ℤ, pos, ◌+ℤ◌, ◌*ℤ◌, ◌≤ℤ◌, List, [], ◌∷◌, sym, arith}
+use Rattle.std.proofs.Math.IntN.{zero-*ℤ}
+use Rattle.std.specs.List.{AllByRecursion}
+use Rattle.polcert_cells.specs.Tables.{CellTable, IsProper}
+use Rattle.polcert_check.specs.Horizon.{one}
+use Rattle.polcert_check.proofs.Sums.Ring.{linear, mul_le, ≤ℤ_from_eq, +ℤ-*ℤ}
+use Rattle.polcert_optimum.specs.Policy.{History, end_state, Policy, IsPolicyOf, after, step_scale, expected_total}
+use Rattle.polcert_optimum.specs.Bound.{DominatesBackup, BoundsEveryPolicy, mixture_weight, mixture_sum, BoundsEveryMixture}
+use Rattle.polcert_optimum.proofs.Bounded.{policy_after, one_step_more, no_step, bounded, backup_from_one_step}
+
+total_le : (t : CellTable) (value : ℕ → ℤ) → IsProper t → DominatesBackup t value → (k : ℕ) (policy : Policy) → IsPolicyOf t policy → (s : ℕ) → s < t.states → expected_total t (λ history. value (end_state s history)) policy k s ≤ℤ (pos (step_scale t ^ k * one ^ k) *ℤ value s)
+total_le t value p above zero policy of s sl = no_step t (λ history. value (end_state s history)) policy s
+total_le t value p above (suc k) policy of s sl =
+    one_step_more t p (λ history. value (end_state s history)) policy of k s sl (λ e z. value e) (value s)
+    (λ e z el zl. total_le t value p above k (after policy (e, z)) (policy_after t policy of e z el zl) e el)
+    (above (policy []) s (of [] tt) sl)
+
+pub every_policy : (t : CellTable) (value : ℕ → ℤ) → IsProper t → DominatesBackup t value → BoundsEveryPolicy t value
+every_policy t value p above policy of k s sl = bounded t p (λ history. value (end_state s history)) (value s) policy of k s sl (total_le t value p above k policy of s sl)
+
+-- ---- mixtures
+-- what is at most x for each policy is at most x times the weight for a mixture
+pub mixture_le : {P : Type 0} (Is : P → Type 0) (f : P → ℤ) (x : ℤ) → ((policy : P) → Is policy → f policy ≤ℤ x) → (mixture : List (ℕ × P)) → AllByRecursion (λ m. Is m.1) mixture → mixture_sum f mixture ≤ℤ (mixture_weight mixture *ℤ x)
+mixture_le Is f x each [] of = ≤ℤ_from_eq _ _ (sym (zero-*ℤ x))
+mixture_le Is f x each (m ∷ mixture) of =
+    let here : (pos m.0 *ℤ f m.1) ≤ℤ (pos m.0 *ℤ x) = mul_le m.0 _ _ (each m.1 of.0) in
+    let rest : mixture_sum f mixture ≤ℤ (mixture_weight mixture *ℤ x) = mixture_le Is f x each mixture of.1 in
+    let apart : (pos m.0 +ℤ mixture_weight mixture) *ℤ x ≡ pos m.0 *ℤ x +ℤ mixture_weight mixture *ℤ x = +ℤ-*ℤ (pos m.0) (mixture_weight mixture) x in
+    omega (arith, linear)
+
+pub every_mixture : (t : CellTable) (value : ℕ → ℤ) → BoundsEveryPolicy t value → BoundsEveryMixture t value
+every_mixture t value bounds mixture of k s sl =
+    mixture_le (IsPolicyOf t) (λ policy. expected_total t (λ history. value (end_state s history)) policy k s) (pos (step_scale t ^ k * one ^ k) *ℤ value s)
+    (λ policy is. (bounds policy is k s sl).total) mixture of
+
+-- ---- only then: the policy that always takes the action, for one step
+pub only_then : (t : CellTable) (value : ℕ → ℤ) → BoundsEveryPolicy t value → DominatesBackup t value
+only_then t value bounds a s al sl = backup_from_one_step t (λ history. value (end_state s history)) (value s) (λ history. a) s (bounds (λ history. a) (λ history f. al) 1 s sl)

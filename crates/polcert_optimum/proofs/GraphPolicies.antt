@@ -1,0 +1,102 @@
+-- What a controller earns that lacks no observation, its policy earns.
+use Rattle.std.proofs.Common.{◌≡◌, ℕ, zero, suc, ◌^◌, ◌<◌, ℤ, pos, ◌+ℤ◌, ◌*ℤ◌, List, [], ◌∷◌, Option, Some, None, refl, sym, ap, ◌∙◌, subst, map}
+use Rattle.std.proofs.Math.IntN.{+ℤ_idr, zero-*ℤ, *ℤ-zero}
+use Rattle.polcert_check.specs.Horizon.{Controller, one, total_below, sum_over, uncut, weight}
+use Rattle.polcert_check.specs.Horizon as horizon
+use Rattle.polcert_check.specs.Steps.Ranges.{IsController}
+use Rattle.polcert_check.proofs.Sums.Ring.{products}
+use Rattle.polcert_check.proofs.Sums.SumLaws.{sum_below_same, sum_over_same, sum_over_scale, sum_over_add}
+use Rattle.polcert_check.proofs.Horizons.Runs.{sum_over_uncut, reward_part_cons}
+use Rattle.polcert_check.proofs.Horizons.Kept.{LacksNone, no_weight}
+use Rattle.polcert_check.proofs.Horizons.Kept as kept
+use Rattle.polcert_optimum.specs.Policy.{History, IsHistory, Policy, as_policy, IsPolicyOf, after, history_weight, histories, discounted_rewards, step_weight, total_weight, expected_total, expected_rewards}
+use Rattle.polcert_optimum.specs.GraphPolicy.{node_after, action_at, graph_policy, EarnsAsItsPolicy}
+use Rattle.polcert_optimum.proofs.Steps.{expected_total_suc}
+use Rattle.polcert_optimum.proofs.Bounded.{weights_all}
+
+-- ---- the rewards of k + 1 steps, split at the first step
+earned_algebra : (w x a g t : ℤ) → (w *ℤ x) *ℤ (a +ℤ g *ℤ t) ≡ w *ℤ (a *ℤ x +ℤ g *ℤ (x *ℤ t))
+earned_algebra w x a g t = simp products
+
+rewards_after : (c : Controller) (k n s e z : ℕ) → sum_over (λ run. pos (weight c (Some n) s ((e, z) ∷ run)) *ℤ horizon.reward_part c (suc k) (Some n) s ((e, z) ∷ run)) (uncut c k (c.next n z)) ≡ pos (horizon.step_weight c n s e z) *ℤ ((pos (one ^ suc k) *ℤ c.cells.r (c.action n) s e z) *ℤ horizon.weights_sum c k (c.next n z) e +ℤ pos c.cells.discount *ℤ horizon.rewards_sum c k (c.next n z) e)
+rewards_after c k n s e z =
+    let at : Option ℕ = c.next n z in
+    let w : ℕ = horizon.step_weight c n s e z in
+    let a : ℤ = pos (one ^ suc k) *ℤ c.cells.r (c.action n) s e z in
+    let g : ℤ = pos c.cells.discount in
+    let x = λ (run : History). pos (weight c at e run) in
+    let t = λ (run : History). horizon.reward_part c k at e run in
+    let us : List History = uncut c k at in
+    sum_over_same _ (λ run. pos w *ℤ (a *ℤ x run +ℤ g *ℤ (x run *ℤ t run))) us
+    (λ run. ap (λ (y : ℤ). (pos w *ℤ x run) *ℤ y) (reward_part_cons c k n s e z run) ∙ earned_algebra (pos w) (x run) a g (t run))
+    ∙ sum_over_scale (pos w) (λ run. a *ℤ x run +ℤ g *ℤ (x run *ℤ t run)) us
+    ∙ ap (λ (y : ℤ). pos w *ℤ y)
+    (sum_over_add (λ run. a *ℤ x run) (λ run. g *ℤ (x run *ℤ t run)) us
+    ∙ ap (λ (y : ℤ). y +ℤ sum_over (λ run. g *ℤ (x run *ℤ t run)) us) (sum_over_scale a x us)
+    ∙ ap (λ (y : ℤ). a *ℤ sum_over x us +ℤ y) (sum_over_scale g (λ run. x run *ℤ t run) us))
+
+controller_rewards_suc : (c : Controller) (k n s : ℕ) → horizon.rewards_sum c (suc k) (Some n) s ≡ total_below (λ e. total_below (λ z. pos (horizon.step_weight c n s e z) *ℤ ((pos (one ^ suc k) *ℤ c.cells.r (c.action n) s e z) *ℤ horizon.weights_sum c k (c.next n z) e +ℤ pos c.cells.discount *ℤ horizon.rewards_sum c k (c.next n z) e)) c.cells.observations) c.cells.states
+controller_rewards_suc c k n s =
+    sum_over_uncut c k n (λ run. pos (weight c (Some n) s run) *ℤ horizon.reward_part c (suc k) (Some n) s run)
+    ∙ sum_below_same _ _ c.cells.states (λ e _. sum_below_same _ _ c.cells.observations (λ z _. rewards_after c k n s e z))
+
+no_end : (x r h : ℤ) → x *ℤ (r +ℤ h *ℤ pos 0) ≡ x *ℤ r
+no_end x r h = rw (*ℤ-zero h) (ap (λ (y : ℤ). x *ℤ y) (+ℤ_idr r))
+
+-- a policy's rewards are its totals where every history ends at 0
+rewards_are : (c : Controller) (policy : Policy) (k s : ℕ) → expected_total c.cells (λ history. pos 0) policy k s ≡ expected_rewards c.cells policy k s
+rewards_are c policy k s = sum_over_same _ _ (histories c.cells k) (λ history. no_end (pos (history_weight c.cells policy s history)) (discounted_rewards c.cells policy k s history) (pos (c.cells.discount ^ k)))
+
+policy_rewards_suc : (c : Controller) (policy : Policy) (k s : ℕ) → expected_rewards c.cells policy (suc k) s ≡ total_below (λ e. total_below (λ z. pos (step_weight c.cells (policy []) s e z) *ℤ ((pos (one ^ suc k) *ℤ c.cells.r (policy []) s e z) *ℤ total_weight c.cells (after policy (e, z)) k e +ℤ pos c.cells.discount *ℤ expected_rewards c.cells (after policy (e, z)) k e)) c.cells.observations) c.cells.states
+policy_rewards_suc c policy k s =
+    sym (rewards_are c policy (suc k) s)
+    ∙ expected_total_suc c.cells (λ history. pos 0) policy k s
+    ∙ sum_below_same _ _ c.cells.states (λ e _. sum_below_same _ _ c.cells.observations (λ z _.
+    ap (λ (x : ℤ). pos (step_weight c.cells (policy []) s e z) *ℤ ((pos (one ^ suc k) *ℤ c.cells.r (policy []) s e z) *ℤ total_weight c.cells (after policy (e, z)) k e +ℤ pos c.cells.discount *ℤ x)) (rewards_are c (after policy (e, z)) k e)))
+
+-- ---- it is a policy
+module _ (c : Controller) (p : IsController c) (some : 0 < c.cells.actions) where
+  known_at : (history : History) (at : Option ℕ) → ((m : ℕ) → at ≡ Some m → m < c.nodes) → IsHistory c.cells history → as_policy (graph_policy c at) history < c.cells.actions
+  known_at [] None node f = some
+  known_at (q ∷ history) None node f = some
+  known_at [] (Some n) node f = p.closed.actions_in_range n (node n refl)
+  known_at (q ∷ history) (Some n) node f = known_at history (c.next n q.1) (λ m is. p.closed.next_in_range n q.1 m (node n refl) f.1 is) f.2
+
+  pub is_policy : (n : ℕ) → n < c.nodes → IsPolicyOf c.cells (as_policy (graph_policy c (Some n)))
+  is_policy n nl history f = known_at history (Some n) (λ m is. node_is m is) f
+    where
+      node_is : (m : ℕ) → Some n ≡ Some m → m < c.nodes
+      node_is m is = let same : n ≡ m = cc in subst (λ (i : ℕ). i < c.nodes) same nl
+
+  -- ---- and earns as much
+  module _ (fine : LacksNone c) where
+    abbrev policy_at : Option ℕ → Policy
+    policy_at at = as_policy (graph_policy c at)
+
+    same_term : (k n s e z : ℕ) → n < c.nodes → s < c.cells.states → e < c.cells.states → z < c.cells.observations → ((m : ℕ) → m < c.nodes → horizon.rewards_sum c k (Some m) e ≡ expected_rewards c.cells (policy_at (Some m)) k e) → (at : Option ℕ) → c.next n z ≡ at
+        → pos (horizon.step_weight c n s e z) *ℤ ((pos (one ^ suc k) *ℤ c.cells.r (c.action n) s e z) *ℤ horizon.weights_sum c k at e +ℤ pos c.cells.discount *ℤ horizon.rewards_sum c k at e) ≡ pos (horizon.step_weight c n s e z) *ℤ ((pos (one ^ suc k) *ℤ c.cells.r (c.action n) s e z) *ℤ total_weight c.cells (policy_at at) k e +ℤ pos c.cells.discount *ℤ expected_rewards c.cells (policy_at at) k e)
+    same_term k n s e z nl sl el zl before None is =
+        let w : horizon.step_weight c n s e z ≡ 0 = no_weight c n s e z (fine n s z nl sl zl) el is in
+        let a : ℤ = pos (one ^ suc k) *ℤ c.cells.r (c.action n) s e z in
+        let x : ℤ = a *ℤ horizon.weights_sum c k None e +ℤ pos c.cells.discount *ℤ horizon.rewards_sum c k None e in
+        let y : ℤ = a *ℤ total_weight c.cells (policy_at None) k e +ℤ pos c.cells.discount *ℤ expected_rewards c.cells (policy_at None) k e in
+        ap (λ (u : ℕ). pos u *ℤ x) w ∙ zero-*ℤ x ∙ sym (ap (λ (u : ℕ). pos u *ℤ y) w ∙ zero-*ℤ y)
+    same_term k n s e z nl sl el zl before (Some m) is =
+        let ml : m < c.nodes = p.closed.next_in_range n z m nl zl is in
+        let w : ℤ = pos (horizon.step_weight c n s e z) in
+        let a : ℤ = pos (one ^ suc k) *ℤ c.cells.r (c.action n) s e z in
+        let g : ℤ = pos c.cells.discount in
+        let weights : horizon.weights_sum c k (Some m) e ≡ total_weight c.cells (policy_at (Some m)) k e = kept.weights_all c p fine k m e ml el ∙ sym (weights_all c.cells p.cells k (policy_at (Some m)) (is_policy m ml) e el) in
+        ap (λ (x : ℤ). w *ℤ (a *ℤ x +ℤ g *ℤ horizon.rewards_sum c k (Some m) e)) weights
+        ∙ ap (λ (x : ℤ). w *ℤ (a *ℤ total_weight c.cells (policy_at (Some m)) k e +ℤ g *ℤ x)) (before m ml)
+
+    same_rewards : (k n s : ℕ) → n < c.nodes → s < c.cells.states → horizon.rewards_sum c k (Some n) s ≡ expected_rewards c.cells (policy_at (Some n)) k s
+    same_rewards zero n s nl sl = refl
+    same_rewards (suc k) n s nl sl =
+        controller_rewards_suc c k n s
+        ∙ sum_below_same _ _ c.cells.states (λ e el. sum_below_same _ _ c.cells.observations (λ z zl.
+        same_term k n s e z nl sl el zl (λ m ml. same_rewards k m e ml el) (c.next n z) refl))
+        ∙ sym (policy_rewards_suc c (policy_at (Some n)) k s)
+
+    pub earns_as_policy : (n : ℕ) → n < c.nodes → EarnsAsItsPolicy c n
+    earns_as_policy n nl = record { is_policy = is_policy n nl; earns = λ k s sl. same_rewards k n s nl sl }

@@ -1,0 +1,45 @@
+-- The greatest of some numbers: none is greater, one is as great, and nothing else is both.
+use Rattle.std.proofs.Common.{◌≡◌, ℕ, zero, suc, ◌<◌, ◌≤◌, ℤ, ◌≤ℤ◌, ◌⊎◌, inl, inr, ⊎_elim, refl, sym, ◌∙◌, subst, arith}
+use Rattle.std.specs.Int.{int_max}
+use Rattle.std.specs.Prelude.{int_lt}
+use Rattle.std.proofs.lemmas.Bool.{cases_cond, cases_lt}
+use Rattle.std.proofs.lemmas.Int.{ints, clamps}
+use Rattle.polcert_check.proofs.Sums.Ring.{linear, ≤ℤ_trans, ≤ℤ_from_eq}
+use Rattle.polcert_optimum.specs.Informed.{greatest_below}
+
+max_left : (x y : ℤ) → x ≤ℤ int_max x y
+max_left x y = omega (arith, ints, clamps)
+
+max_right : (x y : ℤ) → y ≤ℤ int_max x y
+max_right x y = omega (arith, ints, clamps)
+
+pub greatest_le : (f : ℕ → ℤ) (n i : ℕ) → i < n → f i ≤ℤ greatest_below f n
+greatest_le f zero i l = absurd (omega arith)
+greatest_le f (suc zero) i l = let e : i ≡ 0 = omega arith in ≤ℤ_from_eq _ _ (rw e refl)
+greatest_le f (suc (suc n)) i l =
+    ⊎_elim
+    (λ (k : i < suc n). ≤ℤ_trans _ _ _ (greatest_le f (suc n) i k) (max_left (greatest_below f (suc n)) (f (suc n))))
+    (λ (k : suc n ≤ i). let e : i ≡ suc n = omega arith in rw e (max_right (greatest_below f (suc n)) (f (suc n))))
+    (cases_lt i (suc n))
+
+pub greatest_reached : (f : ℕ → ℤ) (n : ℕ) → 0 < n → (i : ℕ) × (i < n) × (f i ≡ greatest_below f n)
+greatest_reached f zero some = absurd (omega arith)
+greatest_reached f (suc zero) some = (0, omega arith, refl)
+greatest_reached f (suc (suc n)) some =
+    ⊎_elim
+    (λ (e : int_max (greatest_below f (suc n)) (f (suc n)) ≡ greatest_below f (suc n)). let (i, l, is) = greatest_reached f (suc n) (omega arith) in (i, omega arith, is ∙ sym e))
+    (λ (e : int_max (greatest_below f (suc n)) (f (suc n)) ≡ f (suc n)). (suc n, omega arith, sym e))
+    (cases_cond (int_lt (f (suc n)) (greatest_below f (suc n))) (greatest_below f (suc n)) (f (suc n)) _ refl)
+
+-- what each is at most, the greatest is
+pub greatest_most : (f : ℕ → ℤ) (n : ℕ) (x : ℤ) → 0 < n → ((i : ℕ) → i < n → f i ≤ℤ x) → greatest_below f n ≤ℤ x
+greatest_most f n x some each =
+    let (i, l, is) = greatest_reached f n some in
+    ≤ℤ_trans _ _ _ (≤ℤ_from_eq _ _ (sym is)) (each i l)
+
+-- a number that none is above, and that one is, is the greatest
+pub greatest_is : (f : ℕ → ℤ) (n : ℕ) (x : ℤ) → ((i : ℕ) → i < n → f i ≤ℤ x) → (i : ℕ) → i < n → f i ≡ x → x ≡ greatest_below f n
+greatest_is f n x each i l is =
+    let le : greatest_below f n ≤ℤ x = greatest_most f n x (omega arith) each in
+    let ge : x ≤ℤ greatest_below f n = ≤ℤ_trans _ _ _ (≤ℤ_from_eq _ _ (sym is)) (greatest_le f n i l) in
+    omega (arith, linear)

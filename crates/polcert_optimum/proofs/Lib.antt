@@ -1,0 +1,11 @@
+pub mod Steps
+pub mod Bounded
+pub mod EveryPolicy
+pub mod Greatest
+pub mod Informed
+pub mod GraphPolicies
+pub mod EveryGraph
+pub mod Start
+pub mod Vanishing
+pub mod Optimum
+pub mod Computed
