@@ -33,6 +33,8 @@ fn call(alloc: Global, name: &str) -> Option<Ended> {
         "reading_vectors" => Some(reading::vectors(alloc)),
         "reading_vectors_from" => Some(reading::vectors_from(alloc)),
         "reading_vectors_up" => Some(reading::vectors_up(alloc)),
+        "reading_action_vectors" => Some(reading::action_vectors(alloc)),
+        "reading_action_vectors_from" => Some(reading::action_vectors_from(alloc)),
         "shifting_vectors" => Some(reading::shifting(alloc)),
         "lowering_vectors" => Some(reading::lowering(alloc)),
         "raising_vectors" => Some(reading::raising(alloc)),

@@ -9,8 +9,8 @@ use polcert_check::{
 };
 use polcert_model::{Cells, Kind, Model, ModelFault, dense_of, read_model};
 use polcert_policy::{
-    Graph, GraphFault, VectorFault, Vectors, read_graph, read_graph_from, read_vectors,
-    read_vectors_from, read_vectors_up,
+    Graph, GraphFault, VectorFault, Vectors, read_action_vectors, read_action_vectors_from,
+    read_graph, read_graph_from, read_vectors, read_vectors_from, read_vectors_up,
 };
 use polcert_testing::{LISTENING, TIGER};
 use polcert_text::{ReadFault, SliceSource, SourceFault, read_all};
@@ -142,6 +142,28 @@ pub fn vectors_up(alloc: Global) -> Ended {
     match read_graph(alloc, LISTENING, 3, 2) {
         Ok(graph) => vectors_up_for(alloc, &graph),
         Err(fault) => Ended::memory(Want::Graph, fault == GraphFault::Memory),
+    }
+}
+
+/// The vector of one action, rounded up.
+pub fn action_vectors(alloc: Global) -> Ended {
+    match read_action_vectors(alloc, b"0 -20.0000001 4.9999999", 1, 2) {
+        Ok(vectors) => Ended::done(has_values(&vectors, [-20_000_000, 5_000_000])),
+        Err(fault) => Ended::memory(Want::Vectors, fault == VectorFault::Memory),
+    }
+}
+
+/// The same of a source.
+pub fn action_vectors_from(alloc: Global) -> Ended {
+    let mut source = SliceSource::new(b"0 -20.0000001 4.9999999");
+    match read_action_vectors_from(alloc, &mut source, 1, 2) {
+        Ok(vectors) => Ended::done(has_values(&vectors, [-20_000_000, 5_000_000])),
+        Err(fault) => {
+            Ended::memory(
+                Want::Vectors,
+                fault == SourceFault::Refused(VectorFault::Memory),
+            )
+        }
     }
 }
 

@@ -5,6 +5,7 @@ ghost use Rattle.polcert_cells.specs.Elements.{most_states, most_actions, most_o
 ghost use Rattle.polcert_policy.specs.GraphText.{IsGraphText, IsGraphRefusal};
 ghost use Rattle.polcert_policy.specs.Vectors.{PolicyVectors, AreProperVectors, IsInRange, value_of};
 ghost use Rattle.polcert_policy.specs.VectorText.{IsVectorsText, IsVectorsRefusal, IsRoundedVectorsText, IsRoundedVectorsRefusal};
+ghost use Rattle.polcert_policy.specs.ActionVectors.{action_graph, IsActionVectorsText};
 ghost use Rattle.polcert_policy.specs.FullForm.{vectors_text};
 
 use crate::{GraphFault, VectorFault};
@@ -83,6 +84,23 @@ pub fn vectors_within_limits()
         1 ≤ nodes graph → nodes graph ≤ most_nodes → 1 ≤ states → states ≤ most_states →
         IsRoundedVectorsText rounding graph states text v →
         (v.nodes ≡ nodes graph) × (v.states ≡ states) × AreProperVectors v }
+{}
+
+/// The graph of actions has a node for each action, which takes it, and is what is true of every graph.
+pub fn action_graph_has_every_action()
+    ensures nodes { (actions : ℕ) → nodes (action_graph actions) ≡ actions }
+    ensures actions { (actions a : ℕ) → a < actions → action_of (action_graph actions) a ≡ a }
+    ensures proper { (actions : ℕ) → 1 ≤ actions → actions ≤ most_actions → IsProperGraph (action_graph actions) }
+{}
+
+/// The vectors of actions that a text denotes are within their limits: there is one for each action that the text was read
+/// for, each has a value for each state, and each value is at most 10,000,000 in size.
+pub fn action_vectors_within_limits()
+    ensures counts { (actions states : ℕ) (text : List ℕ) (v : PolicyVectors) →
+        IsActionVectorsText actions states text v → (v.nodes ≡ actions) × (v.states ≡ states) }
+    ensures proper { (actions states : ℕ) (text : List ℕ) (v : PolicyVectors) →
+        1 ≤ actions → actions ≤ most_actions → 1 ≤ states → states ≤ most_states →
+        IsActionVectorsText actions states text v → AreProperVectors v }
 {}
 
 /// The full form of vectors, read with their graph and number of states, is accepted and gives the vectors back.

@@ -2,6 +2,7 @@ ghost use Rattle.std.specs.Prelude.{◌≤◌, IsTrue, negsuc};
 ghost use Rattle.polcert_cells.specs.Elements.{most_actions, most_observations};
 ghost use Rattle.polcert_policy.specs.Vectors.{CanShift};
 
+mod actions;
 mod sources;
 
 use polcert_policy::{

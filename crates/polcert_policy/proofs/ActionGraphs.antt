@@ -1,0 +1,66 @@
+-- The graph whose node a takes action a: one node more, and that it is a proper graph.
+use Rattle.std.proofs.Common.{◌≡◌, ◌∙◌, ℕ, zero, suc, ◌+◌, ◌<◌, ◌≤◌, Option, Some, None, List, [], ◌∷◌, ◌++◌, slice_get, length, replicate, get_or, ap, arith}
+use Rattle.std.specs.List.{range_with_len}
+use Rattle.std.proofs.lemmas.List.{length-replicate, get_or-replicate}
+use Rattle.std.proofs.lemmas.List.FromFn.{length-range_with_len, get_or-range_with_len}
+use Rattle.std.proofs.lemmas.Option.{get_or_from_slice_get}
+use Rattle.polcert_cells.specs.Elements.{most_actions, most_states}
+use Rattle.polcert_policy.specs.Graphs.{nodes, action_of, IsProperGraph}
+use Rattle.polcert_policy.specs.Vectors.{PolicyVectors, AreProperVectors}
+use Rattle.polcert_policy.specs.ActionVectors.{action_graph, IsActionVectorsText}
+use Rattle.polcert_policy.proofs.Places.{within_get}
+use Rattle.polcert_policy.proofs.LimitLaws.{vectors_proper}
+
+longer : (a n : ℕ) → range_with_len a (suc n) ≡ range_with_len a n ++ (a + n) ∷ []
+longer a zero = let e : a ≡ a + 0 = omega arith in ap (λ x. x ∷ []) e
+longer a (suc n) =
+    let e : (a + 1) + n ≡ a + suc n = omega arith in
+    ap (λ xs. a ∷ xs) (longer (a + 1) n ∙ ap (λ x. range_with_len (a + 1) n ++ x ∷ []) e)
+
+-- one action more
+pub one_more : (a : ℕ) → range_with_len 0 (a + 1) ≡ range_with_len 0 a ++ a ∷ []
+one_more a =
+    let e : a + 1 ≡ suc a = omega arith in
+    let z : 0 + a ≡ a = omega arith in
+    rw e (longer 0 a ∙ ap (λ x. range_with_len 0 a ++ x ∷ []) z)
+
+pub node_count : (actions : ℕ) → nodes (action_graph actions) ≡ actions
+node_count actions = length-range_with_len 0 actions
+
+pub takes_its_action : (actions a : ℕ) → a < actions → action_of (action_graph actions) a ≡ a
+takes_its_action actions a l = let z : 0 + a ≡ a = omega arith in get_or-range_with_len 0 actions a 0 l ∙ z
+
+abbrev none_of : ℕ → List (Option ℕ)
+none_of actions = replicate actions None
+
+no_successor : (actions k m : ℕ) → slice_get (none_of actions) k ≡ Some (Some m) → m < nodes (action_graph actions)
+no_successor actions k m e =
+    let within : k < length (none_of actions) = within_get (none_of actions) k (Some m) e in
+    let size : length (none_of actions) ≡ actions = length-replicate actions None in
+    let is : get_or (none_of actions) k None ≡ Some m = get_or_from_slice_get (none_of actions) k (Some m) None e in
+    let none : get_or (none_of actions) k None ≡ None = get_or-replicate actions k None None (omega arith) in
+    absurd (cc)
+
+pub action_graph_proper : (actions : ℕ) → 1 ≤ actions → actions ≤ most_actions → IsProperGraph (action_graph actions)
+action_graph_proper actions some few = record {
+  some_actions = some;
+  few_actions = few;
+  some_observations = omega arith;
+  few_observations = omega arith;
+  some_nodes = omega (arith, some, node_count actions);
+  few_nodes = omega (arith, few, node_count actions);
+  filled = let size : length (none_of actions) ≡ actions = length-replicate actions None in omega (arith, node_count actions);
+  known = λ n l.
+      let inside : n < actions = omega (arith, l, node_count actions) in
+      omega (arith, inside, takes_its_action actions n inside);
+  bound = no_successor actions;
+}
+
+-- ---- the vectors that a text denotes
+pub action_counts : (actions states : ℕ) (text : List ℕ) (v : PolicyVectors) → IsActionVectorsText actions states text v → (v.nodes ≡ actions) × (v.states ≡ states)
+action_counts actions states text v is = (is.2.nodes_are ∙ node_count actions, is.2.states_are)
+
+pub action_vectors_proper : (actions states : ℕ) (text : List ℕ) (v : PolicyVectors) → 1 ≤ actions → actions ≤ most_actions → 1 ≤ states → states ≤ most_states → IsActionVectorsText actions states text v → AreProperVectors v
+action_vectors_proper actions states text v some few some_states few_states is =
+    let proper = action_graph_proper actions some few in
+    vectors_proper (action_graph actions) states is.0 v proper.some_nodes proper.few_nodes some_states few_states is.2
