@@ -12,7 +12,7 @@ use Rattle.polcert_check.specs.Verdict.{IsBefore, IsLeastLacking}
 
 -- From n and s each cut run of k steps weighs nothing, and the others are worth at most the vector's value.
 pub record PromiseAbove (c : Controller) (k n s : ℕ) : Type 0 where
-  pub cut_runs : All (λ run. IsTrue (is_cut c (Some n) run) → weight c (Some n) s run ≡ 0) (runs c k)
+  pub cut_runs : All (λ run. IsTrue (is_cut c (Some n) run) → weight c (Some n) s run ≡ 0) (runs c.cells k)
   pub uncut_runs : worth_sum c k (Some n) s ≤ℤ (pos (step_scale c ^ k * one ^ k) *ℤ c.value n s)
 
 -- no vector value is below m

@@ -3,23 +3,23 @@ use Rattle.std.proofs.Common.{◌≡◌, ℕ, zero, suc, ◌*◌, ◌^◌, ◌<�
 use Rattle.std.proofs.Math.Nat.{pow-suc, pow-zero}
 use Rattle.std.proofs.Math.IntN.{*ℤ_comm}
 use Rattle.polcert_cells.specs.Tables.{CellTable, IsProper}
-use Rattle.polcert_check.specs.Horizon.{one, total_below, sum_over}
+use Rattle.polcert_check.specs.Horizon.{one, total_below, sum_over, runs, IsRunInRange}
 use Rattle.polcert_check.proofs.Sums.Ring.{linear, products, mul_le, ≤ℤ_trans, ≤ℤ_from_eq, *ℤ_assoc, one-*ℤ}
 use Rattle.polcert_check.proofs.Sums.SumLaws.{sum_below_same, sum_below_le, sum_over_same, sum_over_scale, sum_over_add, sum_over_le_all}
 use Rattle.polcert_check.proofs.Horizons.Kept.{keeps_algebra, scale_algebra, sum_twice_scale}
 use Rattle.polcert_check.proofs.Horizons.Enumerated.{All-runs}
-use Rattle.polcert_optimum.specs.Policy.{nodeless, History, IsHistory, end_state, Policy, IsPolicyOf, after, step_weight, step_scale, histories, history_weight, discounted_rewards, total_weight, expected_total, expected_rewards}
+use Rattle.polcert_optimum.specs.Policy.{History, end_state, Policy, IsPolicyOf, after, step_weight, step_scale, history_weight, discounted_rewards, total_weight, expected_total, expected_rewards}
 use Rattle.polcert_optimum.specs.Bound.{backup, IsBounded}
 use Rattle.polcert_optimum.proofs.Steps.{total_weight_suc, total_weight_zero, expected_total_suc, expected_total_zero, step_weights_total}
 
 pub policy_after : (t : CellTable) (policy : Policy) → IsPolicyOf t policy → (e z : ℕ) → e < t.states → z < t.observations → IsPolicyOf t (after policy (e, z))
 policy_after t policy of e z el zl history in_range = of ((e, z) ∷ history) (el, zl, in_range)
 
-pub end_state_in_range : (t : CellTable) (history : History) (s : ℕ) → s < t.states → IsHistory t history → end_state s history < t.states
+pub end_state_in_range : (t : CellTable) (history : History) (s : ℕ) → s < t.states → IsRunInRange t history → end_state s history < t.states
 end_state_in_range t [] s sl f = sl
 end_state_in_range t (p ∷ history) s sl f = end_state_in_range t history p.0 f.0 f.2
 
--- ---- the weights of the histories of k steps sum to their scale
+-- ---- the weights of the runs of k steps sum to their scale
 pub weights_all : (t : CellTable) → IsProper t → (k : ℕ) (policy : Policy) → IsPolicyOf t policy → (s : ℕ) → s < t.states → total_weight t policy k s ≡ pos (step_scale t ^ k)
 weights_all t p zero policy of s sl = total_weight_zero t policy s ∙ ap pos (sym (pow-zero (step_scale t)))
 weights_all t p (suc k) policy of s sl =
@@ -80,7 +80,7 @@ no_step t end policy s =
 
 -- ---- the rewards alone
 abbrev ends_sum : CellTable → (History → ℤ) → Policy → ℕ → ℕ → ℤ
-ends_sum t end policy k s = sum_over (λ history. pos (history_weight t policy s history) *ℤ end history) (histories t k)
+ends_sum t end policy k s = sum_over (λ history. pos (history_weight t policy s history) *ℤ end history) (runs t k)
 
 part_algebra : (w r h v : ℤ) → w *ℤ (r +ℤ h *ℤ v) ≡ w *ℤ r +ℤ h *ℤ (w *ℤ v)
 part_algebra w r h v = simp products
@@ -90,16 +90,16 @@ total_parts t end policy k s =
     let h : ℤ = pos (t.discount ^ k) in
     let x = λ (history : History). pos (history_weight t policy s history) in
     let r = λ (history : History). discounted_rewards t policy k s history in
-    sum_over_same _ (λ history. x history *ℤ r history +ℤ h *ℤ (x history *ℤ end history)) (histories t k) (λ history. part_algebra (x history) (r history) h (end history))
-    ∙ sum_over_add (λ history. x history *ℤ r history) (λ history. h *ℤ (x history *ℤ end history)) (histories t k)
-    ∙ ap (λ (y : ℤ). sum_over (λ history. x history *ℤ r history) (histories t k) +ℤ y) (sum_over_scale h (λ history. x history *ℤ end history) (histories t k))
+    sum_over_same _ (λ history. x history *ℤ r history +ℤ h *ℤ (x history *ℤ end history)) (runs t k) (λ history. part_algebra (x history) (r history) h (end history))
+    ∙ sum_over_add (λ history. x history *ℤ r history) (λ history. h *ℤ (x history *ℤ end history)) (runs t k)
+    ∙ ap (λ (y : ℤ). sum_over (λ history. x history *ℤ r history) (runs t k) +ℤ y) (sum_over_scale h (λ history. x history *ℤ end history) (runs t k))
 
-ends_le : (t : CellTable) → IsProper t → (end : History → ℤ) (m : ℤ) → ((history : History) → IsHistory t history → m ≤ℤ end history) → (k : ℕ) (policy : Policy) → IsPolicyOf t policy → (s : ℕ) → s < t.states → (pos (step_scale t ^ k) *ℤ m) ≤ℤ ends_sum t end policy k s
+ends_le : (t : CellTable) → IsProper t → (end : History → ℤ) (m : ℤ) → ((history : History) → IsRunInRange t history → m ≤ℤ end history) → (k : ℕ) (policy : Policy) → IsPolicyOf t policy → (s : ℕ) → s < t.states → (pos (step_scale t ^ k) *ℤ m) ≤ℤ ends_sum t end policy k s
 ends_le t p end m least k policy of s sl =
     let x = λ (history : History). pos (history_weight t policy s history) in
-    let all : List History = histories t k in
+    let all : List History = runs t k in
     let le : sum_over (λ history. x history *ℤ m) all ≤ℤ sum_over (λ history. x history *ℤ end history) all =
-    sum_over_le_all (λ history. (length history ≡ k) × IsHistory t history) _ _ all (λ history f. mul_le (history_weight t policy s history) _ _ (least history f.1)) (All-runs (nodeless t) k) in
+    sum_over_le_all (λ history. (length history ≡ k) × IsRunInRange t history) _ _ all (λ history f. mul_le (history_weight t policy s history) _ _ (least history f.1)) (All-runs t k) in
     let is : sum_over (λ history. x history *ℤ m) all ≡ pos (step_scale t ^ k) *ℤ m =
     sum_over_same _ (λ history. m *ℤ x history) all (λ history. *ℤ_comm (x history) m)
     ∙ sum_over_scale m x all
@@ -116,7 +116,7 @@ bounded t p end value policy of k s sl total = record {
   rewards = alone;
 }
   where
-    alone : (m : ℤ) → ((history : History) → IsHistory t history → m ≤ℤ end history) → (expected_rewards t policy k s +ℤ pos (t.discount ^ k * step_scale t ^ k) *ℤ m) ≤ℤ (pos (step_scale t ^ k * one ^ k) *ℤ value)
+    alone : (m : ℤ) → ((history : History) → IsRunInRange t history → m ≤ℤ end history) → (expected_rewards t policy k s +ℤ pos (t.discount ^ k * step_scale t ^ k) *ℤ m) ≤ℤ (pos (step_scale t ^ k * one ^ k) *ℤ value)
     alone m least =
         let h : ℕ = t.discount ^ k in
         let q : ℕ = step_scale t ^ k in

@@ -1,5 +1,5 @@
 -- No values of a graph that pass from below are above informed vectors, where the discount is below 1.
-use Rattle.std.proofs.Common.{◌≡◌, ℕ, ◌*◌, ◌<◌, ℤ, pos, ◌+ℤ◌, ◌-ℤ◌, ◌*ℤ◌, ◌≤ℤ◌, Option, Some, None, refl, sym, ap, ◌∙◌, arith}
+use Rattle.std.proofs.Common.{◌≡◌, ℕ, ◌<◌, ℤ, pos, ◌+ℤ◌, ◌-ℤ◌, ◌*ℤ◌, ◌≤ℤ◌, Option, Some, None, refl, sym, ap, ◌∙◌, arith}
 use Rattle.std.proofs.Math.IntN.{zero-*ℤ}
 use Rattle.polcert_cells.specs.Tables.{CellTable, IsProper, IsWithinLimits}
 use Rattle.polcert_policy.specs.Graphs.{action_of}
@@ -7,7 +7,7 @@ use Rattle.polcert_policy.specs.Vectors.{value_of}
 use Rattle.polcert_check.specs.Horizon.{Controller, controller_of, one}
 use Rattle.polcert_check.specs.Horizon as horizon
 use Rattle.polcert_check.specs.Shortfall.{Lacks, backing}
-use Rattle.polcert_check.specs.Steps.Ranges.{IsClosed, IsController}
+use Rattle.polcert_check.specs.Steps.Ranges.{IsClosed}
 use Rattle.polcert_check.proofs.Certificates.{controller_is}
 use Rattle.polcert_check.proofs.Sums.Ring.{linear, ≤ℤ_trans, ≤ℤ_from_eq}
 use Rattle.polcert_check.proofs.Sums.SumLaws.{sum_below_same}
@@ -16,7 +16,6 @@ use Rattle.polcert_check.proofs.Walking.Verdicts.{positive_product}
 use Rattle.polcert_check.proofs.Horizons.Kept.{backing_term, no_weight}
 use Rattle.polcert_check.proofs.Agreements.Agreeing.{with_values}
 use Rattle.polcert_check.proofs.Mirrors.Interval.{never_above}
-use Rattle.polcert_optimum.specs.Policy.{step_weight, step_scale}
 use Rattle.polcert_optimum.specs.Bound.{backup}
 use Rattle.polcert_optimum.specs.Informed.{AreInformed}
 use Rattle.polcert_optimum.specs.GraphPolicy.{action_at, BoundEveryGraph}

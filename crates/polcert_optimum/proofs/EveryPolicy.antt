@@ -5,7 +5,7 @@ use Rattle.std.specs.List.{AllByRecursion}
 use Rattle.polcert_cells.specs.Tables.{CellTable, IsProper}
 use Rattle.polcert_check.specs.Horizon.{one}
 use Rattle.polcert_check.proofs.Sums.Ring.{linear, mul_le, ≤ℤ_from_eq, +ℤ-*ℤ}
-use Rattle.polcert_optimum.specs.Policy.{History, end_state, Policy, IsPolicyOf, after, step_scale, expected_total}
+use Rattle.polcert_optimum.specs.Policy.{end_state, Policy, IsPolicyOf, after, step_scale, expected_total}
 use Rattle.polcert_optimum.specs.Bound.{DominatesBackup, BoundsEveryPolicy, mixture_weight, mixture_sum, BoundsEveryMixture}
 use Rattle.polcert_optimum.proofs.Bounded.{policy_after, one_step_more, no_step, bounded, backup_from_one_step}
 

@@ -1,7 +1,7 @@
 -- What a controller earns that lacks no observation, its policy earns.
-use Rattle.std.proofs.Common.{◌≡◌, ℕ, zero, suc, ◌^◌, ◌<◌, ℤ, pos, ◌+ℤ◌, ◌*ℤ◌, List, [], ◌∷◌, Option, Some, None, refl, sym, ap, ◌∙◌, subst, map}
+use Rattle.std.proofs.Common.{◌≡◌, ℕ, zero, suc, ◌^◌, ◌<◌, ℤ, pos, ◌+ℤ◌, ◌*ℤ◌, List, [], ◌∷◌, Option, Some, None, refl, sym, ap, ◌∙◌, subst}
 use Rattle.std.proofs.Math.IntN.{+ℤ_idr, zero-*ℤ, *ℤ-zero}
-use Rattle.polcert_check.specs.Horizon.{Controller, one, total_below, sum_over, uncut, weight}
+use Rattle.polcert_check.specs.Horizon.{Controller, one, total_below, sum_over, uncut, weight, runs, IsRunInRange}
 use Rattle.polcert_check.specs.Horizon as horizon
 use Rattle.polcert_check.specs.Steps.Ranges.{IsController}
 use Rattle.polcert_check.proofs.Sums.Ring.{products}
@@ -9,8 +9,8 @@ use Rattle.polcert_check.proofs.Sums.SumLaws.{sum_below_same, sum_over_same, sum
 use Rattle.polcert_check.proofs.Horizons.Runs.{sum_over_uncut, reward_part_cons}
 use Rattle.polcert_check.proofs.Horizons.Kept.{LacksNone, no_weight}
 use Rattle.polcert_check.proofs.Horizons.Kept as kept
-use Rattle.polcert_optimum.specs.Policy.{History, IsHistory, Policy, as_policy, IsPolicyOf, after, history_weight, histories, discounted_rewards, step_weight, total_weight, expected_total, expected_rewards}
-use Rattle.polcert_optimum.specs.GraphPolicy.{node_after, action_at, graph_policy, EarnsAsItsPolicy}
+use Rattle.polcert_optimum.specs.Policy.{History, Policy, as_policy, IsPolicyOf, after, history_weight, discounted_rewards, step_weight, total_weight, expected_total, expected_rewards}
+use Rattle.polcert_optimum.specs.GraphPolicy.{graph_policy, EarnsAsItsPolicy}
 use Rattle.polcert_optimum.proofs.Steps.{expected_total_suc}
 use Rattle.polcert_optimum.proofs.Bounded.{weights_all}
 
@@ -45,7 +45,7 @@ no_end x r h = rw (*ℤ-zero h) (ap (λ (y : ℤ). x *ℤ y) (+ℤ_idr r))
 
 -- a policy's rewards are its totals where every history ends at 0
 rewards_are : (c : Controller) (policy : Policy) (k s : ℕ) → expected_total c.cells (λ history. pos 0) policy k s ≡ expected_rewards c.cells policy k s
-rewards_are c policy k s = sum_over_same _ _ (histories c.cells k) (λ history. no_end (pos (history_weight c.cells policy s history)) (discounted_rewards c.cells policy k s history) (pos (c.cells.discount ^ k)))
+rewards_are c policy k s = sum_over_same _ _ (runs c.cells k) (λ history. no_end (pos (history_weight c.cells policy s history)) (discounted_rewards c.cells policy k s history) (pos (c.cells.discount ^ k)))
 
 policy_rewards_suc : (c : Controller) (policy : Policy) (k s : ℕ) → expected_rewards c.cells policy (suc k) s ≡ total_below (λ e. total_below (λ z. pos (step_weight c.cells (policy []) s e z) *ℤ ((pos (one ^ suc k) *ℤ c.cells.r (policy []) s e z) *ℤ total_weight c.cells (after policy (e, z)) k e +ℤ pos c.cells.discount *ℤ expected_rewards c.cells (after policy (e, z)) k e)) c.cells.observations) c.cells.states
 policy_rewards_suc c policy k s =
@@ -56,7 +56,7 @@ policy_rewards_suc c policy k s =
 
 -- ---- it is a policy
 module _ (c : Controller) (p : IsController c) (some : 0 < c.cells.actions) where
-  known_at : (history : History) (at : Option ℕ) → ((m : ℕ) → at ≡ Some m → m < c.nodes) → IsHistory c.cells history → as_policy (graph_policy c at) history < c.cells.actions
+  known_at : (history : History) (at : Option ℕ) → ((m : ℕ) → at ≡ Some m → m < c.nodes) → IsRunInRange c.cells history → as_policy (graph_policy c at) history < c.cells.actions
   known_at [] None node f = some
   known_at (q ∷ history) None node f = some
   known_at [] (Some n) node f = p.closed.actions_in_range n (node n refl)

@@ -6,7 +6,7 @@ use Rattle.polcert_cells.specs.Meaning.{Meaning, HasLimitedNumbers, states_of, a
 use Rattle.polcert_cells.specs.Tables.{CellTable, IsProper, IsWithinLimits, table_of}
 use Rattle.polcert_policy.specs.Graphs.{PolicyGraph, IsProperGraph, nodes, action_of}
 use Rattle.polcert_policy.specs.Vectors.{PolicyVectors, value_of}
-use Rattle.polcert_check.specs.Horizon.{Controller, Fits, controller_of, one, total_below, rewards_sum}
+use Rattle.polcert_check.specs.Horizon.{Controller, Fits, controller_of, one, total_below, rewards_sum, IsRunInRange}
 use Rattle.polcert_check.specs.Shortfall.{Passes}
 use Rattle.polcert_check.specs.StartWorth.{IsStartWorth}
 use Rattle.polcert_check.proofs.Certificates.{controller_is}
@@ -14,7 +14,7 @@ use Rattle.polcert_check.proofs.Sums.Ring.{linear, *ℤ-+ℤ, *ℤ_assoc, *ℤ_l
 use Rattle.polcert_check.proofs.Sums.SumLaws.{sum_below_le, sum_below_scale}
 use Rattle.polcert_check.proofs.Horizons.EveryHorizon.{promised}
 use Rattle.polcert_check.proofs.Horizons.Kept.{LacksNone-from_Passes}
-use Rattle.polcert_optimum.specs.Policy.{History, IsHistory, end_state, ObservationPolicy, as_policy, IsPolicyOf, step_scale, expected_rewards}
+use Rattle.polcert_optimum.specs.Policy.{History, end_state, ObservationPolicy, as_policy, IsPolicyOf, step_scale, expected_rewards}
 use Rattle.polcert_optimum.specs.Informed.{AreInformed}
 use Rattle.polcert_optimum.specs.GraphPolicy.{graph_policy, EarnsAsItsPolicy}
 use Rattle.polcert_optimum.specs.Start.{sum_over_start, start_scale, AreAtMostFromStart, BoundEveryObservationPolicyFromStart}
@@ -67,7 +67,7 @@ earns_at_most m vectors most less bound policy of d some =
       (λ k late.
           let q : ℕ = step_scale t ^ k in
           let a : ℕ = start_total m * (g ^ k * q) in
-          let least : (s : ℕ) (history : History) → s < states_of m → IsHistory t history → neg_ℤ (pos b) ≤ℤ vectors (as_policy policy history) (end_state s history) =
+          let least : (s : ℕ) (history : History) → s < states_of m → IsRunInRange t history → neg_ℤ (pos b) ≤ℤ vectors (as_policy policy history) (end_state s history) =
           λ s history sl f. at_least _ b (within _ _ (of history f) (end_state_in_range t history s sl f)) in
           let small : d * (a * b) ≤ start_scale m k = remainder (start_total m) d b (g ^ k) q (one ^ k) (vanishes g one (d * b) k less late) in
           ≤ℤ_trans _ _ _

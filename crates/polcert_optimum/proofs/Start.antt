@@ -7,7 +7,7 @@ use Rattle.polcert_check.specs.Horizon.{one, total_below}
 use Rattle.polcert_check.proofs.Sums.Ring.{products, mul_le, ≤ℤ_trans, ≤ℤ_from_eq, *ℤ_assoc, *ℤ_left_comm}
 use Rattle.polcert_check.proofs.Sums.SumLaws.{sum_below_same, sum_below_le, sum_below_scale, sum_below_add}
 use Rattle.polcert_check.proofs.Horizons.StartSums.{start_row}
-use Rattle.polcert_optimum.specs.Policy.{History, IsHistory, end_state, Policy, ObservationPolicy, as_policy, IsPolicyOf, step_scale, expected_total}
+use Rattle.polcert_optimum.specs.Policy.{History, end_state, Policy, as_policy, IsPolicyOf, step_scale, expected_total}
 use Rattle.polcert_optimum.specs.Bound.{DominatesBackup, IsBounded}
 use Rattle.polcert_optimum.specs.Informed.{AreInformed}
 use Rattle.polcert_optimum.specs.Start.{sum_over_start, start_scale, IsAtMostFromStart, AreAtMostFromStart, IsBoundedFromStart, BoundsEveryPolicyFromStart, BoundEveryObservationPolicyFromStart, BoundEveryObservationMixtureFromStart}

@@ -1,19 +1,19 @@
--- Sums over the histories of k + 1 steps, split at the first step.
+-- Sums over the runs of k + 1 steps, split at the first step.
 use Rattle.std.proofs.Common.{◌≡◌, ℕ, suc, ◌-◌, ◌*◌, ◌^◌, ◌<◌, ℤ, pos, ◌+ℤ◌, ◌*ℤ◌, List, [], ◌∷◌, get_or, refl, ap, ◌∙◌, arith}
 use Rattle.std.proofs.Math.Nat.{pow-suc, pow-zero}
 use Rattle.std.proofs.Math.IntN.{*ℤ_comm, +ℤ_idl, +ℤ_idr}
 use Rattle.polcert_cells.specs.Tables.{CellTable, IsProper}
-use Rattle.polcert_check.specs.Horizon.{one, total_below, sum_over}
+use Rattle.polcert_check.specs.Horizon.{one, total_below, sum_over, runs}
 use Rattle.polcert_check.proofs.Sums.Ring.{products, sums, *ℤ_assoc, one-*ℤ}
 use Rattle.polcert_check.proofs.Sums.SumLaws.{sum_below_same, sum_below_scale, sum_below_front, sum_over_same, sum_over_scale, sum_over_add}
 use Rattle.polcert_check.proofs.Sums.RowTotals.{t_rows, o_rows}
 use Rattle.polcert_check.proofs.Horizons.Runs.{sum_over_runs}
-use Rattle.polcert_optimum.specs.Policy.{nodeless, Policy, after, step_weight, step_scale, histories, history_weight, history_rewards, discounted_rewards, discounted_total, total_weight, expected_total}
+use Rattle.polcert_optimum.specs.Policy.{Policy, after, step_weight, step_scale, history_weight, history_rewards, discounted_rewards, discounted_total, total_weight, expected_total}
 
 pub total_weight_suc : (t : CellTable) (policy : Policy) (k s : ℕ) → total_weight t policy (suc k) s ≡ total_below (λ e. total_below (λ z. pos (step_weight t (policy []) s e z) *ℤ total_weight t (after policy (e, z)) k e) t.observations) t.states
 total_weight_suc t policy k s =
-    sum_over_runs (nodeless t) k (λ history. pos (history_weight t policy s history))
-    ∙ sum_below_same _ _ t.states (λ e _. sum_below_same _ _ t.observations (λ z _. sum_over_scale (pos (step_weight t (policy []) s e z)) (λ history. pos (history_weight t (after policy (e, z)) e history)) (histories t k)))
+    sum_over_runs t k (λ history. pos (history_weight t policy s history))
+    ∙ sum_below_same _ _ t.states (λ e _. sum_below_same _ _ t.observations (λ z _. sum_over_scale (pos (step_weight t (policy []) s e z)) (λ history. pos (history_weight t (after policy (e, z)) e history)) (runs t k)))
 
 -- the discounted rewards of a history, split at its first step
 scale_step : (g u i m : ℕ) → g ^ suc i * u ^ (suc m - suc i) ≡ g * (g ^ i * u ^ (m - i))
@@ -53,7 +53,7 @@ worth_algebra : (w x a g t : ℤ) → (w *ℤ x) *ℤ (a +ℤ g *ℤ t) ≡ w *�
 worth_algebra w x a g t = simp products
 
 expected_total_after : (t : CellTable) (end : List (ℕ × ℕ) → ℤ) (policy : Policy) (k s e z : ℕ)
-    → sum_over (λ history. pos (history_weight t policy s ((e, z) ∷ history)) *ℤ discounted_total t end policy (suc k) s ((e, z) ∷ history)) (histories t k) ≡ pos (step_weight t (policy []) s e z) *ℤ ((pos (one ^ suc k) *ℤ t.r (policy []) s e z) *ℤ total_weight t (after policy (e, z)) k e +ℤ pos t.discount *ℤ expected_total t (λ rest. end ((e, z) ∷ rest)) (after policy (e, z)) k e)
+    → sum_over (λ history. pos (history_weight t policy s ((e, z) ∷ history)) *ℤ discounted_total t end policy (suc k) s ((e, z) ∷ history)) (runs t k) ≡ pos (step_weight t (policy []) s e z) *ℤ ((pos (one ^ suc k) *ℤ t.r (policy []) s e z) *ℤ total_weight t (after policy (e, z)) k e +ℤ pos t.discount *ℤ expected_total t (λ rest. end ((e, z) ∷ rest)) (after policy (e, z)) k e)
 expected_total_after t end policy k s e z =
     let next : Policy = after policy (e, z) in
     let w : ℕ = step_weight t (policy []) s e z in
@@ -61,7 +61,7 @@ expected_total_after t end policy k s e z =
     let g : ℤ = pos t.discount in
     let x = λ (history : List (ℕ × ℕ)). pos (history_weight t next e history) in
     let y = λ (history : List (ℕ × ℕ)). discounted_total t (λ rest. end ((e, z) ∷ rest)) next k e history in
-    let all : List (List (ℕ × ℕ)) = histories t k in
+    let all : List (List (ℕ × ℕ)) = runs t k in
     sum_over_same _ (λ history. pos w *ℤ (a *ℤ x history +ℤ g *ℤ (x history *ℤ y history))) all
     (λ history. ap (λ (v : ℤ). (pos w *ℤ x history) *ℤ v) (discounted_total_cons t end policy k s e z history) ∙ worth_algebra (pos w) (x history) a g (y history))
     ∙ sum_over_scale (pos w) (λ history. a *ℤ x history +ℤ g *ℤ (x history *ℤ y history)) all
@@ -73,7 +73,7 @@ expected_total_after t end policy k s e z =
 pub expected_total_suc : (t : CellTable) (end : List (ℕ × ℕ) → ℤ) (policy : Policy) (k s : ℕ)
     → expected_total t end policy (suc k) s ≡ total_below (λ e. total_below (λ z. pos (step_weight t (policy []) s e z) *ℤ ((pos (one ^ suc k) *ℤ t.r (policy []) s e z) *ℤ total_weight t (after policy (e, z)) k e +ℤ pos t.discount *ℤ expected_total t (λ rest. end ((e, z) ∷ rest)) (after policy (e, z)) k e)) t.observations) t.states
 expected_total_suc t end policy k s =
-    sum_over_runs (nodeless t) k (λ history. pos (history_weight t policy s history) *ℤ discounted_total t end policy (suc k) s history)
+    sum_over_runs t k (λ history. pos (history_weight t policy s history) *ℤ discounted_total t end policy (suc k) s history)
     ∙ sum_below_same _ _ t.states (λ e _. sum_below_same _ _ t.observations (λ z _. expected_total_after t end policy k s e z))
 
 -- ---- no step

@@ -3,11 +3,11 @@
 -- Source: Puterman, Markov Decision Processes (1994), theorem 6.2.2: a function v of the states with v >= L v, where L is the
 -- Bellman backup, is at least the value of every policy that depends on the history. A policy of a POMDP makes use of less of the
 -- history, so that v bounds it too. Both sides of each inequality are multiplied by the scales.
-use Rattle.std.specs.Prelude.{◌≡◌, ℕ, ◌*◌, ◌^◌, ◌<◌, ℤ, pos, ◌+ℤ◌, ◌*ℤ◌, ◌≤ℤ◌, List, []}
+use Rattle.std.specs.Prelude.{◌≡◌, ℕ, ◌*◌, ◌^◌, ◌<◌, ℤ, pos, ◌+ℤ◌, ◌*ℤ◌, ◌≤ℤ◌, List}
 use Rattle.std.specs.List.{AllByRecursion}
 use Rattle.polcert_cells.specs.Tables.{CellTable}
-use Rattle.polcert_check.specs.Horizon.{one, total_below, sum_over}
-use Rattle.polcert_optimum.specs.Policy.{History, IsHistory, end_state, Policy, IsPolicyOf, step_weight, step_scale, total_weight, expected_rewards, expected_total}
+use Rattle.polcert_check.specs.Horizon.{one, total_below, sum_over, IsRunInRange}
+use Rattle.polcert_optimum.specs.Policy.{History, end_state, Policy, IsPolicyOf, step_weight, step_scale, total_weight, expected_rewards, expected_total}
 
 -- The Bellman backup of action a at state s, where `next` e z is the value after end state e and observation z: the expected reward
 -- and discounted value, on the scale step_scale * one.
@@ -23,13 +23,13 @@ DominatesBackup t value = (a s : ℕ) → a < t.actions → s < t.states → bac
 
 -- ---- what a bound says of a policy
 
--- The policy earns at most `value` from s in k steps, where a history ends at the value `end`: the weights of the histories sum to
+-- The policy earns at most `value` from s in k steps, where a history ends at the value `end`: the weights of the runs sum to
 -- their scale; rewards and discounted end values are expected to be at most `value`; and if no end value is below m, the rewards
 -- alone are expected to be at most `value` less discount ^ k times m.
 pub record IsBounded (t : CellTable) (end : History → ℤ) (value : ℤ) (policy : Policy) (k s : ℕ) : Type 0 where
   pub weights : total_weight t policy k s ≡ pos (step_scale t ^ k)
   pub total : expected_total t end policy k s ≤ℤ (pos (step_scale t ^ k * one ^ k) *ℤ value)
-  pub rewards : (m : ℤ) → ((history : History) → IsHistory t history → m ≤ℤ end history) → (expected_rewards t policy k s +ℤ pos (t.discount ^ k * step_scale t ^ k) *ℤ m) ≤ℤ (pos (step_scale t ^ k * one ^ k) *ℤ value)
+  pub rewards : (m : ℤ) → ((history : History) → IsRunInRange t history → m ≤ℤ end history) → (expected_rewards t policy k s +ℤ pos (t.discount ^ k * step_scale t ^ k) *ℤ m) ≤ℤ (pos (step_scale t ^ k * one ^ k) *ℤ value)
 
 -- Every policy earns at most the value of the state where it starts, for every number of steps.
 abbrev pub BoundsEveryPolicy : CellTable → (ℕ → ℤ) → Type 0

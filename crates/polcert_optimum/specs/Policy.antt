@@ -5,9 +5,9 @@
 --
 -- The runs of k steps and the scales are those of the promise for every horizon (`polcert_check`, Horizon): weights are whole
 -- parts of a scale, rewards and values whole numbers of millionths, and everything is exact.
-use Rattle.std.specs.Prelude.{ℕ, ◌-◌, ◌*◌, ◌^◌, ◌<◌, ℤ, pos, ◌+ℤ◌, ◌*ℤ◌, List, [], ◌∷◌, map, get_or, None}
+use Rattle.std.specs.Prelude.{ℕ, ◌-◌, ◌*◌, ◌^◌, ◌<◌, ℤ, pos, ◌+ℤ◌, ◌*ℤ◌, List, [], ◌∷◌, map, get_or}
 use Rattle.polcert_cells.specs.Tables.{CellTable}
-use Rattle.polcert_check.specs.Horizon.{Controller, one, total_below, sum_over, runs, IsRunInRange}
+use Rattle.polcert_check.specs.Horizon.{one, total_below, sum_over, runs, IsRunInRange}
 
 -- ---- histories
 
@@ -15,17 +15,8 @@ use Rattle.polcert_check.specs.Horizon.{Controller, one, total_below, sum_over, 
 abbrev pub History : Type 0
 History = List (ℕ × ℕ)
 
--- A controller over the model that has no node: the histories of k steps are the runs of k steps of any controller.
-abbrev pub nodeless : CellTable → Controller
-nodeless t = record { cells = t; nodes = 0; action = λ n. 0; next = λ n z. None; value = λ n s. pos 0 }
-
--- every history of k steps, once (`one_list_of_runs`)
-abbrev pub histories : CellTable → ℕ → List History
-histories t k = runs (nodeless t) k
-
--- each end state and each observation is one of the model's
-abbrev pub IsHistory : CellTable → History → Type 0
-IsHistory t history = IsRunInRange (nodeless t) history
+-- The histories of k steps are the runs of k steps: every list of k pairs of an end state and an observation, once (the law
+-- `one_list_of_runs`). `IsRunInRange` says that each end state and each observation is one of the model's.
 
 -- the state where a history ends that began at s
 abbrev pub end_state : ℕ → History → ℕ
@@ -41,7 +32,7 @@ Policy = History → ℕ
 
 -- after each history of the model it takes an action of the model
 abbrev pub IsPolicyOf : CellTable → Policy → Type 0
-IsPolicyOf t policy = (history : History) → IsHistory t history → policy history < t.actions
+IsPolicyOf t policy = (history : History) → IsRunInRange t history → policy history < t.actions
 
 -- A policy of a POMDP chooses by the observations alone, the first one first. In an MDP the end state is observed.
 abbrev pub ObservationPolicy : Type 0
@@ -88,12 +79,12 @@ discounted_total t end policy k s history = discounted_rewards t policy k s hist
 
 -- the sum of the weights of the histories of k steps
 abbrev pub total_weight : CellTable → Policy → ℕ → ℕ → ℤ
-total_weight t policy k s = sum_over (λ history. pos (history_weight t policy s history)) (histories t k)
+total_weight t policy k s = sum_over (λ history. pos (history_weight t policy s history)) (runs t k)
 
 -- The discounted rewards of k steps that are expected from s, in millionths, on the scale step_scale ^ k * one ^ k.
 abbrev pub expected_rewards : CellTable → Policy → ℕ → ℕ → ℤ
-expected_rewards t policy k s = sum_over (λ history. pos (history_weight t policy s history) *ℤ discounted_rewards t policy k s history) (histories t k)
+expected_rewards t policy k s = sum_over (λ history. pos (history_weight t policy s history) *ℤ discounted_rewards t policy k s history) (runs t k)
 
 -- the same with the discounted value `end` of the history added
 abbrev pub expected_total : CellTable → (History → ℤ) → Policy → ℕ → ℕ → ℤ
-expected_total t end policy k s = sum_over (λ history. pos (history_weight t policy s history) *ℤ discounted_total t end policy k s history) (histories t k)
+expected_total t end policy k s = sum_over (λ history. pos (history_weight t policy s history) *ℤ discounted_total t end policy k s history) (runs t k)

@@ -1,10 +1,10 @@
 -- The bounds from a model's start.
-use Rattle.std.specs.Prelude.{ℕ, ◌*◌, ◌^◌, ◌<◌, ℤ, pos, ◌+ℤ◌, ◌*ℤ◌, ◌≤ℤ◌, List, []}
+use Rattle.std.specs.Prelude.{ℕ, ◌*◌, ◌^◌, ◌<◌, ℤ, pos, ◌+ℤ◌, ◌*ℤ◌, ◌≤ℤ◌, List}
 use Rattle.std.specs.List.{AllByRecursion}
 use Rattle.polcert_cells.specs.Meaning.{Meaning, states_of, actions_of, start_weight, start_total}
 use Rattle.polcert_cells.specs.Tables.{table_of}
-use Rattle.polcert_check.specs.Horizon.{one, total_below}
-use Rattle.polcert_optimum.specs.Policy.{History, IsHistory, end_state, Policy, ObservationPolicy, as_policy, IsPolicyOf, step_scale, expected_rewards, expected_total}
+use Rattle.polcert_check.specs.Horizon.{one, total_below, IsRunInRange}
+use Rattle.polcert_optimum.specs.Policy.{History, end_state, Policy, ObservationPolicy, as_policy, IsPolicyOf, step_scale, expected_rewards, expected_total}
 use Rattle.polcert_optimum.specs.Bound.{mixture_weight, mixture_sum}
 
 -- the sum over the states of their weight in the start times f of the state
@@ -28,7 +28,7 @@ AreAtMostFromStart m vectors most = (a : ℕ) → a < actions_of m → IsAtMostF
 -- alone at most that less discount ^ k times `low`.
 pub record IsBoundedFromStart (m : Meaning) (end : ℕ → History → ℤ) (policy : ℕ → Policy) (k : ℕ) (most : ℤ) : Type 0 where
   pub total : sum_over_start m (λ s. expected_total (table_of m) (end s) (policy s) k s) ≤ℤ (pos (start_scale m k) *ℤ most)
-  pub rewards : (low : ℤ) → ((s : ℕ) (history : History) → s < states_of m → IsHistory (table_of m) history → low ≤ℤ end s history)
+  pub rewards : (low : ℤ) → ((s : ℕ) (history : History) → s < states_of m → IsRunInRange (table_of m) history → low ≤ℤ end s history)
       → (sum_over_start m (λ s. expected_rewards (table_of m) (policy s) k s) +ℤ pos (start_total m * (m.preamble.discount ^ k * step_scale (table_of m) ^ k)) *ℤ low) ≤ℤ (pos (start_scale m k) *ℤ most)
 
 -- Every policy earns at most `most` from the start, also one that knows the start state.

@@ -62,7 +62,7 @@ module _ (c : Controller) (p : IsClosed c) (y : CellTable) (same : HasSameCells 
   cut_run_with : (n s z : ℕ) → n < c.nodes → s < c.cells.states → HasCutRun c n s z → HasCutRun (with_cells c y) n s z
   cut_run_with n s z nl sl (e, among, cut, some) =
       let run : List (ℕ × ℕ) = (e, z) ∷ [] in
-      let in_range : IsRunInRange c run = (All-contains (λ u. (length u ≡ 1) × IsRunInRange c u) (runs c 1) run (All-runs c 1) among).1 in
+      let in_range : IsRunInRange c.cells run = (All-contains (λ u. (length u ≡ 1) × IsRunInRange c.cells u) (runs c.cells 1) run (All-runs c.cells 1) among).1 in
       (e, rw (runs_same c y 1) among, is_cut_same c y (Some n) run ∙ cut, rw (weight_same c p y same run n s nl sl in_range) some)
 
   pub horizon_with : (answer : Verdict) → IsVerdict c answer → MeetsHorizon c answer → MeetsHorizon (with_cells c y) answer

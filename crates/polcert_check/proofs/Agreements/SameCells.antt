@@ -14,9 +14,9 @@ abbrev pub with_cells : Controller → CellTable → Controller
 with_cells c y = record c { cells = record c.cells { t = y.t; o = y.o; r = y.r } }
 
 -- ---- the same for any cells
-pub runs_same : (c : Controller) (y : CellTable) (k : ℕ) → runs (with_cells c y) k ≡ runs c k
+pub runs_same : (c : Controller) (y : CellTable) (k : ℕ) → runs (with_cells c y).cells k ≡ runs c.cells k
 runs_same c y zero = refl
-runs_same c y (suc k) = ap (λ (rs : List (List (ℕ × ℕ))). flat_map (λ q. map (λ run. q ∷ run) rs) (pairs c)) (runs_same c y k)
+runs_same c y (suc k) = ap (λ (rs : List (List (ℕ × ℕ))). flat_map (λ q. map (λ run. q ∷ run) rs) (pairs c.cells)) (runs_same c y k)
 
 pub is_cut_same : (c : Controller) (y : CellTable) (at : Option ℕ) (run : List (ℕ × ℕ)) → is_cut (with_cells c y) at run ≡ is_cut c at run
 is_cut_same c y None run = refl
@@ -45,7 +45,7 @@ module _ (c : Controller) (p : IsClosed c) (y : CellTable) (same : HasSameCells 
   run_after n z e run nl zl later None is = (refl, refl)
   run_after n z e run nl zl later (Some m) is = later m (p.next_in_range n z m nl zl is)
 
-  run_same : (run : List (ℕ × ℕ)) (n s : ℕ) → n < c.nodes → s < c.cells.states → IsRunInRange c run → RunIsSame (Some n) s run
+  run_same : (run : List (ℕ × ℕ)) (n s : ℕ) → n < c.nodes → s < c.cells.states → IsRunInRange c.cells run → RunIsSame (Some n) s run
   run_same [] n s nl sl f = (refl, refl)
   run_same (q ∷ run) n s nl sl f =
       let step : step_weight (with_cells c y) n s q.0 q.1 ≡ step_weight c n s q.0 q.1 = step_same n s q.0 q.1 nl sl f.0 f.1 in
@@ -53,28 +53,28 @@ module _ (c : Controller) (p : IsClosed c) (y : CellTable) (same : HasSameCells 
       let later : RunIsSame (c.next n q.1) q.0 run = run_after n q.1 q.0 run nl f.1 (λ m ml. run_same run m q.0 ml f.0 f.2) (c.next n q.1) refl in
       (cc, cc)
 
-  pub weight_same : (run : List (ℕ × ℕ)) (n s : ℕ) → n < c.nodes → s < c.cells.states → IsRunInRange c run → weight (with_cells c y) (Some n) s run ≡ weight c (Some n) s run
+  pub weight_same : (run : List (ℕ × ℕ)) (n s : ℕ) → n < c.nodes → s < c.cells.states → IsRunInRange c.cells run → weight (with_cells c y) (Some n) s run ≡ weight c (Some n) s run
   weight_same run n s nl sl f = (run_same run n s nl sl f).0
 
-  reward_part_same : (k : ℕ) (run : List (ℕ × ℕ)) (n s : ℕ) → n < c.nodes → s < c.cells.states → IsRunInRange c run → reward_part (with_cells c y) k (Some n) s run ≡ reward_part c k (Some n) s run
+  reward_part_same : (k : ℕ) (run : List (ℕ × ℕ)) (n s : ℕ) → n < c.nodes → s < c.cells.states → IsRunInRange c.cells run → reward_part (with_cells c y) k (Some n) s run ≡ reward_part c k (Some n) s run
   reward_part_same k run n s nl sl f =
       ap (λ (rs : List ℤ). total_below (λ i. pos (c.cells.discount ^ i * one ^ (k - i)) *ℤ get_or rs i (pos 0)) k) (run_same run n s nl sl f).1
 
-  total_same : (k : ℕ) (run : List (ℕ × ℕ)) (n s : ℕ) → n < c.nodes → s < c.cells.states → IsRunInRange c run → total (with_cells c y) k (Some n) s run ≡ total c k (Some n) s run
+  total_same : (k : ℕ) (run : List (ℕ × ℕ)) (n s : ℕ) → n < c.nodes → s < c.cells.states → IsRunInRange c.cells run → total (with_cells c y) k (Some n) s run ≡ total c k (Some n) s run
   total_same k run n s nl sl f =
       let rewarded : reward_part (with_cells c y) k (Some n) s run ≡ reward_part c k (Some n) s run = reward_part_same k run n s nl sl f in
       let ended : end_value (with_cells c y) (Some n) s run ≡ end_value c (Some n) s run = end_value_same c y (Some n) s run in
       rw (rewarded, ended) refl
 
   -- a sum over the uncut runs, of what is the same for each run in range
-  uncut_sum_same : (f g : List (ℕ × ℕ) → ℤ) (k n : ℕ) → ((run : List (ℕ × ℕ)) → IsRunInRange c run → f run ≡ g run) → sum_over f (uncut (with_cells c y) k (Some n)) ≡ sum_over g (uncut c k (Some n))
+  uncut_sum_same : (f g : List (ℕ × ℕ) → ℤ) (k n : ℕ) → ((run : List (ℕ × ℕ)) → IsRunInRange c.cells run → f run ≡ g run) → sum_over f (uncut (with_cells c y) k (Some n)) ≡ sum_over g (uncut c k (Some n))
   uncut_sum_same f g k n each =
       let d : Controller = with_cells c y in
-      sum_over_filter f (λ run. not (is_cut d (Some n) run)) (runs d k)
+      sum_over_filter f (λ run. not (is_cut d (Some n) run)) (runs d.cells k)
       ∙ ap (λ (rs : List (List (ℕ × ℕ))). sum_over (λ run. cond (not (is_cut d (Some n) run)) (f run) (pos 0)) rs) (runs_same c y k)
-      ∙ sum_over_same_all (λ run. (length run ≡ k) × IsRunInRange c run) _ (λ run. cond (not (is_cut c (Some n) run)) (g run) (pos 0)) (runs c k)
-      (λ run h. rw (is_cut_same c y (Some n) run, each run h.1) refl) (All-runs c k)
-      ∙ sym (sum_over_filter g (λ run. not (is_cut c (Some n) run)) (runs c k))
+      ∙ sum_over_same_all (λ run. (length run ≡ k) × IsRunInRange c.cells run) _ (λ run. cond (not (is_cut c (Some n) run)) (g run) (pos 0)) (runs c.cells k)
+      (λ run h. rw (is_cut_same c y (Some n) run, each run h.1) refl) (All-runs c.cells k)
+      ∙ sym (sum_over_filter g (λ run. not (is_cut c (Some n) run)) (runs c.cells k))
 
   weights_sum_same : (k n s : ℕ) → n < c.nodes → s < c.cells.states → weights_sum (with_cells c y) k (Some n) s ≡ weights_sum c k (Some n) s
   weights_sum_same k n s nl sl =
@@ -94,9 +94,9 @@ module _ (c : Controller) (p : IsClosed c) (y : CellTable) (same : HasSameCells 
       (λ run f. rw (weight_same run n s nl sl f, reward_part_same k run n s nl sl f) refl)
 
   -- ---- the promise
-  pub cut_runs_same : (k n s : ℕ) → n < c.nodes → s < c.cells.states → All (λ run. IsTrue (is_cut c (Some n) run) → weight c (Some n) s run ≡ 0) (runs c k) → All (λ run. IsTrue (is_cut (with_cells c y) (Some n) run) → weight (with_cells c y) (Some n) s run ≡ 0) (runs (with_cells c y) k)
+  pub cut_runs_same : (k n s : ℕ) → n < c.nodes → s < c.cells.states → All (λ run. IsTrue (is_cut c (Some n) run) → weight c (Some n) s run ≡ 0) (runs c.cells k) → All (λ run. IsTrue (is_cut (with_cells c y) (Some n) run) → weight (with_cells c y) (Some n) s run ≡ 0) (runs (with_cells c y).cells k)
   cut_runs_same k n s nl sl before =
-      rw (runs_same c y k) (λ j d l cut. weight_same (get_or (runs c k) j d) n s nl sl (All-runs c k j d l).1 ∙ before j d l (sym (is_cut_same c y (Some n) (get_or (runs c k) j d)) ∙ cut))
+      rw (runs_same c y k) (λ j d l cut. weight_same (get_or (runs c.cells k) j d) n s nl sl (All-runs c.cells k j d l).1 ∙ before j d l (sym (is_cut_same c y (Some n) (get_or (runs c.cells k) j d)) ∙ cut))
 
   pub promise_same : (k n s : ℕ) → n < c.nodes → s < c.cells.states → Promise c k n s → Promise (with_cells c y) k n s
   promise_same k n s nl sl promise =

@@ -21,7 +21,7 @@ pub lowered : short (lowered_by (one_node (one_state 1) (pos 2_000_000)) 4_000_0
 unfolding one
 lowered = refl
 
-pub two_runs : runs (half_followed (pos 0)) 1 ≡ ((0, 0) ∷ []) ∷ ((0, 1) ∷ []) ∷ []
+pub two_runs : runs (half_followed (pos 0)).cells 1 ≡ ((0, 0) ∷ []) ∷ ((0, 1) ∷ []) ∷ []
 two_runs = refl
 
 pub second_is_cut : is_cut (half_followed (pos 0)) (Some 0) ((0, 1) ∷ []) ≡ true
@@ -33,5 +33,5 @@ half_is_lost = refl
 pub half_is_left : weights_sum (half_followed (pos 0)) 1 (Some 0) 0 ≡ pos (10 ^ 12)
 half_is_left = refl
 
-pub many : length (runs (one_node (one_state 4) (pos 0)) 4) ≡ 256
+pub many : length (runs (one_state 4) 4) ≡ 256
 many = refl

@@ -11,7 +11,7 @@ cut_after : (c : Controller) (n s e z : ℕ) (run : List (ℕ × ℕ)) → (Lack
 cut_after c n s e z run fine el None is later cut = let h : step_weight c n s e z ≡ 0 = no_weight c n s e z fine el is in rw h refl
 cut_after c n s e z run fine el (Some m) is later cut = let h : weight c (Some m) e run ≡ 0 = later m is cut in rw h (omega arith)
 
-pub cut_weighs_nothing : (c : Controller) → IsController c → LacksNone c → (run : List (ℕ × ℕ)) (n s : ℕ) → n < c.nodes → s < c.cells.states → IsRunInRange c run → is_cut c (Some n) run ≡ true → weight c (Some n) s run ≡ 0
+pub cut_weighs_nothing : (c : Controller) → IsController c → LacksNone c → (run : List (ℕ × ℕ)) (n s : ℕ) → n < c.nodes → s < c.cells.states → IsRunInRange c.cells run → is_cut c (Some n) run ≡ true → weight c (Some n) s run ≡ 0
 cut_weighs_nothing c p fine [] n s nl sl f cut = cc
 cut_weighs_nothing c p fine (q ∷ run) n s nl sl f cut =
     cut_after c n s q.0 q.1 run (fine n s q.1 nl sl f.1) f.0 (c.next n q.1) refl
@@ -21,6 +21,6 @@ cut_weighs_nothing c p fine (q ∷ run) n s nl sl f cut =
 pub promise_all : (c : Controller) → IsController c → Passes c → (k n s : ℕ) → n < c.nodes → s < c.cells.states → Promise c k n s
 promise_all c p passes k n s nl sl =
     record {
-      cut_runs = All-weaker (λ run. (length run ≡ k) × IsRunInRange c run) (λ run. is_cut c (Some n) run ≡ true → weight c (Some n) s run ≡ 0) (λ run f. cut_weighs_nothing c p (LacksNone-from_Passes c passes) run n s nl sl f.1) (runs c k) (All-runs c k);
+      cut_runs = All-weaker (λ run. (length run ≡ k) × IsRunInRange c.cells run) (λ run. is_cut c (Some n) run ≡ true → weight c (Some n) s run ≡ 0) (λ run f. cut_weighs_nothing c p (LacksNone-from_Passes c passes) run n s nl sl f.1) (runs c.cells k) (All-runs c.cells k);
       uncut_runs = worth_all c p passes k n s nl sl;
     }

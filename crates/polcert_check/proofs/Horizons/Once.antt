@@ -1,7 +1,8 @@
--- `runs c k` holds no list twice.
+-- `runs t k` holds no list twice.
 use Rattle.std.proofs.Common.{◌≡◌, ℕ, zero, suc, ◌<◌, ◌⊎◌, inl, inr, ⊎_elim, List, [], ◌∷◌, ◌++◌, map, flat_map, sym, refl, ap, ◌∙◌, subst, arith, Contains}
 use Rattle.std.proofs.lemmas.List.Elements.{Contains-append_cases}
-use Rattle.polcert_check.specs.Horizon.{Controller, below, pairs, runs, HasNoRepeat}
+use Rattle.polcert_cells.specs.Tables.{CellTable}
+use Rattle.polcert_check.specs.Horizon.{below, pairs, runs, HasNoRepeat}
 use Rattle.polcert_check.proofs.Horizons.Enumerated.{Contains-cons_cases, Contains-cons, Contains-first, All-below}
 use Rattle.std.proofs.lemmas.List.Elements.{All-contains}
 
@@ -55,12 +56,12 @@ cons_tail p x y e = cc
 cons_head : (p q : ℕ × ℕ) (x y : List (ℕ × ℕ)) → p ∷ x ≡ q ∷ y → p ≡ q
 cons_head p q x y e = cc
 
-pub HasNoRepeat-runs : (c : Controller) (k : ℕ) → HasNoRepeat (runs c k)
-HasNoRepeat-runs c zero = ((λ d. Contains-nil [] d), tt)
-HasNoRepeat-runs c (suc k) =
-    HasNoRepeat-flat_map (λ p. map (λ run. p ∷ run) (runs c k))
-    (λ p. HasNoRepeat-map (λ run. p ∷ run) (λ x y e. cons_tail p x y e) (runs c k) (HasNoRepeat-runs c k))
-    (λ p q run a b. let (x, h, d) = Contains-map_cases (λ u. p ∷ u) (runs c k) run a in let (y, i, e) = Contains-map_cases (λ u. q ∷ u) (runs c k) run b in cons_head p q x y (d ∙ sym e))
-    (pairs c)
-    (HasNoRepeat-flat_map (λ e. map (λ z. (e, z)) (below c.cells.observations)) (λ e. HasNoRepeat-map (λ z. (e, z)) (λ x y h. ap (λ p. p.1) h) (below c.cells.observations) (HasNoRepeat-below c.cells.observations))
-    (λ e f p a b. let (x, h, d) = Contains-map_cases (λ z. (e, z)) (below c.cells.observations) p a in let (y, i, j) = Contains-map_cases (λ z. (f, z)) (below c.cells.observations) p b in ap (λ (q : ℕ × ℕ). q.0) (d ∙ sym j)) (below c.cells.states) (HasNoRepeat-below c.cells.states))
+pub HasNoRepeat-runs : (t : CellTable) (k : ℕ) → HasNoRepeat (runs t k)
+HasNoRepeat-runs t zero = ((λ d. Contains-nil [] d), tt)
+HasNoRepeat-runs t (suc k) =
+    HasNoRepeat-flat_map (λ p. map (λ run. p ∷ run) (runs t k))
+    (λ p. HasNoRepeat-map (λ run. p ∷ run) (λ x y e. cons_tail p x y e) (runs t k) (HasNoRepeat-runs t k))
+    (λ p q run a b. let (x, h, d) = Contains-map_cases (λ u. p ∷ u) (runs t k) run a in let (y, i, e) = Contains-map_cases (λ u. q ∷ u) (runs t k) run b in cons_head p q x y (d ∙ sym e))
+    (pairs t)
+    (HasNoRepeat-flat_map (λ e. map (λ z. (e, z)) (below t.observations)) (λ e. HasNoRepeat-map (λ z. (e, z)) (λ x y h. ap (λ p. p.1) h) (below t.observations) (HasNoRepeat-below t.observations))
+    (λ e f p a b. let (x, h, d) = Contains-map_cases (λ z. (e, z)) (below t.observations) p a in let (y, i, j) = Contains-map_cases (λ z. (f, z)) (below t.observations) p b in ap (λ (q : ℕ × ℕ). q.0) (d ∙ sym j)) (below t.states) (HasNoRepeat-below t.states))

@@ -45,10 +45,10 @@ cut_run c n s z zl lack =
     let run : List (ℕ × ℕ) = (e, z) ∷ [] in
     let is : weight c (Some n) s run ≡ step_weight c n s e z * 1 = rw lack.0 refl in
     let some : 0 < step_weight c n s e z = lack.1.2 in
-    (e, Contains-runs c 1 run refl (lack.1.1, zl, tt), rw lack.0 refl, omega arith)
+    (e, Contains-runs c.cells 1 run refl (lack.1.1, zl, tt), rw lack.0 refl, omega arith)
 
 pub refused_lacking : (c : Controller) (n s z : ℕ) → z < c.cells.observations → Lacks c n s z → Promise c 1 n s → ⊥
 refused_lacking c n s z zl lack promise =
     let (e, among, cut, some) = cut_run c n s z zl lack in
-    let nothing : weight c (Some n) s ((e, z) ∷ []) ≡ 0 = All-contains (λ u. is_cut c (Some n) u ≡ true → weight c (Some n) s u ≡ 0) (runs c 1) ((e, z) ∷ []) promise.cut_runs among cut in
+    let nothing : weight c (Some n) s ((e, z) ∷ []) ≡ 0 = All-contains (λ u. is_cut c (Some n) u ≡ true → weight c (Some n) s u ≡ 0) (runs c.cells 1) ((e, z) ∷ []) promise.cut_runs among cut in
     omega (arith, nothing, some)

@@ -14,7 +14,7 @@ end_after : (c : Controller) (m : ℤ) (run : List (ℕ × ℕ)) (n e z : ℕ) �
 end_after c m run n e z later None is uncut = cc
 end_after c m run n e z later (Some i) is uncut = later i is uncut
 
-end_value_le : (c : Controller) → IsController c → (m : ℤ) → AtMost c m → (run : List (ℕ × ℕ)) (n s : ℕ) → n < c.nodes → s < c.cells.states → IsRunInRange c run → not (is_cut c (Some n) run) ≡ true → end_value c (Some n) s run ≤ℤ m
+end_value_le : (c : Controller) → IsController c → (m : ℤ) → AtMost c m → (run : List (ℕ × ℕ)) (n s : ℕ) → n < c.nodes → s < c.cells.states → IsRunInRange c.cells run → not (is_cut c (Some n) run) ≡ true → end_value c (Some n) s run ≤ℤ m
 end_value_le c p m most [] n s nl sl f u = most n s nl sl
 end_value_le c p m most (q ∷ run) n s nl sl f u =
     end_after c m run n q.0 q.1 (λ i is. end_value_le c p m most run i q.0 (p.closed.next_in_range n q.1 i nl f.1 is) f.0 f.2) (c.next n q.1) refl u
@@ -41,10 +41,10 @@ unfolding values_sum
 values_le c p passes m most k n s nl sl =
     let x = λ (run : List (ℕ × ℕ)). pos (weight c (Some n) s run) in
     let us : List (List (ℕ × ℕ)) = uncut c k (Some n) in
-    let P = λ (run : List (ℕ × ℕ)). (length run ≡ k) × IsRunInRange c run in
+    let P = λ (run : List (ℕ × ℕ)). (length run ≡ k) × IsRunInRange c.cells run in
     let Q = λ (run : List (ℕ × ℕ)). not (is_cut c (Some n) run) ≡ true in
-    let among : All P us = All-filter (λ run. not (is_cut c (Some n) run)) P (runs c k) (All-runs c k) in
-    let kept : All Q us = filter_passes (λ run. not (is_cut c (Some n) run)) (runs c k) in
+    let among : All P us = All-filter (λ run. not (is_cut c (Some n) run)) P (runs c.cells k) (All-runs c.cells k) in
+    let kept : All Q us = filter_passes (λ run. not (is_cut c (Some n) run)) (runs c.cells k) in
     let both : All (λ run. P run × Q run) us = λ i d l. (among i d l, kept i d l) in
     let le : sum_over (λ run. x run *ℤ end_value c (Some n) s run) us ≤ℤ sum_over (λ run. x run *ℤ m) us =
     sum_over_le_all (λ run. P run × Q run) _ _ us (λ run f. mul_le (weight c (Some n) s run) _ _ (end_value_le c p m most run n s nl sl f.0.1 f.1)) both in

@@ -1,33 +1,34 @@
 -- Sums over the runs of k + 1 steps, split at the first step.
 use Rattle.std.proofs.Common.{◌≡◌, ℕ, suc, ◌-◌, ◌*◌, ◌^◌, ℤ, pos, ◌+ℤ◌, ◌*ℤ◌, not, cond, List, ◌∷◌, map, get_or, Some, None, sym, ap, ◌∙◌, arith}
 use Rattle.std.proofs.Math.Nat.{pow-suc, pow-zero}
+use Rattle.polcert_cells.specs.Tables.{CellTable}
 use Rattle.polcert_check.specs.Horizon.{total_below, sum_over, Controller, one, below, pairs, runs, is_cut, rewards, end_value, reward_part, total, uncut}
 use Rattle.polcert_check.proofs.Sums.Ring.{products, sums, *ℤ_assoc}
 use Rattle.polcert_check.proofs.Sums.SumLaws.{sum_below_same, sum_below_scale, sum_below_front, sum_over_same, sum_over_map, sum_over_flat_map, sum_over_filter, sum_over_zero, sum_over_below}
 
 -- a sum over all pairs
-pub sum_over_pairs : (c : Controller) (f : ℕ → ℕ → ℤ) → sum_over (λ p. f p.0 p.1) (pairs c) ≡ total_below (λ e. total_below (λ z. f e z) c.cells.observations) c.cells.states
-sum_over_pairs c f =
-    sum_over_flat_map (λ p. f p.0 p.1) (λ e. map (λ z. (e, z)) (below c.cells.observations)) (below c.cells.states)
-    ∙ sum_over_same _ (λ e. total_below (λ z. f e z) c.cells.observations) (below c.cells.states) (λ e. sum_over_map (λ p. f p.0 p.1) (λ z. (e, z)) (below c.cells.observations) ∙ sum_over_below (λ z. f e z) c.cells.observations)
-    ∙ sum_over_below (λ e. total_below (λ z. f e z) c.cells.observations) c.cells.states
+pub sum_over_pairs : (t : CellTable) (f : ℕ → ℕ → ℤ) → sum_over (λ p. f p.0 p.1) (pairs t) ≡ total_below (λ e. total_below (λ z. f e z) t.observations) t.states
+sum_over_pairs t f =
+    sum_over_flat_map (λ p. f p.0 p.1) (λ e. map (λ z. (e, z)) (below t.observations)) (below t.states)
+    ∙ sum_over_same _ (λ e. total_below (λ z. f e z) t.observations) (below t.states) (λ e. sum_over_map (λ p. f p.0 p.1) (λ z. (e, z)) (below t.observations) ∙ sum_over_below (λ z. f e z) t.observations)
+    ∙ sum_over_below (λ e. total_below (λ z. f e z) t.observations) t.states
 
 -- a sum over the runs of k + 1 steps
-pub sum_over_runs : (c : Controller) (k : ℕ) (f : List (ℕ × ℕ) → ℤ) → sum_over f (runs c (suc k)) ≡ total_below (λ e. total_below (λ z. sum_over (λ run. f ((e, z) ∷ run)) (runs c k)) c.cells.observations) c.cells.states
-sum_over_runs c k f =
-    sum_over_flat_map f (λ p. map (λ run. p ∷ run) (runs c k)) (pairs c)
-    ∙ sum_over_same _ (λ p. sum_over (λ run. f ((p.0, p.1) ∷ run)) (runs c k)) (pairs c) (λ p. sum_over_map f (λ run. p ∷ run) (runs c k))
-    ∙ sum_over_pairs c (λ e z. sum_over (λ run. f ((e, z) ∷ run)) (runs c k))
+pub sum_over_runs : (t : CellTable) (k : ℕ) (f : List (ℕ × ℕ) → ℤ) → sum_over f (runs t (suc k)) ≡ total_below (λ e. total_below (λ z. sum_over (λ run. f ((e, z) ∷ run)) (runs t k)) t.observations) t.states
+sum_over_runs t k f =
+    sum_over_flat_map f (λ p. map (λ run. p ∷ run) (runs t k)) (pairs t)
+    ∙ sum_over_same _ (λ p. sum_over (λ run. f ((p.0, p.1) ∷ run)) (runs t k)) (pairs t) (λ p. sum_over_map f (λ run. p ∷ run) (runs t k))
+    ∙ sum_over_pairs t (λ e z. sum_over (λ run. f ((e, z) ∷ run)) (runs t k))
 
 -- a sum over the uncut runs of k + 1 steps from n
 pub sum_over_uncut : (c : Controller) (k n : ℕ) (f : List (ℕ × ℕ) → ℤ) → sum_over f (uncut c (suc k) (Some n)) ≡ total_below (λ e. total_below (λ z. sum_over (λ run. f ((e, z) ∷ run)) (uncut c k (c.next n z))) c.cells.observations) c.cells.states
 sum_over_uncut c k n f =
-    sum_over_filter f (λ run. not (is_cut c (Some n) run)) (runs c (suc k))
-    ∙ sum_over_runs c k (λ run. cond (not (is_cut c (Some n) run)) (f run) (pos 0))
-    ∙ sum_below_same _ _ c.cells.states (λ e _. sum_below_same _ _ c.cells.observations (λ z _. sym (sum_over_filter (λ run. f ((e, z) ∷ run)) (λ run. not (is_cut c (c.next n z) run)) (runs c k))))
+    sum_over_filter f (λ run. not (is_cut c (Some n) run)) (runs c.cells (suc k))
+    ∙ sum_over_runs c.cells k (λ run. cond (not (is_cut c (Some n) run)) (f run) (pos 0))
+    ∙ sum_below_same _ _ c.cells.states (λ e _. sum_below_same _ _ c.cells.observations (λ z _. sym (sum_over_filter (λ run. f ((e, z) ∷ run)) (λ run. not (is_cut c (c.next n z) run)) (runs c.cells k))))
 
 pub uncut_none : (c : Controller) (k : ℕ) (f : List (ℕ × ℕ) → ℤ) → sum_over f (uncut c k None) ≡ pos 0
-uncut_none c k f = sum_over_filter f (λ run. not (is_cut c None run)) (runs c k) ∙ sum_over_zero (runs c k)
+uncut_none c k f = sum_over_filter f (λ run. not (is_cut c None run)) (runs c.cells k) ∙ sum_over_zero (runs c.cells k)
 
 -- the reward part of a run, split at its first step
 scale_step : (g u i m : ℕ) → g ^ suc i * u ^ (suc m - suc i) ≡ g * (g ^ i * u ^ (m - i))

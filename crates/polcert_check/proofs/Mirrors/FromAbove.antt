@@ -91,7 +91,7 @@ small_above c (NoSuccessor n s z) h = h
 abbrev CutsWeighNothing : Controller → ℕ → ℕ → List (ℕ × ℕ) → Type 0
 CutsWeighNothing c n s run = IsTrue (is_cut c (Some n) run) → weight c (Some n) s run ≡ 0
 
-pub cuts_turned : (c : Controller) (k n s : ℕ) → All (CutsWeighNothing (mirrored c) n s) (runs (mirrored c) k) ≡ All (CutsWeighNothing c n s) (runs c k)
+pub cuts_turned : (c : Controller) (k n s : ℕ) → All (CutsWeighNothing (mirrored c) n s) (runs (mirrored c).cells k) ≡ All (CutsWeighNothing c n s) (runs c.cells k)
 cuts_turned c k n s = λ i. All (λ run. IsTrue (mirrored_cut c (Some n) run i) → mirrored_weight c (Some n) s run i ≡ 0) (mirrored_runs c k i)
 
 pub promise_above : (c : Controller) (k n s : ℕ) → Promise (mirrored c) k n s → PromiseAbove c k n s

@@ -48,9 +48,9 @@ mirrored_short c n s =
     rw (backed, neg_product) (neg_difference (pos (step_scale c * one) *ℤ c.value n s) (backing c n s))
 
 -- ---- runs
-pub mirrored_runs : (c : Controller) (k : ℕ) → runs (mirrored c) k ≡ runs c k
+pub mirrored_runs : (c : Controller) (k : ℕ) → runs (mirrored c).cells k ≡ runs c.cells k
 mirrored_runs c zero = refl
-mirrored_runs c (suc k) = ap (λ rs. flat_map (λ p. map (λ run. p ∷ run) rs) (pairs c)) (mirrored_runs c k)
+mirrored_runs c (suc k) = ap (λ rs. flat_map (λ p. map (λ run. p ∷ run) rs) (pairs c.cells)) (mirrored_runs c k)
 
 pub mirrored_cut : (c : Controller) (at : Option ℕ) (run : List (ℕ × ℕ)) → is_cut (mirrored c) at run ≡ is_cut c at run
 mirrored_cut c None run = refl
@@ -93,7 +93,7 @@ kept_same p q (x ∷ xs) h = ap (λ b. cond b (x ∷ filter p xs) (filter p xs))
 
 mirrored_uncut : (c : Controller) (k : ℕ) (at : Option ℕ) → uncut (mirrored c) k at ≡ uncut c k at
 mirrored_uncut c k at =
-    kept_same (λ run. not (is_cut (mirrored c) at run)) (λ run. not (is_cut c at run)) (runs (mirrored c) k) (λ run. ap not (mirrored_cut c at run))
+    kept_same (λ run. not (is_cut (mirrored c) at run)) (λ run. not (is_cut c at run)) (runs (mirrored c).cells k) (λ run. ap not (mirrored_cut c at run))
     ∙ ap (λ rs. filter (λ run. not (is_cut c at run)) rs) (mirrored_runs c k)
 
 -- ---- sums over the runs
