@@ -1,12 +1,12 @@
 -- What policies earn from a model's start in the long run, where the discount is below 1.
-use Rattle.std.proofs.Common.{◌≡◌, ℕ, ◌*◌, ◌^◌, ◌<◌, ◌≤◌, suc, ℤ, pos, neg_ℤ, ◌+ℤ◌, ◌*ℤ◌, ◌≤ℤ◌, unsigned_abs, Some, refl, sym, ap, ◌∙◌, subst, arith}
+use Rattle.std.proofs.Common.{◌≡◌, ℕ, ◌*◌, ◌^◌, ◌<◌, ◌≤◌, suc, ℤ, pos, neg_ℤ, ◌+ℤ◌, ◌*ℤ◌, ◌≤ℤ◌, Some, refl, sym, ap, ◌∙◌, subst, arith}
 use Rattle.std.proofs.Math.Nat.{mul-le-mul_left}
 use Rattle.std.proofs.lemmas.Int.{by_lt_z}
 use Rattle.polcert_cells.specs.Meaning.{Meaning, HasLimitedNumbers, states_of, actions_of, start_weight, start_total}
 use Rattle.polcert_cells.specs.Tables.{CellTable, IsProper, IsWithinLimits, table_of}
 use Rattle.polcert_policy.specs.Graphs.{PolicyGraph, IsProperGraph, nodes, action_of}
 use Rattle.polcert_policy.specs.Vectors.{PolicyVectors, value_of}
-use Rattle.polcert_check.specs.Horizon.{Controller, Fits, controller_of, one, total_below, rewards_sum, IsRunInRange}
+use Rattle.polcert_check.specs.Horizon.{Controller, Fits, controller_of, one, total_below, IsRunInRange}
 use Rattle.polcert_check.specs.Shortfall.{Passes}
 use Rattle.polcert_check.specs.StartWorth.{IsStartWorth}
 use Rattle.polcert_check.proofs.Certificates.{controller_is}
@@ -14,16 +14,16 @@ use Rattle.polcert_check.proofs.Sums.Ring.{linear, *ℤ-+ℤ, *ℤ_assoc, *ℤ_l
 use Rattle.polcert_check.proofs.Sums.SumLaws.{sum_below_le, sum_below_scale}
 use Rattle.polcert_check.proofs.Horizons.EveryHorizon.{promised}
 use Rattle.polcert_check.proofs.Horizons.Kept.{LacksNone-from_Passes}
-use Rattle.polcert_optimum.specs.Policy.{History, end_state, ObservationPolicy, as_policy, IsPolicyOf, step_scale, expected_rewards}
+use Rattle.polcert_optimum.specs.Policy.{History, end_state, Policy, ObservationPolicy, as_policy, IsPolicyOf, step_scale, expected_rewards}
 use Rattle.polcert_optimum.specs.Informed.{AreInformed}
 use Rattle.polcert_optimum.specs.GraphPolicy.{graph_policy, EarnsAsItsPolicy}
-use Rattle.polcert_optimum.specs.Start.{sum_over_start, start_scale, AreAtMostFromStart, BoundEveryObservationPolicyFromStart}
+use Rattle.polcert_optimum.specs.Start.{sum_over_start, start_scale, AreAtMostFromStart, IsBoundedFromStart, BoundsEveryPolicyFromStart, BoundEveryObservationPolicyFromStart}
 use Rattle.polcert_optimum.specs.Optimum.{start_rewards, EarnsAtLeast, EarnsAtMost, EncloseOptimum}
 use Rattle.polcert_optimum.proofs.Bounded.{end_state_in_range}
 use Rattle.polcert_optimum.proofs.EveryGraph.{every_graph}
 use Rattle.polcert_optimum.proofs.GraphPolicies.{earns_as_policy}
 use Rattle.polcert_optimum.proofs.Start.{sum_more, informed_from_start}
-use Rattle.polcert_optimum.proofs.Vanishing.{vanishes, some_bound, at_least, at_most}
+use Rattle.polcert_optimum.proofs.Vanishing.{vanishes, some_row, some_bound, at_least, at_most}
 
 pub table_within : (m : Meaning) → HasLimitedNumbers m → IsWithinLimits (table_of m)
 table_within m limits = record {
@@ -56,24 +56,38 @@ lower_algebra d a b scale rewards bound h less =
     let apart : pos d *ℤ (rewards +ℤ pos (a * b)) ≡ pos d *ℤ rewards +ℤ pos (d * (a * b)) = *ℤ-+ℤ (pos d) rewards (pos (a * b)) in
     omega (arith, linear)
 
--- ---- at most what no vector is worth more than
-pub earns_at_most : (m : Meaning) (vectors : ℕ → ℕ → ℤ) (most : ℤ) → m.preamble.discount < one → BoundEveryObservationPolicyFromStart m vectors most
-    → (policy : ObservationPolicy) → IsPolicyOf (table_of m) (as_policy policy) → EarnsAtMost m (as_policy policy) most
-earns_at_most m vectors most less bound policy of d some =
+-- ---- at most what the bound is worth
+at_most_if_bounded : (m : Meaning) (policy : Policy) (end : ℕ → History → ℤ) (b : ℕ) (most : ℤ) → m.preamble.discount < one → ((s : ℕ) (history : History) → s < states_of m → IsRunInRange (table_of m) history → neg_ℤ (pos b) ≤ℤ end s history)
+    → ((k : ℕ) → IsBoundedFromStart m end (λ s. policy) k most) → EarnsAtMost m policy most
+at_most_if_bounded m policy end b most less least bounds d some =
     let t : CellTable = table_of m in
-    let g : ℕ = m.preamble.discount in
-    let (b, within) = some_bound vectors (actions_of m) (states_of m) in (
+    let g : ℕ = m.preamble.discount in (
       suc (g * (d * b)),
       (λ k late.
           let q : ℕ = step_scale t ^ k in
           let a : ℕ = start_total m * (g ^ k * q) in
-          let least : (s : ℕ) (history : History) → s < states_of m → IsRunInRange t history → neg_ℤ (pos b) ≤ℤ vectors (as_policy policy history) (end_state s history) =
-          λ s history sl f. at_least _ b (within _ _ (of history f) (end_state_in_range t history s sl f)) in
           let small : d * (a * b) ≤ start_scale m k = remainder (start_total m) d b (g ^ k) q (one ^ k) (vanishes g one (d * b) k less late) in
           ≤ℤ_trans _ _ _
-          (upper_algebra d a b (start_scale m k) (start_rewards m (as_policy policy) k) (pos (start_scale m k) *ℤ most) ((bound policy of k).rewards (neg_ℤ (pos b)) least) small)
+          (upper_algebra d a b (start_scale m k) (start_rewards m policy k) (pos (start_scale m k) *ℤ most) ((bounds k).rewards (neg_ℤ (pos b)) least) small)
           (≤ℤ_from_eq _ _ (ap (λ (x : ℤ). x +ℤ pos (start_scale m k)) (sym (*ℤ_assoc (pos d) (pos (start_scale m k)) most))))),
     )
+
+pub earns_at_most : (m : Meaning) (vectors : ℕ → ℕ → ℤ) (most : ℤ) → m.preamble.discount < one → BoundEveryObservationPolicyFromStart m vectors most
+    → (policy : ObservationPolicy) → IsPolicyOf (table_of m) (as_policy policy) → EarnsAtMost m (as_policy policy) most
+earns_at_most m vectors most less bound policy of =
+    let (b, within) = some_bound vectors (actions_of m) (states_of m) in
+    at_most_if_bounded m (as_policy policy) (λ s history. vectors (as_policy policy history) (end_state s history)) b most less
+    (λ s history sl f. at_least _ b (within _ _ (of history f) (end_state_in_range (table_of m) history s sl f)))
+    (bound policy of)
+
+-- a policy that sees the states too
+pub every_policy_earns_at_most : (m : Meaning) (value : ℕ → ℤ) (most : ℤ) → m.preamble.discount < one → BoundsEveryPolicyFromStart m value most
+    → (policy : Policy) → IsPolicyOf (table_of m) policy → EarnsAtMost m policy most
+every_policy_earns_at_most m value most less bound policy of =
+    let (b, within) = some_row value (states_of m) in
+    at_most_if_bounded m policy (λ s history. value (end_state s history)) b most less
+    (λ s history sl f. at_least _ b (within _ (end_state_in_range (table_of m) history s sl f)))
+    (bound (λ s. policy) (λ s. of))
 
 -- ---- at least what a node is worth
 -- what is at least x times the value at each state, less y times b, is so in the mean
@@ -95,15 +109,15 @@ module _ (m : Meaning) (limits : HasLimitedNumbers m) (g : PolicyGraph) (v : Pol
   abbrev pub c : Controller
   c = controller_of (table_of m) g v
 
-  abbrev pub best : ObservationPolicy
-  best = graph_policy c (Some n)
+  abbrev pub node_policy : ObservationPolicy
+  node_policy = graph_policy c (Some n)
 
   pub earns : EarnsAsItsPolicy c n
   earns =
       let some : 0 < actions_of m = omega (arith, limits.actions.0) in
       earns_as_policy c (controller_is (table_of m) g v fits proper known) some (LacksNone-from_Passes c passes) n nl
 
-  pub earns_at_least : EarnsAtLeast m (as_policy best) worth
+  pub earns_at_least : EarnsAtLeast m (as_policy node_policy) worth
   earns_at_least d some =
       let t : CellTable = table_of m in
       let discount : ℕ = m.preamble.discount in
@@ -114,14 +128,14 @@ module _ (m : Meaning) (limits : HasLimitedNumbers m) (g : PolicyGraph) (v : Pol
             let x : ℕ = q * one ^ k in
             let y : ℕ = discount ^ k * q in
             let a : ℕ = start_total m * y in
-            let each : (s : ℕ) → s < states_of m → (pos x *ℤ value_of v n s) ≤ℤ (expected_rewards t (as_policy best) k s +ℤ pos y *ℤ pos b) =
+            let each : (s : ℕ) → s < states_of m → (pos x *ℤ value_of v n s) ≤ℤ (expected_rewards t (as_policy node_policy) k s +ℤ pos y *ℤ pos b) =
             λ s sl. subst (λ (r : ℤ). (pos x *ℤ value_of v n s) ≤ℤ (r +ℤ pos y *ℤ pos b)) (earns.earns k s sl)
             ((promised t g v proper known fits passes k n s nl sl).1.rewarded (pos b) (λ i u il ul. at_most _ b (within i u il ul))) in
-            let mean : (pos (start_scale m k) *ℤ worth) ≤ℤ (start_rewards m (as_policy best) k +ℤ pos (a * b)) = mean_ge m limits x y b (value_of v n) (λ s. expected_rewards t (as_policy best) k s) worth is_worth.0 each in
+            let mean : (pos (start_scale m k) *ℤ worth) ≤ℤ (start_rewards m (as_policy node_policy) k +ℤ pos (a * b)) = mean_ge m limits x y b (value_of v n) (λ s. expected_rewards t (as_policy node_policy) k s) worth is_worth.0 each in
             let small : d * (a * b) ≤ start_scale m k = remainder (start_total m) d b (discount ^ k) q (one ^ k) (vanishes discount one (d * b) k less late) in
             ≤ℤ_trans _ _ _
             (≤ℤ_from_eq _ _ (*ℤ_assoc (pos d) (pos (start_scale m k)) worth))
-            (lower_algebra d a b (start_scale m k) (start_rewards m (as_policy best) k) (pos (start_scale m k) *ℤ worth) mean small)),
+            (lower_algebra d a b (start_scale m k) (start_rewards m (as_policy node_policy) k) (pos (start_scale m k) *ℤ worth) mean small)),
       )
 
   -- ---- the optimum between both
@@ -142,7 +156,7 @@ module _ (m : Meaning) (limits : HasLimitedNumbers m) (g : PolicyGraph) (v : Pol
       let values : sum_over_start m (value_of v n) ≤ℤ sum_over_start m (vectors a) =
       sum_below_le _ _ (states_of m) (λ s sl. mul_le (start_weight m s) _ _ (every_graph (table_of m) vectors proper (table_within m limits) less informed g v known fits passes n s nl sl)) in
       record {
-        best = best;
+        policy = node_policy;
         is_policy = earns.is_policy;
         at_least = earns_at_least;
         at_most = earns_at_most m vectors most less (informed_from_start m limits vectors proper informed most mean);

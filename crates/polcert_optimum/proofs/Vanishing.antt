@@ -1,6 +1,6 @@
 -- The discounted remainder is below every tolerance after enough steps; and finitely many values are within some bound.
 use Rattle.std.proofs.Common.{◌≡◌, ℕ, zero, suc, ◌+◌, ◌*◌, ◌^◌, ◌<◌, ◌≤◌, ℤ, pos, neg_ℤ, ◌≤ℤ◌, ⊎_elim, arith, unsigned_abs}
-use Rattle.std.proofs.Math.Nat.{pow-suc, pow-zero, pow-le-pow_left, mul-le-mul_left, mul-le-mul_right, le_of_mul-le-mul_left}
+use Rattle.std.proofs.Math.Nat.{pow-suc, pow-le-pow_left, mul-le-mul_left, mul-le-mul_right, le_of_mul-le-mul_left}
 use Rattle.std.proofs.lemmas.Bool.{cases_lt}
 use Rattle.std.proofs.lemmas.Int.{ints}
 
@@ -25,7 +25,7 @@ vanishes (suc g) u x k l h =
     le_of_mul-le-mul_left {k = suc g} (grown g x k (suc g ^ k) (suc (suc g) ^ k) (u ^ k) (growth (suc g) k) (pow-le-pow_left l k) (omega (arith, h))) (omega arith)
 
 -- ---- values within a bound
-some_row : (f : ℕ → ℤ) (n : ℕ) → (b : ℕ) × ((i : ℕ) → i < n → unsigned_abs (f i) ≤ b)
+pub some_row : (f : ℕ → ℤ) (n : ℕ) → (b : ℕ) × ((i : ℕ) → i < n → unsigned_abs (f i) ≤ b)
 some_row f zero = (0, (λ i l. absurd (omega arith)))
 some_row f (suc n) =
     let (b, within) = some_row f n in (

@@ -26,8 +26,8 @@ EarnsAtMost m policy high = (d : ℕ) → 0 < d → (first : ℕ) × ((k : ℕ) 
 -- The optimum from the start, over the policies that see the observations alone, is at least `low` and at most `high`: some policy
 -- earns at least `low` in the long run, and every policy at most `high`.
 pub record EncloseOptimum (m : Meaning) (low high : ℤ) : Type 0 where
-  pub best : ObservationPolicy
-  pub is_policy : IsPolicyOf (table_of m) (as_policy best)
-  pub at_least : EarnsAtLeast m (as_policy best) low
-  pub at_most : (policy : ObservationPolicy) → IsPolicyOf (table_of m) (as_policy policy) → EarnsAtMost m (as_policy policy) high
+  pub policy : ObservationPolicy
+  pub is_policy : IsPolicyOf (table_of m) (as_policy policy)
+  pub at_least : EarnsAtLeast m (as_policy policy) low
+  pub at_most : (other : ObservationPolicy) → IsPolicyOf (table_of m) (as_policy other) → EarnsAtMost m (as_policy other) high
   pub ordered : low ≤ℤ high

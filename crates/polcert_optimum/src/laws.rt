@@ -7,7 +7,7 @@ ghost use Rattle.polcert_policy.specs.Vectors.{PolicyVectors};
 ghost use Rattle.polcert_check.specs.Horizon.{Fits, controller_of, one};
 ghost use Rattle.polcert_check.specs.Shortfall.{Passes};
 ghost use Rattle.polcert_check.specs.StartWorth.{IsStartWorth};
-ghost use Rattle.polcert_optimum.specs.Policy.{ObservationPolicy, IsPolicyOf, as_policy};
+ghost use Rattle.polcert_optimum.specs.Policy.{IsPolicyOf, ObservationPolicy, Policy, as_policy};
 ghost use Rattle.polcert_optimum.specs.Bound.{BoundsEveryMixture, BoundsEveryPolicy, DominatesBackup};
 ghost use Rattle.polcert_optimum.specs.Informed.{AreInformed, AreQmdp, BoundEveryObservationPolicy};
 ghost use Rattle.polcert_optimum.specs.GraphPolicy.{BoundEveryGraph, EarnsAsItsPolicy};
@@ -80,9 +80,13 @@ pub fn optimum_is_enclosed()
         m.preamble.discount < one → (n : ℕ) (worth most : ℤ) → n < nodes graph → IsStartWorth m low n worth →
         AreAtMostFromStart m vectors most → EncloseOptimum m worth most }
 
-    // The upper bound needs no graph.
+    // The upper bound needs no graph, and a bound on every policy also bounds those that see the states.
     ensures upper { (m : Meaning) (vectors : ℕ → ℕ → ℤ) (most : ℤ) → HasLimitedNumbers m →
         IsProper (table_of m) → AreInformed (table_of m) vectors → AreAtMostFromStart m vectors most →
         m.preamble.discount < one → (policy : ObservationPolicy) → IsPolicyOf (table_of m) (as_policy policy) →
         EarnsAtMost m (as_policy policy) most }
+    ensures seen { (m : Meaning) (value : ℕ → ℤ) (most : ℤ) → HasLimitedNumbers m →
+        IsProper (table_of m) → DominatesBackup (table_of m) value → IsAtMostFromStart m value most →
+        m.preamble.discount < one → (policy : Policy) → IsPolicyOf (table_of m) policy →
+        EarnsAtMost m policy most }
 {}

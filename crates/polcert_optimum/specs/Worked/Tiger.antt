@@ -1,7 +1,7 @@
 -- The tiger of two doors, for the worked example: states 0 and 1 are tiger-left and tiger-right, actions 0, 1 and 2 are listen,
 -- open-left and open-right, and observations 0 and 1 are hearing the tiger on the left and on the right.
 --
--- Source: Kaelbling, Littman and Cassandra, Planning and acting in partially observable stochastic domains (1998), section 5.1.
+-- Source: Kaelbling, Littman and Cassandra, Planning and acting in partially observable stochastic domains (1998).
 use Rattle.std.specs.Prelude.{ℕ, zero, suc, ℤ, pos, neg_ℤ, ◌==◌, if◌then◌else◌, [], ◌∷◌}
 use Rattle.polcert_cells.specs.Tables.{CellTable}
 use Rattle.polcert_optimum.specs.Policy.{ObservationPolicy}
