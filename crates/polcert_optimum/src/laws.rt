@@ -65,13 +65,13 @@ pub fn graphs_are_policies()
         EarnsAsItsPolicy (controller_of t graph vectors) n }
 {}
 
-/// Where the discount is below 1, no graph's vectors that pass from below are above informed vectors.
+/// If the discount is below 1, no graph's vectors that pass from below are above informed vectors.
 pub fn graphs_are_bounded()
     ensures { (t : CellTable) (vectors : ℕ → ℕ → ℤ) → IsProper t → IsWithinLimits t → t.discount < one →
         AreInformed t vectors → BoundEveryGraph t vectors }
 {}
 
-/// Where the discount is below 1, the worth of a graph's node at the start and that of informed vectors
+/// If the discount is below 1, the worth of a graph's node at the start and that of informed vectors
 /// enclose the optimum.
 pub fn optimum_is_enclosed()
     ensures both { (m : Meaning) (graph : PolicyGraph) (low : PolicyVectors) (vectors : ℕ → ℕ → ℤ) →

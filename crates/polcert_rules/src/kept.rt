@@ -135,7 +135,7 @@ impl Keeper {
         }
         let cells = whole_row(alloc, bodies.entries, whole, state, bodies.shape)?;
         let number = keep(&mut self.kept, source, cells, bodies.shape.columns)?;
-        self.slots.note(source, number)?;
+        self.slots.note(source, number);
         Ok(number)
     }
 

@@ -4,8 +4,6 @@ ghost use Rattle.polcert_rules.specs.declared.rule.Rule.{Rule as R};
 ghost use Rattle.polcert_rules.specs.Steps.Newest.{IsRising, IsCut};
 
 use crate::Rule;
-use crate::reward_bodies::in_half;
-use std::alloc::AllocError;
 
 /// How many rules are looked through before all of them are.
 const NEAR: usize = 16;
@@ -36,12 +34,17 @@ pub(crate) fn between_at(rules: &[Rule], low: u64, high: u64, span: RuleSpan) ->
     from_at(front, low, span.start as usize)
 }
 
-/// Where a part of a list of rules may stand. More rules than there are such numbers count as out of memory.
-pub(crate) fn span_of(start: usize, end: usize) -> Result<RuleSpan, AllocError> {
-    Ok(RuleSpan {
-        start: in_half(start)?,
-        end: in_half(end)?,
-    })
+/// Returns where a part of a list of rules may stand. Nothing is promised of it: each use tests it.
+pub(crate) fn span_of(start: usize, end: usize) -> RuleSpan {
+    RuleSpan {
+        start: in_half(start),
+        end: in_half(end),
+    }
+}
+
+/// Returns the number in half the bits, or the greatest of these.
+pub(crate) fn in_half(number: usize) -> u32 {
+    number.min(u32::MAX as usize) as u32
 }
 
 /// The place of the first rule from this place on that is not before the key, or the place after the last.

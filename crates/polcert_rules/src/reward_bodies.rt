@@ -47,8 +47,8 @@ impl RewardBodies {
         for rule in rules {
             let entry = entries.at(rule.number);
             let body = RewardBody {
-                start: in_half(numbers.len())?,
-                places: in_half(entry.places.len())?,
+                start: numbers.len(),
+                places: entry.places.len(),
             };
             bodies[rule.number - first] = body;
             add_numbers(&mut numbers, costs, entry.body)?;
@@ -71,7 +71,7 @@ impl RewardBodies {
     pub(crate) fn number_at(&self, body: RewardBody, cell: usize) -> i64
         ensures { result ≡ get_or self.now.numbers.items (body.start + cell) (pos 0) }
     {
-        match (body.start as usize).checked_add(cell) {
+        match body.start.checked_add(cell) {
             Some(place) => self.numbers.get(place).copied().unwrap_or(0),
             None => 0,
         }
@@ -101,16 +101,6 @@ fn behind_last(rules: &[Rule], limit: usize) -> usize
         }
     }
     end
-}
-
-/// A number in half the bits. More numbers than these count as out of memory.
-pub(crate) fn in_half(number: usize) -> Result<u32, AllocError>
-    ensures { IfOk result (λ n. n ≡ number) }
-{
-    if number > u32::MAX as usize {
-        return Err(AllocError);
-    }
-    Ok(number as u32)
 }
 
 /// Puts the rewards of a body after the others, each as it is worth.

@@ -14,8 +14,8 @@ pub struct RewardShape {
 /// such a matrix for each start state.
 #[derive(Clone, Copy)]
 pub struct RewardBody {
-    pub start: u32,
-    pub places: u32,
+    pub start: usize,
+    pub places: usize,
 }
 
 /// An action that is taken in a start state, and ends in an end state.

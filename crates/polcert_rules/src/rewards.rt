@@ -227,7 +227,7 @@ impl Rewards {
         }
         match self.newest_body(action, start, &[0, 0]) {
             None => Some(0),
-            Some(found) => if is_single(found.places as usize, self.shape.observations) {
+            Some(found) => if is_single(found.places, self.shape.observations) {
                 Some(self.bodies.number_at(found, 0))
             } else {
                 None
@@ -269,7 +269,7 @@ impl Rewards {
     {
         match body {
             Some(body) => {
-                let left = behind(body.places as usize, indices);
+                let left = behind(body.places, indices);
                 let cell = cell_in(self.shape.states, self.shape.observations, left);
                 self.bodies.number_at(body, cell)
             }
@@ -286,7 +286,7 @@ impl Rewards {
     {
         match body {
             None => Some(0),
-            Some(body) => if (body.places as usize) < MOST_PLACES {
+            Some(body) => if body.places < MOST_PLACES {
                 None
             } else {
                 Some(self.bodies.number_at(body, 0))

@@ -69,7 +69,7 @@ impl RowRules {
                 let key = LOW + first as u64 * span(3) + second as u64 * span(PLACES_LEFT);
                 let start = place_of(rules.as_slice(), place, key);
                 place = place_of(rules.as_slice(), start, key + span(PLACES_LEFT));
-                spans.push(span_of(start, place)?)?;
+                spans.push(span_of(start, place))?;
             }
         }
         Ok(RowRules {

@@ -1,7 +1,7 @@
 //! Where the rows may be kept that one entry gives alone. Nothing is promised of these numbers: whoever reads one looks
 //! whether the row of this number is the one that is asked for.
 use crate::kept::Source;
-use crate::reward_bodies::in_half;
+use crate::part::in_half;
 use polcert_cells::{BodyRef, Entries, EntryRef, Place, Table};
 use std::alloc::{AllocError, Global};
 
@@ -24,7 +24,7 @@ pub(crate) struct Slots {
 }
 
 impl Slots {
-    /// Slots for the rows of this table. More of them than 32 bits can count are taken for out of memory.
+    /// Returns slots for the rows of this table. A row whose slot lies beyond 32 bits is made anew at each use.
     pub(crate) fn of(
         alloc: Global,
         entries: &Entries,
@@ -34,10 +34,10 @@ impl Slots {
         let mut starts = Vec::with_capacity(alloc, entries.len())?;
         let mut end = states.saturating_add(FIRST_DIAGONAL);
         for number in 0..entries.len() {
-            starts.push(in_half(end)?)?;
+            starts.push(in_half(end))?;
             end = end.saturating_add(lines_of(entries.at(number), table, states));
         }
-        let numbers = vec![in alloc; 0; in_half(end)? as usize]?;
+        let numbers = vec![in alloc; 0; in_half(end) as usize]?;
         Ok(Slots { starts, numbers })
     }
 
@@ -49,14 +49,13 @@ impl Slots {
         }
     }
 
-    /// Notes the number of the row that is made of this. One beyond 32 bits is taken for out of memory.
-    pub(crate) fn note(&mut self, source: Source, number: usize) -> Result<(), AllocError> {
+    /// Notes the number of the row that is made of this.
+    pub(crate) fn note(&mut self, source: Source, number: usize) {
         if let Some(slot) = self.slot_of(source) {
             if slot < self.numbers.len() {
-                self.numbers[slot] = in_half(number)?;
+                self.numbers[slot] = in_half(number);
             }
         }
-        Ok(())
     }
 
     /// The slot of what is made of this.

@@ -1,4 +1,4 @@
-use Rattle.std.proofs.Common.{◌≡◌, ◌∙◌, ◌<◌, ◌-◌, List, take, length, get_or, set, ℤ, sym, subst, arith, rules, length-set}
+use Rattle.std.proofs.Common.{◌≡◌, ◌∙◌, ◌<◌, ◌-◌, List, take, length, get_or, set, ℤ, refl, sym, subst, arith, rules, length-set}
 use Rattle.std.proofs.lemmas.List.{take_more}
 use Rattle.std.proofs.lemmas.List.Elements.{Contains-get_or}
 use Rattle.polcert_cells.specs.EntryRefs.{entry_of}
@@ -28,7 +28,7 @@ index_mut-requires c =
 
 pub loop-rule-preserved : goal.loop-rule-preserved
 loop-rule-preserved c =
-    let body : RewardBody = record { start = c.in_ok-in_half.field-0; places = c.in_ok-in_half-2.field-0 } in
+    let body : RewardBody = record { start = c.len-in-loop-rule.result; places = length c.at-entry.result.places.now } in
     let r : Rule = get_or c.args.rules.now c.loop-rule.rule-index no_rule in
     let among = Contains-get_or c.args.rules.now c.loop-rule.rule-index no_rule c.loop-rule-test.true in
     let low = c.first_number-first.ensures r among in
@@ -42,7 +42,7 @@ loop-rule-preserved c =
       bodies =
           subst (λ (xs : List Rule). AreBodiesOf c.args.costs c.args.entries.now xs c.first_number-first.result numbers after) (sym (take_more c.args.rules.now c.loop-rule.rule-index no_rule c.loop-rule-test.true))
           (one_more_body c.args.costs c.args.entries.now (take c.loop-rule.rule-index c.args.rules.now) r c.first_number-first.result c.loop-rule.numbers.items numbers c.loop-rule.bodies.items body (entry_of c.at-entry.result)
-          c.loop-rule.invariant.bodies c.in_ok-add_numbers.ensures c.at-entry.ensures (c.in_ok-in_half.ensures ∙ start) c.in_ok-in_half-2.ensures
+          c.loop-rule.invariant.bodies c.in_ok-add_numbers.ensures c.at-entry.ensures start refl
           (first_of_taken c.args.rules.now c.loop-rule.rule-index c.first_number-first.result c.first_number-first.ensures) low inside);
     }
 
