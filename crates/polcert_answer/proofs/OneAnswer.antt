@@ -14,6 +14,7 @@ use Rattle.polcert_text.specs.declared.number.Rounding.{Rounding}
 use Rattle.polcert_policy.specs.GraphText.{IsGraphText, IsNoGraphText}
 use Rattle.polcert_policy.specs.Vectors.{PolicyVectors}
 use Rattle.polcert_policy.specs.VectorText.{IsRoundedVectorsText, IsNoRoundedVectorsText}
+use Rattle.polcert_format.proofs.OneRefusal as model_refusals
 use Rattle.polcert_policy.proofs.OneGraphRefusal as graph_refusals
 use Rattle.polcert_policy.proofs.OneVectorsRefusal as vectors_refusals
 use Rattle.polcert_check.specs.Horizon.{Controller}
@@ -22,6 +23,7 @@ use Rattle.polcert_answer.specs.declared.fault.Fault.TheVariants.{Model, Graph, 
 use Rattle.polcert_answer.specs.Headline.{controller}
 use Rattle.polcert_answer.specs.Answer.{HasGraph, IsModelFault, IsRoundedAnswer, IsWantOfMemory, IsButForMemory}
 use Rattle.polcert_answer.specs.OneAnswer.{HasOneVerdict, RefusesTheFirst, HasOneRefusal}
+use Rattle.polcert_format.specs.RefusedTexts.{IsRefusedModelText}
 use Rattle.polcert_answer.proofs.Refusing.{refused_of}
 
 -- what is refused as a graph is none, or memory ran out
@@ -55,6 +57,20 @@ module _ {V : Type 0} (rounding : Rounding) (Is : Controller → V → Type 0) (
       → Answers (Err (Graph f)) → Answers (Err (Vectors g)) → ⊥
   graph_before_vectors f g says h other =
       says (graph_memory _ _ graph f other.policy (h.no_graph other.meaning other.has_graph.is_model) other.has_graph.is_graph)
+
+  -- what is said of a model's refused text, except out of memory
+  refused_text : (f : ModelFault) → SaysOfText f → IsModelFault model f → IsRefusedModelText f model
+  refused_text models.Memory says h = absurd says
+  refused_text (models.Item kind item place) says h = record { no_model = h.no_model; refusal = h.refusal; placed = h.placed }
+  refused_text (models.RowSum table action row) says h = record { no_model = h.no_model; refusal = h.refusal; placed = h.placed }
+
+  not_memory : (f : ModelFault) → SaysOfText f → f ≡ models.Memory → ⊥
+  not_memory f says same = subst SaysOfText same says
+
+  pub one_model_refusal : (f g : ModelFault) → SaysOfText f → SaysOfText g
+      → Answers (Err (Model f)) → Answers (Err (Model g)) → f ≡ g
+  one_model_refusal f g f_says g_says h other =
+      model_refusals.one_refusal model f g (not_memory f f_says) (not_memory g g_says) (refused_text f f_says h) (refused_text g g_says other)
 
   pub one_graph_refusal : (f g : GraphFault) → (f ≡ graphs.Memory → ⊥) → (g ≡ graphs.Memory → ⊥)
       → Answers (Err (Graph f)) → Answers (Err (Graph g)) → f ≡ g
@@ -104,4 +120,4 @@ module _ {V : Type 0} (rounding : Rounding) (Is : Controller → V → Type 0)
 
   pub has_one_refusal : HasOneRefusal AllAnswers
   has_one_refusal = record
-      { of_graph = one_graph_refusal rounding Is one; of_vectors = one_vectors_refusal rounding Is one }
+      { of_model = one_model_refusal rounding Is one; of_graph = one_graph_refusal rounding Is one; of_vectors = one_vectors_refusal rounding Is one }

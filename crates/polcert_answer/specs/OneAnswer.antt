@@ -31,8 +31,10 @@ module _ {V : Type 0} (IsAnswer : List ℕ → List ℕ → List ℕ → Result 
         → f ≢ graphs.Memory
         → IsAnswer model graph vectors (Err (Graph f)) → IsAnswer model graph vectors (Err (Vectors g)) → ⊥
 
-  -- The graph is refused for one reason, at one place, and so are the vectors.
+  -- Each text is refused for one reason, at one place.
   pub record HasOneRefusal : Type 0 where
+    pub of_model : (model graph vectors : List ℕ) (f g : ModelFault) → SaysOfText f → SaysOfText g
+        → IsAnswer model graph vectors (Err (Model f)) → IsAnswer model graph vectors (Err (Model g)) → f ≡ g
     pub of_graph : (model graph vectors : List ℕ) (f g : GraphFault) → f ≢ graphs.Memory → g ≢ graphs.Memory
         → IsAnswer model graph vectors (Err (Graph f)) → IsAnswer model graph vectors (Err (Graph g)) → f ≡ g
     pub of_vectors : (model graph vectors : List ℕ) (f g : VectorFault) → f ≢ values.Memory

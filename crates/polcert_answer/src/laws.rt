@@ -47,17 +47,17 @@ pub fn certified_texts_are_answered_yes()
         → (result : Result Verdict Fault) → IsAnswer model graph vectors result → IsButForMemory Yes result }
 {}
 
-/// Three texts have one answer, out of memory aside: one verdict, or a refusal of one of them. The refusal
-/// of a graph or of vectors is one; that of a model is of its first wrong item or row.
+/// Three texts have one answer, out of memory aside: one verdict, or the refusal of one of them, for one
+/// reason at one place.
 pub fn one_answer()
     // There is one verdict, and no refusal beside it.
     ensures verdict { HasOneVerdict IsAnswer }
 
-    // If the model is refused, the graph and the vectors are not, not even as out of memory; and where
+    // If the model is refused, the graph and the vectors are not, not even as out of memory; and if
     // the graph is, the vectors are not.
     ensures first { RefusesTheFirst IsAnswer }
 
-    // The graph is refused for one reason, at one place, and so are the vectors.
+    // Each text is refused for one reason, at one place.
     ensures refusal { HasOneRefusal IsAnswer }
 {}
 
@@ -104,16 +104,16 @@ pub fn bounds_of_texts_are_an_interval()
         → value_of c.values n s ≤ℤ value_of d.values n s }
 {}
 
-/// Three texts have one answer from above, out of memory aside: one verdict, or a refusal of one of them.
-/// The refusal of a graph or of vectors is one; that of a model is of its first wrong item or row.
+/// Three texts have one answer from above, out of memory aside: one verdict, or the refusal of one of them,
+/// for one reason at one place.
 pub fn one_answer_above()
     // There is one verdict, and no refusal beside it.
     ensures verdict { HasOneVerdict IsAnswerAbove }
 
-    // If the model is refused, the graph and the vectors are not, not even as out of memory; and where
+    // If the model is refused, the graph and the vectors are not, not even as out of memory; and if
     // the graph is, the vectors are not.
     ensures first { RefusesTheFirst IsAnswerAbove }
 
-    // The graph is refused for one reason, at one place, and so are the vectors.
+    // Each text is refused for one reason, at one place.
     ensures refusal { HasOneRefusal IsAnswerAbove }
 {}
