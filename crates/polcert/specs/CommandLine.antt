@@ -14,7 +14,7 @@ use Rattle.clap.specs.Words.{App, Rule, Row, Text, new_app, new_rule, with_rule,
 use Rattle.clap.specs.declared.builder.action.ArgAction.TheVariants.{Set, SetTrue}
 use Rattle.polcert_answer.specs.declared.task.Task.{Task}
 use Rattle.polcert_answer.specs.declared.task.Task.TheVariants as tasks
-use Rattle.polcert.specs.declared.choice.Names.{Names}
+use Rattle.polcert.specs.declared.choice.FileNames.{FileNames}
 use Rattle.polcert.specs.declared.choice.Choice.{Choice}
 use Rattle.polcert.specs.declared.choice.Choice.TheVariants.{Model, Print, Check, CheckAbove, Lower, Raise}
 use Rattle.polcert.specs.declared.choice.Job.{Job}
@@ -30,7 +30,7 @@ one_file name = with_rule (new_app name) (file_rule (codes "FILE"))
 abbrev pub three_files : Text → App
 three_files name = with_rule (with_rule (one_file name) (file_rule (codes "PG"))) (file_rule (codes "ALPHA"))
 
--- a flag: its value is `true` where it was given, and else `false`
+-- a flag: its value is `true` if it was given, and else `false`
 abbrev pub at_most_rule : Rule
 at_most_rule = record (new_rule (codes "at-most")) { long = Some (codes "at-most"); action = Some SetTrue }
 
@@ -62,7 +62,7 @@ pub data Chosen : Type 0 where
   lower : Texts → Chosen
   raise : Texts → Chosen
 
-abbrev pub names_view : Names → Texts
+abbrev pub names_view : FileNames → Texts
 names_view names = record { model = names.model.now; graph = names.graph.now; vectors = names.vectors.now }
 
 abbrev pub view_of : Choice → Chosen

@@ -1,4 +1,4 @@
-//! The words of the command line.
+//! What the words of the command line ask for.
 ghost use Rattle.std.specs.Prelude.{◌≡◌, ℕ, List, false, IfOk, map, option_map};
 ghost use Rattle.clap.specs.Words.{FailsBy, app_of, fault_of, found_of, first_of, rows_of, rule_of, subcommand_of, subcommand_rows_of};
 ghost use Rattle.clap.specs.declared.builder.Command.TheViews.{out-Command};
@@ -10,7 +10,7 @@ use std::alloc::{AllocError, Global};
 
 /// The names of the files of a model, of a policy graph, and of its vectors.
 #[derive(Clone, Copy, Debug, PartialEq, Eq)]
-pub struct Names<'a> {
+pub struct FileNames<'a> {
     pub model: &'a str,
     pub graph: &'a str,
     pub vectors: &'a str,
@@ -19,18 +19,18 @@ pub struct Names<'a> {
 /// What the words ask for.
 #[derive(Clone, Copy, Debug, PartialEq, Eq)]
 pub enum Choice<'a> {
-    /// Sum up the model of this file, or of standard input.
+    /// Summarize the model of this file, or of standard input.
     Model(Option<&'a str>),
     /// Print the model of this file in full form.
     Print(&'a str),
-    /// Check the vectors of a graph for a model.
-    Check(Names<'a>),
-    /// Check that the vectors bound from above what the graph earns.
-    CheckAbove(Names<'a>),
+    /// Check that the vectors are a lower bound on what the graph earns.
+    Check(FileNames<'a>),
+    /// Check that the vectors, rounded up, are an upper bound.
+    CheckAbove(FileNames<'a>),
     /// Lower the vectors so that they pass the check.
-    Lower(Names<'a>),
+    Lower(FileNames<'a>),
     /// Raise the vectors so that they pass the check from above.
-    Raise(Names<'a>),
+    Raise(FileNames<'a>),
 }
 
 /// What a choice has the program do.
@@ -41,7 +41,7 @@ pub enum Job<'a> {
     /// Print the model of this file in full form.
     Print(&'a str),
     /// Do this task with the files of a model, a graph and vectors.
-    Run(Task, Names<'a>),
+    Run(Task, FileNames<'a>),
 }
 
 impl<'a> Choice<'a> {
@@ -60,17 +60,17 @@ impl<'a> Choice<'a> {
     }
 }
 
-/// What the words ask for, of which the first is the program's name. None if a file's name isn't there.
+/// Returns what the words ask for, of which the first is the program's name, or `None` if a file's name is missing.
 ///
 /// # Errors
 ///
-/// Words that are no command line, with clap's text; that help or the version is asked for; and out of memory.
+/// clap's, with its text: the words are no command line, or they ask for help or the version, or memory ran out.
 pub fn choose<'a>(alloc: Global, words: &'a [&'a str]) -> Result<Option<Choice<'a>>, Error>
     // The row of the subcommand and the values that clap's promise for simple commands gives for these words.
     ensures choice { IfOk result (λ choice.
         option_map view_of choice ≡ chosen (subcommand_of the_app (map (λ word. word.now) words.entry.now))) }
 
-    // An error comes exactly where clap's promise has a fault for the words, and has one of its kinds; out of memory
+    // An error comes exactly if clap's promise has a fault for the words, and has one of its kinds, out of memory
     // aside.
     ensures faults { FailsBy (fault_of the_app (map (λ word. word.now) words.entry.now)) result }
 {
@@ -240,32 +240,32 @@ fn at_most<'a>(alloc: Global) -> Arg<'a>
         .help("Check that the vectors, rounded up, bound what the graph earns from above")
 }
 
-/// The choice of a subcommand and its matches.
+/// Returns the choice of a subcommand and its matches.
 fn choice_of<'a>(matches: &ArgMatches<'a>) -> Option<Choice<'a>>
     ensures { option_map view_of result ≡ chosen (subcommand_rows_of matches.now) }
 {
     match matches.subcommand() {
         None => Some(Choice::Model(None)),
-        Some((name, inner)) => named_choice(name, inner),
+        Some((name, inner)) => choice_by_name(name, inner),
     }
 }
 
-/// The choice of a name and its matches.
-fn named_choice<'a>(name: &str, inner: &ArgMatches<'a>) -> Option<Choice<'a>>
+/// Returns the choice of a subcommand's name and its matches.
+fn choice_by_name<'a>(name: &str, inner: &ArgMatches<'a>) -> Option<Choice<'a>>
     ensures { option_map view_of result ≡ chosen_of name.now (rows_of (found_of inner.now)) }
 {
     match name {
         "model" => Some(Choice::Model(Some(value_of(inner, "FILE")?))),
         "print" => Some(Choice::Print(value_of(inner, "FILE")?)),
-        "check" if is_above(inner) => Some(Choice::CheckAbove(names_of(inner)?)),
-        "check" => Some(Choice::Check(names_of(inner)?)),
-        "lower" => Some(Choice::Lower(names_of(inner)?)),
-        "raise" => Some(Choice::Raise(names_of(inner)?)),
+        "check" if is_above(inner) => Some(Choice::CheckAbove(file_names_of(inner)?)),
+        "check" => Some(Choice::Check(file_names_of(inner)?)),
+        "lower" => Some(Choice::Lower(file_names_of(inner)?)),
+        "raise" => Some(Choice::Raise(file_names_of(inner)?)),
         _ => None,
     }
 }
 
-/// Whether the flag of a check from above was given.
+/// Returns whether the flag of a check from above was given.
 fn is_above(inner: &ArgMatches<'_>) -> bool
     ensures { result ≡ bounds_above (rows_of (found_of inner.now)) }
 {
@@ -275,18 +275,17 @@ fn is_above(inner: &ArgMatches<'_>) -> bool
     }
 }
 
-/// The three names.
-fn names_of<'a>(inner: &ArgMatches<'a>) -> Option<Names<'a>>
+fn file_names_of<'a>(inner: &ArgMatches<'a>) -> Option<FileNames<'a>>
     ensures { option_map names_view result ≡ names_in (rows_of (found_of inner.now)) }
 {
-    Some(Names {
+    Some(FileNames {
         model: value_of(inner, "FILE")?,
         graph: value_of(inner, "PG")?,
         vectors: value_of(inner, "ALPHA")?,
     })
 }
 
-/// The value of an argument.
+/// Returns the value of an argument.
 fn value_of<'a>(inner: &ArgMatches<'a>, id: &str) -> Option<&'a str>
     ensures { option_map (λ text. text.now) result ≡ first_of id.now (rows_of (found_of inner.now)) }
 {

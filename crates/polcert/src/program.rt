@@ -1,7 +1,7 @@
-//! What the program does, over the runtime that it is given.
+//! The program, over the runtime that it is given.
 ghost use Rattle.std.specs.Prelude.{◌≡◌};
 
-use crate::choice::{Choice, Job, Names, choose};
+use crate::choice::{Choice, FileNames, Job, choose};
 use crate::progress::Progress;
 use crate::refusal::{LoweredLine, RaisedLine, RefusalLine};
 use clap::error::ErrorKind;
@@ -14,20 +14,20 @@ use std::rt::{Env, Files};
 use std::time::Clock;
 use std::{env, fs, io};
 
-/// The exit status where all went well, and the answer is no `no`.
+/// The exit status if all went well and there is no verdict.
 const DONE: u8 = 0;
 
 /// The exit status of a command line that is refused.
 const REFUSED: u8 = 2;
 
-/// The exit status where help can't be written.
+/// The exit status if help can't be written.
 const CANNOT_WRITE: u8 = 3;
 
-/// The exit status where there is no memory for the command line.
+/// The exit status if there is no memory for the command line.
 const MEMORY: u8 = 4;
 
-/// Does what the command line asks for, and answers the exit status. A long check, lowering or raising says
-/// how far it is, if that is wanted.
+/// Does what the command line asks for, and returns the exit status. A long check, lowering or raising shows its
+/// progress, if that is wanted.
 pub fn run_program<R: Env + Files + Clock + AllocGlobal + Input + Print + Eprint>(
     rt: &R,
     shows_progress: bool,
@@ -35,12 +35,12 @@ pub fn run_program<R: Env + Files + Clock + AllocGlobal + Input + Print + Eprint
     match env::args(rt) {
         Ok(args) => match args.collect(rt.alloc()) {
             Ok(words) => run_words(rt, shows_progress, &words),
-            Err(AllocError) => refused(rt, "out of memory", MEMORY),
+            Err(AllocError) => refuse(rt, "out of memory", MEMORY),
         },
         Err(error) if error.kind() == io::ErrorKind::OutOfMemory => {
-            refused(rt, "out of memory", MEMORY)
+            refuse(rt, "out of memory", MEMORY)
         }
-        Err(_) => refused(rt, "a word of the command line is no text", REFUSED),
+        Err(_) => refuse(rt, "a word of the command line is no text", REFUSED),
     }
 }
 
@@ -50,41 +50,41 @@ fn run_words<R: Files + Clock + AllocGlobal + Input + Print + Eprint>(
     shows_progress: bool,
     words: &Vec<String>,
 ) -> u8 {
-    let mut lent = Vec::new(rt.alloc());
+    let mut borrowed = Vec::new(rt.alloc());
     for word in words {
-        if lent.push(word.as_str()).is_err() {
-            return refused(rt, "out of memory", MEMORY);
+        if borrowed.push(word.as_str()).is_err() {
+            return refuse(rt, "out of memory", MEMORY);
         }
     }
-    match choose(rt.alloc(), &lent) {
+    match choose(rt.alloc(), &borrowed) {
         Ok(Some(choice)) => run_choice(rt, shows_progress, choice),
-        Ok(None) => refused(rt, "a file's name is missing: see polcert --help", REFUSED),
-        Err(error) => answer_of_clap(rt, &error),
+        Ok(None) => refuse(rt, "a file's name is missing: see polcert --help", REFUSED),
+        Err(error) => print_clap_error(rt, &error),
     }
 }
 
-/// Prints what clap says: help and the version to standard output, and else why it refuses the words.
-fn answer_of_clap<R: Print + Eprint>(rt: &R, error: &clap::Error) -> u8 {
+/// Prints help or the version to standard output, or else why clap refuses the words to standard error.
+fn print_clap_error<R: Print + Eprint>(rt: &R, error: &clap::Error) -> u8 {
     if error.kind() == ErrorKind::OutOfMemory {
-        return refused(rt, "out of memory", MEMORY);
+        return refuse(rt, "out of memory", MEMORY);
     }
     match error.print(rt) {
         Ok(()) => error.exit_code() as u8,
-        Err(_) => refused(rt, "cannot write", CANNOT_WRITE),
+        Err(_) => refuse(rt, "cannot write", CANNOT_WRITE),
     }
 }
 
-/// Does what was chosen; if that stops, prints why.
+/// Does what was chosen, or prints why that is not possible.
 fn run_choice<R: Files + Clock + AllocGlobal + Input + Print + Eprint>(
     rt: &R,
     shows_progress: bool,
     choice: Choice<'_>,
 ) -> u8 {
     let done = match choice.job() {
-        Job::Summarize(None) => sum_up_input(rt),
-        Job::Summarize(Some(name)) => sum_up_file(rt, name),
+        Job::Summarize(None) => summarize_input(rt),
+        Job::Summarize(Some(name)) => summarize_file(rt, name),
         Job::Print(name) => print_file(rt, name),
-        Job::Run(task, names) => run_over_files(rt, shows_progress, task, names),
+        Job::Run(task, names) => run_task_on_files(rt, shows_progress, task, names),
     };
     match done {
         Ok(status) => status,
@@ -95,17 +95,17 @@ fn run_choice<R: Files + Clock + AllocGlobal + Input + Print + Eprint>(
     }
 }
 
-/// Sums up the model on standard input.
-fn sum_up_input<R: AllocGlobal + Input + Print>(rt: &R) -> Result<u8, RunFault> {
+/// Summarizes the model on standard input.
+fn summarize_input<R: AllocGlobal + Input + Print>(rt: &R) -> Result<u8, RunFault> {
     let mut source = ReaderSource::new(rt.reader());
     let mut sink = WriterSink::new(io::writer(rt));
     run_model(rt.alloc(), &mut source, &mut sink)?;
     Ok(DONE)
 }
 
-/// Sums up the model of a file.
-fn sum_up_file<R: Files + AllocGlobal + Print>(rt: &R, name: &str) -> Result<u8, RunFault> {
-    let mut source = opened(rt, name, RunFault::ReadModel)?;
+/// Summarizes the model of a file.
+fn summarize_file<R: Files + AllocGlobal + Print>(rt: &R, name: &str) -> Result<u8, RunFault> {
+    let mut source = open_source(rt, name, RunFault::ReadModel)?;
     let mut sink = WriterSink::new(io::writer(rt));
     run_model(rt.alloc(), &mut source, &mut sink)?;
     Ok(DONE)
@@ -113,7 +113,7 @@ fn sum_up_file<R: Files + AllocGlobal + Print>(rt: &R, name: &str) -> Result<u8,
 
 /// Prints the model of a file in full form.
 fn print_file<R: Files + AllocGlobal + Print>(rt: &R, name: &str) -> Result<u8, RunFault> {
-    let mut source = opened(rt, name, RunFault::ReadModel)?;
+    let mut source = open_source(rt, name, RunFault::ReadModel)?;
     let mut sink = WriterSink::new(io::writer(rt));
     run_print(rt.alloc(), &mut source, &mut sink)?;
     Ok(DONE)
@@ -121,13 +121,13 @@ fn print_file<R: Files + AllocGlobal + Print>(rt: &R, name: &str) -> Result<u8, 
 
 /// Does the task with three files, prints by how much vectors were lowered or raised, and returns the exit
 /// status.
-fn run_over_files<R: Files + Clock + AllocGlobal + Print + Eprint>(
+fn run_task_on_files<R: Files + Clock + AllocGlobal + Print + Eprint>(
     rt: &R,
     shows_progress: bool,
     task: Task,
-    names: Names<'_>,
+    names: FileNames<'_>,
 ) -> Result<u8, RunFault> {
-    let mut files = opened_files(rt, names)?;
+    let mut files = open_files(rt, names)?;
     let (model, graph, vectors) = (&mut files.model, &mut files.graph, &mut files.vectors);
     let sink = &mut WriterSink::new(io::writer(rt));
     let progress = &mut Progress::new(rt, shows_progress);
@@ -152,17 +152,17 @@ struct OpenedFiles<F> {
     vectors: ReaderSource<F>,
 }
 
-/// The sources of these files, opened in their order, or the fault of the first that can't be opened.
-fn opened_files<R: Files>(rt: &R, names: Names<'_>) -> Result<OpenedFiles<R::File>, RunFault> {
+/// Opens these files in their order, or returns the fault of the first that can't be opened.
+fn open_files<R: Files>(rt: &R, names: FileNames<'_>) -> Result<OpenedFiles<R::File>, RunFault> {
     Ok(OpenedFiles {
-        model: opened(rt, names.model, RunFault::ReadModel)?,
-        graph: opened(rt, names.graph, RunFault::ReadGraph)?,
-        vectors: opened(rt, names.vectors, RunFault::ReadVectors)?,
+        model: open_source(rt, names.model, RunFault::ReadModel)?,
+        graph: open_source(rt, names.graph, RunFault::ReadGraph)?,
+        vectors: open_source(rt, names.vectors, RunFault::ReadVectors)?,
     })
 }
 
-/// The source of a file, or the fault if it can't be opened.
-fn opened<R: Files>(
+/// Opens the source of a file, or returns the fault if it can't be opened.
+fn open_source<R: Files>(
     rt: &R,
     name: &str,
     fault: RunFault,
@@ -173,8 +173,8 @@ fn opened<R: Files>(
     }
 }
 
-/// Prints why the program stops, and answers its status.
-fn refused<R: Eprint>(rt: &R, line: &str, status: u8) -> u8
+/// Prints why the program stops, and returns its status.
+fn refuse<R: Eprint>(rt: &R, line: &str, status: u8) -> u8
     ensures { result ≡ status }
 {
     let _ = rt.eprintln(line);

@@ -1,4 +1,4 @@
-//! The line on standard error where a run stops.
+//! The line on standard error when a run stops.
 use polcert_answer::{Fault, RunFault};
 use polcert_check::{LowerFault, RaiseFault};
 use polcert_model::{ItemFault, ModelFault};
@@ -6,9 +6,8 @@ use polcert_policy::{GraphFault, VectorFault};
 use polcert_text::{NumberFault, SliceSink, TokenFault, write_scaled};
 use std::{fmt, str};
 
-/// Why a run stopped, as the program prints it, without a line end: `model: M4 in item 8 at byte 106`. An item of a
-/// text goes by its number from 1 on, a byte by its offset, and actions, rows, nodes, states and observations by their
-/// numbers from 0 on.
+/// Why a run stopped, as the program prints it, without a line end: `model: M4 in item 8 at byte 106`. Items of a text are
+/// counted from 1; bytes, actions, rows, nodes, states and observations from 0.
 #[derive(Clone, Copy, Debug)]
 pub struct RefusalLine(pub RunFault);
 
@@ -46,7 +45,7 @@ impl fmt::Display for ModelLine {
     }
 }
 
-/// The number of a refusal, and that of the token's or the number's own fault if it has one.
+/// The code of a refusal, and that of the token's or the number's own fault if it has one.
 #[derive(Clone, Copy, Debug)]
 struct Codes(ItemFault);
 

@@ -1,5 +1,5 @@
 //! What the words of the command line ask for.
-use crate::choice::{Choice, Names, choose};
+use crate::choice::{Choice, FileNames, choose};
 use clap::error::ErrorKind;
 use std::alloc::Global;
 
@@ -11,7 +11,7 @@ fn chosen<'a>(alloc: Global, words: &'a [&'a str]) -> Result<Option<Choice<'a>>,
     }
 }
 
-const NAMES: Names<'static> = Names {
+const NAMES: FileNames<'static> = FileNames {
     model: "a",
     graph: "b",
     vectors: "c",
