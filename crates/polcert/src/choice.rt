@@ -4,6 +4,7 @@ ghost use Rattle.clap.specs.Words.{FailsBy, app_of, fault_of, found_of, first_of
 ghost use Rattle.clap.specs.declared.builder.Command.TheViews.{out-Command};
 ghost use Rattle.polcert.specs.CommandLine.{the_app, at_most_rule, check_app, file_rule, one_file, three_files, bounds_above, chosen, chosen_of, names_in, names_view, view_of, job_of, job_view};
 
+use crate::help::{self, HelpTexts};
 use clap::{Arg, ArgAction, ArgMatches, Command, Error};
 use polcert_answer::Task;
 use std::alloc::{AllocError, Global};
@@ -79,84 +80,19 @@ pub fn choose<'a>(alloc: Global, words: &'a [&'a str]) -> Result<Option<Choice<'
     Ok(choice_of(&matches))
 }
 
-/// What the help of the program ends with.
-const CERTIFICATE: &str = "Without a command a model on standard input is summed up, as by `model`.
-
-From a solver's files to a certificate from below, and to one from above:
-  polcert lower tiger.POMDP tiger.pg tiger.alpha > tiger.lowered.alpha
-  polcert check tiger.POMDP tiger.pg tiger.lowered.alpha
-  polcert raise tiger.POMDP tiger.pg tiger.alpha > tiger.raised.alpha
-  polcert check --at-most tiger.POMDP tiger.pg tiger.raised.alpha
-
-Exit status: 0 done, or the answer is yes; 1 it is no, or nothing can be lowered
-or raised; 2 a file or the command line is refused; 3 a file cannot be read, or
-the output not be written; 4 out of memory.";
-
-const MODEL_EXAMPLE: &str = "Example:
-  $ polcert model tiger.POMDP
-  pomdp: 2 states, 3 actions, 2 observations, discount 0.95, reward";
-
-const PRINT_EXAMPLE: &str =
-    "Equal models have the same full form, and it reads back as an equal model.
-
-Example:
-  $ polcert print tiger.POMDP > tiger.full.POMDP";
-
-const CHECK_EXAMPLE: &str = "A yes holds for every number of steps, from every node and every state.
-
-A bound from below does not say how much more the graph may earn. With --at-most
-the vectors, rounded up, bound it from above, so that both bounds together are an
-interval. Another graph may earn more. Under `values: cost`, where worth is minus
-the cost, a bound from above bounds the costs from below.
-
-Example:
-  $ polcert check tiger.POMDP tiger.pg tiger.alpha
-  no: node 1, state 0, short by 0.000001
-  $ polcert check tiger.POMDP tiger.pg tiger.lowered.alpha
-  yes: start node 0, at least 19.37136
-  $ polcert check --at-most tiger.POMDP tiger.pg tiger.raised.alpha
-  yes: every start node, at most 19.371377";
-
-const LOWER_EXAMPLE: &str = "The vectors go to standard output, the constant to standard error.
-
-Example:
-  $ polcert lower tiger.POMDP tiger.pg tiger.alpha > tiger.lowered.alpha
-  lowered by 0.000008";
-
-const RAISE_EXAMPLE: &str = "The vectors go to standard output, the constant to standard error.
-
-Example:
-  $ polcert raise tiger.POMDP tiger.pg tiger.alpha > tiger.raised.alpha
-  raised by 0.000009";
-
-/// The program's command, with its subcommands.
+/// Returns the program's command, with its subcommands.
 fn program_command<'a>(alloc: Global) -> Result<Command<'a>, AllocError>
     ensures { IfOk result (λ command. app_of command ≡ the_app) }
 {
-    let model = command_with_file(
-        alloc,
-        "model",
-        "Say in one line what a model is, or where it is wrong",
-        MODEL_EXAMPLE,
-    )?;
-    let print = command_with_file(alloc, "print", "Print a model in full form", PRINT_EXAMPLE)?;
+    let model = command_with_file(alloc, "model", help::MODEL)?;
+    let print = command_with_file(alloc, "print", help::PRINT)?;
     let check = check_command(alloc)?;
-    let lower = command_with_files(
-        alloc,
-        "lower",
-        "Print the vectors, lowered by the least constant by which they pass the check",
-        LOWER_EXAMPLE,
-    )?;
-    let raise = command_with_files(
-        alloc,
-        "raise",
-        "Print the vectors, raised by the least constant by which they pass `check --at-most`",
-        RAISE_EXAMPLE,
-    )?;
+    let lower = command_with_files(alloc, "lower", help::LOWER)?;
+    let raise = command_with_files(alloc, "raise", help::RAISE)?;
     Command::new(alloc, "polcert")
         .version("1.0.0")
-        .about("Checks exactly what a policy of a POMDP promises")
-        .after_help(CERTIFICATE)
+        .about(help::ABOUT)
+        .after_help(help::DETAILS)
         .subcommand(model)?
         .subcommand(print)?
         .subcommand(check)?
@@ -164,72 +100,53 @@ fn program_command<'a>(alloc: Global) -> Result<Command<'a>, AllocError>
         .subcommand(raise)
 }
 
-/// The subcommand that checks, with the flag of a check from above.
+/// Returns the subcommand that checks, with the flag of a check from above.
 fn check_command<'a>(alloc: Global) -> Result<Command<'a>, AllocError>
     ensures app { IfOk result (λ command. app_of command ≡ check_app) }
     ensures local { IfOk result (λ command. (out-Command command).has_globals ≡ false) }
 {
-    command_with_files(
-        alloc,
-        "check",
-        "Check exactly what a policy graph and its vectors promise for a model",
-        CHECK_EXAMPLE,
-    )?
-    .arg(at_most(alloc))
+    command_with_files(alloc, "check", help::CHECK)?.arg(at_most(alloc))
 }
 
-/// A subcommand that takes the name of a model's file.
+/// Returns a subcommand that takes the name of a model's file.
 fn command_with_file<'a>(
     alloc: Global,
     name: &'a str,
-    about: &'a str,
-    example: &'a str,
+    texts: HelpTexts<'a>,
 ) -> Result<Command<'a>, AllocError>
     ensures app { IfOk result (λ command. app_of command ≡ one_file name.entry.now) }
     ensures local { IfOk result (λ command. (out-Command command).has_globals ≡ false) }
 {
     Command::new(alloc, name)
-        .about(about)
-        .after_help(example)
-        .arg(file(
-            alloc,
-            "FILE",
-            "The model: a file in Cassandra's .POMDP format",
-        ))
+        .about(texts.about)
+        .override_usage(texts.usage)
+        .after_help(texts.details)
+        .arg(file(alloc, "FILE"))
 }
 
-/// A subcommand that takes the names of the files of a model, a graph and vectors.
+/// Returns a subcommand that takes the names of the files of a model, a graph and vectors.
 fn command_with_files<'a>(
     alloc: Global,
     name: &'a str,
-    about: &'a str,
-    example: &'a str,
+    texts: HelpTexts<'a>,
 ) -> Result<Command<'a>, AllocError>
     ensures app { IfOk result (λ command. app_of command ≡ three_files name.entry.now) }
     ensures local { IfOk result (λ command. (out-Command command).has_globals ≡ false) }
 {
-    command_with_file(alloc, name, about, example)?
-        .arg(file(
-            alloc,
-            "PG",
-            "The policy graph: a .pg file, as pomdp-solve writes it",
-        ))?
-        .arg(file(
-            alloc,
-            "ALPHA",
-            "The vectors of the graph's nodes: the .alpha file of the same run",
-        ))
+    command_with_file(alloc, name, texts)?
+        .arg(file(alloc, "PG"))?
+        .arg(file(alloc, "ALPHA"))
 }
 
-/// An argument that takes the name of a file.
-fn file<'a>(alloc: Global, id: &'a str, help: &'a str) -> Arg<'a>
+/// Returns an argument that takes the name of a file. The help's details describe it, so clap lists it nowhere.
+fn file<'a>(alloc: Global, id: &'a str) -> Arg<'a>
     ensures rule { rule_of result ≡ file_rule id.entry.now }
     ensures local { result.global ≡ false }
 {
-    Arg::new(alloc, id).action(ArgAction::Set).help(help)
+    Arg::new(alloc, id).action(ArgAction::Set).hide(true)
 }
 
-/// The flag of a check from above.
+/// Returns the flag of a check from above.
 fn at_most<'a>(alloc: Global) -> Arg<'a>
     ensures rule { rule_of result ≡ at_most_rule }
     ensures local { result.global ≡ false }
@@ -237,7 +154,7 @@ fn at_most<'a>(alloc: Global) -> Arg<'a>
     Arg::new(alloc, "at-most")
         .long("at-most")
         .action(ArgAction::SetTrue)
-        .help("Check that the vectors, rounded up, bound what the graph earns from above")
+        .help(help::AT_MOST)
 }
 
 /// Returns the choice of a subcommand and its matches.

@@ -2,6 +2,7 @@
 #![tactic(auto)]
 
 mod choice;
+mod help;
 mod program;
 mod progress;
 mod refusal;
