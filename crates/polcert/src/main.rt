@@ -2,12 +2,17 @@
 #![tactic(auto)]
 
 mod choice;
+#[cfg(test)]
+mod fake_terminal;
 mod help;
 mod program;
 mod progress;
+mod reading_progress;
 mod refusal;
+mod status_line;
 #[cfg(test)]
 mod tests;
+mod watched_source;
 
 pub use choice::{Choice, choose};
 pub use polcert_answer::{
@@ -18,6 +23,9 @@ use std::io::IsTerminal;
 use std::process::ExitCode;
 
 fn main(rt: HostRuntime) -> ExitCode {
-    let shows_progress = rt.stderr().is_terminal();
-    ExitCode::from(program::run_program(&rt, shows_progress))
+    let terminals = program::Terminals {
+        input: rt.stdin().is_terminal(),
+        error: rt.stderr().is_terminal(),
+    };
+    ExitCode::from(program::run_program(&rt, terminals))
 }

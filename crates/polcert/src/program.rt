@@ -3,12 +3,14 @@ ghost use Rattle.std.specs.Prelude.{◌≡◌};
 
 use crate::choice::{Choice, FileNames, Job, choose};
 use crate::progress::Progress;
+use crate::reading_progress::{InputText, ReadingProgress};
 use crate::refusal::{LoweredLine, RaisedLine, RefusalLine};
+use crate::watched_source::WatchedSource;
 use clap::error::ErrorKind;
 use polcert_answer::{
     Outcome, RunFault, Task, run_model, run_print, run_task, status_of, status_of_outcome,
 };
-use polcert_text::{ReaderSource, WriterSink};
+use polcert_text::{ReaderSource, Source, WriterSink};
 use std::alloc::AllocError;
 use std::rt::{Env, Files};
 use std::time::Clock;
@@ -26,15 +28,26 @@ const CANNOT_WRITE: u8 = 3;
 /// The exit status if there is no memory for the command line.
 const MEMORY: u8 = 4;
 
-/// Does what the command line asks for, and returns the exit status. A long check, lowering or raising shows its
-/// progress, if that is wanted.
+/// The hint for a user who started the program without words and sees nothing happen.
+const WAITS_FOR_A_MODEL: &str =
+    "Waiting for a model from the terminal (Ctrl-D ends it). polcert --help lists the commands.";
+
+/// Which of the standard streams are terminals.
+#[derive(Clone, Copy, Debug)]
+pub struct Terminals {
+    pub input: bool,
+    pub error: bool,
+}
+
+/// Does what the command line asks for, and returns the exit status. If standard error is a terminal, whatever takes long
+/// shows its progress there.
 pub fn run_program<R: Env + Files + Clock + AllocGlobal + Input + Print + Eprint>(
     rt: &R,
-    shows_progress: bool,
+    terminals: Terminals,
 ) -> u8 {
     match env::args(rt) {
         Ok(args) => match args.collect(rt.alloc()) {
-            Ok(words) => run_words(rt, shows_progress, &words),
+            Ok(words) => run_words(rt, terminals, &words),
             Err(AllocError) => refuse(rt, "out of memory", MEMORY),
         },
         Err(error) if error.kind() == io::ErrorKind::OutOfMemory => {
@@ -47,7 +60,7 @@ pub fn run_program<R: Env + Files + Clock + AllocGlobal + Input + Print + Eprint
 /// Does what the words ask for, of which the first is the program's name.
 fn run_words<R: Files + Clock + AllocGlobal + Input + Print + Eprint>(
     rt: &R,
-    shows_progress: bool,
+    terminals: Terminals,
     words: &Vec<String>,
 ) -> u8 {
     let mut borrowed = Vec::new(rt.alloc());
@@ -57,7 +70,7 @@ fn run_words<R: Files + Clock + AllocGlobal + Input + Print + Eprint>(
         }
     }
     match choose(rt.alloc(), &borrowed) {
-        Ok(Some(choice)) => run_choice(rt, shows_progress, choice),
+        Ok(Some(choice)) => run_choice(rt, terminals, choice),
         Ok(None) => refuse(rt, "a file's name is missing: see polcert --help", REFUSED),
         Err(error) => print_clap_error(rt, &error),
     }
@@ -77,14 +90,14 @@ fn print_clap_error<R: Print + Eprint>(rt: &R, error: &clap::Error) -> u8 {
 /// Does what was chosen, or prints why that is not possible.
 fn run_choice<R: Files + Clock + AllocGlobal + Input + Print + Eprint>(
     rt: &R,
-    shows_progress: bool,
+    terminals: Terminals,
     choice: Choice<'_>,
 ) -> u8 {
     let done = match choice.job() {
-        Job::Summarize(None) => summarize_input(rt),
-        Job::Summarize(Some(name)) => summarize_file(rt, name),
-        Job::Print(name) => print_file(rt, name),
-        Job::Run(task, names) => run_task_on_files(rt, shows_progress, task, names),
+        Job::Summarize(None) => summarize_input(rt, terminals),
+        Job::Summarize(Some(name)) => summarize_file(rt, terminals.error, name),
+        Job::Print(name) => print_file(rt, terminals.error, name),
+        Job::Run(task, names) => run_task_on_files(rt, terminals.error, task, names),
     };
     match done {
         Ok(status) => status,
@@ -95,27 +108,53 @@ fn run_choice<R: Files + Clock + AllocGlobal + Input + Print + Eprint>(
     }
 }
 
-/// Summarizes the model on standard input.
-fn summarize_input<R: AllocGlobal + Input + Print>(rt: &R) -> Result<u8, RunFault> {
-    let mut source = ReaderSource::new(rt.reader());
-    let mut sink = WriterSink::new(io::writer(rt));
-    run_model(rt.alloc(), &mut source, &mut sink)?;
-    Ok(DONE)
+/// Summarizes the model on standard input. If the model is to be typed, a hint says so, and no progress disturbs the typing.
+fn summarize_input<R: Clock + AllocGlobal + Input + Print + Eprint>(
+    rt: &R,
+    terminals: Terminals,
+) -> Result<u8, RunFault> {
+    if terminals.input && terminals.error {
+        let _ = rt.eprintln(WAITS_FOR_A_MODEL);
+    }
+    let shows_progress = terminals.error && !terminals.input;
+    let progress = ReadingProgress::new(rt, shows_progress, InputText::Model);
+    let mut source = WatchedSource::new(ReaderSource::new(rt.reader()), progress);
+    summarize(rt, &mut source)
 }
 
 /// Summarizes the model of a file.
-fn summarize_file<R: Files + AllocGlobal + Print>(rt: &R, name: &str) -> Result<u8, RunFault> {
-    let mut source = open_source(rt, name, RunFault::ReadModel)?;
+fn summarize_file<R: Files + Clock + AllocGlobal + Print + Eprint>(
+    rt: &R,
+    shows_progress: bool,
+    name: &str,
+) -> Result<u8, RunFault> {
+    let mut source = open_source(rt, shows_progress, InputText::Model, name)?;
+    summarize(rt, &mut source)
+}
+
+/// Summarizes the model of a source.
+fn summarize<S: Source, R: Clock + AllocGlobal + Print + Eprint>(
+    rt: &R,
+    source: &mut WatchedSource<'_, S, R>,
+) -> Result<u8, RunFault> {
     let mut sink = WriterSink::new(io::writer(rt));
-    run_model(rt.alloc(), &mut source, &mut sink)?;
+    let done = run_model(rt.alloc(), source, &mut sink);
+    source.clear_progress();
+    done?;
     Ok(DONE)
 }
 
 /// Prints the model of a file in full form.
-fn print_file<R: Files + AllocGlobal + Print>(rt: &R, name: &str) -> Result<u8, RunFault> {
-    let mut source = open_source(rt, name, RunFault::ReadModel)?;
+fn print_file<R: Files + Clock + AllocGlobal + Print + Eprint>(
+    rt: &R,
+    shows_progress: bool,
+    name: &str,
+) -> Result<u8, RunFault> {
+    let mut source = open_source(rt, shows_progress, InputText::Model, name)?;
     let mut sink = WriterSink::new(io::writer(rt));
-    run_print(rt.alloc(), &mut source, &mut sink)?;
+    let done = run_print(rt.alloc(), &mut source, &mut sink);
+    source.clear_progress();
+    done?;
     Ok(DONE)
 }
 
@@ -127,11 +166,30 @@ fn run_task_on_files<R: Files + Clock + AllocGlobal + Print + Eprint>(
     task: Task,
     names: FileNames<'_>,
 ) -> Result<u8, RunFault> {
-    let mut files = open_files(rt, names)?;
-    let (model, graph, vectors) = (&mut files.model, &mut files.graph, &mut files.vectors);
+    let mut model = open_source(rt, shows_progress, InputText::Model, names.model)?;
+    let mut graph = open_source(rt, shows_progress, InputText::Graph, names.graph)?;
+    let mut vectors = open_source(rt, shows_progress, InputText::Vectors, names.vectors)?;
     let sink = &mut WriterSink::new(io::writer(rt));
     let progress = &mut Progress::new(rt, shows_progress);
-    let outcome = run_task(rt.alloc(), task, model, graph, vectors, sink, progress)?;
+    let done = run_task(
+        rt.alloc(),
+        task,
+        &mut model,
+        &mut graph,
+        &mut vectors,
+        sink,
+        progress,
+    );
+    model.clear_progress();
+    graph.clear_progress();
+    vectors.clear_progress();
+    let outcome = done?;
+    print_constant(rt, outcome);
+    Ok(status_of_outcome(outcome))
+}
+
+/// Prints by how much vectors were lowered or raised.
+fn print_constant<R: Eprint>(rt: &R, outcome: Outcome) {
     match outcome {
         Outcome::Checked(_) | Outcome::CheckedAbove(_) => {}
         Outcome::Lowered(by) => {
@@ -141,35 +199,21 @@ fn run_task_on_files<R: Files + Clock + AllocGlobal + Print + Eprint>(
             let _ = rt.eprintln(RaisedLine(by));
         }
     }
-    Ok(status_of_outcome(outcome))
 }
 
-/// The sources of a model, a graph and its vectors.
-#[derive(Drop)]
-struct OpenedFiles<F> {
-    model: ReaderSource<F>,
-    graph: ReaderSource<F>,
-    vectors: ReaderSource<F>,
-}
-
-/// Opens these files in their order, or returns the fault of the first that can't be opened.
-fn open_files<R: Files>(rt: &R, names: FileNames<'_>) -> Result<OpenedFiles<R::File>, RunFault> {
-    Ok(OpenedFiles {
-        model: open_source(rt, names.model, RunFault::ReadModel)?,
-        graph: open_source(rt, names.graph, RunFault::ReadGraph)?,
-        vectors: open_source(rt, names.vectors, RunFault::ReadVectors)?,
-    })
-}
-
-/// Opens the source of a file, or returns the fault if it can't be opened.
-fn open_source<R: Files>(
-    rt: &R,
+/// Opens the source of a text by the name of its file.
+fn open_source<'a, R: Files + Clock + Eprint>(
+    rt: &'a R,
+    shows_progress: bool,
+    text: InputText,
     name: &str,
-    fault: RunFault,
-) -> Result<ReaderSource<R::File>, RunFault> {
+) -> Result<WatchedSource<'a, ReaderSource<R::File>, R>, RunFault> {
     match fs::open(rt, name) {
-        Ok(file) => Ok(ReaderSource::new(file)),
-        Err(_) => Err(fault),
+        Ok(file) => {
+            let progress = ReadingProgress::new(rt, shows_progress, text);
+            Ok(WatchedSource::new(ReaderSource::new(file), progress))
+        }
+        Err(_) => Err(text.read_fault()),
     }
 }
 
