@@ -11,7 +11,7 @@ use polcert_cells::{Cells, Row};
 const READ_PER_QUERY: usize = 64;
 
 /// Returns a weight times a number.
-pub(crate) fn weigh(weight: u64, number: i128) -> i128
+pub fn weigh(weight: u64, number: i128) -> i128
     requires weight { weight < 2 ^ 63 }
     requires product { weight * unsigned_abs number ≤ most_sum }
     ensures { result ≡ pos weight *ℤ number }
@@ -111,12 +111,7 @@ fn sum_over_ends<C: Cells>(cells: &C, a: usize, s: usize, buffer: &mut RewardBuf
 }
 
 /// Returns the reward that action `a` expects at state `s`, on the scale of the weights of one step.
-pub(crate) fn expected_reward<C: Cells>(
-    cells: &C,
-    a: usize,
-    s: usize,
-    buffer: &mut RewardBuffer,
-) -> i128
+pub fn expected_reward<C: Cells>(cells: &C, a: usize, s: usize, buffer: &mut RewardBuffer) -> i128
     requires action { a < (C.table cells.now).actions }
     requires start { s < (C.table cells.now).states }
     ensures { result ≡ expected_reward (C.table cells.now) a s }

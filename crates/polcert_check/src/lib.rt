@@ -15,6 +15,7 @@ mod laws;
 mod laws_above;
 mod lower;
 mod node;
+pub mod one_step;
 mod pairs;
 mod partial_value;
 mod parts;

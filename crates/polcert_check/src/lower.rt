@@ -22,7 +22,7 @@ use polcert_policy::{Graph, Vectors};
 use std::alloc::Global;
 
 /// A quotient, rounded up.
-pub(crate) fn ceil_quotient(amount: u128, divisor: u128) -> u128
+pub fn ceil_quotient(amount: u128, divisor: u128) -> u128
     requires some { 0 < divisor }
     requires room { amount + divisor ≤ 2 ^ 127 }
     ensures enough { amount ≤ divisor * result }

@@ -24,7 +24,7 @@ fn scaled_value(t_scale: u64, o_scale: u64, value: i64) -> i128
 }
 
 /// Returns how far a value is above what backs it: the expected reward, and the discounted value that is expected.
-pub(crate) fn shortfall<C: Cells>(cells: &C, value: i64, reward: i128, expected: i128) -> i128
+pub fn shortfall<C: Cells>(cells: &C, value: i64, reward: i128, expected: i128) -> i128
     requires value { unsigned_abs value ≤ largest }
     requires reward { unsigned_abs
         reward ≤ (C.table cells.now).t_scale * ((C.table cells.now).o_scale * largest) }

@@ -8,13 +8,13 @@ use polcert_cells::{Cells, MOST_OBSERVATIONS};
 
 /// A buffer for the rewards of all observations, given an action, a start state and an end state.
 #[derive(Drop)]
-pub(crate) struct RewardBuffer {
-    pub rewards: [i64; MOST_OBSERVATIONS],
+pub struct RewardBuffer {
+    rewards: [i64; MOST_OBSERVATIONS],
     ghost room: { length rewards ≡ MOST_OBSERVATIONS },
 }
 
 impl RewardBuffer {
-    pub(crate) fn new() -> Self {
+    pub fn new() -> Self {
         RewardBuffer {
             rewards: [0; MOST_OBSERVATIONS],
         }

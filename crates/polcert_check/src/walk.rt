@@ -8,7 +8,7 @@ use polcert_cells::{Cells, Row, Step, first_weight};
 /// Returns the next end state of positive weight when action `a` is taken in state `s`, from a place in the row on. If no row is
 /// lent, places are end states.
 #[inline(always)]
-pub(crate) fn next_end<C: Cells>(
+pub fn next_end<C: Cells>(
     cells: &C,
     a: usize,
     s: usize,
@@ -29,7 +29,7 @@ pub(crate) fn next_end<C: Cells>(
 /// Returns the next observation of positive weight when action `a` ends in state `e`, from a place in the row on. If no row is
 /// lent, places are observations.
 #[inline(always)]
-pub(crate) fn next_observation<C: Cells>(
+pub fn next_observation<C: Cells>(
     cells: &C,
     a: usize,
     e: usize,

@@ -30,7 +30,7 @@ difference_le : (x y : ℤ) (b : ℕ) → unsigned_abs x ≤ b → unsigned_abs 
 difference_le x y b h k = omega (arith, ints)
 
 -- what is earned or expected, in millionths of it
-part_le : (t o u : ℕ) (x : ℤ) → u ≤ one → unsigned_abs x ≤ t * (o * largest) → unsigned_abs (pos u *ℤ x) ≤ t * o * one * largest
+pub part_le : (t o u : ℕ) (x : ℤ) → u ≤ one → unsigned_abs x ≤ t * (o * largest) → unsigned_abs (pos u *ℤ x) ≤ t * o * one * largest
 part_le t o u x ul xl =
     let q : unsigned_abs (pos u *ℤ x) ≤ one * (t * (o * largest)) = abs-*ℤ_le (pos u) x one (t * (o * largest)) ul xl in
     let same : one * (t * (o * largest)) ≡ t * o * one * largest = turned t o one largest in
