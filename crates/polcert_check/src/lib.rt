@@ -49,6 +49,6 @@ pub use raises::{least_raise, raised, raised_watched};
 pub use rounded::millionths_short;
 pub use shortfall::amount_short;
 pub use start::start_worth;
-pub use start_above::start_most;
+pub use start_above::{most_from_start, start_most};
 pub use verdict::{Verdict, check, check_watched};
 pub use watch::{Unwatched, Watch};

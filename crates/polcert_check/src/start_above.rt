@@ -1,7 +1,8 @@
 //! What no start is worth more than.
-ghost use Rattle.std.specs.Prelude.{ℕ, ◌*◌, ◌<◌, ◌≤◌, unsigned_abs};
+ghost use Rattle.std.specs.Prelude.{◌≡◌, ℕ, ◌*◌, ◌<◌, ◌≤◌, unsigned_abs};
 ghost use Rattle.polcert_text.specs.Numbers.{largest};
 ghost use Rattle.polcert_model.specs.Contents.{meaning};
+ghost use Rattle.polcert_cells.specs.Meaning.{states_of};
 ghost use Rattle.polcert_cells.specs.Tables.{table_of};
 ghost use Rattle.polcert_policy.specs.Graphs.{nodes};
 ghost use Rattle.polcert_check.specs.Horizon.{Fits, controller_of};
@@ -23,10 +24,22 @@ fn ceil_quotient(sum: i128, total: u64) -> i64
     -floor_quotient(-sum, total)
 }
 
+/// Returns what none of the vectors is worth more than from the model's start: in millionths, rounded up.
+///
+/// A vector is worth the mean of its values, each state weighing its share in the start. It takes no memory.
+pub fn most_from_start(model: &Model, vectors: &Vectors) -> i64
+    requires { vectors.now.states ≡ states_of (meaning model.now) }
+
+    // The greatest of the vectors' sums of share times value, over the total of the shares, rounded up.
+    ensures { IsStartMost (meaning model.now) vectors.now result }
+{
+    let (_, sum) = best_start(model, vectors);
+    ceil_quotient(sum, model.start_total())
+}
+
 /// What no node is worth more than from the model's start: in millionths, rounded up.
 ///
-/// A node is worth the mean of its values, each state weighing its share in the start. The graph and the vectors must fit the
-/// model. It takes no memory.
+/// A node is worth what `most_from_start` says of its vector. The graph and the vectors must fit the model. It takes no memory.
 pub fn start_most(model: &Model, graph: &Graph, vectors: &Vectors) -> i64
     requires fits { Fits (table_of (meaning model.now)) graph.now vectors.now }
 
@@ -39,8 +52,6 @@ pub fn start_most(model: &Model, graph: &Graph, vectors: &Vectors) -> i64
         StartPromiseAbove (meaning model.now)
         (controller_of (table_of (meaning model.now)) graph.now vectors.now) k n result }
 {
-    let nodes = graph.nodes();
-    let (node, sum) = best_start(model, vectors);
-    prove!(node < nodes);
-    ceil_quotient(sum, model.start_total())
+    let _nodes = graph.nodes();
+    most_from_start(model, vectors)
 }
