@@ -27,11 +27,11 @@ module _ {S : Type 0} (rest : S → List ℕ) (old new : S) where
 
   module _ (slice : List ℕ) (holds : rest old ≡ slice) where
     -- so that what is said of each text that fits is said of the slice
-    of_slice : (P : List ℕ → Type 0) → EachTextThatFits (slice_reads rest) old new P → P slice
+    pub of_slice : (P : List ℕ → Type 0) → EachTextThatFits (slice_reads rest) old new P → P slice
     of_slice P h = subst P holds (h.each (rest old) (slice_fits h.bytes h.is_whole h.was_read))
 
     -- and what is said of its text
-    of_slice_text : (P : List ℕ → Type 0) (text : List ℕ) → IsText (slice_reads rest) old text new → P text
+    pub of_slice_text : (P : List ℕ → Type 0) (text : List ℕ) → IsText (slice_reads rest) old text new → P text
         → P slice
     of_slice_text P text is = subst P (text_slice rest is ∙ holds)
 

@@ -60,7 +60,7 @@ fn write_observations<W: Sink>(model: &Model, sink: &mut W) -> Result<(), SinkFa
 }
 
 /// Writes a count and the words after it.
-fn write_count<W: Sink>(count: usize, words: &[u8], sink: &mut W) -> Result<(), SinkFailed>
+pub fn write_count<W: Sink>(count: usize, words: &[u8], sink: &mut W) -> Result<(), SinkFailed>
     ensures { WritesText W.writes W.failures sink.old (counted count words.now) result sink.new }
 {
     let mut buffer = Buffer::new();
