@@ -30,7 +30,7 @@ pub fn informed_texts_bound_every_policy()
 {}
 
 /// The answer yes to the texts of a model, a graph and its vectors, and informed vectors for the same model, enclose
-/// the optimum, where the discount is below 1.
+/// the optimum, if the discount is below 1.
 pub fn optimum_of_texts_is_enclosed()
     // The best policy from the start of whatever model the text denotes earns at least what a node is worth
     // there, rounded down, and at most what the best vector is worth there, rounded up.
