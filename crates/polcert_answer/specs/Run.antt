@@ -30,6 +30,12 @@ use Rattle.polcert_answer.specs.Answer.{IsModelFault, IsGraphRefused, AreRounded
 use Rattle.polcert_answer.specs.Headline.{RoundedCertificate, Certificate, controller, IsCertified, AreRewardsCertified}
 use Rattle.polcert_answer.specs.Lines.{summary_line, yes_line, IsVerdictLine}
 
+-- a fault of a model's text or of its source
+abbrev pub IsModelReadFault : RunFault → Type 0
+IsModelReadFault (Text (Model fault)) = Unit {0}
+IsModelReadFault ReadModel = Unit {0}
+IsModelReadFault _ = ⊥
+
 -- ---- one source
 
 module _ {S W : Type 0} (reads : S → ℕ → Option (List ℕ) → S → Type 0) (writes : W → Option (List ℕ) → W → Type 0)

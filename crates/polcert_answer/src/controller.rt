@@ -8,8 +8,8 @@ ghost use Rattle.polcert_cells.specs.Meaning.{states_of, actions_of, observation
 ghost use Rattle.polcert_policy.specs.GraphText.{IsGraphText};
 ghost use Rattle.polcert_policy.specs.VectorText.{IsRoundedVectorsText};
 ghost use Rattle.polcert_answer.specs.Answer.{HasGraph, IsFault, IsModelFault, IsGraphRefused, AreRoundedVectorsRefused};
-ghost use Rattle.polcert_answer.specs.Run.{text_of, IsNamedRightly, RefusesRightly, NamesSourcesRightly, ReadsInOrder};
-ghost use Rattle.polcert_answer.specs.Steps.Reading.{AreDenoted, IsModelReadFault, IsGraphReadFault, IsVectorsReadFault, IsReadFault};
+ghost use Rattle.polcert_answer.specs.Run.{text_of, IsModelReadFault, IsNamedRightly, RefusesRightly, NamesSourcesRightly, ReadsInOrder};
+ghost use Rattle.polcert_answer.specs.Steps.Reading.{AreDenoted, IsGraphReadFault, IsVectorsReadFault, IsReadFault};
 
 use crate::fault::{Fault, RunFault};
 use polcert_model::{Model, read_model_from};

@@ -90,7 +90,8 @@ pub fn vectors_within_limits()
 pub fn action_graph_has_every_action()
     ensures nodes { (actions : ℕ) → nodes (action_graph actions) ≡ actions }
     ensures actions { (actions a : ℕ) → a < actions → action_of (action_graph actions) a ≡ a }
-    ensures proper { (actions : ℕ) → 1 ≤ actions → actions ≤ most_actions → IsProperGraph (action_graph actions) }
+    ensures proper { (actions : ℕ) → 1 ≤ actions → actions ≤ most_actions →
+        IsProperGraph (action_graph actions) }
 {}
 
 /// The vectors of actions that a text denotes are within their limits: there is one for each action that the text was read

@@ -11,7 +11,7 @@ use Rattle.polcert_policy.specs.FullForm.{vectors_text}
 use Rattle.polcert_check.specs.Horizon.{Controller, controller_of}
 use Rattle.polcert_check.specs.Lower.{IsLowered}
 use Rattle.polcert_check.specs.Raise.{IsRaised}
-use Rattle.polcert_answer.specs.declared.fault.Fault.TheVariants.{Model, Graph, Vectors}
+use Rattle.polcert_answer.specs.declared.fault.Fault.TheVariants.{Graph, Vectors}
 use Rattle.polcert_answer.specs.declared.fault.RunFault.{RunFault}
 use Rattle.polcert_answer.specs.declared.fault.RunFault.TheVariants.{Text, ReadModel, ReadGraph, ReadVectors, Write, Lower, Raise, TooLargeToPrint}
 use Rattle.polcert_answer.specs.Answer.{HasGraph}
@@ -48,12 +48,6 @@ AreLowered m g v by text = AreMoved Down IsLowered m g v by text
 
 abbrev pub AreRaised : Meaning → PolicyGraph → PolicyVectors → ℤ → List ℕ → Type 0
 AreRaised m g v by text = AreMoved Up IsRaised m g v by text
-
--- a fault of a model's text or of its source
-abbrev pub IsModelReadFault : RunFault → Type 0
-IsModelReadFault (Text (Model fault)) = Unit {0}
-IsModelReadFault ReadModel = Unit {0}
-IsModelReadFault _ = ⊥
 
 -- a fault of a graph's text or of its source
 abbrev pub IsGraphReadFault : RunFault → Type 0

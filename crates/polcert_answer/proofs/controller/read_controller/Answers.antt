@@ -3,7 +3,8 @@ use Rattle.polcert_model.specs.Contents.{meaning}
 use Rattle.polcert_answer.specs.declared.fault.Fault.TheVariants.{Model, Graph, Vectors}
 use Rattle.polcert_answer.specs.declared.fault.RunFault.TheVariants.{Text, ReadModel, ReadGraph, ReadVectors}
 use Rattle.polcert_answer.specs.Answer.{HasGraph}
-use Rattle.polcert_answer.specs.Steps.Reading.{IsModelReadFault, IsGraphReadFault, IsVectorsReadFault}
+use Rattle.polcert_answer.specs.Run.{IsModelReadFault}
+use Rattle.polcert_answer.specs.Steps.Reading.{IsGraphReadFault, IsVectorsReadFault}
 use Rattle.polcert_answer.proofs.Refusing.{graph_in_order}
 use Rattle.polcert_answer.proofs.Passing.{is_err, of_read, named_again, said}
 use Rattle.polcert_answer.proofs.ReadInTurn.{answered_well, unnamed, not_named}
