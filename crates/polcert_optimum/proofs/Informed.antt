@@ -17,7 +17,7 @@ no_sum : (n : ℕ) → total_below (λ i. pos 0) n ≡ pos 0
 no_sum zero = refl
 no_sum (suc n) = ap (λ (x : ℤ). x +ℤ pos 0) (no_sum n)
 
-swapped : (f : ℕ → ℕ → ℤ) (m n : ℕ) → total_below (λ e. total_below (λ z. f e z) m) n ≡ total_below (λ z. total_below (λ e. f e z) n) m
+pub swapped : (f : ℕ → ℕ → ℤ) (m n : ℕ) → total_below (λ e. total_below (λ z. f e z) m) n ≡ total_below (λ z. total_below (λ e. f e z) n) m
 swapped f m zero = sym (no_sum m)
 swapped f m (suc n) = ap (λ (x : ℤ). x +ℤ total_below (λ z. f n z) m) (swapped f m n) ∙ sym (sum_below_add (λ z. total_below (λ e. f e z) n) (λ z. f n z) m)
 

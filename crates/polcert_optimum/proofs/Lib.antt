@@ -3,6 +3,7 @@ pub mod Bounded
 pub mod EveryPolicy
 pub mod Greatest
 pub mod Informed
+pub mod Checking
 pub mod GraphPolicies
 pub mod EveryGraph
 pub mod Start

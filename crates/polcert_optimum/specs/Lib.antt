@@ -1,6 +1,8 @@
 pub mod Policy
 pub mod Bound
 pub mod Informed
+pub mod InformedCheck
+pub mod Steps
 pub mod GraphPolicy
 pub mod Start
 pub mod Optimum

@@ -1,5 +1,13 @@
-//! Bounds on what the policies of a model can earn: the definitions, and the laws that the bounds hold.
+//! Bounds on what the policies of a model can earn: the definitions, the laws that the bounds hold, and the check of the fast informed
+//! bound, one vector for each action.
 #![tactic(auto)]
 
+mod best_values;
 pub mod examples;
+mod excess;
 pub mod laws;
+mod observation_sums;
+mod pair;
+mod verdict;
+
+pub use verdict::{InformedVerdict, check_informed, fit_actions};

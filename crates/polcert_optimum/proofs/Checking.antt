@@ -1,0 +1,4 @@
+pub mod Adding
+pub mod Best
+pub mod Amounts
+pub mod Pairs

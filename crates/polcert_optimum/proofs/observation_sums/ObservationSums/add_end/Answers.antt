@@ -1,0 +1,65 @@
+use Rattle.std.proofs.Common.{rules, arith, ◌≡◌, ◌∙◌, ℕ, ◌*◌, ◌<◌, ◌≤◌, ℤ, unsigned_abs, to_z, of_z, w64, length, sym, subst}
+use mir.Syntax.{w128}
+use Rattle.std.proofs.lemmas.Int.{to_z-of_z}
+use Rattle.polcert_text.specs.Numbers.{largest}
+use Rattle.polcert_cells.specs.LentRows.{reached}
+use Rattle.polcert_cells.specs.Tables.{CellTable, IsProper, IsWithinLimits}
+use Rattle.polcert_policy.specs.Vectors.{value_of}
+use Rattle.polcert_check.specs.Steps.Ranges.{most_scales}
+use Rattle.polcert_optimum.specs.Steps.Sums.{sum_of}
+use Rattle.polcert_optimum.proofs.Checking.Adding.{weight_le, term_room, add_value, done_more, rest_more, all_done}
+use Rattle.polcert_optimum.proofs.Checking.Pairs.{vectors_small}
+use Rattle.polcert_optimum.proofs.observation_sums.ObservationSums.add_end.Goals as goal
+
+pub overflow_mul-step_weight : goal.overflow_mul-step_weight
+overflow_mul-step_weight g c =
+    let t : CellTable = g.C.Cells.table c.args.pair.now.cells.now in
+    let p : IsProper t = g.met.C.Cells.is_proper c.args.pair.now.cells.now in
+    let limits : IsWithinLimits t = g.met.C.Cells.is_within_limits c.args.pair.now.cells.now in
+    let next = c.in-Some.ensures.0 in
+    let q : c.args.weight * c.in-Some.observation.weight ≤ most_scales = weight_le t p limits c.args.pair.now.action c.args.pair.now.state c.args.pair.now.action_within c.args.pair.now.state_within c.args.end c.in-Some.observation.column c.args.weight c.in-Some.observation.weight c.requires.end next.1 c.requires.weight next.2 in
+    record { fits = omega (arith, q) }
+
+pub weigh-part-requires : goal.weigh-part-requires
+weigh-part-requires g c =
+    let t : CellTable = g.C.Cells.table c.args.pair.now.cells.now in
+    let p : IsProper t = g.met.C.Cells.is_proper c.args.pair.now.cells.now in
+    let limits : IsWithinLimits t = g.met.C.Cells.is_within_limits c.args.pair.now.cells.now in
+    let next = c.in-Some.ensures.0 in
+    let q : c.args.weight * c.in-Some.observation.weight ≤ most_scales = weight_le t p limits c.args.pair.now.action c.args.pair.now.state c.args.pair.now.action_within c.args.pair.now.state_within c.args.end c.in-Some.observation.column c.args.weight c.in-Some.observation.weight c.requires.end next.1 c.requires.weight next.2 in
+    let small : unsigned_abs c.at-value.result ≤ largest = subst (λ (x : ℤ). unsigned_abs x ≤ largest) (sym c.at-value.ensures.value) (vectors_small t c.args.pair.now.vectors.now c.args.pair.now.fit c.args.pair.now.proper c.args.next c.args.end c.requires.next c.requires.end) in
+    let h : ℤ = to_z w64 (of_z w64 c.at-value.result) in
+    let is : to_z w128 (of_z w128 h) ≡ c.at-value.result = to_z-of_z w128 h (search rules) ∙ to_z-of_z w64 c.at-value.result (search rules) in
+    rw is (term_room (c.args.weight * c.in-Some.observation.weight) c.at-value.result q small)
+
+pub overflow_add-sum : goal.overflow_add-sum
+overflow_add-sum g c =
+    let t : CellTable = g.C.Cells.table c.args.pair.now.cells.now in
+    let p : IsProper t = g.met.C.Cells.is_proper c.args.pair.now.cells.now in
+    let limits : IsWithinLimits t = g.met.C.Cells.is_within_limits c.args.pair.now.cells.now in
+    let next = c.in-Some.ensures.0 in
+    (add_value t p limits (value_of c.args.pair.now.vectors.now c.args.next) (λ e el. vectors_small t c.args.pair.now.vectors.now c.args.pair.now.fit c.args.pair.now.proper c.args.next e c.requires.next el) c.args.pair.now.action c.args.pair.now.state c.args.pair.now.action_within c.args.pair.now.state_within c.args.end c.in-Some.observation.column (c.args.weight * c.in-Some.observation.weight)
+    (to_z w128 (of_z w128 (sum_of c.loop-observation.self.sums c.in-Some.observation.column))) c.weigh-part.result (to_z w64 (of_z w64 c.at-value.result)) c.requires.end next.1 (λ i. c.requires.weight i * next.2 i)
+    (to_z-of_z w128 (sum_of c.loop-observation.self.sums c.in-Some.observation.column) (search rules) ∙ c.loop-observation.invariant.rest c.in-Some.observation.column next.0 next.1) (search rules) (search rules) c.weigh-part.ensures (to_z-of_z w64 c.at-value.result (search rules) ∙ c.at-value.ensures.value)).0
+
+pub loop-observation-preserved : goal.loop-observation-preserved
+loop-observation-preserved g c =
+    let t : CellTable = g.C.Cells.table c.args.pair.now.cells.now in
+    let p : IsProper t = g.met.C.Cells.is_proper c.args.pair.now.cells.now in
+    let limits : IsWithinLimits t = g.met.C.Cells.is_within_limits c.args.pair.now.cells.now in
+    let vector : ℕ → ℤ = value_of c.args.pair.now.vectors.now c.args.next in
+    let next = c.in-Some.ensures.0 in
+    let step = add_value t p limits (value_of c.args.pair.now.vectors.now c.args.next) (λ e el. vectors_small t c.args.pair.now.vectors.now c.args.pair.now.fit c.args.pair.now.proper c.args.next e c.requires.next el) c.args.pair.now.action c.args.pair.now.state c.args.pair.now.action_within c.args.pair.now.state_within c.args.end c.in-Some.observation.column (c.args.weight * c.in-Some.observation.weight)
+    (to_z w128 (of_z w128 (sum_of c.loop-observation.self.sums c.in-Some.observation.column))) c.weigh-part.result (to_z w64 (of_z w64 c.at-value.result)) c.requires.end next.1 (λ i. c.requires.weight i * next.2 i)
+    (to_z-of_z w128 (sum_of c.loop-observation.self.sums c.in-Some.observation.column) (search rules) ∙ c.loop-observation.invariant.rest c.in-Some.observation.column next.0 next.1) (search rules) (search rules) c.weigh-part.ensures (to_z-of_z w64 c.at-value.result (search rules) ∙ c.at-value.ensures.value) in
+    let room : c.in-Some.observation.column < length c.loop-observation.self.sums = omega (arith, c.loop-observation.self.room, next.1, limits.observations.1) in
+    rw c.in-Some.ensures.1 (record {
+      done = done_more t vector c.args.pair.now.action c.args.pair.now.state c.loop-observation.self.sums c.args.end (reached c.o_row-row.result c.loop-observation.at) c.in-Some.observation.column _ room next.4 step.1 c.loop-observation.invariant.done c.loop-observation.invariant.rest next.1;
+      rest = rest_more t vector c.args.pair.now.action c.args.pair.now.state c.loop-observation.self.sums c.args.end (reached c.o_row-row.result c.loop-observation.at) c.in-Some.observation.column _ room next.4 next.0 c.loop-observation.invariant.rest;
+      within = omega (arith, next.1);
+    })
+
+pub returns : goal.returns
+returns g c =
+    let t : CellTable = g.C.Cells.table c.args.pair.now.cells.now in
+    all_done t (value_of c.args.pair.now.vectors.now c.args.next) c.args.pair.now.action c.args.pair.now.state c.loop-observation.self.sums c.args.end (reached c.o_row-row.result c.loop-observation.at) c.in_default.ensures c.loop-observation.invariant.done c.loop-observation.invariant.rest

@@ -1,0 +1,10 @@
+use Rattle.std.proofs.Common.{◌≡◌, ℕ, ◌<◌, ◌≤◌}
+use Rattle.std.specs.Int.{int_max}
+use Rattle.polcert_optimum.specs.Steps.Sums.{sum_of}
+use Rattle.polcert_optimum.proofs.observation_sums.ObservationSums.take_greater.Given as goal
+
+abbrev pub invariant-loop-z : goal.invariant-loop-z
+invariant-loop-z l = record {
+  done : (k : ℕ) → k < l.z → sum_of l.self.sums k ≡ int_max (sum_of l.fn.self.sums k) (sum_of l.other.sums k);
+  rest : (k : ℕ) → l.z ≤ k → sum_of l.self.sums k ≡ sum_of l.fn.self.sums k;
+}

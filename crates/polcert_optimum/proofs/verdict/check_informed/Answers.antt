@@ -1,0 +1,45 @@
+use Rattle.std.proofs.Common.{rules, arith, ◌∙◌, ℤ, pos, ◌≤ℤ◌, ◌<ℤ◌, refl, subst}
+use mir.Syntax.{w128}
+use Rattle.std.proofs.lemmas.Int.{to_z-of_z}
+use Rattle.polcert_cells.specs.Tables.{CellTable, IsProper}
+use Rattle.polcert_policy.specs.Vectors.{value_of}
+use Rattle.polcert_optimum.specs.Informed.{IsInformed, AreInformed}
+use Rattle.polcert_optimum.proofs.Informed.{every_observation_policy}
+use Rattle.polcert_optimum.proofs.Checking.Pairs.{state_more, action_more, all_before, no_bound}
+use Rattle.polcert_optimum.proofs.verdict.check_informed.Goals as goal
+
+pub loop-state-preserved : goal.loop-state-preserved
+loop-state-preserved g c =
+    let t : CellTable = g.C.Cells.table c.args.cells.now in
+    let same = to_z-of_z w128 c.excess-amount.result (search rules) ∙ c.excess-amount.ensures.value in
+    let here : IsInformed t (value_of c.args.vectors.now) c.loop-action.action c.loop-state.state = subst (λ (x : ℤ). x ≤ℤ pos 0) same (c.if-is_above.ensures.not_above refl) in
+    record {
+      actions = c.loop-state.invariant.actions;
+      states = state_more t (value_of c.args.vectors.now) c.loop-action.action c.loop-state.state c.loop-state.invariant.states here;
+    }
+
+pub loop-action-preserved : goal.loop-action-preserved
+loop-action-preserved g c =
+    let t : CellTable = g.C.Cells.table c.args.cells.now in
+    action_more t (value_of c.args.vectors.now) c.loop-action.action c.loop-state.invariant.actions (λ u ul. c.loop-state.invariant.states u (omega (arith, ul, c.loop-state-test.false, c.states-state-end.ensures)))
+
+pub returns-then-is_above : goal.returns-then-is_above
+returns-then-is_above g c =
+    let t : CellTable = g.C.Cells.table c.args.cells.now in
+    let same = to_z-of_z w128 c.excess-amount.result (search rules) in
+    let is = same ∙ c.excess-amount.ensures.value in
+    let above = c.if-is_above.ensures.above refl in
+    let action = rw c.actions-action-end.ensures at c.loop-action-test.true in
+    let state = rw c.states-state-end.ensures at c.loop-state-test.true in
+    record {
+      verdict = (action, state, all_before t (value_of c.args.vectors.now) c.loop-action.action c.loop-state.state c.loop-state.invariant.actions c.loop-state.invariant.states, is, above);
+      promise = no_bound t (value_of c.args.vectors.now) c.loop-action.action c.loop-state.state action state (subst (λ (x : ℤ). pos 0 <ℤ x) is above);
+      small = rw same c.excess-amount.ensures.small;
+    }
+
+pub returns : goal.returns
+returns g c =
+    let t : CellTable = g.C.Cells.table c.args.cells.now in
+    let p : IsProper t = g.met.C.Cells.is_proper c.args.cells.now in
+    let all : AreInformed t (value_of c.args.vectors.now) = λ a s al sl. c.loop-action.invariant a s (omega arith) sl in
+    record { verdict = all; promise = every_observation_policy t (value_of c.args.vectors.now) p all; small = tt }

@@ -1,0 +1,13 @@
+use Rattle.std.proofs.Common.{ℕ, ◌<◌}
+use Rattle.polcert_policy.specs.Vectors.{value_of}
+use Rattle.polcert_optimum.specs.Informed.{IsInformed}
+use Rattle.polcert_optimum.proofs.verdict.check_informed.Given as goal
+
+abbrev pub invariant-loop-action : goal.invariant-loop-action
+invariant-loop-action g l = (b u : ℕ) → b < l.action → u < (g.C.Cells.table l.cells).states → IsInformed (g.C.Cells.table l.cells) (value_of l.vectors) b u
+
+abbrev pub invariant-loop-state : goal.invariant-loop-state
+invariant-loop-state g l = record {
+  actions : (b u : ℕ) → b < l.action → u < (g.C.Cells.table l.cells).states → IsInformed (g.C.Cells.table l.cells) (value_of l.vectors) b u;
+  states : (u : ℕ) → u < l.state → IsInformed (g.C.Cells.table l.cells) (value_of l.vectors) l.action u;
+}

@@ -1,0 +1,31 @@
+-- Helper definitions of private functions: one sum for each observation. Nobody has to believe them.
+use Rattle.std.specs.Prelude.{◌≡◌, ℕ, ◌*◌, ◌<◌, ◌≤◌, unsigned_abs, ℤ, pos, ◌*ℤ◌, List, slice_index_or}
+use Rattle.polcert_cells.specs.Tables.{CellTable}
+use Rattle.polcert_check.specs.Horizon.{total_below}
+use Rattle.polcert_check.specs.Steps.Ranges.{most_sum}
+use Rattle.polcert_optimum.specs.Policy.{step_weight}
+use Rattle.polcert_optimum.specs.Informed.{greatest_below, expected_value}
+
+-- the sum of observation z
+abbrev pub sum_of : List ℤ → ℕ → ℤ
+sum_of sums z = slice_index_or sums z (pos 0)
+
+-- what the first end states, so many, add to the expected value of a vector where z is observed
+abbrev pub value_until : CellTable → (ℕ → ℤ) → ℕ → ℕ → ℕ → ℕ → ℤ
+value_until t vector a s count z = total_below (λ e. pos (step_weight t a s e z) *ℤ vector e) count
+
+-- each observation's sum is that
+pub record AreValuesUntil (t : CellTable) (vector : ℕ → ℤ) (a s count : ℕ) (sums : List ℤ) : Type 0 where
+  pub each : (z : ℕ) → z < t.observations → sum_of sums z ≡ value_until t vector a s count z
+
+-- each observation's sum is the greatest expected value of the vectors of the first actions, so many
+pub record AreGreatestValues (t : CellTable) (vectors : ℕ → ℕ → ℤ) (a s count : ℕ) (sums : List ℤ) : Type 0 where
+  pub each : (z : ℕ) → z < t.observations → sum_of sums z ≡ greatest_below (λ b. expected_value t a s z (vectors b)) count
+
+-- no sum over the first observations is large
+pub record AreSmallSums (count : ℕ) (sums : List ℤ) : Type 0 where
+  pub each : (k : ℕ) → k ≤ count → unsigned_abs (total_below (sum_of sums) k) ≤ most_sum
+
+-- the expected value of the best vector after each observation
+abbrev pub best_value : CellTable → (ℕ → ℕ → ℤ) → ℕ → ℕ → ℤ
+best_value t vectors a s = total_below (λ z. greatest_below (λ b. expected_value t a s z (vectors b)) t.actions) t.observations
