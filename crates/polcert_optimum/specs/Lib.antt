@@ -2,6 +2,7 @@ pub mod Policy
 pub mod Bound
 pub mod Informed
 pub mod InformedCheck
+pub mod InformedRaise
 pub mod Steps
 pub mod GraphPolicy
 pub mod Start

@@ -5,9 +5,13 @@
 mod best_values;
 pub mod examples;
 mod excess;
+mod fault;
 pub mod laws;
 mod observation_sums;
 mod pair;
+mod raise;
 mod verdict;
 
+pub use fault::InformedRaiseFault;
+pub use raise::least_informed_raise;
 pub use verdict::{InformedVerdict, check_informed, fit_actions};

@@ -1,10 +1,11 @@
 -- Helper definitions of private functions: one sum for each observation. Nobody has to believe them.
-use Rattle.std.specs.Prelude.{◌≡◌, ℕ, ◌*◌, ◌<◌, ◌≤◌, unsigned_abs, ℤ, pos, ◌*ℤ◌, List, slice_index_or}
+use Rattle.std.specs.Prelude.{◌≡◌, ℕ, ◌<◌, ◌≤◌, ◌⊎◌, unsigned_abs, ℤ, pos, ◌*ℤ◌, ◌≤ℤ◌, List, slice_index_or}
 use Rattle.polcert_cells.specs.Tables.{CellTable}
 use Rattle.polcert_check.specs.Horizon.{total_below}
+use Rattle.polcert_check.specs.Verdict.{IsBefore}
 use Rattle.polcert_check.specs.Steps.Ranges.{most_sum}
 use Rattle.polcert_optimum.specs.Policy.{step_weight}
-use Rattle.polcert_optimum.specs.Informed.{greatest_below, expected_value}
+use Rattle.polcert_optimum.specs.Informed.{greatest_below, expected_value, excess}
 
 -- the sum of observation z
 abbrev pub sum_of : List ℤ → ℕ → ℤ
@@ -29,3 +30,9 @@ pub record AreSmallSums (count : ℕ) (sums : List ℤ) : Type 0 where
 -- the expected value of the best vector after each observation
 abbrev pub best_value : CellTable → (ℕ → ℕ → ℤ) → ℕ → ℕ → ℤ
 best_value t vectors a s = total_below (λ z. greatest_below (λ b. expected_value t a s z (vectors b)) t.actions) t.observations
+
+-- x is at least the excess of every action and state before a and s, by action and then by state, and it is one of them or 0
+pub record IsGreatestExcess (t : CellTable) (vectors : ℕ → ℕ → ℤ) (a s : ℕ) (x : ℤ) : Type 0 where
+  pub some : pos 0 ≤ℤ x
+  pub bounds : (b u : ℕ) → b < t.actions → u < t.states → IsBefore b u a s → excess t vectors b u ≤ℤ x
+  pub is_reached : (x ≡ pos 0) ⊎ ((b : ℕ) × (u : ℕ) × (b < t.actions) × (u < t.states) × (x ≡ excess t vectors b u))

@@ -1,0 +1,73 @@
+-- The greatest excess of the actions and states so far: one more at a time.
+use Rattle.std.proofs.Common.{◌≡◌, ℕ, ◌+◌, ◌<◌, ◌≤◌, ◌⊎◌, inl, inr, ⊎_elim, ℤ, pos, ◌≤ℤ◌, unsigned_abs, refl, sym, ◌∙◌, subst, arith}
+use Rattle.std.specs.Prelude.{int_lt}
+use Rattle.std.specs.Int.{int_max}
+use Rattle.std.proofs.lemmas.Bool.{cases_cond, cases_lt}
+use Rattle.std.proofs.lemmas.Int.{ints, clamps}
+use Rattle.polcert_cells.specs.Tables.{CellTable}
+use Rattle.polcert_text.specs.Numbers.{largest}
+use Rattle.polcert_cells.specs.Tables.{IsProper, IsWithinLimits}
+use Rattle.polcert_check.specs.Verdict.{IsBefore}
+use Rattle.polcert_check.proofs.Sums.Ring.{linear, ≤ℤ_trans}
+use Rattle.polcert_optimum.specs.Informed.{excess}
+use Rattle.polcert_optimum.specs.InformedCheck.{most_excess}
+use Rattle.polcert_optimum.specs.Steps.Sums.{IsGreatestExcess}
+use Rattle.polcert_optimum.proofs.Checking.Amounts.{excess_le}
+
+max_left : (x y : ℤ) → x ≤ℤ int_max x y
+max_left x y = omega (arith, ints, clamps)
+
+max_right : (x y : ℤ) → y ≤ℤ int_max x y
+max_right x y = omega (arith, ints, clamps)
+
+max_is_one : (x y : ℤ) → (int_max x y ≡ x) ⊎ (int_max x y ≡ y)
+max_is_one x y = cases_cond (int_lt y x) x y _ refl
+
+module _ (t : CellTable) (vectors : ℕ → ℕ → ℤ) where
+  pub none_yet : IsGreatestExcess t vectors 0 0 (pos 0)
+  none_yet = record {
+    some = omega (arith, linear);
+    bounds = λ b u bl ul before. ⊎_elim (λ (l : b < 0). absurd (omega (arith, l))) (λ (h : (b ≡ 0) × (u < 0)). absurd (omega (arith, h.1))) before;
+    is_reached = inl refl;
+  }
+
+  module _ (a s : ℕ) (x : ℤ) (before : IsGreatestExcess t vectors a s x) where
+    above : (y : ℤ) → y ≡ excess t vectors a s → (b u : ℕ) → b < t.actions → u < t.states → IsBefore b u a (s + 1) → excess t vectors b u ≤ℤ int_max x y
+    above y is b u bl ul earlier =
+        ⊎_elim (λ (l : b < a). ≤ℤ_trans _ _ _ (before.bounds b u bl ul (inl l)) (max_left x y))
+        (λ (h : (b ≡ a) × (u < s + 1)). ⊎_elim
+        (λ (k : u < s). ≤ℤ_trans _ _ _ (before.bounds b u bl ul (inr (h.0, k))) (max_left x y))
+        (λ (k : s ≤ u).
+        let e : s ≡ u = omega (arith, k, h.1) in
+        let here : excess t vectors a s ≤ℤ int_max x y = subst (λ (v : ℤ). v ≤ℤ int_max x y) is (max_right x y) in
+        subst (λ (c : ℕ). excess t vectors c u ≤ℤ int_max x y) (sym h.0) (subst (λ (v : ℕ). excess t vectors a v ≤ℤ int_max x y) e here))
+        (cases_lt u s))
+        earlier
+
+    pub one_more : (y : ℤ) → y ≡ excess t vectors a s → a < t.actions → s < t.states → IsGreatestExcess t vectors a (s + 1) (int_max x y)
+    one_more y is al sl = record {
+      some = ≤ℤ_trans _ _ _ before.some (max_left x y);
+      bounds = above y is;
+      is_reached = ⊎_elim
+          (λ (e : int_max x y ≡ x). ⊎_elim (λ (o : x ≡ pos 0). inl (e ∙ o)) (λ (r : (b : ℕ) × (u : ℕ) × (b < t.actions) × (u < t.states) × (x ≡ excess t vectors b u)). inr (r.0, r.1, r.2, r.3, e ∙ r.4)) before.is_reached)
+          (λ (e : int_max x y ≡ y). inr (a, s, al, sl, e ∙ is))
+          (max_is_one x y);
+    }
+
+  -- all states of an action
+  pub next_action : (a : ℕ) (x : ℤ) → IsGreatestExcess t vectors a t.states x → IsGreatestExcess t vectors (a + 1) 0 x
+  next_action a x before = record {
+    some = before.some;
+    bounds = λ b u bl ul earlier. before.bounds b u bl ul (⊎_elim (λ (l : b < a + 1). ⊎_elim (λ (k : b < a). inl k) (λ (k : a ≤ b). inr (omega (arith, l, k), ul)) (cases_lt b a)) (λ (h : (b ≡ a + 1) × (u < 0)). absurd (omega (arith, h.1))) earlier);
+    is_reached = before.is_reached;
+  }
+
+-- how large it is
+pub greatest_small : (t : CellTable) → IsProper t → IsWithinLimits t → (vectors : ℕ → ℕ → ℤ) → ((b e : ℕ) → b < t.actions → e < t.states → unsigned_abs (vectors b e) ≤ largest) → (a s : ℕ) (x : ℤ) → IsGreatestExcess t vectors a s x → unsigned_abs x ≤ most_excess t
+greatest_small t p limits vectors small a s x is =
+    ⊎_elim (λ (e : x ≡ pos 0). subst (λ (y : ℤ). unsigned_abs y ≤ most_excess t) (sym e) (omega arith))
+    (λ (r : (b : ℕ) × (u : ℕ) × (b < t.actions) × (u < t.states) × (x ≡ excess t vectors b u)). subst (λ (y : ℤ). unsigned_abs y ≤ most_excess t) (sym r.4) (excess_le t p limits vectors small r.0 r.1 r.2 r.3))
+    is.is_reached
+
+pub pos_abs : (x : ℤ) → pos 0 ≤ℤ x → x ≡ pos (unsigned_abs x)
+pos_abs x some = omega (arith, ints)

@@ -1,0 +1,9 @@
+use Rattle.polcert_policy.specs.Vectors.{value_of}
+use Rattle.polcert_optimum.specs.Steps.Sums.{IsGreatestExcess}
+use Rattle.polcert_optimum.proofs.raise.greatest_excess.Given as goal
+
+abbrev pub invariant-loop-action : goal.invariant-loop-action
+invariant-loop-action g l = IsGreatestExcess (g.C.Cells.table l.cells) (value_of l.vectors) l.action 0 l.greatest
+
+abbrev pub invariant-loop-state : goal.invariant-loop-state
+invariant-loop-state g l = IsGreatestExcess (g.C.Cells.table l.cells) (value_of l.vectors) l.action l.state l.greatest
