@@ -20,8 +20,17 @@ overflow_mul-step_weight g c =
     let q : c.args.weight * c.in-Some.observation.weight ≤ most_scales = weight_le t p limits c.args.pair.now.action c.args.pair.now.state c.args.pair.now.action_within c.args.pair.now.state_within c.args.end c.in-Some.observation.column c.args.weight c.in-Some.observation.weight c.requires.end next.1 c.requires.weight next.2 in
     record { fits = omega (arith, q) }
 
-pub weigh-part-requires : goal.weigh-part-requires
-weigh-part-requires g c =
+pub weigh-part-requires-clause-weight : goal.weigh-part-requires-clause-weight
+weigh-part-requires-clause-weight g c =
+    let t : CellTable = g.C.Cells.table c.args.pair.now.cells.now in
+    let p : IsProper t = g.met.C.Cells.is_proper c.args.pair.now.cells.now in
+    let limits : IsWithinLimits t = g.met.C.Cells.is_within_limits c.args.pair.now.cells.now in
+    let next = c.in-Some.ensures.0 in
+    let q : c.args.weight * c.in-Some.observation.weight ≤ most_scales = weight_le t p limits c.args.pair.now.action c.args.pair.now.state c.args.pair.now.action_within c.args.pair.now.state_within c.args.end c.in-Some.observation.column c.args.weight c.in-Some.observation.weight c.requires.end next.1 c.requires.weight next.2 in
+    omega (arith, q)
+
+pub weigh-part-requires-clause-product : goal.weigh-part-requires-clause-product
+weigh-part-requires-clause-product g c =
     let t : CellTable = g.C.Cells.table c.args.pair.now.cells.now in
     let p : IsProper t = g.met.C.Cells.is_proper c.args.pair.now.cells.now in
     let limits : IsWithinLimits t = g.met.C.Cells.is_within_limits c.args.pair.now.cells.now in
