@@ -1,0 +1,8 @@
+pub mod SameInformed
+pub mod OneInformed
+pub mod Denoted
+pub mod OneAnswer
+pub mod Passing
+pub mod OfTexts
+pub mod Answering
+pub mod Enclosing

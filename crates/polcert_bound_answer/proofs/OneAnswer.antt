@@ -1,0 +1,62 @@
+-- Two texts have one answer, unless memory ran out.
+use Rattle.std.proofs.Common.{◌≡◌, ℕ, List, Result, Ok, Err, refl, sym, subst}
+use Rattle.std.specs.Result.{IsErrAnd}
+use Rattle.polcert_text.specs.declared.number.Rounding.TheVariants.{Up}
+use Rattle.polcert_format.specs.declared.fault.ModelFault.{ModelFault}
+use Rattle.polcert_format.specs.declared.fault.ModelFault.TheVariants as models
+use Rattle.polcert_cells.specs.Meaning.{Meaning, states_of, actions_of}
+use Rattle.polcert_cells.specs.Tables.{table_of}
+use Rattle.polcert_model.specs.Text.{IsModelText}
+use Rattle.polcert_model.specs.Refusals.{SaysOfText}
+use Rattle.polcert_policy.specs.declared.fault.VectorFault.{VectorFault}
+use Rattle.polcert_policy.specs.declared.fault.VectorFault.TheVariants as values
+use Rattle.polcert_policy.specs.Vectors.{PolicyVectors, value_of}
+use Rattle.polcert_policy.specs.ActionVectors.{action_graph, IsActionVectorsText, IsNoActionVectorsText}
+use Rattle.polcert_policy.proofs.OneVectorsRefusal as vectors_refusals
+use Rattle.polcert_optimum.specs.declared.verdict.InformedVerdict.{InformedVerdict}
+use Rattle.polcert_answer.specs.declared.fault.Fault.{Fault}
+use Rattle.polcert_answer.specs.declared.fault.Fault.TheVariants.{Model, Graph, Vectors}
+use Rattle.polcert_answer.specs.Answer.{IsModelFault, IsWantOfMemory, IsButForMemory}
+use Rattle.polcert_answer.proofs.Refusing.{refused_of}
+use Rattle.polcert_bound_answer.specs.Answer.{IsBoundFault, IsBoundAnswer}
+use Rattle.polcert_bound_answer.proofs.OneInformed.{one_informed_verdict}
+
+-- what is refused as vectors are none, or memory ran out
+vectors_memory : (actions states : ℕ) (text : List ℕ) (f : VectorFault) (v : PolicyVectors) → IsNoActionVectorsText actions states text f → IsActionVectorsText actions states text v → f ≡ values.Memory
+vectors_memory actions states text values.Memory v refused are = refl
+vectors_memory actions states text _ v refused are = absurd (refused v are)
+
+-- what is refused as a model, unless memory ran out, is none
+no_model : (model : List ℕ) (f : ModelFault) (m : Meaning) → SaysOfText f → IsModelFault model f → IsModelText model m → ⊥
+no_model model f m says refused is = (refused_of f model says refused).no_model m is
+
+module _ (model vectors : List ℕ) where
+  pub one_verdict : (x y : InformedVerdict) → IsBoundAnswer model vectors (Ok x) → IsBoundAnswer model vectors (Ok y) → x ≡ y
+  one_verdict x y h g = one_informed_verdict (table_of h.0.meaning) (value_of h.0.values) x y (h.1 h.0) (g.1 h.0)
+
+  pub model_first : (f : ModelFault) (g : VectorFault) → SaysOfText f → IsBoundAnswer model vectors (Err (Model f)) → IsBoundAnswer model vectors (Err (Vectors g)) → ⊥
+  model_first f g says h other = no_model model f other.meaning says h other.is_model
+
+  pub one_refusal : (f g : VectorFault) → (f ≡ values.Memory → ⊥) → (g ≡ values.Memory → ⊥) → IsBoundAnswer model vectors (Err (Vectors f)) → IsBoundAnswer model vectors (Err (Vectors g)) → f ≡ g
+  one_refusal f g f_says g_says h other =
+      vectors_refusals.one_refusal Up (action_graph (actions_of h.meaning)) (states_of h.meaning) vectors f g f_says g_says (h.refusal h.meaning h.is_model) (other.refusal h.meaning h.is_model)
+
+  pub no_refusal : (x : InformedVerdict) (fault : Fault) → IsBoundAnswer model vectors (Ok x) → IsBoundAnswer model vectors (Err fault) → IsWantOfMemory fault
+  no_refusal x (Model models.Memory) h refused = tt
+  no_refusal x (Model (models.Item kind item place)) h refused = absurd (no_model model (models.Item kind item place) h.0.meaning tt refused h.0.is_model)
+  no_refusal x (Model (models.RowSum table action row)) h refused = absurd (no_model model (models.RowSum table action row) h.0.meaning tt refused h.0.is_model)
+  no_refusal x (Graph f) h refused = absurd refused
+  no_refusal x (Vectors f) h refused =
+      let memory = vectors_memory (actions_of h.0.meaning) (states_of h.0.meaning) vectors f h.0.values (refused.no_vectors h.0.meaning h.0.is_model) h.0.are_vectors in
+      subst (λ (g : VectorFault). IsWantOfMemory (Vectors g)) (sym memory) tt
+
+  -- beside a verdict there is no other answer
+  pub but_for_memory : (x : InformedVerdict) → IsBoundAnswer model vectors (Ok x) → (r : Result InformedVerdict Fault) → IsBoundAnswer model vectors r → IsButForMemory x r
+  but_for_memory x h (Ok y) other = one_verdict y x other h
+  but_for_memory x h (Err fault) other = no_refusal x fault h other
+
+-- ---- an answer that is a fault that is handed on
+pub refused_answer : (model vectors : List ℕ) (r : Result InformedVerdict Fault) (given : Fault) → IsErrAnd r (λ fault. fault ≡ given)
+    → IsBoundFault model vectors given → IsBoundAnswer model vectors r
+refused_answer model vectors (Ok verdict) given is fault = absurd is
+refused_answer model vectors (Err f) given is fault = rw is fault

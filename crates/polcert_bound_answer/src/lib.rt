@@ -1,0 +1,15 @@
+//! The answer to two texts, and the runs that write it: a model and one vector for each of its actions go in, and a verdict on whether
+//! they bound every policy, or raised vectors, come out.
+#![tactic(auto)]
+
+mod answer;
+mod inputs;
+mod laws;
+mod lines;
+mod runs;
+mod status;
+
+pub use answer::check_bound_texts;
+pub use laws::{certified_bounds_are_answered_yes, one_bound_answer, texts_enclose_the_optimum};
+pub use runs::run_bound_check;
+pub use status::status_of_bound_verdict;
