@@ -5,4 +5,5 @@ pub mod OneAnswer
 pub mod Passing
 pub mod OfTexts
 pub mod Answering
+pub mod Raising
 pub mod Enclosing

@@ -83,3 +83,17 @@ module _ (t u : CellTable) (same : HasSameCells t u) where
     h.3 ∙ excess_same vectors a s h.0 h.1,
     h.4,
   )
+
+-- ---- vectors that are the same in range
+module _ (t : CellTable) (xs ys : ℕ → ℕ → ℤ) (same : (a s : ℕ) → a < t.actions → s < t.states → xs a s ≡ ys a s) where
+  expected_same : (a s : ℕ) → total_below (λ z. greatest_below (λ b. expected_value t a s z (xs b)) t.actions) t.observations ≡ total_below (λ z. greatest_below (λ b. expected_value t a s z (ys b)) t.actions) t.observations
+  expected_same a s =
+      sum_below_same _ (λ z. greatest_below (λ b. expected_value t a s z (ys b)) t.actions) t.observations
+      (λ z _. greatest_same _ (λ b. expected_value t a s z (ys b)) t.actions
+      (λ b bl. sum_below_same _ (λ e. pos (step_weight t a s e z) *ℤ ys b e) t.states (λ e el. ap (λ (x : ℤ). pos (step_weight t a s e z) *ℤ x) (same b e bl el))))
+
+  pub informed_of : AreInformed t xs → AreInformed t ys
+  informed_of h a s al sl =
+      subst (λ (x : ℤ). x ≤ℤ pos 0)
+      (ap₂ (λ x y. pos one *ℤ expected_reward t a s +ℤ pos t.discount *ℤ x -ℤ pos (step_scale t * one) *ℤ y) (expected_same a s) (same a s al sl))
+      (h a s al sl)
