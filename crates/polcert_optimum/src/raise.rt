@@ -17,7 +17,8 @@ use polcert_policy::Vectors;
 /// Returns the greatest excess of any action and state, or 0 if none is above.
 fn greatest_excess<C: Cells>(cells: &C, vectors: &Vectors) -> i128
     requires { FitActions (C.table cells.now) vectors.now }
-    ensures { IsGreatestExcess (C.table cells.now) (value_of vectors.now) (C.table cells.now).actions 0 result }
+    ensures { IsGreatestExcess (C.table cells.now) (value_of vectors.now)
+        (C.table cells.now).actions 0 result }
 {
     let _vectors = vectors.nodes();
     let mut buffers = Buffers::new();

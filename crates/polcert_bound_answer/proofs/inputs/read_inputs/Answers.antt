@@ -1,7 +1,8 @@
 use Rattle.std.proofs.Common.{refl}
 use Rattle.polcert_answer.specs.declared.fault.Fault.TheVariants.{Model, Vectors}
 use Rattle.polcert_answer.specs.declared.fault.RunFault.TheVariants.{Text, ReadModel, ReadVectors}
-use Rattle.polcert_answer.specs.Steps.Reading.{IsModelReadFault, IsVectorsReadFault}
+use Rattle.polcert_answer.specs.Run.{IsModelReadFault}
+use Rattle.polcert_answer.specs.Steps.Reading.{IsVectorsReadFault}
 use Rattle.polcert_answer.proofs.Passing.{is_err, of_read, named_again, said}
 use Rattle.polcert_answer.proofs.ReadInTurn.{answered_well, unnamed, not_named}
 use Rattle.polcert_bound_answer.proofs.inputs.read_inputs.Goals as goal
