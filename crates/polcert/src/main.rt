@@ -8,7 +8,6 @@ mod help;
 mod program;
 mod progress;
 mod reading_progress;
-mod refusal;
 mod status_line;
 #[cfg(test)]
 mod tests;

@@ -1,32 +1,19 @@
 //! The program, over the runtime that it is given.
-ghost use Rattle.std.specs.Prelude.{◌≡◌};
-
 use crate::choice::{Choice, FileNames, Job, choose};
 use crate::progress::Progress;
 use crate::reading_progress::{InputText, ReadingProgress};
-use crate::refusal::{LoweredLine, RaisedLine, RefusalLine};
 use crate::watched_source::WatchedSource;
-use clap::error::ErrorKind;
 use polcert_answer::{
     Outcome, RunFault, Task, run_model, run_print, run_task, status_of, status_of_outcome,
+};
+use polcert_lines::{
+    DONE, LoweredLine, MEMORY, REFUSED, RaisedLine, RefusalLine, print_clap_error, refuse,
 };
 use polcert_text::{ReaderSource, Source, WriterSink};
 use std::alloc::AllocError;
 use std::rt::{Env, Files};
 use std::time::Clock;
 use std::{env, fs, io};
-
-/// The exit status if all went well and there is no verdict.
-const DONE: u8 = 0;
-
-/// The exit status of a command line that is refused.
-const REFUSED: u8 = 2;
-
-/// The exit status if help can't be written.
-const CANNOT_WRITE: u8 = 3;
-
-/// The exit status if there is no memory for the command line.
-const MEMORY: u8 = 4;
 
 /// The hint for a user who started the program without words and sees nothing happen.
 const WAITS_FOR_A_MODEL: &str =
@@ -73,17 +60,6 @@ fn run_words<R: Files + Clock + AllocGlobal + Input + Print + Eprint>(
         Ok(Some(choice)) => run_choice(rt, terminals, choice),
         Ok(None) => refuse(rt, "a file's name is missing: see polcert --help", REFUSED),
         Err(error) => print_clap_error(rt, &error),
-    }
-}
-
-/// Prints help or the version to standard output, or else why clap refuses the words to standard error.
-fn print_clap_error<R: Print + Eprint>(rt: &R, error: &clap::Error) -> u8 {
-    if error.kind() == ErrorKind::OutOfMemory {
-        return refuse(rt, "out of memory", MEMORY);
-    }
-    match error.print(rt) {
-        Ok(()) => error.exit_code() as u8,
-        Err(_) => refuse(rt, "cannot write", CANNOT_WRITE),
     }
 }
 
@@ -215,12 +191,4 @@ fn open_source<'a, R: Files + Clock + Eprint>(
         }
         Err(_) => Err(text.read_fault()),
     }
-}
-
-/// Prints why the program stops, and returns its status.
-fn refuse<R: Eprint>(rt: &R, line: &str, status: u8) -> u8
-    ensures { result ≡ status }
-{
-    let _ = rt.eprintln(line);
-    status
 }

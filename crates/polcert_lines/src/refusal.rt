@@ -28,6 +28,26 @@ impl fmt::Display for RefusalLine {
     }
 }
 
+/// Why a run over a model and vectors, one for each of its actions, stopped: the same, with the action in place of the node:
+/// `raise: U1 at action 0, state 5`.
+#[derive(Clone, Copy, Debug)]
+pub struct BoundRefusalLine(pub RunFault);
+
+impl fmt::Display for BoundRefusalLine {
+    fn fmt<W: fmt::Write>(&self, f: &mut fmt::Formatter<W>) -> fmt::Result {
+        match self.0 {
+            RunFault::Raise(
+                RaiseFault::NoConstant {
+                    node: action,
+                    state,
+                    ..
+                },
+            ) => write!(f, "raise: U1 at action {action}, state {state}"),
+            fault => write!(f, "{}", RefusalLine(fault)),
+        }
+    }
+}
+
 #[derive(Clone, Copy, Debug)]
 struct ModelLine(ModelFault);
 
