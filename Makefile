@@ -3,6 +3,7 @@
 
 PREFIX ?= /usr/local
 program = crates/polcert/out/polcert
+bound = crates/polcert_bound/out/polcert_bound
 unproved = build/polcert-unproved
 bindir = $(DESTDIR)$(PREFIX)/bin
 mandir = $(DESTDIR)$(PREFIX)/share/man/man1
@@ -27,13 +28,15 @@ $(unproved): $(sources)
 	@mkdir -p build
 	@tools/build-unproved $@
 
-program: ## prove and build the program, and check a shipped model with it
+program: ## prove and build the programs, and check a shipped model with polcert
 	@tools/prove-program $(tiger)
 
-install: ## install the proved program, the scripts and the pages below PREFIX (/usr/local), under DESTDIR
+install: ## install the proved programs, the scripts and the pages below PREFIX (/usr/local), under DESTDIR
 	@tools/is-proved $(program)
+	@tools/is-proved $(bound)
 	install -d "$(bindir)" "$(mandir)" "$(sharedir)" "$(docdir)" "$(bashdir)" "$(zshdir)"
 	install -m 755 $(program) "$(bindir)/polcert"
+	install -m 755 $(bound) "$(bindir)/polcert_bound"
 	install -m 644 docs/polcert.1 "$(mandir)/polcert.1"
 	install -m 644 scripts/*.py "$(sharedir)"
 	install -m 755 $(scripts) "$(sharedir)"
@@ -43,11 +46,11 @@ install: ## install the proved program, the scripts and the pages below PREFIX (
 	install -m 644 scripts/completions/_polcert "$(zshdir)/_polcert"
 
 uninstall: ## remove what install put there
-	rm -f "$(bindir)/polcert" "$(mandir)/polcert.1" "$(bashdir)/polcert" "$(zshdir)/_polcert" $(addprefix "$(bindir)"/,$(notdir $(scripts)))
+	rm -f "$(bindir)/polcert" "$(bindir)/polcert_bound" "$(mandir)/polcert.1" "$(bashdir)/polcert" "$(zshdir)/_polcert" $(addprefix "$(bindir)"/,$(notdir $(scripts)))
 	rm -rf "$(sharedir)" "$(docdir)"
 
-dist: ## make an archive of the proved program, the scripts, the pages and their checksums
-	@tools/make-dist $(program)
+dist: ## make an archive of the proved programs, the scripts, the pages and their checksums
+	@tools/make-dist $(program) $(bound)
 
 test: ## run each test and each case in minutes, before any proof; last line: N passed, M failed
 	@tests/run

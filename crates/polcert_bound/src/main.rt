@@ -1,0 +1,15 @@
+//! Checks that vectors, one for each action of a model, bound what every policy earns, or raises them so that they do.
+#![tactic(auto)]
+
+mod choice;
+mod help;
+mod program;
+#[cfg(test)]
+mod tests;
+
+pub use choice::{Choice, choose};
+use std::process::ExitCode;
+
+fn main(rt: HostRuntime) -> ExitCode {
+    ExitCode::from(program::run_program(&rt))
+}
