@@ -11,7 +11,7 @@ sharedir = $(DESTDIR)$(PREFIX)/share/polcert
 docdir = $(DESTDIR)$(PREFIX)/share/doc/polcert
 bashdir = $(DESTDIR)$(PREFIX)/share/bash-completion/completions
 zshdir = $(DESTDIR)$(PREFIX)/share/zsh/site-functions
-scripts = scripts/polcert-evaluate scripts/polcert-graph scripts/polcert-locate scripts/polcert-mend scripts/polcert-report
+scripts = scripts/polcert-bound-vectors scripts/polcert-evaluate scripts/polcert-graph scripts/polcert-locate scripts/polcert-mend scripts/polcert-report
 tiger = check examples/tiger.POMDP examples/tiger.pg examples/tiger.lowered.alpha
 sources = crates.txt $(shell find crates -name '*.rt' -path '*/src/*')
 

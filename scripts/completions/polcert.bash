@@ -14,4 +14,4 @@ _polcert() {
   mapfile -t COMPREPLY < <(compgen -W "$words" -- "$word")
 }
 complete -o bashdefault -o default -F _polcert polcert
-complete -o default polcert-evaluate polcert-graph polcert-locate polcert-mend polcert-report
+complete -o default polcert-bound-vectors polcert-evaluate polcert-graph polcert-locate polcert-mend polcert-report
