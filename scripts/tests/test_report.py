@@ -1,5 +1,6 @@
 """polcert-report."""
 import hashlib
+import os
 import unittest
 
 from support import EXAMPLES, PROGRAM, FolderTest, needs_program, run_script
@@ -48,6 +49,23 @@ class Report(FolderTest):
         report = self.report(model, self.file("lack.pg", b"0 0 0 -"), self.file("lack.alpha", b"0 0"))
         self.assertIn("no: node 0, state 0, observation 1 has no successor", report)
         self.assertIn("No constant makes the vectors pass from both sides", report)
+
+    def test_a_bound_on_every_policy(self) -> None:
+        # a program that answers as polcert_bound does stands beside polcert
+        os.symlink(PROGRAM, self.folder / "polcert")
+        bound = self.file("bound", b"0\n90 90\n1\n0 93\n2\n93 0\n")
+        for script, status, expected in (
+            ("[ $1:$2:$3 = check:%s:%s ] && echo 'yes: every policy, at most 90'", 0, "yes: every policy, at most 90"),
+            ("echo 'no: action 0, state 0, exceeded by 1'; exit 1", 0, "no: action 0, state 0, exceeded by 1"),
+            ("echo 'vectors: V6 at byte 4' >&2; exit 2", 2, "polcert_bound check: vectors: V6 at byte 4"),
+        ):
+            program = self.file("polcert_bound", f"#!/bin/sh\n{script.replace('%s:%s', f'{TIGER[0]}:{bound}')}\n".encode())
+            os.chmod(program, 0o755)
+            said = run_script("polcert-report", *TIGER, "--program", str(self.folder / "polcert"), "--bound", bound)
+            self.assertEqual(said.status, status, said.err)
+            self.assertIn(expected, said.err if status else said.out.decode())
+            self.assertEqual(b"\n## Every policy\n" in said.out, status == 0)
+            self.assertEqual(f"| `{bound}` | `".encode() in said.out, status == 0)
 
     def test_refused_files(self) -> None:
         for at in range(3):
