@@ -18,7 +18,7 @@ use std::alloc::Global;
 const ROOM: usize = 600;
 
 /// A text was refused; that is out of memory.
-fn refused(fault: Fault) -> Ended {
+pub fn refused(fault: Fault) -> Ended {
     match fault {
         Fault::Model(fault) => Ended::memory(Want::Model, fault == ModelFault::Memory),
         Fault::Graph(fault) => Ended::memory(Want::Graph, fault == GraphFault::Memory),
@@ -28,7 +28,7 @@ fn refused(fault: Fault) -> Ended {
 
 /// A run stopped; that is out of memory (for one of the three texts, for lowering or for raising), with the status of that and with
 /// nothing written.
-fn stopped(fault: RunFault, written: &[u8]) -> Ended {
+pub fn stopped(fault: RunFault, written: &[u8]) -> Ended {
     if status_of(&fault) != 4 || !written.is_empty() {
         return Ended::Wrong;
     }

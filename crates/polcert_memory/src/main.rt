@@ -4,6 +4,7 @@
 #![tactic(auto)]
 
 mod answers;
+mod bounds;
 mod ended;
 mod reading;
 mod texts;
@@ -40,6 +41,9 @@ fn call(alloc: Global, name: &str) -> Option<Ended> {
         "raising_vectors" => Some(reading::raising(alloc)),
         "answering_three_texts" => Some(answers::three_texts(alloc)),
         "answering_three_texts_from_above" => Some(answers::three_texts_from_above(alloc)),
+        "answering_a_bound" => Some(bounds::two_texts(alloc)),
+        "checking_a_bound" => Some(bounds::checking(alloc)),
+        "raising_a_bound" => Some(bounds::raising(alloc)),
         "summing_up" => Some(answers::summing_up(alloc)),
         "summing_up_an_mdp" => Some(answers::summing_up_an_mdp(alloc)),
         "printing" => Some(answers::printing(alloc)),

@@ -111,7 +111,7 @@ module _ (t : CellTable) (vector : ℕ → ℤ) (a s : ℕ) where
         → (k : ℕ) → z + 1 ≤ k → k < t.observations → sum_of (set xs z x) k ≡ value_until t vector a s e k
     rest_more fl rest k h kl = set_other xs z k x (λ (same : k ≡ z). omega (arith, h, same)) ∙ rest k (omega (arith, h, fl)) kl
 
-  -- behind the last weight of the row
+  -- after the last weight of the row
   pub all_done : (xs : List ℤ) (e from : ℕ) → ((k : ℕ) → from ≤ k → k < t.observations → t.o a e k ≡ 0) → ((k : ℕ) → k < from → sum_of xs k ≡ value_until t vector a s (e + 1) k) → ((k : ℕ) → from ≤ k → k < t.observations → sum_of xs k ≡ value_until t vector a s e k)
       → AreValuesUntil t vector a s (e + 1) xs
   all_done xs e from none done rest = record { each = λ z zl. go z zl (cases_lt z from) }
