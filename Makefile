@@ -37,16 +37,17 @@ install: ## install the proved programs, the scripts and the pages below PREFIX 
 	install -d "$(bindir)" "$(mandir)" "$(sharedir)" "$(docdir)" "$(bashdir)" "$(zshdir)"
 	install -m 755 $(program) "$(bindir)/polcert"
 	install -m 755 $(bound) "$(bindir)/polcert_bound"
-	install -m 644 docs/polcert.1 "$(mandir)/polcert.1"
+	install -m 644 docs/polcert.1 docs/polcert_bound.1 "$(mandir)"
 	install -m 644 scripts/*.py "$(sharedir)"
 	install -m 755 $(scripts) "$(sharedir)"
 	for script in $(notdir $(scripts)); do ln -sf "../share/polcert/$$script" "$(bindir)/$$script"; done
 	install -m 644 README.md $(wildcard docs/*.md) "$(docdir)"
 	install -m 644 scripts/completions/polcert.bash "$(bashdir)/polcert"
+	ln -sf polcert "$(bashdir)/polcert_bound"
 	install -m 644 scripts/completions/_polcert "$(zshdir)/_polcert"
 
 uninstall: ## remove what install put there
-	rm -f "$(bindir)/polcert" "$(bindir)/polcert_bound" "$(mandir)/polcert.1" "$(bashdir)/polcert" "$(zshdir)/_polcert" $(addprefix "$(bindir)"/,$(notdir $(scripts)))
+	rm -f "$(bindir)/polcert" "$(bindir)/polcert_bound" "$(mandir)/polcert.1" "$(mandir)/polcert_bound.1" "$(bashdir)/polcert" "$(bashdir)/polcert_bound" "$(zshdir)/_polcert" $(addprefix "$(bindir)"/,$(notdir $(scripts)))
 	rm -rf "$(sharedir)" "$(docdir)"
 
 dist: ## make an archive of the proved programs, the scripts, the pages and their checksums
