@@ -47,7 +47,7 @@ fn sum_of(numbers: &[u32]) -> u64
     numbers.iter().map(|number| *number as u64).sum()
 }
 
-/// The shares where each state has a probability: alike, if those above 0 are.
+/// Returns the shares if each state has a probability: equal ones if those above 0 are equal.
 fn shares_of(alloc: Global, probabilities: Sequence<u32>) -> Result<Shares, AllocError>
     requires { length probabilities ≤ most_states }
     ensures { IfOk result (λ s. s ≡ shares_of probabilities) }
