@@ -1,10 +1,10 @@
-.PHONY: help run program install uninstall dist test gate
+.PHONY: help run program install uninstall dist test gate toolchain
 .DEFAULT_GOAL := help
 
 PREFIX ?= /usr/local
 program = crates/polcert/out/polcert
 bound = crates/polcert_bound/out/polcert_bound
-unproved = build/polcert-unproved
+unproved = build/polcert-unproved build/polcert_bound-unproved
 bindir = $(DESTDIR)$(PREFIX)/bin
 mandir = $(DESTDIR)$(PREFIX)/share/man/man1
 sharedir = $(DESTDIR)$(PREFIX)/share/polcert
@@ -18,17 +18,22 @@ sources = crates.txt $(shell find crates -name '*.rt' -path '*/src/*')
 help: ## list the targets
 	@sed -n 's/^\([a-z]*\):.*## \(.*\)/make \1\t\2/p' $(MAKEFILE_LIST) | expand -t 16
 
-run: $(unproved) ## first answer in minutes: build the program unproved and check a shipped model
-	@$(unproved) $(tiger)
-	@echo 'This program is not proved, and slow: $(CURDIR)/$(unproved). Call it as: $(unproved) --help' >&2
-	@echo 'make program builds the proved one.' >&2
+run: ## first answer in minutes: build the programs unproved and check a shipped model
+	@$(MAKE) -s -j 2 $(unproved)
+	@build/polcert-unproved $(tiger)
+	@echo 'The programs in build are not proved, and slow (make program builds the proved ones). To try them and the scripts:' >&2
+	@echo 'export PATH="$(CURDIR)/build/unproved:$(CURDIR)/scripts:$$PATH"' >&2
 
-$(unproved): $(sources)
-	@echo 'Building the program without proofs, one to three minutes.' >&2
-	@mkdir -p build
-	@tools/build-unproved $@
+build/%-unproved: $(sources) | toolchain
+	@echo 'Building $* without proofs, one to three minutes.' >&2
+	@mkdir -p build/unproved
+	@tools/build-unproved $@ $*
+	@ln -sf ../$(@F) build/unproved/$*
 
-program: ## prove and build the programs, and check a shipped model with polcert
+toolchain:
+	@command -v rt > /dev/null || { echo 'rt, the command of the Rattle toolchain, is not on the path: see Install in README.md' >&2; exit 1; }
+
+program: toolchain ## prove and build the programs, and check a shipped model with polcert
 	@tools/prove-program $(tiger)
 
 install: ## install the proved programs, the scripts and the pages below PREFIX (/usr/local), under DESTDIR
