@@ -1,6 +1,7 @@
 """polcert-report."""
 import hashlib
 import os
+import shutil
 import unittest
 
 from support import EXAMPLES, PROGRAM, FolderTest, needs_program, run_script
@@ -66,6 +67,12 @@ class Report(FolderTest):
             self.assertIn(expected, said.err if status else said.out.decode())
             self.assertEqual(b"\n## Every policy\n" in said.out, status == 0)
             self.assertEqual(f"| `{bound}` | `".encode() in said.out, status == 0)
+
+    def test_an_unproved_build(self) -> None:
+        program = shutil.copy(PROGRAM, self.folder / "polcert-unproved")
+        os.symlink(program, self.folder / "polcert")
+        said = run_script("polcert-report", *TIGER, "--program", str(self.folder / "polcert"))
+        self.assertIn(", an unproved build to try things with: write the report again with a proved one.\n", said.out.decode())
 
     def test_refused_files(self) -> None:
         for at in range(3):
