@@ -32,7 +32,7 @@ CODES: Dict[str, Code] = {
     "M20": Code("the text has more than 4,294,967,296 bytes", "use a smaller model"),
     "K1": Code(
         "a byte that begins no name, number or sign, such as a comma, a quote, `/` or a letter outside of ASCII",
-        "remove it, or make it a comment with `#`"
+        "remove it, write a fraction in decimals, or make it a comment with `#`"
     ),
     "K2": Code("a name or a number of more than 400 bytes", "use a shorter one"),
     "K3": Code("a letter, `_` or a point directly after a number", "write a blank between, or a name that begins with a letter"),
