@@ -17,7 +17,7 @@ SCRIPTS = TOP / "scripts"
 EXAMPLES = TOP / "examples"
 NAMES = ("tiger", "machine", "stock", "robot")
 PROGRAM = os.environ.get("POLCERT")
-sys.path.insert(0, str(SCRIPTS))
+sys.path[:0] = [str(SCRIPTS), str(TOP / "tests")]
 sys.dont_write_bytecode = True
 
 OTHER_WORDS = [b" 0.5 ", b" - ", b" : ", b" * ", b"uniform", b"2", b"nan", b"\xc3\xa9", b"1e9", b"0.1234567"]

@@ -1,0 +1,68 @@
+"""What the runners of this folder share: paths, runs with a time limit, and the count of cases.
+
+A runner prints a line `failed: ..` for each case that fails. Its last line is `N passed, M failed`.
+"""
+import os
+import pathlib
+import subprocess
+import sys
+from typing import NamedTuple
+
+TESTS = pathlib.Path(__file__).resolve().parent
+TOP = TESTS.parent
+EXAMPLES = TOP / 'examples'
+SECONDS = 120  # that a run may take
+sys.path.insert(0, str(TOP / 'scripts'))
+
+
+class Cases:
+    """The cases of a runner."""
+
+    def __init__(self):
+        self.passed = self.failed = 0
+
+    def count(self, is_right, *said):
+        """Counts a case, and says what is wrong if it failed."""
+        if is_right:
+            self.passed += 1
+        else:
+            self.failed += 1
+            print('failed:', *said, flush=True)
+
+    def finish(self):
+        """Prints the last line and ends the runner: with status 1 if a case failed."""
+        print(f'{self.passed} passed, {self.failed} failed')
+        sys.exit(self.failed > 0)
+
+
+class Ran(NamedTuple):
+    """The exit status of a run, and what it wrote. A run that took too long has the status 124, as that of timeout(1)."""
+
+    status: int
+    out: bytes
+    err: bytes
+
+
+def run(words, **options):
+    """Runs a command, with nothing on standard input unless the options say otherwise."""
+    usual = {'stdout': subprocess.PIPE, 'stderr': subprocess.PIPE, 'timeout': SECONDS}
+    if 'input' not in options:
+        usual['stdin'] = subprocess.DEVNULL
+    try:
+        done = subprocess.run(words, **{**usual, **options})
+    except subprocess.TimeoutExpired as late:
+        return Ran(124, late.stdout or b'', late.stderr or b'')
+    return Ran(done.returncode, done.stdout or b'', done.stderr or b'')
+
+
+def named_program():
+    """The program that the command line names first."""
+    return str(pathlib.Path(sys.argv[1]).resolve())
+
+
+def shell_with(programs, room, *folders):
+    """The environment of a shell that finds these programs by name, each with the time limit, and those of these folders."""
+    for name, program in programs.items():
+        (room / name).write_text(f"#!/bin/sh\nexec timeout {SECONDS} '{program}' \"$@\"\n")
+        (room / name).chmod(0o755)
+    return {**os.environ, 'PATH': ':'.join(map(str, [room, *folders, os.environ['PATH']]))}
