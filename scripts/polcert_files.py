@@ -78,11 +78,13 @@ def read_model(source: Source, tolerant: bool = False) -> Model:
 def _refuse_wrong_sums(model: Model) -> None:
     for table in model.tables():
         for action in range(table.actions):
+            last = None  # (equal rows may be one object)
             for row, cells in table.row_from_all(action):
-                if sum(cells.values()) != 1:
+                if cells is not last and sum(cells.values()) != 1:
                     refusal = f"model: M17 in {table.letter}, action {action}, row {row}"
                     why = f"the row of {table.letter} for action {action} and state {row} does not sum to one"
                     raise FileError(model.source, "M17", place_of_row(model, table, action, row), why, refusal)
+                last = cells
 
 
 def place_of_row(model: Model, table: Table, action: int, row: int) -> int:
