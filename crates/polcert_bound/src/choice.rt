@@ -34,8 +34,8 @@ pub fn choose<'a>(alloc: Global, words: &'a [&'a str]) -> Result<Option<Choice<'
     ensures choice { IfOk result (λ choice.
         option_map view_of choice ≡ chosen (subcommand_of the_app (map (λ word. word.now) words.entry.now))) }
 
-    // An error comes exactly if clap's promise has a fault for the words, and has one of its kinds, out of memory
-    // aside.
+    // An error comes exactly if clap's promise has a fault for the words, and has one of its kinds, out of
+    // memory aside.
     ensures faults { FailsBy (fault_of the_app (map (λ word. word.now) words.entry.now)) result }
 {
     let command = program_command(alloc)?;

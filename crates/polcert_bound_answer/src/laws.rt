@@ -37,11 +37,13 @@ pub fn one_bound_answer()
 
     // If the model is refused, the vectors are not.
     ensures first { (model vectors : List ℕ) (f : ModelFault) (g : VectorFault) → SaysOfText f →
-        IsBoundAnswer model vectors (Err (Fault.Model f)) → IsBoundAnswer model vectors (Err (Fault.Vectors g)) → ⊥ }
+        IsBoundAnswer model vectors (Err (Fault.Model f)) →
+        IsBoundAnswer model vectors (Err (Fault.Vectors g)) → ⊥ }
 
     // The vectors are refused for one reason, at one place.
     ensures refusal { (model vectors : List ℕ) (f g : VectorFault) → f ≢ values.Memory → g ≢ values.Memory →
-        IsBoundAnswer model vectors (Err (Fault.Vectors f)) → IsBoundAnswer model vectors (Err (Fault.Vectors g)) → f ≡ g }
+        IsBoundAnswer model vectors (Err (Fault.Vectors f)) →
+        IsBoundAnswer model vectors (Err (Fault.Vectors g)) → f ≡ g }
 {}
 
 /// The interval that holds the optimum. If the discount is below 1, a yes to the vectors of any graph and a yes to vectors of the actions

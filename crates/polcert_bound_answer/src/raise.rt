@@ -44,10 +44,12 @@ pub fn run_bound_raise<M: Source, V: Source, W: Sink>(
 
     // Raising is refused only if both texts are accepted, for a right reason.
     ensures not_raised { (fault : _) → IsErrOf result (RunFault.Raise fault)
-        → IsBoundNotRaisable (text_of M.reads model.old model.new) (text_of V.reads vectors.old vectors.new) fault }
+        → IsBoundNotRaisable (text_of M.reads model.old model.new)
+        (text_of V.reads vectors.old vectors.new) fault }
 
-    // The first text that is none of its kind is refused, for a right reason. An I/O error is reported exactly if one occurred. The model
-    // is read to its end first. With any other fault than that of a write nothing was written.
+    // The first text that is none of its kind is refused, for a right reason. An I/O error is reported
+    // exactly if one occurred. The model is read to its end first. With any other fault than that of a write
+    // nothing was written.
     ensures stops { StopsBoundRightly result
         M.reads M.failures model.old model.new
         V.reads V.failures vectors.old vectors.new

@@ -32,21 +32,24 @@ pub fn run_bound_check<M: Source, V: Source, W: Sink>(
     ensures answered { WritesAnswer W.writes (HasBoundVerdict (text_of M.reads model.old model.new)
         (text_of V.reads vectors.old vectors.new)) result sink.old sink.new }
 
-    // The headline: a yes bounds every policy of the texts that were read, for every number of steps, from every state and from the start.
+    // The headline: a yes bounds every policy of the texts that were read, for every number of steps, from
+    // every state and from the start.
     ensures promise { result ≡ Ok InformedVerdict.Yes → HasBoundPromise (text_of M.reads model.old model.new)
         (text_of V.reads vectors.old vectors.new) }
 
     // And the number on the written line is promised from the start.
     ensures start_promise { result ≡ Ok InformedVerdict.Yes → (line : List ℕ)
-        × HasBoundStartPromise (text_of M.reads model.old model.new) (text_of V.reads vectors.old vectors.new) line
+        × HasBoundStartPromise (text_of M.reads model.old model.new)
+        (text_of V.reads vectors.old vectors.new) line
         × Takes W.writes sink.old line sink.new }
 
     // A no says that the vectors don't bound every policy.
     ensures horizon { IfOk result (HasBoundHorizon (text_of M.reads model.old model.new)
         (text_of V.reads vectors.old vectors.new)) }
 
-    // The first text that is none of its kind is refused, for a right reason. An I/O error is reported exactly if one occurred. The model
-    // is read to its end first. With any other fault than that of a write nothing was written.
+    // The first text that is none of its kind is refused, for a right reason. An I/O error is reported
+    // exactly if one occurred. The model is read to its end first. With any other fault than that of a write
+    // nothing was written.
     ensures stops { StopsBoundRightly result
         M.reads M.failures model.old model.new
         V.reads V.failures vectors.old vectors.new

@@ -22,7 +22,8 @@ pub fn bound_on_every_policy()
         BoundsEveryMixture t value }
 
     // The test is necessary.
-    ensures only_then { (t : CellTable) (value : ℕ → ℤ) → BoundsEveryPolicy t value → DominatesBackup t value }
+    ensures only_then { (t : CellTable) (value : ℕ → ℤ) →
+        BoundsEveryPolicy t value → DominatesBackup t value }
 {}
 
 /// Vectors, one for each action, bound every policy that sees the observations alone exactly if they are informed.
@@ -83,7 +84,8 @@ pub fn optimum_is_enclosed()
     // The upper bound needs no graph, and a bound on every policy also bounds those that see the states.
     ensures upper { (m : Meaning) (vectors : ℕ → ℕ → ℤ) (most : ℤ) → HasLimitedNumbers m →
         IsProper (table_of m) → AreInformed (table_of m) vectors → AreAtMostFromStart m vectors most →
-        m.preamble.discount < one → (policy : ObservationPolicy) → IsPolicyOf (table_of m) (as_policy policy) →
+        m.preamble.discount < one → (policy : ObservationPolicy) →
+        IsPolicyOf (table_of m) (as_policy policy) →
         EarnsAtMost m (as_policy policy) most }
     ensures seen { (m : Meaning) (value : ℕ → ℤ) (most : ℤ) → HasLimitedNumbers m →
         IsProper (table_of m) → DominatesBackup (table_of m) value → IsAtMostFromStart m value most →

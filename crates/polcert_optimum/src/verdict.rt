@@ -44,10 +44,12 @@ fn is_above(amount: i128) -> bool
 pub fn check_informed<C: Cells>(cells: &C, vectors: &Vectors) -> InformedVerdict
     requires { FitActions (C.table cells.now) vectors.now }
 
-    // Yes if the informed inequality holds everywhere, else the first action and state where it fails, and by how much.
+    // Yes if the informed inequality holds everywhere, else the first action and state where it fails, and
+    // by how much.
     ensures verdict { IsInformedVerdict (C.table cells.now) (value_of vectors.now) result }
 
-    // A yes bounds every policy that sees the observations alone, for every number of steps; a no says that the vectors don't.
+    // A yes bounds every policy that sees the observations alone, for every number of steps; a no says that
+    // the vectors don't.
     ensures promise { MeetsInformedPromise (C.table cells.now) (value_of vectors.now) result }
 
     // How large an amount can be.
