@@ -1,4 +1,4 @@
-//! The check: whether each value is backed by what the next step earns and by the values behind it.
+//! The check: whether each value is at most what the next step earns and the values after it.
 
 use std::cell::OnceCell;
 use std::fmt;
@@ -57,7 +57,7 @@ impl fmt::Display for NotLowered {
     }
 }
 
-/// What a node expects behind each end state.
+/// What a node expects after each end state.
 struct Ends {
     worths: Vec<i128>,
     /// The least observation that can come and has no successor, or `NONE`.

@@ -89,7 +89,7 @@ pub struct Model<'a> {
     pub is_cost: bool,
     pub states: Elements<'a>,
     pub actions: Elements<'a>,
-    /// None in an MDP, where the end state is observed.
+    /// None in an MDP: there the end state is observed.
     pub observations: Option<Elements<'a>>,
     /// A share for each state.
     pub start: Vec<u32>,
@@ -296,7 +296,7 @@ impl<'a> Model<'a> {
         Ok(())
     }
 
-    /// Whether digits stand here, and no number behind them.
+    /// Tells whether the next token is digits, and no number follows.
     fn is_at_state(&self, tokens: &Tokens<'a>) -> bool {
         let mut ahead = tokens.clone();
         ahead.digits().is_ok() && !ahead.is_at_number()
@@ -413,7 +413,7 @@ impl<'a> Model<'a> {
     }
 }
 
-/// Reads an entry of T or O behind its word.
+/// Reads an entry of T or O after its word.
 fn read_weights<'a>(
     tokens: &mut Tokens<'a>,
     table: &mut Rows,

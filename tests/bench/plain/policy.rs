@@ -5,7 +5,7 @@ use crate::text::{Result, Tokens};
 
 const MOST_NODES: usize = 10_000;
 
-/// The successor where there is none.
+/// Stands for a missing successor.
 pub const NONE: u32 = u32::MAX;
 
 pub struct Graph {

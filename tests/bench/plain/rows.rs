@@ -99,7 +99,7 @@ impl Rows {
         }
     }
 
-    /// What a row sums to: its columns can then share it alike.
+    /// What a row sums to: each column can have the same share of it.
     pub fn scale(&self) -> u32 {
         1_000_000 * self.columns as u32
     }

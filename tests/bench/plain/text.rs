@@ -52,7 +52,7 @@ impl<'a> Tokens<'a> {
         self.text.get(at).copied().unwrap_or(0)
     }
 
-    /// The first byte of the next token, behind blanks and comments; none at the end.
+    /// The first byte of the next token, after blanks and comments; none at the end.
     #[inline]
     pub fn peek(&mut self) -> Option<u8> {
         while let Some(&byte) = self.text.get(self.at) {
@@ -160,7 +160,7 @@ impl<'a> Tokens<'a> {
         }
     }
 
-    /// Takes a `-` or an `X` of a graph, if one stands here. A `-` may not stand directly before a numeral.
+    /// Takes a `-` or an `X` of a graph, if one is next. A `-` may not stand directly before a numeral.
     pub fn takes_no_successor(&mut self) -> bool {
         if self.peek() == Some(b'-') && !matches!(self.byte_at(self.at + 1), b'0'..=b'9' | b'.') {
             self.at += 1;
@@ -234,7 +234,7 @@ impl<'a> Tokens<'a> {
         value
     }
 
-    /// Adds the digits behind a point: six of them count.
+    /// Adds the digits after a point: six of them count.
     #[inline]
     fn fraction(&mut self, size: &mut Size) {
         let rest = &self.text[self.at..];
@@ -291,7 +291,7 @@ fn scaled(mantissa: &[u8], exponent: i64) -> Size {
         .position(|&byte| byte == b'.')
         .unwrap_or(0);
     let digits = mantissa.iter().filter(|byte| byte.is_ascii_digit());
-    // The place of a digit: how many digits of whole millionths stand behind it, below 0 for what is no whole one.
+    // The place of a digit: how many digits of whole millionths follow it, below 0 after the sixth decimal place.
     let mut place = digits.clone().count() as i64 - decimals as i64 + exponent + 6;
     let mut size = Size {
         millionths: 0,
