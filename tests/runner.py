@@ -57,7 +57,7 @@ def run(words, **options):
 
 def named_program():
     """The program that the command line names first."""
-    return str(pathlib.Path(sys.argv[1]).resolve())
+    return os.path.abspath(sys.argv[1])  # not resolved: what stands beside the program may be links
 
 
 def shell_with(programs, room, *folders):
