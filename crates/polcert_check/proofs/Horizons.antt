@@ -1,5 +1,4 @@
 -- Runs, and the promise for every number of steps.
-pub mod Computed
 pub mod Cuts
 pub mod Enumerated
 pub mod EveryHorizon

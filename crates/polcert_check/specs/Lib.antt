@@ -7,4 +7,3 @@ pub mod Above
 pub mod Raise
 pub mod StartMost
 pub mod Steps
-pub mod Worked

@@ -5,7 +5,6 @@ mod above;
 mod certificate;
 mod earnings;
 mod end_values;
-mod examples;
 mod expected_reward;
 mod expected_value;
 mod fault;
@@ -33,7 +32,6 @@ mod walk;
 mod watch;
 
 pub use above::{AboveVerdict, check_above, check_above_watched};
-pub use examples::{a_missing_successor, minus_one_for_each_step, runs_of_four_steps};
 pub use fault::{LowerFault, RaiseFault};
 pub use laws::{
     amounts_fit, one_best_start, one_list_of_runs, one_lowering, one_verdict,

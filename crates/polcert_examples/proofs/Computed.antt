@@ -3,7 +3,7 @@ use Rattle.std.proofs.Common.{◌≡◌, ℕ, ◌*◌, ◌≤◌, Bool, true, fa
 use Rattle.polcert_text.specs.Bytes.{class_of}
 use Rattle.polcert_text.specs.Numbers.{IsExact, number_of, exponent_size, power_of, size_of, millionth, largest}
 use Rattle.polcert_text.specs.Lexemes.{is_numeral}
-use Rattle.polcert_cells.specs.Numbers.{IsWhole, IsMillionths}
+use Rattle.polcert_cells.specs.Numbers.{IsMillionths}
 use Rattle.polcert_cells.specs.Words.{IsName, is_reserved, topic_of}
 use Rattle.polcert_examples.specs.Worked.Examples.{name, numeral, whole}
 use Rattle.polcert_examples.specs.Worked.RefusedExamples.{numeral_at}
@@ -19,15 +19,11 @@ is_so negative bytes h is short exponent size exact place =
     record { kind = refl; readable = record { numeral = is; short = short; exponent = exponent; size = size }; exact = exact }
 
 pub record Numerals : Type 0 where
-  pub zero : Is false (codes "0") (pos 0)
-  pub one : Is false (codes "1") (pos 1_000_000)
   pub minus_one : Is true (codes "1") (minus_whole 1)
   pub two : Is false (codes "2") (pos 2_000_000)
   pub ten : Is false (codes "10") (whole 10)
   pub minus_hundred : Is true (codes "100") (minus_whole 100)
-  pub one_pointed : Is false (codes "1.0") (pos 1_000_000)
   pub half : Is false (codes "0.5") (pos 500_000)
-  pub below_half : Is false (codes "0.499999") (pos 499_999)
   pub quarter : Is false (codes "0.25") (pos 250_000)
   pub three_quarters : Is false (codes "0.75") (pos 750_000)
   pub n_0_95 : Is false (codes "0.95") (pos 950_000)
@@ -37,33 +33,16 @@ pub record Numerals : Type 0 where
 pub numerals : Numerals
 unfolding class_of number_of exponent_size power_of size_of millionth
 numerals = record {
-  zero = is_so _ _ _ refl (lit≤ tt) (lit≤ tt) (lit≤ tt) refl;
-  one = is_so _ _ _ refl (lit≤ tt) (lit≤ tt) (lit≤ tt) refl;
   minus_one = is_so _ _ _ refl (lit≤ tt) (lit≤ tt) (lit≤ tt) refl;
   two = is_so _ _ _ refl (lit≤ tt) (lit≤ tt) (lit≤ tt) refl;
   ten = is_so _ _ _ refl (lit≤ tt) (lit≤ tt) (lit≤ tt) refl;
   minus_hundred = is_so _ _ _ refl (lit≤ tt) (lit≤ tt) (lit≤ tt) refl;
-  one_pointed = is_so _ _ _ refl (lit≤ tt) (lit≤ tt) (lit≤ tt) refl;
   half = is_so _ _ _ refl (lit≤ tt) (lit≤ tt) (lit≤ tt) refl;
-  below_half = is_so _ _ _ refl (lit≤ tt) (lit≤ tt) (lit≤ tt) refl;
   quarter = is_so _ _ _ refl (lit≤ tt) (lit≤ tt) (lit≤ tt) refl;
   three_quarters = is_so _ _ _ refl (lit≤ tt) (lit≤ tt) (lit≤ tt) refl;
   n_0_95 = is_so _ _ _ refl (lit≤ tt) (lit≤ tt) (lit≤ tt) refl;
   n_0_85 = is_so _ _ _ refl (lit≤ tt) (lit≤ tt) (lit≤ tt) refl;
   n_0_15 = is_so _ _ _ refl (lit≤ tt) (lit≤ tt) (lit≤ tt) refl;
-}
-
-pub record Wholes : Type 0 where
-  pub zero : IsWhole (numeral (codes "0")) 0
-  pub one : IsWhole (numeral (codes "1")) 1
-  pub two : IsWhole (numeral (codes "2")) 2
-
-pub wholes : Wholes
-unfolding class_of
-wholes = record {
-  zero = record { kind = refl; digits = refl; value = refl };
-  one = record { kind = refl; digits = refl; value = refl };
-  two = record { kind = refl; digits = refl; value = refl };
 }
 
 pub record Names : Type 0 where

@@ -1,7 +1,8 @@
 pub mod Computed
-pub mod FirstText
+pub mod Controllers
 pub mod FormExamples
 pub mod RefusedExamples
 pub mod StartExamples
 pub mod Tiger
+pub mod TigerBound
 pub mod WorkedTexts

@@ -1,20 +1,24 @@
-//! Rows and tables computed from small models.
-ghost use Rattle.std.specs.Prelude.{codes, true, false, Some, None, ◌≡◌, ◌∷◌, [], sum, pos, neg_ℤ};
+//! The definitions at small models, texts and controllers, computed.
+ghost use Rattle.std.specs.Prelude.{codes, true, false, Some, ◌≡◌, ◌*◌, ◌^◌, ◌∷◌, [], pos, neg_ℤ};
 ghost use Rattle.polcert_cells.specs.Meaning.{t_scale, HasProperRows, sum_below, states_of, actions_of, observations_of, start_total};
-ghost use Rattle.polcert_examples.specs.Worked.Examples.{first_row, thirds, decimal_thirds, sixths, patterns, reward_table, whole, reward_cells, general_first, general_last, name, numeral};
 ghost use Rattle.polcert_cells.specs.declared.shares.Shares.{Shares};
 ghost use Rattle.polcert_cells.specs.Start.{IsStart};
-ghost use Rattle.polcert_examples.specs.Worked.StartExamples.{a_b, shares, uniform_start, halves_start, quarters_start, name_start, number_start, include_start, exclude_start, exclude_none, exclude_all, unsummed_start, third_start, pointed_start, alone, zero_start};
-ghost use Rattle.polcert_format.specs.Text.{Denotes, IsRightText};
-ghost use Rattle.polcert_examples.specs.Worked.Tiger.{tiger, tiger_model, star};
-ghost use Rattle.polcert_text.specs.declared.tokens.TokenFault.TheVariants.{Glued};
-ghost use Rattle.polcert_format.specs.declared.fault.ItemFault.TheVariants.{Token, BadShape, WrongNumberCount, Reset, MissingLine, BeforeFirstItem, DuplicateLine, DiscountRange};
-ghost use Rattle.polcert_format.specs.Refusals.{IsItemRefusal, StopsInBody};
-ghost use Rattle.polcert_examples.specs.Worked.RefusedExamples.{empty_text, hello, twice, above_one, glued};
-ghost use Rattle.polcert_examples.specs.Worked.FirstText.{first, first_preamble, first_entries, first_known, first_model};
-ghost use Rattle.polcert_format.specs.FullForm.{full_form, start_text, reward_words, rewards_row};
-ghost use Rattle.polcert_examples.specs.Worked.FullFormExamples.{tiger_form, first_form, sixths_form, thirds_form, two_states, two_states_form};
-ghost use Rattle.polcert_format.specs.Misfits.{misfit, Mark, Index, Number, Digits, EndOfNumbers};
+ghost use Rattle.polcert_format.specs.Text.{Denotes};
+ghost use Rattle.polcert_format.specs.declared.fault.ItemFault.TheVariants.{DiscountRange};
+ghost use Rattle.polcert_format.specs.Refusals.{IsItemRefusal};
+ghost use Rattle.polcert_format.specs.FullForm.{full_form};
+ghost use Rattle.polcert_check.specs.Horizon.{runs, is_cut, weight, weights_sum, worth_sum};
+ghost use Rattle.polcert_check.specs.Shortfall as step;
+ghost use Rattle.polcert_check.specs.Lower.{lowered_by};
+ghost use Rattle.polcert_optimum.specs.Policy.{as_policy, expected_rewards};
+ghost use Rattle.polcert_optimum.specs.Informed.{excess};
+ghost use Rattle.polcert_examples.specs.Worked.Controllers.{one_state, one_node, half_followed};
+ghost use Rattle.polcert_examples.specs.Worked.Examples.{first_row, thirds, decimal_thirds, sixths, patterns, reward_table, whole, reward_cells, general_first, general_last};
+ghost use Rattle.polcert_examples.specs.Worked.FullFormExamples.{two_states, two_states_form};
+ghost use Rattle.polcert_examples.specs.Worked.RefusedExamples.{above_one};
+ghost use Rattle.polcert_examples.specs.Worked.StartExamples.{a_b, shares, uniform_start, halves_start, quarters_start, name_start, include_start, exclude_start, exclude_all};
+ghost use Rattle.polcert_examples.specs.Worked.Tiger.{tiger, tiger_model};
+ghost use Rattle.polcert_examples.specs.Worked.TigerBound.{listen_and_open, tiger as cells, tiger_vectors};
 
 /// `uniform` over three states is exactly a third each.
 pub fn uniform_thirds()
@@ -42,25 +46,16 @@ pub fn reward_patterns()
         whole 7 ∷ whole 2 ∷ whole 7 ∷ whole 8 ∷ whole 7 ∷ whole 0 ∷ whole 7 ∷ whole 6 ∷ [] }
 {}
 
-/// Start items over two states: `0.5 0.5` is the uniform start, 0.25 and 0.75 stay millionths, and one state, listed
-/// states and all but some have a share of 1 each. If no state is left, the sum isn't one, or one number is no
-/// state's, the item isn't right. One state alone may be given by 0 or by one.
+/// Start items over two states: `0.5 0.5` is the uniform start, 0.25 and 0.75 stay millionths, and named states, listed
+/// ones or all but some have a share of 1 each. If no state is left, the item isn't right.
 pub fn starts()
     ensures uniform { IsStart a_b uniform_start (shares (1 ∷ 1 ∷ []) 2) }
     ensures halves { IsStart a_b halves_start (shares (1 ∷ 1 ∷ []) 2) }
     ensures quarters { IsStart a_b quarters_start (shares (250_000 ∷ 750_000 ∷ []) 1_000_000) }
     ensures name { IsStart a_b name_start (shares (0 ∷ 1 ∷ []) 1) }
-    ensures number { IsStart a_b number_start (shares (0 ∷ 1 ∷ []) 1) }
     ensures include { IsStart a_b include_start (shares (1 ∷ 0 ∷ []) 1) }
     ensures exclude { IsStart a_b exclude_start (shares (0 ∷ 1 ∷ []) 1) }
-    ensures exclude_none { IsStart a_b exclude_none (shares (1 ∷ 1 ∷ []) 2) }
     ensures exclude_all { (x : Shares) → IsStart a_b exclude_all x → ⊥ }
-    ensures unsummed { (x : Shares) → IsStart a_b unsummed_start x → ⊥ }
-    ensures no_third { (x : Shares) → IsStart a_b third_start x → ⊥ }
-    ensures no_point { (x : Shares) → IsStart a_b pointed_start x → ⊥ }
-    ensures alone_zero { IsStart alone zero_start (shares (1 ∷ []) 1) }
-    ensures alone_one { IsStart alone number_start (shares (1 ∷ []) 1) }
-    ensures alone_pointed { IsStart alone pointed_start (shares (1 ∷ []) 1) }
 {}
 
 /// Of two reward entries that cover a cell the last holds, in either order.
@@ -86,55 +81,51 @@ pub fn tiger_problem()
     ensures total { start_total tiger_model ≡ 2 }
 {}
 
-/// Five refused texts: the empty one, a word before the items, a line that stands twice, a discount above one, and a
-/// refused numeral.
-pub fn refused_texts()
-    ensures empty { IsItemRefusal empty_text MissingLine 1 0 }
-    ensures hello { IsItemRefusal hello BeforeFirstItem 0 0 }
-    ensures twice { IsItemRefusal twice DuplicateLine 2 12 }
-    ensures above_one { IsItemRefusal above_one DiscountRange 1 10 }
-    ensures above_one_stops { StopsInBody above_one DiscountRange 1 10 }
-    ensures glued { IsItemRefusal glued (Token (Glued 10)) 1 10 }
+/// The text `discount: 2` is refused for its first item, at the byte where the 2 stands.
+pub fn discount_above_one()
+    ensures { IsItemRefusal above_one DiscountRange 1 10 }
 {}
 
-/// A small text by numbers alone is right, and denotes its model.
-pub fn first_text()
-    ensures taken { IsRightText first first_preamble (first_known first_entries) }
-    ensures denotes { Denotes first first_model }
-    ensures stays { first_model.t 0 0 0 ≡ 2_000_000 }
-    ensures heard { first_model.o 0 1 0 ≡ 300_000 }
-    ensures paid { first_model.r 0 0 0 0 ≡ neg_ℤ (pos 1_000_000) }
-    ensures unpaid { first_model.r 0 1 0 0 ≡ pos 0 }
+/// The full form of an MDP, with rewards and with costs.
+pub fn full_form_of_an_mdp()
+    ensures rewards { full_form (two_states false) ≡ two_states_form (codes "reward") }
+    ensures costs { full_form (two_states true) ≡ two_states_form (codes "cost") }
 {}
 
-/// Kinds of refusals where something else is found than is wanted: too few and too many numbers, a sign with nothing
-/// after it, `*` where a state is wanted in a start item, and `reset` anywhere.
-pub fn kinds_of_misfits()
-    ensures few { misfit Number None ≡ WrongNumberCount }
-    ensures many { misfit EndOfNumbers (Some (numeral (codes "3"))) ≡ WrongNumberCount }
-    ensures lone_sign { misfit Digits None ≡ BadShape }
-    ensures no_star { misfit Index (Some star) ≡ BadShape }
-    ensures no_colon { misfit Mark (Some (numeral (codes "3"))) ≡ BadShape }
-    ensures reset { misfit Number (Some (name (codes "reset"))) ≡ Reset }
+/// One state, one node, a discount of one half, and -1 for each step. The value -2 is backed by one step, and is worth
+/// -1 - 1/2 - 1/4 - 2/8 over three. The value 2 is short by 2 on the scale of a step, and lowered by 4 it is backed.
+pub fn minus_one_for_each_step()
+    ensures backed { step.short (one_node (one_state 1) (neg_ℤ (pos 2_000_000))) 0 0 ≡ pos 0 }
+    ensures three_steps { worth_sum (one_node (one_state 1) (neg_ℤ (pos 2_000_000))) 3 (Some 0) 0
+        ≡ neg_ℤ (pos (2_000_000 * (10 ^ 12) ^ 3 * (10 ^ 6) ^ 3)) }
+    ensures short { step.short (one_node (one_state 1) (pos 2_000_000)) 0 0 ≡ pos (2_000_000 * 10 ^ 18) }
+    ensures lowered { step.short (lowered_by (one_node (one_state 1) (pos 2_000_000)) 4_000_000) 0 0 ≡ pos 0 }
 {}
 
-/// The full forms of six models: the tiger problem, one by numbers alone, one whose rows are thirds, one with
-/// single cells after `uniform`, and an MDP, with rewards and with costs.
-pub fn full_forms()
-    ensures tiger { full_form tiger_model ≡ tiger_form }
-    ensures first { full_form first_model ≡ first_form }
-    ensures thirds { full_form thirds ≡ thirds_form }
-    ensures sixths { full_form sixths ≡ sixths_form }
-    ensures mdp { full_form (two_states false) ≡ two_states_form (codes "reward") }
-    ensures mdp_costs { full_form (two_states true) ≡ two_states_form (codes "cost") }
+/// Of two observations that are the same the second has no successor: of the two runs of one step it cuts the second, which
+/// weighs as much as the first.
+pub fn a_missing_successor()
+    ensures runs { runs (half_followed (pos 0)).cells 1 ≡ ((0, 0) ∷ []) ∷ ((0, 1) ∷ []) ∷ [] }
+    ensures cut { is_cut (half_followed (pos 0)) (Some 0) ((0, 1) ∷ []) ≡ true }
+    ensures lost { weight (half_followed (pos 0)) (Some 0) 0 ((0, 1) ∷ []) ≡ 10 ^ 12 }
+    ensures left { weights_sum (half_followed (pos 0)) 1 (Some 0) 0 ≡ pos (10 ^ 12) }
 {}
 
-/// Printed start items: all states alike, one of them, and millionths. Below them a row of costs.
-pub fn printed_lines()
-    ensures uniform { start_text (shares (1 ∷ 1 ∷ []) 2) ≡ codes "start: uniform\n" }
-    ensures include { start_text (shares (0 ∷ 1 ∷ []) 1) ≡ codes "start include: 1\n" }
-    ensures millionths { start_text (shares (250_000 ∷ 750_000 ∷ []) 1_000_000) ≡ codes "start: 0.25 0.75\n" }
-    ensures costs { rewards_row true (reward_words 0 0 0) 1 (λ z. pos 1_500_000) ≡ codes
-        "R: 0 : 0 : 0\n-1.5\n" }
-    ensures nothing { rewards_row true (reward_words 0 0 0) 1 (λ z. pos 0) ≡ [] }
+/// The fast informed bound of the tiger. If listening is worth 87.18, its informed backup is
+/// -1 + 0.95 * 92.821 = 87.17995, which is 0.00005 less; the doors are worth -100 + 0.95 * 87.18 and
+/// 10 + 0.95 * 87.18. If it is worth 87.17, the backup is 0.00995 more. One vector has to be 200 everywhere, since
+/// 10 + 0.95 * 200 is 200. All on the scale 4 * 10^18 of one step.
+pub fn tiger_is_bounded()
+    ensures listen { excess cells (tiger_vectors (pos 87_180_000)) 0 0 ≡ neg_ℤ (pos (50 * (4 * 10 ^ 18))) }
+    ensures tiger_door { excess cells (tiger_vectors (pos 87_180_000)) 1 0 ≡ pos 0 }
+    ensures other_door { excess cells (tiger_vectors (pos 87_180_000)) 1 1 ≡ pos 0 }
+    ensures exceeded { excess cells (tiger_vectors (pos 87_170_000)) 0 0 ≡ pos (9_950 * (4 * 10 ^ 18)) }
+    ensures one_vector { excess cells (λ a s. pos 200_000_000) 2 0 ≡ pos 0 }
+{}
+
+/// Listening once and opening the other door earns -1 + 0.95 * (0.85 * 10 - 0.15 * 100) = -7.175 in two steps, on the
+/// scale (4 * 10^18)^2.
+pub fn listening_once_earns()
+    ensures { expected_rewards cells (as_policy listen_and_open) 2 0
+        ≡ neg_ℤ (pos (7_175_000 * (4 * 10 ^ 18) ^ 2)) }
 {}

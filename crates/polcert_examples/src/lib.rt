@@ -1,10 +1,10 @@
-//! Worked examples of what a model's text is and denotes, and of the full form.
+//! Worked examples of the definitions. No crate depends on this one.
 #![tactic(auto)]
 
 mod examples;
 
 pub use examples::{
-    decimals_of_thirds, first_text, full_forms, kinds_of_misfits, printed_lines, refused_texts,
-    reward_order, reward_patterns, single_cells_behind_uniform, starts, tiger_problem,
-    uniform_thirds,
+    a_missing_successor, decimals_of_thirds, discount_above_one, full_form_of_an_mdp,
+    listening_once_earns, minus_one_for_each_step, reward_order, reward_patterns,
+    single_cells_behind_uniform, starts, tiger_is_bounded, tiger_problem, uniform_thirds,
 };

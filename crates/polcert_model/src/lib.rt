@@ -6,11 +6,6 @@ mod reader;
 pub use polcert_cells::{
     Body, Cell, Cells, Entries, Entry, Kind, Place, Places, Row, Sequence, Step, Table, Topic,
 };
-pub use polcert_examples::{
-    decimals_of_thirds, first_text, full_forms, kinds_of_misfits, printed_lines, refused_texts,
-    reward_order, reward_patterns, single_cells_behind_uniform, starts, tiger_problem,
-    uniform_thirds,
-};
 pub use polcert_format::{
     ItemFault, ModelFault, first_wrong_is_not_right, first_wrong_outside_items, first_wrong_stays,
     one_decision, one_division, one_element, one_entry, one_first_wrong, one_late_refusal,

@@ -9,4 +9,3 @@ pub mod EveryGraph
 pub mod Start
 pub mod Vanishing
 pub mod Optimum
-pub mod Computed

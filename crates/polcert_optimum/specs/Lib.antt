@@ -7,4 +7,3 @@ pub mod Steps
 pub mod GraphPolicy
 pub mod Start
 pub mod Optimum
-pub mod Worked

@@ -3,7 +3,6 @@
 #![tactic(auto)]
 
 mod best_values;
-pub mod examples;
 mod excess;
 mod fault;
 pub mod laws;

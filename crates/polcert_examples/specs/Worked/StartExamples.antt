@@ -2,7 +2,7 @@
 use Rattle.std.specs.Prelude.{ℕ, List, [], ◌∷◌, codes}
 use Rattle.polcert_text.specs.Cut.{Lexeme}
 use Rattle.polcert_cells.specs.declared.elements.Elements.{Elements}
-use Rattle.polcert_cells.specs.declared.elements.Elements.TheVariants.{Count, Names}
+use Rattle.polcert_cells.specs.declared.elements.Elements.TheVariants.{Names}
 use Rattle.polcert_cells.specs.declared.shares.Shares.{Shares}
 use Rattle.polcert_examples.specs.Worked.Examples.{name, numeral, colon}
 
@@ -22,39 +22,16 @@ halves_start = colon ∷ numeral (codes "0.5") ∷ numeral (codes "0.5") ∷ []
 abbrev pub quarters_start : List Lexeme
 quarters_start = colon ∷ numeral (codes "0.25") ∷ numeral (codes "0.75") ∷ []
 
--- `start: b`, `start: 1`
+-- `start: b`
 abbrev pub name_start : List Lexeme
 name_start = colon ∷ name (codes "b") ∷ []
 
-abbrev pub number_start : List Lexeme
-number_start = colon ∷ numeral (codes "1") ∷ []
-
--- `start include: a a`, `start exclude: a`, `start exclude:`, `start exclude: a b`
+-- `start include: a a`, `start exclude: a`, `start exclude: a b`
 abbrev pub include_start : List Lexeme
 include_start = name (codes "include") ∷ colon ∷ name (codes "a") ∷ name (codes "a") ∷ []
 
 abbrev pub exclude_start : List Lexeme
 exclude_start = name (codes "exclude") ∷ colon ∷ name (codes "a") ∷ []
 
-abbrev pub exclude_none : List Lexeme
-exclude_none = name (codes "exclude") ∷ colon ∷ []
-
 abbrev pub exclude_all : List Lexeme
 exclude_all = name (codes "exclude") ∷ colon ∷ name (codes "a") ∷ name (codes "b") ∷ []
-
--- `start: 0.5 0.499999`, `start: 2`, `start: 1.0`
-abbrev pub unsummed_start : List Lexeme
-unsummed_start = colon ∷ numeral (codes "0.5") ∷ numeral (codes "0.499999") ∷ []
-
-abbrev pub third_start : List Lexeme
-third_start = colon ∷ numeral (codes "2") ∷ []
-
-abbrev pub pointed_start : List Lexeme
-pointed_start = colon ∷ numeral (codes "1.0") ∷ []
-
--- one state alone
-abbrev pub alone : Elements
-alone = Count 1
-
-abbrev pub zero_start : List Lexeme
-zero_start = colon ∷ numeral (codes "0") ∷ []

@@ -1,9 +1,9 @@
 -- The definitions at small controllers, computed.
-use Rattle.std.proofs.Common.{◌≡◌, ◌*◌, ◌^◌, pos, neg_ℤ, true, length, Some, [], ◌∷◌, refl}
+use Rattle.std.proofs.Common.{◌≡◌, ◌*◌, ◌^◌, pos, neg_ℤ, true, Some, [], ◌∷◌, refl}
 use Rattle.polcert_check.specs.Horizon.{one, runs, is_cut, weight, weights_sum, worth_sum}
 use Rattle.polcert_check.specs.Shortfall.{short}
 use Rattle.polcert_check.specs.Lower.{lowered_by}
-use Rattle.polcert_check.specs.Worked.Examples.{one_state, one_node, half_followed}
+use Rattle.polcert_examples.specs.Worked.Controllers.{one_state, one_node, half_followed}
 
 pub backed : short (one_node (one_state 1) (neg_ℤ (pos 2_000_000))) 0 0 ≡ pos 0
 unfolding one
@@ -32,6 +32,3 @@ half_is_lost = refl
 
 pub half_is_left : weights_sum (half_followed (pos 0)) 1 (Some 0) 0 ≡ pos (10 ^ 12)
 half_is_left = refl
-
-pub many : length (runs (one_state 4) 4) ≡ 256
-many = refl

@@ -1,5 +1,5 @@
-use Rattle.polcert_optimum.proofs.Computed as computed
-use Rattle.polcert_optimum.proofs.examples.tiger_is_bounded.Goals as goal
+use Rattle.polcert_examples.proofs.TigerBound as computed
+use Rattle.polcert_examples.proofs.examples.tiger_is_bounded.Goals as goal
 
 pub returns : goal.returns
 returns c = record {

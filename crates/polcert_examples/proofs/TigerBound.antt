@@ -3,7 +3,7 @@ use Rattle.std.proofs.Common.{◌≡◌, ◌*◌, ◌^◌, pos, neg_ℤ, refl}
 use Rattle.polcert_check.specs.Horizon.{one}
 use Rattle.polcert_optimum.specs.Policy.{as_policy, expected_rewards}
 use Rattle.polcert_optimum.specs.Informed.{excess}
-use Rattle.polcert_optimum.specs.Worked.Tiger.{listen_and_open, tiger, tiger_vectors}
+use Rattle.polcert_examples.specs.Worked.TigerBound.{listen_and_open, tiger, tiger_vectors}
 
 pub listen : excess tiger (tiger_vectors (pos 87_180_000)) 0 0 ≡ neg_ℤ (pos (50 * (4 * 10 ^ 18)))
 unfolding one

@@ -1,2 +1,0 @@
--- Worked examples, and what the definitions say of them.
-pub mod Examples
