@@ -4,14 +4,13 @@
 
 mod answer;
 mod inputs;
-mod laws;
+pub mod laws;
 mod lines;
 mod raise;
 mod runs;
 mod status;
 
 pub use answer::check_bound_texts;
-pub use laws::{certified_bounds_are_answered_yes, one_bound_answer, texts_enclose_the_optimum};
 pub use raise::run_bound_raise;
 pub use runs::run_bound_check;
 pub use status::status_of_bound_verdict;

@@ -10,8 +10,8 @@ mod expected_value;
 mod fault;
 mod findings;
 mod followed;
-mod laws;
-mod laws_above;
+pub mod laws;
+pub mod laws_above;
 mod lower;
 mod node;
 pub mod one_step;
@@ -33,14 +33,6 @@ mod watch;
 
 pub use above::{AboveVerdict, check_above, check_above_watched};
 pub use fault::{LowerFault, RaiseFault};
-pub use laws::{
-    amounts_fit, one_best_start, one_list_of_runs, one_lowering, one_verdict,
-    promise_for_every_horizon, same_cells_same_answers, same_models_same_answers,
-};
-pub use laws_above::{
-    bounds_are_an_interval, one_above_verdict, one_raising, one_start_most,
-    promise_above_for_every_horizon, same_cells_same_answers_above, same_models_same_answers_above,
-};
 pub use lower::{least_constant, lowered, lowered_watched};
 pub use parts::fits;
 pub use raises::{least_raise, raised, raised_watched};

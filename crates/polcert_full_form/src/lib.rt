@@ -1,7 +1,7 @@
 //! The full form of a model: how it is written, and that it reads back as an equal model.
 #![tactic(auto)]
 
-mod laws;
+pub mod laws;
 mod print_model;
 mod print_rewards;
 mod print_rows;
@@ -9,5 +9,4 @@ mod print_words;
 mod reward_row;
 mod weight_row;
 
-pub use laws::{full_form_reads_back, one_full_form};
 pub use print_model::write_model;

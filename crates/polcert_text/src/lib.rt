@@ -5,7 +5,7 @@ mod beginning;
 mod buffer;
 mod buffered;
 mod bytes;
-mod laws;
+pub mod laws;
 mod lexeme;
 mod memory;
 mod millionths;
@@ -22,11 +22,6 @@ mod window;
 pub use beginning::{FrontNumber, front_colon, front_digits, front_number, front_token};
 pub use buffer::{BUFFER_SIZE, Buffer};
 pub use buffered::BufferedSink;
-pub use laws::{
-    any_text_of_a_file, any_text_of_standard_output, bytes_of_a_writer, one_cut, one_end,
-    one_next_token, one_refusal, one_value, rounding_either_way, same_answer_again, some_cut,
-    text_of_a_reader, text_of_a_slice,
-};
 pub use lexeme::TokenKind;
 pub use memory::{SliceSink, SliceSource};
 pub use millionths::write_scaled;
