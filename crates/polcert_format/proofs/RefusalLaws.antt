@@ -1,6 +1,7 @@
 -- What is refused isn't accepted.
 use Rattle.std.proofs.Common.{◌≡◌, ◌∙◌, ℕ, zero, suc, ◌<◌, None, List, refl, sym, subst, arith}
 use Rattle.polcert_text.specs.Cut.{text_rest, end_place, text_limit}
+use Rattle.polcert_text.proofs.Scanning.CleanCut.{clean_cut}
 use Rattle.polcert_text.proofs.TextLaws.{one_cut}
 use Rattle.polcert_cells.specs.declared.entry.Table.{Table}
 use Rattle.polcert_cells.specs.declared.entry.Table.TheVariants.{Transition, Observation, Reward}
@@ -49,12 +50,12 @@ no_wrong_row m n Observation a s same rows w =
 
 pub not_accepted : (text : List ℕ) (ts : TextTokens) (fault : ModelFault) (m : Meaning) → AreTokensOf text ts → IsRefusal ts fault → SaysOfText fault → IsModelText text m → ⊥
 not_accepted text ts (Item kind number place) m tokens refusal says accepted =
-    let cut = one_cut (text_rest text text_limit) ts.lexemes accepted.lexemes ts.ending None tokens.cut accepted.cut in
+    let cut = one_cut (text_rest text text_limit) ts.lexemes accepted.lexemes ts.ending None tokens.cut (clean_cut text accepted.lexemes accepted.tokens) in
     let d = accepted.denotes in
     not_taken ts number d.preamble d.known refusal.first_wrong cut.1
     (subst (λ ls. IsRightText ls d.preamble d.known) (sym cut.0) d.right)
 not_accepted text ts (RowSum table action row) m tokens refusal says accepted =
-    let cut = one_cut (text_rest text text_limit) ts.lexemes accepted.lexemes ts.ending None tokens.cut accepted.cut in
+    let cut = one_cut (text_rest text text_limit) ts.lexemes accepted.lexemes ts.ending None tokens.cut (clean_cut text accepted.lexemes accepted.tokens) in
     let d = accepted.denotes in
     let same = one_right_text accepted.lexemes d.preamble refusal.1.0 d.known refusal.1.1 d.right (subst (λ ls. IsRightText ls refusal.1.0 refusal.1.1) cut.0 refusal.1.2) in
     let known : meaning_of d.preamble d.known.start d.known.entries ≡ meaning_of refusal.1.0 refusal.1.1.start refusal.1.1.entries =
@@ -65,10 +66,10 @@ not_accepted text ts Memory m tokens refusal says accepted = absurd says
 pub no_model : (text : List ℕ) (fault : ModelFault) → ((ts : TextTokens) → AreTokensOf text ts → IsRefusal ts fault) → IsNoModel text fault
 no_model text (Item kind number place) refused = λ m accepted.
     let ts : TextTokens = tokens_of accepted.lexemes None (end_place (text_rest text text_limit)) in
-    let tokens : AreTokensOf text ts = record { cut = accepted.cut; end_is = refl } in
+    let tokens : AreTokensOf text ts = record { cut = clean_cut text accepted.lexemes accepted.tokens; end_is = refl } in
     not_accepted text ts (Item kind number place) m tokens (refused ts tokens) tt accepted
 no_model text (RowSum table action row) refused = λ m accepted.
     let ts : TextTokens = tokens_of accepted.lexemes None (end_place (text_rest text text_limit)) in
-    let tokens : AreTokensOf text ts = record { cut = accepted.cut; end_is = refl } in
+    let tokens : AreTokensOf text ts = record { cut = clean_cut text accepted.lexemes accepted.tokens; end_is = refl } in
     not_accepted text ts (RowSum table action row) m tokens (refused ts tokens) tt accepted
 no_model text Memory refused = tt

@@ -1,6 +1,7 @@
 -- A text denotes at most one model.
 use Rattle.std.proofs.Common.{◌≡◌, ◌∙◌, ℕ, ◌<◌, Some, None, List, [], ◌∷◌, ◌++◌, pos, codes, refl, sym, ap, subst, arith}
 use Rattle.polcert_text.specs.Cut.{Lexeme, text_rest, text_limit}
+use Rattle.polcert_text.proofs.Scanning.CleanCut.{clean_cut}
 use Rattle.polcert_text.proofs.Scanning.CutLaws.{one_cut}
 use Rattle.polcert_cells.specs.declared.words.Topic.{Topic}
 use Rattle.polcert_cells.specs.Words.{IsWord, IsName}
@@ -113,5 +114,5 @@ one_meaning ls m n a b =
 
 pub one_model : (text : List ℕ) (m n : Meaning) → IsModelText text m → IsModelText text n → IsSame m n
 one_model text m n a b =
-    let cut = one_cut (text_rest text text_limit) a.lexemes b.lexemes None None a.cut b.cut in
+    let cut = one_cut (text_rest text text_limit) a.lexemes b.lexemes None None (clean_cut text a.lexemes a.tokens) (clean_cut text b.lexemes b.tokens) in
     one_meaning b.lexemes m n (subst (λ ls. Denotes ls m) cut.0 a.denotes) b.denotes

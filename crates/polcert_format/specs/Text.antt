@@ -3,7 +3,8 @@
 -- once, before the start item and all entries; at most one start item stands before all entries. Our own: MDP files, which
 -- have no line of observations; that no other line is missing; the limits of cells; and that rows sum exactly.
 use Rattle.std.specs.Prelude.{◌≡◌, ℕ, ◌≤◌, Bool, true, false, List, [], ◌∷◌, ◌++◌, pos, Option, Some, None, codes}
-use Rattle.polcert_text.specs.Cut.{Lexeme, text_rest, IsCut, text_limit}
+use Rattle.polcert_text.specs.Cut.{Lexeme}
+use Rattle.polcert_text.specs.Tokens.{AreTokens}
 use Rattle.polcert_text.specs.declared.lexeme.TokenKind.TheVariants.{Colon}
 use Rattle.polcert_cells.specs.declared.entry.Table.{Table}
 use Rattle.polcert_cells.specs.declared.entry.Entry.{Entry}
@@ -92,8 +93,8 @@ pub record Denotes (lexemes : List Lexeme) (m : Meaning) : Type 0 where
   pub same : IsSame m (meaning_of preamble known.start known.entries)
   pub rows : HasProperRows m
 
--- The text is the text of this model: its tokens end cleanly, and denote the model.
+-- The text is the text of this model: it is tokens without a fault, and they denote the model.
 pub record IsModelText (text : List ℕ) (m : Meaning) : Type 0 where
   pub lexemes : List Lexeme
-  pub cut : IsCut (text_rest text text_limit) lexemes None
+  pub tokens : AreTokens text lexemes
   pub denotes : Denotes lexemes m

@@ -1,12 +1,14 @@
 -- A model's text that comes from a source.
-use Rattle.std.proofs.Common.{◌≡◌, ◌+◌, ◌∙◌, ℕ, Bool, true, false, cond, Option, Some, None, Result, Ok, Err, IfOk, IfErr, MatchResult, List, [], ◌∷◌, length, drop, nat_lt, sym, ap, arith}
-use Rattle.polcert_text.specs.Cut.{Lexeme, Rest, IsCut, EndsAt, text_rest, end_place, text_limit}
+use Rattle.std.proofs.Common.{◌≡◌, ◌+◌, ◌∙◌, ℕ, Bool, true, false, cond, Option, Some, None, Result, Ok, Err, IfOk, IfErr, MatchResult, List, [], ◌∷◌, length, drop, nat_lt, refl, sym, ap, arith}
+use Rattle.polcert_text.specs.Cut.{Lexeme, Rest, IsCut, text_rest, end_place, text_limit}
+use Rattle.polcert_text.proofs.Scanning.CleanCut.{ends_cleanly}
 use Rattle.polcert_text.specs.Source.{IsText, EachTextThatFits}
 use Rattle.polcert_text.specs.Stream.{Ahead, Stream, GivesEnd}
 use Rattle.polcert_text.specs.Steps.StreamTaken.{TakenFrom}
 use Rattle.polcert_text.specs.declared.tokens.TokenFault.{TokenFault}
 use Rattle.polcert_text.proofs.Streams.StreamTaken.{each_taken, each_cut, text_taken, each_whole}
 use Rattle.polcert_cells.specs.declared.entry.Table.{Table}
+use Rattle.polcert_cells.proofs.Basics.{some≢none}
 use Rattle.polcert_cells.specs.Rows.{IsFirstWrongRow}
 use Rattle.polcert_format.specs.declared.fault.ModelFault.{ModelFault}
 use Rattle.polcert_format.specs.declared.fault.ModelFault.TheVariants.{RowSum}
@@ -45,24 +47,12 @@ pub row_sum_refused : (seen : List Lexeme) (k : Known) → IsWholeRead seen k �
 row_sum_refused seen k read m kept text table a s cut wrong =
     refused_text (RowSum table a s) text (λ ts tokens. record { refusal = row_refused seen k read m kept text table a s cut wrong ts tokens; placed = tt })
 
-ends_as : (place : ℕ) (bs : List ℕ) (ending : Option TokenFault) → EndsAt place bs ending None → ending ≡ None
-ends_as place [] ending e = sym e
-ends_as place (b ∷ bs) ending e = absurd e
-
--- a cut that ends cleanly is one of bytes that do
-ends_cleanly : (rest : Rest) (ls : List Lexeme) → IsCut rest ls None → rest.ending ≡ None
-ends_cleanly rest [] cut = ends_as (rest.place + cut.gap) (drop cut.gap rest.bytes) rest.ending cut.ends_at
-ends_cleanly rest (l ∷ ls) cut = ap (λ (r : Rest). r.ending) (sym cut.1.rest) ∙ ends_cleanly cut.0 ls cut.2
-
-some≢none : {A : Type 0} {x : A} → Some x ≡ None → ⊥
-some≢none e = cc
-
 -- a text whose tokens end cleanly ends where they do
 clean_end : (text : List ℕ) (ls : List Lexeme) → IsCut (text_rest text text_limit) ls None → end_place (text_rest text text_limit) ≡ length text
 clean_end text ls cut = at (nat_lt text_limit (length text)) (ends_cleanly (text_rest text text_limit) ls cut)
   where
     at : (long : Bool) → (cond long (too_long text) (whole_text text)).ending ≡ None → end_place (cond long (too_long text) (whole_text text)) ≡ length text
-    at true e = absurd (some≢none e)
+    at true e = absurd (some≢none refl e)
     at false e = omega arith
 
 module _ {S : Type 0} (reads : S → ℕ → Option (List ℕ) → S → Type 0) (failures : S → ℕ) (first : S) where

@@ -1,6 +1,7 @@
 -- A text that was read to its end, and the model that is made of it.
 use Rattle.std.proofs.Common.{◌≡◌, ◌∙◌, ℕ, None, Result, Ok, Err, IfOk, IfErr, MatchResult, List, sym, subst}
 use Rattle.polcert_text.specs.Cut.{Lexeme, IsCut, text_rest, end_place, text_limit}
+use Rattle.polcert_text.proofs.Scanning.CleanCut.{clean_tokens}
 use Rattle.polcert_cells.specs.declared.entry.Table.{Table}
 use Rattle.polcert_format.specs.declared.fault.ModelFault.{ModelFault}
 use Rattle.polcert_format.specs.declared.fault.ModelFault.TheVariants as model_faults
@@ -39,7 +40,7 @@ module _ (seen : List Lexeme) (k : Known) (w : IsWholeRead seen k) (m : Kept) (k
 
   -- and the text is the text of this model
   pub whole_accepted : (text : List ℕ) → IsCut (text_rest text text_limit) seen None → HasProperRows (meaning m) → IsModelText text (meaning m)
-  whole_accepted text cut rows = record { lexemes = seen; cut = cut; denotes = whole_denotes rows }
+  whole_accepted text cut rows = record { lexemes = seen; tokens = clean_tokens text seen cut; denotes = whole_denotes rows }
 
   -- and otherwise the first row that isn't is refused
   pub row_refused : (text : List ℕ) (table : Table) (a s : ℕ) → IsCut (text_rest text text_limit) seen None

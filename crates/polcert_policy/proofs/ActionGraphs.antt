@@ -8,6 +8,8 @@ use Rattle.polcert_cells.specs.Elements.{most_actions, most_states}
 use Rattle.polcert_policy.specs.Graphs.{nodes, action_of, IsProperGraph}
 use Rattle.polcert_policy.specs.Vectors.{PolicyVectors, AreProperVectors}
 use Rattle.polcert_policy.specs.ActionVectors.{action_graph, IsActionVectorsText}
+use Rattle.polcert_text.specs.declared.number.Rounding.TheVariants.{Up}
+use Rattle.polcert_policy.proofs.FlatVectors.{parts_from}
 use Rattle.polcert_policy.proofs.Places.{within_get}
 use Rattle.polcert_policy.proofs.LimitLaws.{vectors_proper}
 
@@ -63,4 +65,4 @@ action_counts actions states text v is = (is.2.nodes_are ∙ node_count actions,
 pub action_vectors_proper : (actions states : ℕ) (text : List ℕ) (v : PolicyVectors) → 1 ≤ actions → actions ≤ most_actions → 1 ≤ states → states ≤ most_states → IsActionVectorsText actions states text v → AreProperVectors v
 action_vectors_proper actions states text v some few some_states few_states is =
     let proper = action_graph_proper actions some few in
-    vectors_proper (action_graph actions) states is.0 v proper.some_nodes proper.few_nodes some_states few_states is.2
+    vectors_proper (action_graph actions) states is.0 v proper.some_nodes proper.few_nodes some_states few_states (parts_from Up (action_graph actions) states is.0 v is.2)

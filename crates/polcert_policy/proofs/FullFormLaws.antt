@@ -21,6 +21,7 @@ use Rattle.polcert_policy.specs.Vectors.{PolicyVectors, Part, sign_kind, tokens_
 use Rattle.polcert_policy.specs.VectorText.{IsRoundedVectorsText}
 use Rattle.polcert_policy.specs.Steps.VectorsRead.{AreVectorsUpTo}
 use Rattle.polcert_policy.specs.FullForm.{behind_value, values_text, action_text, vectors_text_up_to, vectors_text}
+use Rattle.polcert_policy.proofs.FlatVectors as flat_vectors
 use Rattle.polcert_policy.proofs.Places.{some_none, same_some, row_above}
 use Rattle.polcert_policy.proofs.Fillers.{action_spelled}
 use Rattle.polcert_policy.proofs.GraphLaws.{IsBehind}
@@ -288,4 +289,4 @@ module _ (g : PolicyGraph) (v : PolicyVectors) (proper_g : IsProperGraph g) (pro
         let below = le-ltb text_limit (length (texts_of us)) short_text in
         let whole : text_rest (texts_of us) text_limit ≡ rest_at 0 (texts_of us) = simp below in
         subst (λ text. IsRoundedVectorsText way g v.states text v) (text-all g v (nodes g))
-        (tokens_of (parts_from 0 us), subst (λ r. IsCut r (tokens_of (parts_from 0 us)) None) (sym whole) cut, tokens_read_back)
+        (flat_vectors.vectors_text way g v.states (texts_of us) v (tokens_of (parts_from 0 us)) (subst (λ r. IsCut r (tokens_of (parts_from 0 us)) None) (sym whole) cut) tokens_read_back)

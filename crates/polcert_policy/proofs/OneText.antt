@@ -5,19 +5,25 @@ use Rattle.polcert_policy.specs.Graphs.{PolicyGraph, IsLooseGraph}
 use Rattle.polcert_policy.specs.GraphText.{IsGraphText}
 use Rattle.polcert_policy.specs.Vectors.{PolicyVectors, IsRoundedVectors}
 use Rattle.polcert_policy.specs.VectorText.{IsRoundedVectorsText}
+use Rattle.polcert_policy.proofs.FlatGraphs as flat_graphs
+use Rattle.polcert_policy.proofs.FlatVectors as flat_vectors
 use Rattle.polcert_policy.proofs.GraphLaws as graphs
 use Rattle.polcert_policy.proofs.VectorLaws as vectors
 use Rattle.polcert_text.specs.declared.number.Rounding.{Rounding}
 
 pub one_graph : (actions observations : ℕ) (text : List ℕ) (g h : PolicyGraph)
     → IsGraphText actions observations text g → IsGraphText actions observations text h → g ≡ h
-one_graph actions observations text g h x y =
+one_graph actions observations text g h a b =
+    let x = flat_graphs.indexed actions observations text g a in
+    let y = flat_graphs.indexed actions observations text h b in
     let tokens = (cuts.one_cut _ x.0 y.0 _ _ x.1 y.1).0 in
     graphs.one_loose actions observations y.0 g h (subst (λ ts. IsLooseGraph actions observations ts g) tokens x.2.loose) y.2.loose
 
 module _ {way : Rounding} where
   pub one_vectors : (graph : PolicyGraph) (states : ℕ) (text : List ℕ) (v w : PolicyVectors)
       → IsRoundedVectorsText way graph states text v → IsRoundedVectorsText way graph states text w → v ≡ w
-  one_vectors graph states text v w x y =
+  one_vectors graph states text v w a b =
+      let x = flat_vectors.indexed way graph states text v a in
+      let y = flat_vectors.indexed way graph states text w b in
       let tokens = (cuts.one_cut _ x.0 y.0 _ _ x.1 y.1).0 in
       vectors.one_list graph states y.0 v w (subst (λ ts. IsRoundedVectors way graph states ts v) tokens x.2) y.2

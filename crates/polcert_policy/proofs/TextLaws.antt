@@ -8,6 +8,7 @@ use Rattle.polcert_policy.specs.GraphText.{IsGraphText, EndsEarly, HasWrongToken
 use Rattle.polcert_policy.specs.Steps.GraphRead.{IsTokenRefusal, IsEndRefusal, IsUnfinished}
 use Rattle.polcert_policy.specs.declared.fault.GraphFault.{GraphFault}
 use Rattle.polcert_policy.specs.declared.fault.GraphFault.TheVariants as faults
+use Rattle.polcert_policy.proofs.FlatGraphs.{IsIndexedText, indexed, graph_text}
 use Rattle.polcert_policy.proofs.GraphLaws.{one_loose}
 use Rattle.polcert_policy.proofs.Places.{order, same_row, same_column}
 use Rattle.polcert_policy.proofs.WholeTexts.{not_stopped, same_tokens, no_token_fault}
@@ -67,9 +68,10 @@ module _ (a o : ℕ) (text : List ℕ) (ts : List Lexeme) (g : PolicyGraph) (cut
 
 pub no_graph : (a o : ℕ) (text : List ℕ) (fault : GraphFault) → IsGraphRefusal a o text fault → IsNoGraphText a o text fault
 no_graph a o text faults.Memory h = tt
-no_graph a o text (faults.SuccessorOutOfRange n z) h = λ g is.
+no_graph a o text (faults.SuccessorOutOfRange n z) h = λ g given.
+    let is = indexed a o text g given in
     not_beyond g n z (names_beyond a o text is.0 g is.1 is.2.loose (faults.SuccessorOutOfRange n z) h) is.2.bound
-no_graph a o text fault h = λ g is. names_beyond a o text is.0 g is.1 is.2.loose fault h
+no_graph a o text fault h = λ g given. let is = indexed a o text g given in names_beyond a o text is.0 g is.1 is.2.loose fault h
 
 pub possible_at : (a b o p : ℕ) (ts : List Lexeme) → a ≡ b → o ≡ p → IsPossible a o ts → IsPossible b p ts
 possible_at a b o p ts ea eo h = subst₂ (λ x y. IsPossible x y ts) ea eo h
@@ -97,7 +99,7 @@ beyond_named a o text fault r n z h = at fault (names_beyond a o text h.0 h.1.0 
     at _ named = absurd named
 
 -- a graph's successors all name nodes
-pub none_beyond : (a o : ℕ) (text : List ℕ) (g : PolicyGraph) → IsGraphText a o text g → (n z : ℕ) → HasFirstBeyond a o text n z → ⊥
+pub none_beyond : (a o : ℕ) (text : List ℕ) (g : PolicyGraph) → IsIndexedText a o text g → (n z : ℕ) → HasFirstBeyond a o text n z → ⊥
 none_beyond a o text g is n z h =
     let loose = same_tokens (IsLooseGraph a o) text g is.0 is.1 is.2.loose h.0 h.1.1 in
     not_beyond h.1.0 n z h.1.3 (subst HasNodesOnly (one_loose a o h.0 g h.1.0 loose h.1.2) is.2.bound)
@@ -134,5 +136,5 @@ pub end_answered : (a o b p : ℕ) (text : List ℕ) (ts : List Lexeme) (r : Res
 end_answered a o b p text ts r ea eo cut h = subst₂ (λ x y. IsAnswered x y text r) ea eo (at r h)
   where
     at : (r : Result PolicyGraph GraphFault) → MatchResult r (IsGraph a o ts) (IsEndRefusal a o ts (length text)) → IsAnswered a o text r
-    at (Ok g) h = record { accepted = (ts, cut, h); refused = tt; beyond = λ n z other. none_beyond a o text g (ts, cut, h) n z other }
+    at (Ok g) h = record { accepted = graph_text a o text g ts cut h; refused = tt; beyond = λ n z other. none_beyond a o text g (ts, cut, h) n z other }
     at (Err fault) h = refusal_answered a o text fault (end_refusal a o text ts fault cut h)

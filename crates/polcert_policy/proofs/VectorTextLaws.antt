@@ -10,6 +10,7 @@ use Rattle.polcert_policy.specs.VectorText.{IsRoundedVectorsText, EndVectorsEarl
 use Rattle.polcert_policy.specs.Steps.VectorsRead.{IsPartRefusal, AreEndRefusal, AreUnfinished}
 use Rattle.polcert_policy.specs.declared.fault.VectorFault.{VectorFault}
 use Rattle.polcert_policy.specs.declared.fault.VectorFault.TheVariants as faults
+use Rattle.polcert_policy.proofs.FlatVectors.{indexed, vectors_text}
 use Rattle.polcert_policy.proofs.WholeTexts.{not_stopped, same_tokens, no_token_fault}
 
 module _ (way : Rounding) where
@@ -44,12 +45,13 @@ module _ (way : Rounding) where
         not_early place n column h = h.unfinished v (same_tokens (IsRoundedVectors way g o) text v ts cut are h.tokens h.cut)
 
     pub no_vectors : (fault : VectorFault) → IsRoundedVectorsRefusal way g o text fault → IsNoRoundedVectorsText way g o text fault
-    no_vectors (faults.Token fault) h = λ v is. no_token_fault (IsRoundedVectors way g o) text v is.0 is.1 is.2 h.0 fault h.1
-    no_vectors (faults.Truncated place) h = λ v is. not_early is.0 is.1 v is.2 place h.0 h.1.0 h.1.1
-    no_vectors (faults.WrongVectorCount place) h = λ v is.
+    no_vectors (faults.Token fault) h = λ v given. let is = indexed way g o text v given in no_token_fault (IsRoundedVectors way g o) text v is.0 is.1 is.2 h.0 fault h.1
+    no_vectors (faults.Truncated place) h = λ v given. let is = indexed way g o text v given in not_early is.0 is.1 v is.2 place h.0 h.1.0 h.1.1
+    no_vectors (faults.WrongVectorCount place) h = λ v given.
+        let is = indexed way g o text v given in
         ⊎_elim (no_wrong is.0 is.1 v is.2 (faults.WrongVectorCount place)) (λ e. not_early is.0 is.1 v is.2 place e.0 0 e.1) h
     no_vectors faults.Memory h = tt
-    no_vectors fault h = λ v is. no_wrong is.0 is.1 v is.2 fault h
+    no_vectors fault h = λ v given. let is = indexed way g o text v given in no_wrong is.0 is.1 v is.2 fault h
 
     -- all that is promised of a refusal
     pub refused_text : (fault : VectorFault) → IsRoundedVectorsRefusal way g o text fault → IsRefusedRoundedVectorsText way g o fault text
@@ -75,7 +77,7 @@ module _ (way : Rounding) where
   end_answered g o p text ts r e cut h = subst (λ x. AreAnswered g x text r) e (at r h)
     where
       at : (r : Result PolicyVectors VectorFault) → MatchResult r (IsRoundedVectors way g o ts) (AreEndRefusal way g o ts (length text)) → AreAnswered g o text r
-      at (Ok v) h = record { accepted = (ts, cut, h); refused = tt }
+      at (Ok v) h = record { accepted = vectors_text way g o text v ts cut h; refused = tt }
       at (Err fault) h = refusal_answered g o text fault (end_refusal g o text ts cut fault h)
 
   pub end_refused : (g : PolicyGraph) (o p : ℕ) (text : List ℕ) (ts : List Lexeme) (end : ℕ) (fault : VectorFault)

@@ -4,13 +4,16 @@
 -- each vector the number of its action, and then a value for each state. Our own: vector n belongs to node n of a policy
 -- graph, any line ends and comments may stand between the tokens, and values are rounded to whole millionths: down, or up
 -- where they are to be a bound from above.
-use Rattle.std.specs.Prelude.{◌≡◌, ℕ, ℤ, ◌+◌, ◌*◌, ◌<◌, ◌≤◌, ◌≤ℤ◌, ◌+ℤ◌, neg_ℤ, map, Bool, true, false, Option, Some, None, List, [], ◌∷◌, ◌++◌, length, slice_get, slice_index_or, pos}
+use Rattle.std.specs.Prelude.{◌≡◌, ℕ, ℤ, ◌+◌, ◌*◌, ◌<◌, ◌≤◌, ◌≤ℤ◌, ◌+ℤ◌, ◌⊎◌, neg_ℤ, map, flat_map, Bool, true, false, Option, Some, None, List, [], ◌∷◌, ◌++◌, length, slice_get, slice_index_or, pos}
+use Rattle.std.specs.List.{range_with_len}
+use Rattle.std.proofs.Common.{inl, inr}
 use Rattle.polcert_text.specs.Cut.{Lexeme}
 use Rattle.polcert_text.specs.Numbers.{IsRounded, IsReadable, largest}
 use Rattle.polcert_text.specs.declared.number.Rounding.{Rounding}
 use Rattle.polcert_text.specs.declared.number.Rounding.TheVariants.{Down}
 use Rattle.polcert_text.specs.declared.lexeme.TokenKind.{TokenKind}
-use Rattle.polcert_text.specs.declared.lexeme.TokenKind.TheVariants.{Plus, Minus}
+use Rattle.polcert_text.specs.declared.lexeme.TokenKind.TheVariants.{Numeral, Plus, Minus}
+use Rattle.polcert_cells.specs.Numbers.{IsWhole}
 use Rattle.polcert_policy.specs.Fields.{numeral_kind, minus_kind, is_whole, whole_of}
 use Rattle.polcert_cells.specs.Elements.{most_states}
 use Rattle.polcert_policy.specs.Graphs.{PolicyGraph, nodes, action_of, most_nodes}
@@ -23,6 +26,33 @@ pub record PolicyVectors : Type 0 where
 
 abbrev pub value_of : PolicyVectors → ℕ → ℕ → ℤ
 value_of v n s = slice_index_or v.values (n * v.states + s) (pos 0)
+
+-- the numeral, with this sign, is this value in millionths, rounded this way
+pub record IsRoundedNumeral (rounding : Rounding) (negative : Bool) (t : Lexeme) (h : ℤ) : Type 0 where
+  pub kind : t.kind ≡ Numeral
+  pub readable : IsReadable t.bytes
+  pub rounded : IsRounded rounding negative t.bytes h
+
+-- The tokens are these fields, one after another: an action (`inl`), of digits only, or a value (`inr`), perhaps after a sign.
+pub data AreFields (rounding : Rounding) : List Lexeme → List (ℕ ⊎ ℤ) → Type 0 where
+  none : AreFields rounding [] []
+  action : {t : Lexeme} {ts : List Lexeme} {a : ℕ} {fs : List (ℕ ⊎ ℤ)} → IsWhole t a → AreFields rounding ts fs → AreFields rounding (t ∷ ts) (inl a ∷ fs)
+  unsigned : {t : Lexeme} {ts : List Lexeme} {h : ℤ} {fs : List (ℕ ⊎ ℤ)} → IsRoundedNumeral rounding false t h → AreFields rounding ts fs → AreFields rounding (t ∷ ts) (inr h ∷ fs)
+  plus : {s t : Lexeme} {ts : List Lexeme} {h : ℤ} {fs : List (ℕ ⊎ ℤ)} → s.kind ≡ Plus → IsRoundedNumeral rounding false t h → AreFields rounding ts fs → AreFields rounding (s ∷ t ∷ ts) (inr h ∷ fs)
+  minus : {s t : Lexeme} {ts : List Lexeme} {h : ℤ} {fs : List (ℕ ⊎ ℤ)} → s.kind ≡ Minus → IsRoundedNumeral rounding true t h → AreFields rounding ts fs → AreFields rounding (s ∷ t ∷ ts) (inr h ∷ fs)
+
+-- the fields of vector n: the action of its node, and a value for each state
+abbrev pub vector_fields : PolicyGraph → PolicyVectors → ℕ → List (ℕ ⊎ ℤ)
+vector_fields g v n = inl (action_of g n) ∷ map (λ s. inr (value_of v n s)) (range_with_len 0 v.states)
+
+-- the tokens are the vectors: the fields of all vectors, one after another
+pub record AreVectorTokens (rounding : Rounding) (graph : PolicyGraph) (states : ℕ) (ts : List Lexeme) (v : PolicyVectors) : Type 0 where
+  pub nodes_are : v.nodes ≡ nodes graph
+  pub states_are : v.states ≡ states
+  pub filled : length v.values ≡ nodes graph * states
+  pub fields : AreFields rounding ts (flat_map (vector_fields graph v) (range_with_len 0 (nodes graph)))
+
+-- ---- the same by the index of each number, as far as a list goes; the law `vectors_by_index` says that they agree
 
 abbrev pub sign_kind : TokenKind → Bool
 sign_kind Plus = true

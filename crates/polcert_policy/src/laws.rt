@@ -1,9 +1,10 @@
 //! Laws of the definitions, each the contract of a function with nothing to do.
 ghost use Rattle.std.specs.Prelude.{◌≡◌, ◌≢◌, ◌<◌, ◌≤◌, ℕ, List};
-ghost use Rattle.polcert_policy.specs.Graphs.{PolicyGraph, IsProperGraph, HasNodesOnly, nodes, action_of, most_nodes};
+ghost use Rattle.polcert_policy.specs.Graphs.{PolicyGraph, AreGraphTokens, IsLooseGraph, IsProperGraph, HasNodesOnly, nodes, action_of, most_nodes};
 ghost use Rattle.polcert_cells.specs.Elements.{most_states, most_actions, most_observations};
 ghost use Rattle.polcert_policy.specs.GraphText.{IsGraphText, IsGraphRefusal};
-ghost use Rattle.polcert_policy.specs.Vectors.{PolicyVectors, AreProperVectors, IsInRange, value_of};
+ghost use Rattle.polcert_policy.specs.Vectors.{PolicyVectors, AreVectorTokens, IsRoundedVectors, AreProperVectors, IsInRange, value_of};
+ghost use Rattle.polcert_text.specs.Cut.{Lexeme};
 ghost use Rattle.polcert_policy.specs.VectorText.{IsVectorsText, IsVectorsRefusal, IsRoundedVectorsText, IsRoundedVectorsRefusal};
 ghost use Rattle.polcert_policy.specs.ActionVectors.{action_graph, IsActionVectorsText};
 ghost use Rattle.polcert_policy.specs.FullForm.{vectors_text};
@@ -15,6 +16,16 @@ use polcert_text::Rounding;
 pub fn one_graph()
     ensures { (actions observations : ℕ) (text : List ℕ) (g h : PolicyGraph) →
         IsGraphText actions observations text g → IsGraphText actions observations text h → g ≡ h }
+{}
+
+/// Tokens are a graph, field after field, exactly if they are one by the index of each token and each successor is a node.
+pub fn graphs_by_index()
+    ensures indexed { (actions observations : ℕ) (tokens : List Lexeme) (g : PolicyGraph) →
+        AreGraphTokens actions observations tokens g →
+        IsLooseGraph actions observations tokens g × HasNodesOnly g }
+    ensures flat { (actions observations : ℕ) (tokens : List Lexeme) (g : PolicyGraph) →
+        IsLooseGraph actions observations tokens g → HasNodesOnly g →
+        AreGraphTokens actions observations tokens g }
 {}
 
 /// A text is refused as a graph for at most one reason, and at one place, out of memory aside.
@@ -50,6 +61,16 @@ pub fn one_vectors()
         (v w : PolicyVectors) →
         IsRoundedVectorsText rounding graph states text v → IsRoundedVectorsText rounding graph states text w
         → v ≡ w }
+{}
+
+/// Tokens are vectors of a graph, field after field, exactly if they are by the index of each number.
+pub fn vectors_by_index()
+    ensures indexed { (rounding : Rounding) (graph : PolicyGraph) (states : ℕ) (tokens : List Lexeme)
+        (v : PolicyVectors) →
+        AreVectorTokens rounding graph states tokens v → IsRoundedVectors rounding graph states tokens v }
+    ensures flat { (rounding : Rounding) (graph : PolicyGraph) (states : ℕ) (tokens : List Lexeme)
+        (v : PolicyVectors) →
+        IsRoundedVectors rounding graph states tokens v → AreVectorTokens rounding graph states tokens v }
 {}
 
 /// A text is refused as vectors of a graph for at most one reason, and at one place, out of memory aside.

@@ -1,6 +1,7 @@
 -- Gaps, lexemes and cuts, byte by byte.
 pub mod BeforeFirst
 pub mod Classes
+pub mod CleanCut
 pub mod CutLaws
 pub mod GapLaws
 pub mod LexemeEnds

@@ -4,6 +4,7 @@ pub mod Lexemes
 pub mod Gaps
 pub mod Fronts
 pub mod Cut
+pub mod Tokens
 pub mod TakenTokens
 pub mod Beginning
 pub mod Reading

@@ -1,7 +1,8 @@
 //! Laws of the definitions, each the contract of a function with nothing to do.
 ghost use Rattle.std.specs.Prelude.{◌≡◌, ℕ, Bool, Option, Some, None, Result, Err, List, ℤ, ◌≤ℤ◌, IfSome};
 ghost use Rattle.std.specs.Io.KnownBytes.{Appends};
-ghost use Rattle.polcert_text.specs.Cut.{Lexeme, Rest, TakesToken, Ends, IsCut, HasCut};
+ghost use Rattle.polcert_text.specs.Cut.{Lexeme, Rest, TakesToken, Ends, IsCut, HasCut, text_rest, text_limit};
+ghost use Rattle.polcert_text.specs.Tokens.{AreTokens};
 ghost use Rattle.polcert_text.specs.Reading.{GivesNext};
 ghost use Rattle.polcert_text.specs.Numbers.{IsReadable, IsExact, IsFloor, IsCeil, IsRounded, IsRefused, IsRefusedExactly};
 ghost use Rattle.polcert_text.specs.Source.{IsText};
@@ -22,6 +23,14 @@ pub fn one_cut()
 /// A text has a cut.
 pub fn some_cut()
     ensures { (rest : Rest) → HasCut rest }
+{}
+
+/// The tokens of a text without a fault are its cut, if that ends cleanly.
+pub fn tokens_are_the_clean_cut()
+    ensures cut { (text : List ℕ) (tokens : List Lexeme) →
+        AreTokens text tokens → IsCut (text_rest text text_limit) tokens None }
+    ensures tokens { (text : List ℕ) (tokens : List Lexeme) →
+        IsCut (text_rest text text_limit) tokens None → AreTokens text tokens }
 {}
 
 /// At most one token comes next, and it leaves one rest.

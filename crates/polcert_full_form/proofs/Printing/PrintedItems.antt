@@ -4,6 +4,7 @@ use Rattle.std.specs.List.{list_any}
 use Rattle.std.proofs.lemmas.Bool.{le-ltb}
 use Rattle.std.proofs.lemmas.List.Elements.{All-cons, All-nil, All-append}
 use Rattle.polcert_text.specs.Cut.{Lexeme, IsCut, text_rest, text_limit}
+use Rattle.polcert_text.proofs.Scanning.CleanCut.{tokens_from}
 use Rattle.polcert_cells.specs.declared.words.Topic.{Topic}
 use Rattle.polcert_cells.specs.Words.{topic, begins_item}
 use Rattle.polcert_format.specs.Items.{Item, IsItem, lexemes_of}
@@ -71,12 +72,10 @@ pub text_from_items : (text : List ℕ) (m : Meaning) (p : Preamble) (k : Known)
 text_from_items text m p k short prints complete same rows =
     let us = prints.lexemes in
     let found = prints.items 0 in
-    let below = le-ltb text_limit (length text) short in
-    let whole : text_rest text text_limit ≡ rest_at 0 text = simp below in
     let cut : IsCut (rest_at 0 text) (lexemes_at 0 us) None = subst (λ bs. IsCut (rest_at 0 bs) (lexemes_at 0 us) None) prints.text_is (cut_printed us 0 [] prints.printed refl) in
     record {
       lexemes = lexemes_at 0 us;
-      cut = subst (λ r. IsCut r (lexemes_at 0 us) None) (sym whole) cut;
+      tokens = record { short = short; each = tokens_from (rest_at 0 text) (lexemes_at 0 us) cut };
       denotes = record {
         preamble = p;
         known = k;

@@ -4,6 +4,7 @@ use Rattle.std.specs.Option.{ForSome}
 use Rattle.std.proofs.lemmas.List.{length-map}
 use Rattle.std.proofs.lemmas.List.Elements.{All-cons, All-nil, All-head, All-tail}
 use Rattle.polcert_text.specs.Lexemes.{kind_of}
+use Rattle.polcert_text.proofs.Scanning.CleanCut.{clean_cut}
 use Rattle.polcert_text.specs.Cut.{Lexeme, Rest, TakesToken, IsCut}
 use Rattle.polcert_text.specs.declared.tokens.TokenFault.{TokenFault}
 use Rattle.polcert_cells.specs.declared.elements.Elements.{Elements}
@@ -124,7 +125,7 @@ text_writes text m x =
     let d = x.denotes in
     let r = d.right in
     let c = r.complete in
-    let of_text : AreOfText (flat_map lexemes_of r.items) = subst AreOfText r.divided.whole (cut_of_text _ x.lexemes None x.cut) in
+    let of_text : AreOfText (flat_map lexemes_of r.items) = subst AreOfText r.divided.whole (cut_of_text _ x.lexemes None (clean_cut text x.lexemes x.tokens)) in
     let w = all_writable nothing_known r.items d.known of_text (record { states = tt; actions = tt; observations = tt; start = tt }) r.right in
     let p : m.preamble ≡ d.preamble = d.same.preamble in
     let shape : HasShape (count_of d.preamble.states) (unwrap_or d.known.start (all_states d.preamble.states)) =

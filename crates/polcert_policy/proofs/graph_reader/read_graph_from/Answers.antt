@@ -8,6 +8,7 @@ use Rattle.polcert_policy.specs.GraphText.{IsGraphText, IsRefusedGraphText}
 use Rattle.polcert_policy.specs.declared.fault.GraphFault.TheVariants as faults
 use Rattle.polcert_policy.proofs.ReadLaws.{possible_read}
 use Rattle.polcert_policy.proofs.SourceTexts.{less_left, of_its_text, of_each_text}
+use Rattle.polcert_policy.proofs.FlatGraphs.{graph_text}
 use Rattle.polcert_policy.proofs.TextLaws.{token_refusal, refused_text, end_refused, possible_at}
 use Rattle.polcert_policy.proofs.graph_reader.read_graph_from.Goals as goal
 
@@ -56,7 +57,7 @@ returns-in-Ok g c =
     record {
       read = value_read c.in-Ok.graph
           (of_its_text _ _ _ was.0 _ _ _ _ was.1 gives.0 (λ text. IsGraphText c.args.actions c.args.observations text c.in-Ok.graph)
-          (λ text cut place. (was.0, cut, subst₂ (λ a o. IsGraph a o was.0 c.in-Ok.graph) counts.0 counts.1 (c.in-Ok.ensures was.0 was.2))))
+          (λ text cut place. graph_text c.args.actions c.args.observations text c.in-Ok.graph was.0 cut (subst₂ (λ a o. IsGraph a o was.0 c.in-Ok.graph) counts.0 counts.1 (c.in-Ok.ensures was.0 was.2))))
           (gives.0.same_count ∙ was.1.same_count);
     }
 

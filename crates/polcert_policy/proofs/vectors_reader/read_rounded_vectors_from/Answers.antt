@@ -7,6 +7,7 @@ use Rattle.polcert_policy.specs.VectorText.{IsRoundedVectorsText, IsRefusedRound
 use Rattle.polcert_policy.specs.declared.fault.VectorFault.TheVariants as faults
 use Rattle.polcert_policy.proofs.VectorReadLaws.{possible_seen}
 use Rattle.polcert_policy.proofs.SourceTexts.{less_left, of_its_text, of_each_text}
+use Rattle.polcert_policy.proofs.FlatVectors.{vectors_text}
 use Rattle.polcert_policy.proofs.VectorTextLaws.{part_refusal, refused_text, end_refused}
 use Rattle.polcert_policy.proofs.vectors_reader.read_rounded_vectors_from.Goals as goal
 
@@ -52,7 +53,7 @@ returns-in-Ok g c =
     record {
       read = value_read c.in-Ok.vectors
           (of_its_text _ _ _ was.0 _ _ _ _ was.1 gives.0 (λ text. IsRoundedVectorsText c.args.rounding c.args.graph.now c.args.states text c.in-Ok.vectors)
-          (λ text cut place. (was.0, cut, subst (λ o. IsRoundedVectors c.args.rounding c.args.graph.now o was.0 c.in-Ok.vectors) c.loop-token.invariant.states (c.in-Ok.ensures c.args.rounding was.0 was.2))))
+          (λ text cut place. vectors_text c.args.rounding c.args.graph.now c.args.states text c.in-Ok.vectors was.0 cut (subst (λ o. IsRoundedVectors c.args.rounding c.args.graph.now o was.0 c.in-Ok.vectors) c.loop-token.invariant.states (c.in-Ok.ensures c.args.rounding was.0 was.2))))
           (gives.0.same_count ∙ was.1.same_count);
     }
 

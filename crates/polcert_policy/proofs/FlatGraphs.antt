@@ -1,0 +1,192 @@
+-- The tokens of a graph, field after field, and the same by the index of each token.
+use Rattle.std.proofs.Common.{◌≡◌, ◌∙◌, ℕ, suc, zero, ◌+◌, ◌*◌, ◌<◌, ◌==◌, Bool, true, false, ◌&&◌, Option, Some, None, IfSome, List, [], ◌∷◌, length, map, codes, slice_get, get_or, refl, sym, ap, subst, arith}
+use Rattle.std.specs.List.{range_with_len}
+use Rattle.std.proofs.lemmas.Bool.{and_parts, eqb-true}
+use Rattle.std.proofs.lemmas.Bool.Decides.{nat_tests}
+use Rattle.std.proofs.lemmas.List.FromFn.{length-map-range_with_len, get_or-map-range_with_len}
+use Rattle.std.proofs.lemmas.Option.{get_or_from_slice_get, slice_get-get_or}
+use Rattle.polcert_text.specs.Cut.{Lexeme, IsCut, text_rest, text_limit}
+use Rattle.polcert_text.specs.Lexemes.{are_digits}
+use Rattle.polcert_text.specs.declared.lexeme.TokenKind.{TokenKind}
+use Rattle.polcert_text.specs.declared.lexeme.TokenKind.TheVariants.{Name, Numeral, Minus}
+use Rattle.polcert_text.proofs.Scanning.CleanCut.{clean_cut, clean_tokens}
+use Rattle.polcert_cells.specs.Numbers.{IsWhole}
+use Rattle.polcert_policy.specs.Fields.{numeral_kind, minus_kind, is_whole, whole_of, is_x, is_successor, is_successor_of, successor_of, number_at, is_joined}
+use Rattle.polcert_policy.specs.Graphs as graphs
+use Rattle.polcert_policy.specs.Graphs.{PolicyGraph, nodes, action_of, next_of, fields_of, IsField, AreGraphTokens, width, IsAction, IsSuccessor, AreNodes, IsLooseGraph, HasNodesOnly, IsGraph}
+use Rattle.polcert_policy.specs.GraphText.{IsGraphText}
+use Rattle.polcert_policy.proofs.Places.{row_of, row_below, row_above, some_columns, place_inside, within_get, same_some}
+use Rattle.polcert_policy.proofs.FlatRows.{row_long, row_at, rows_zip}
+
+-- ---- one token
+
+whole_parts : (k : TokenKind) (b : Bool) → (numeral_kind k && b) ≡ true → (k ≡ Numeral) × (b ≡ true)
+whole_parts Numeral b e = (refl, e)
+whole_parts _ b e = cc
+
+pub whole_is : (t : Lexeme) (n : ℕ) → is_whole t ≡ true → whole_of t ≡ n → IsWhole t n
+whole_is t n whole value = let parts = whole_parts t.kind (are_digits t.bytes) whole in record { kind = parts.0; digits = parts.1; value = value }
+
+pub is_whole_of : (t : Lexeme) (n : ℕ) → IsWhole t n → is_whole t ≡ true
+is_whole_of t n is = simp (is.kind, is.digits)
+
+x_bytes : (bs : List ℕ) → is_x bs ≡ true → bs ≡ codes "X"
+x_bytes [] e = cc
+x_bytes (b ∷ []) e = let same = eqb-true b 88 (and_parts (b == 88) true e).0 in λ i. same i ∷ []
+x_bytes (b ∷ c ∷ bs) e = let wrong = (and_parts (b == 88) false e).1 in cc
+
+successor_field : (t : Lexeme) → is_successor t ≡ true → IsField t (successor_of t)
+successor_field t right = at t.kind refl right
+  where
+    at : (k : TokenKind) → t.kind ≡ k → is_successor_of k t.bytes ≡ true → IsField t (number_at k (whole_of t))
+    at Numeral e digits = graphs.number (record { kind = e; digits = digits; value = refl })
+    at Name e is = graphs.x (record { kind = e; bytes = x_bytes t.bytes is })
+    at Minus e is = graphs.dash e
+    at _ e is = cc
+
+field_successor : (t : Lexeme) (f : Option ℕ) → IsField t f → (is_successor t ≡ true) × (successor_of t ≡ f)
+field_successor t (Some n) (graphs.number is) = (simp (is.kind, is.digits), simp (is.kind, is.value))
+field_successor t None (graphs.x is) = (simp (is.kind, is.bytes), simp is.kind)
+field_successor t None (graphs.dash is) = (simp is, simp is)
+
+field_whole : (t : Lexeme) (n : ℕ) → IsField t (Some n) → IsWhole t n
+field_whole t n (graphs.number is) = is
+
+joined_parts : (j k : TokenKind) (b : Bool) → (j ≡ Minus → k ≡ Numeral → b ≡ false) → (minus_kind j && (numeral_kind k && b)) ≡ false
+joined_parts Minus Numeral b apart = apart refl refl
+joined_parts Minus _ b apart = refl
+joined_parts _ k b apart = refl
+
+if_some : {c : ℕ} (f : Option ℕ) → ((m : ℕ) → f ≡ Some m → m < c) → IfSome f (λ m. m < c)
+if_some None h = tt
+if_some (Some m) h = h m refl
+
+-- ---- the fields of a node
+
+wide : (g : PolicyGraph) (n : ℕ) → length (fields_of g n) ≡ width g.observations
+wide g n = omega (arith, length-map-range_with_len (next_of g n) 0 g.observations)
+
+next_field : (g : PolicyGraph) (n z : ℕ) → z < g.observations → slice_get (fields_of g n) (suc (suc z)) ≡ Some (next_of g n z)
+next_field g n z l =
+    slice_get-get_or (map (next_of g n) (range_with_len 0 g.observations)) z None (omega (arith, l, length-map-range_with_len (next_of g n) 0 g.observations))
+    ∙ ap Some (get_or-map-range_with_len (next_of g n) 0 g.observations z z None l (omega arith))
+
+-- ---- graphs
+
+module _ (a o : ℕ) (ts : List Lexeme) (g : PolicyGraph) where
+  module _ (are : AreGraphTokens a o ts g) where
+    at_column : (n j : ℕ) (t : Lexeme) (f : Option ℕ) → j < width o → slice_get ts (n * width o + j) ≡ Some t → slice_get (fields_of g n) j ≡ Some f → IsField t f
+    at_column n j t f l at is =
+        row_at (fields_of g) (width o) (λ n. wide g n ∙ ap width are.observations_are) IsField ts (nodes g) are.fields n j t f l at is
+
+    tokens : length ts ≡ nodes g * width o
+    tokens = row_long (fields_of g) (width o) (λ n. wide g n ∙ ap width are.observations_are) IsField ts (nodes g) are.fields
+
+    node_below : (n j : ℕ) (t : Lexeme) → slice_get ts (n * width o + j) ≡ Some t → n < nodes g
+    node_below n j t at = row_below (width o) n j (nodes g) (omega (arith, within_get ts _ t at, tokens))
+
+    pub loose_from : IsLooseGraph a o ts g
+    loose_from = record {
+      actions_are = are.actions_are;
+      observations_are = are.observations_are;
+      some = are.some;
+      few = are.few;
+      tokens = tokens;
+      successors = are.filled;
+      records = record {
+        number = λ n t at.
+            let is = field_whole t n (at_column n 0 t (Some n) (omega arith) (subst (λ k. slice_get ts k ≡ Some t) (omega arith) at) refl) in
+            (is_whole_of t n is, is.value);
+        action = λ n t at.
+            let below = node_below n 1 t at in
+            let is = field_whole t (action_of g n) (at_column n (suc zero) t (Some (action_of g n)) (omega arith) (subst (λ k. slice_get ts k ≡ Some t) (omega arith) at) refl) in
+            record {
+              whole = is_whole_of t (action_of g n) is;
+              known = subst (λ x. x < a) (sym is.value) (are.actions_known n 0 below);
+              value = slice_get-get_or g.chosen n 0 below ∙ ap Some (sym is.value);
+            };
+        next = λ n z t below at.
+            let is = field_successor t (next_of g n z) (at_column n (suc (suc z)) t (next_of g n z) (omega (arith, below)) (subst (λ k. slice_get ts k ≡ Some t) (omega arith) at) (next_field g n z (omega (arith, below, are.observations_are)))) in
+            let inside = place_inside o n z (nodes g) (node_below n (2 + z) t at) below in
+            record {
+              right = is.0;
+              value = slice_get-get_or g.successors (n * o + z) None (omega (arith, inside, are.filled))
+                  ∙ ap (λ w. Some (get_or g.successors (n * w + z) None)) (sym are.observations_are) ∙ ap Some (sym is.1);
+            };
+        apart = λ k s t first second. joined_parts s.kind t.kind _ (λ e f. let other = are.apart k s t first second e f in grind (arith, nat_tests));
+      };
+    }
+
+    pub bound_from : HasNodesOnly g
+    bound_from n z l k m e =
+        let inside = place_inside g.observations n z (nodes g) l k in
+        let known = are.successors_known (n * g.observations + z) None (omega (arith, inside, are.filled, ap (λ w. nodes g * w) are.observations_are)) in
+        subst (λ f. IfSome f (λ m. m < nodes g)) e known
+
+  pub graph_from : AreGraphTokens a o ts g → IsGraph a o ts g
+  graph_from are = record { loose = loose_from are; bound = bound_from are }
+
+  pub tokens_of_graph : IsLooseGraph a o ts g → HasNodesOnly g → AreGraphTokens a o ts g
+  tokens_of_graph loose bound = record {
+    actions_are = loose.actions_are;
+    observations_are = loose.observations_are;
+    some = loose.some;
+    few = loose.few;
+    filled = loose.successors;
+    fields = rows_zip (fields_of g) (width o) (λ n. wide g n ∙ ap width loose.observations_are) IsField ts (nodes g) (omega arith) loose.tokens at;
+    actions_known = λ n d l. actions_below n d l;
+    successors_known = λ k d l. successors_below k d l;
+    apart = λ k s t first second e f same.
+        let free = loose.records.apart k s t first second in joined k s t e f same free;
+  }
+    where
+      at : (n j : ℕ) (t : Lexeme) (f : Option ℕ) → n < nodes g → j < width o → slice_get ts (n * width o + j) ≡ Some t → slice_get (fields_of g n) j ≡ Some f → IsField t f
+      at n zero t f l k here is =
+          let was = loose.records.number n t (subst (λ p. slice_get ts p ≡ Some t) (omega arith) here) in
+          subst (IsField t) (same_some (Some n) f is) (graphs.number (whole_is t n was.0 was.1))
+      at n (suc zero) t f l k here is =
+          let was = loose.records.action n t (subst (λ p. slice_get ts p ≡ Some t) (omega arith) here) in
+          subst (IsField t) (same_some (Some (action_of g n)) f is)
+          (graphs.number (whole_is t (action_of g n) was.whole (sym (get_or_from_slice_get g.chosen n (whole_of t) 0 was.value))))
+      at n (suc (suc z)) t f l k here is =
+          let below : z < o = omega (arith, k) in
+          let was = loose.records.next n z t below (subst (λ p. slice_get ts p ≡ Some t) (omega arith) here) in
+          let next : next_of g n z ≡ successor_of t =
+          ap (λ w. get_or g.successors (n * w + z) None) loose.observations_are ∙ get_or_from_slice_get g.successors (n * o + z) (successor_of t) None was.value in
+          let same : next_of g n z ≡ f = same_some _ f (sym (next_field g n z (omega (arith, below, loose.observations_are))) ∙ is) in
+          subst (IsField t) (sym next ∙ same) (successor_field t was.right)
+
+      actions_below : (n d : ℕ) → n < nodes g → get_or g.chosen n d < a
+      actions_below n d l =
+          let inside : n * width o + 1 < length ts = omega (arith, row_above (width o) n (nodes g) l, loose.tokens) in
+          let token = slice_get-get_or ts (n * width o + 1) (record { kind = Minus; place = 0; bytes = [] }) inside in
+          let was = loose.records.action n _ token in
+          subst (λ x. x < a) (sym (get_or_from_slice_get g.chosen n _ d was.value)) was.known
+
+      successors_below : (k : ℕ) (d : Option ℕ) → k < length g.successors → IfSome (get_or g.successors k d) (λ m. m < nodes g)
+      successors_below k d l =
+          let filled : k < nodes g * o = omega (arith, l, loose.successors) in
+          let row = row_of o k (some_columns (nodes g) o k filled) in
+          let inside : row.0 * o + row.1.0 < nodes g * o = omega (arith, filled, row.1.1) in
+          let below = bound row.0 row.1.0 (row_below o row.0 row.1.0 (nodes g) inside) (omega (arith, row.1.2, loose.observations_are)) in
+          let here : get_or g.successors k d ≡ next_of g row.0 row.1.0 =
+          same_some _ _ (sym (slice_get-get_or g.successors k d l) ∙ slice_get-get_or g.successors k None l)
+          ∙ ap (λ p. get_or g.successors p None) (row.1.1 ∙ ap (λ w. row.0 * w + row.1.0) (sym loose.observations_are)) in
+          subst (λ f. IfSome f (λ m. m < nodes g)) (sym here) (if_some (next_of g row.0 row.1.0) below)
+
+      joined : (k : ℕ) (s t : Lexeme) → s.kind ≡ Minus → t.kind ≡ Numeral → t.place ≡ s.place + length s.bytes → is_joined s t ≡ false → ⊥
+      joined k s t e f same free =
+          let apart : (t.place == s.place + length s.bytes) ≡ false = simp (e, f) at free in
+          grind (arith, nat_tests)
+
+-- ---- texts
+
+-- a text that is tokens of a graph, by their indices
+abbrev pub IsIndexedText : ℕ → ℕ → List ℕ → PolicyGraph → Type 0
+IsIndexedText a o text g = (ts : List Lexeme) × IsCut (text_rest text text_limit) ts None × IsGraph a o ts g
+
+pub indexed : (a o : ℕ) (text : List ℕ) (g : PolicyGraph) → IsGraphText a o text g → IsIndexedText a o text g
+indexed a o text g is = (is.0, clean_cut text is.0 is.1, graph_from a o is.0 g is.2)
+
+pub graph_text : (a o : ℕ) (text : List ℕ) (g : PolicyGraph) (ts : List Lexeme) → IsCut (text_rest text text_limit) ts None → IsGraph a o ts g → IsGraphText a o text g
+graph_text a o text g ts cut is = (ts, clean_tokens text ts cut, tokens_of_graph a o ts g is.loose is.bound)
