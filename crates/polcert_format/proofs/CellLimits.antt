@@ -27,7 +27,8 @@ use Rattle.polcert_format.specs.Reasons.{IsReason, PassesLimit}
 use Rattle.polcert_format.specs.Refusals.{Stops, at_lexeme, at_number, at_end, StopsInBody, IsOfTokens, EndsPossible, at_once, in_item, StandsRight, before_body, in_body, behind_body, of_first_number, of_tokens}
 use Rattle.polcert_format.specs.declared.fault.ItemFault.TheVariants.{Token, TextTooLong, TooManyCells}
 use Rattle.polcert_cells.specs.Words.{topic}
-use Rattle.polcert_cells.proofs.Basics.{one_some, cons≢nil}
+use Rattle.polcert_cells.proofs.Basics.{one_some, some≢none}
+use Rattle.polcert_format.proofs.ReadLaws.{no_empty}
 use Rattle.polcert_format.proofs.Dividing.{empty_division}
 use Rattle.polcert_format.specs.Text as texts
 use Rattle.polcert_format.specs.Text.{Known, nothing_known, AreRight}
@@ -114,23 +115,16 @@ not_late ts kind n p q a w =
     start_or_cells much.topic_is
 
 -- the tokens end cleanly where it is the last item
-no_end : {A : Type 0} {o : Option A} {x : A} → o ≡ None → o ≡ Some x → ⊥
-no_end e f = cc
-
-no_items : (xs : List Item) (x : Item) (ys : List Item) → xs ++ x ∷ ys ≡ [] → ⊥
-no_items [] x ys e = cons≢nil e
-no_items (z ∷ xs) x ys e = cons≢nil e
-
 clean_end : (ts : TextTokens) (n p : ℕ) → PassesLimit ts n p → EndsPossible ts n → ts.ending ≡ None
 clean_end ts n p a (at_once e) =
-    absurd (no_items a.before a.item a.after (one_division [] [] [] (a.before ++ a.item ∷ a.after) [] (subst (λ ls. IsDivided ls [] (a.before ++ a.item ∷ a.after)) e a.divided) empty_division).1)
+    absurd (no_empty a.before a.item a.after (one_division [] [] [] (a.before ++ a.item ∷ a.after) [] (subst (λ ls. IsDivided ls [] (a.before ++ a.item ∷ a.after)) e a.divided) empty_division).1)
 clean_end ts n p a (in_item w) =
     let same = same_here ts n p a w.before w.item [] w.k w.divided w.known w.number_is in
     a.clean same.after
 
 not_of_tokens : (ts : TextTokens) (kind : ItemFault) (n p q : ℕ) → PassesLimit ts n p → IsOfTokens kind → EndsPossible ts n → IsReason ts n q kind → ⊥
-not_of_tokens ts (Token f) n p q a of ends reason = no_end (clean_end ts n p a ends) reason.0
-not_of_tokens ts TextTooLong n p q a of ends reason = no_end (clean_end ts n p a ends) reason
+not_of_tokens ts (Token f) n p q a of ends reason = some≢none reason.0 (clean_end ts n p a ends)
+not_of_tokens ts TextTooLong n p q a of ends reason = some≢none reason (clean_end ts n p a ends)
 not_of_tokens ts _ n p q a of ends reason = absurd of
 
 pub only_limit : (ts : TextTokens) (kind : ItemFault) (n p q : ℕ) → PassesLimit ts n p → IsReason ts n q kind → StandsRight ts kind n q → (kind ≡ TooManyCells) × (q ≡ p)

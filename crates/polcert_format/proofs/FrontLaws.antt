@@ -8,6 +8,7 @@ use Rattle.polcert_text.specs.declared.tokens.TokenFault.TheVariants.{TextTooLon
 use Rattle.polcert_text.specs.TakenTokens.{Taken, nothing, token}
 use Rattle.polcert_text.proofs.Taken.TakenTokens.{cut_taken}
 use Rattle.polcert_text.proofs.TextLaws.{one_cut}
+use Rattle.polcert_cells.proofs.Basics.{some≢none}
 use Rattle.polcert_format.specs.FirstWrong.{TextTokens, AreTokensOf}
 use Rattle.polcert_format.proofs.PlaceLaws.{token_leaves}
 
@@ -16,15 +17,12 @@ pub taken_end : (old new : Rest) (seen : List Lexeme) → Taken old seen new →
 taken_end old new seen (nothing _) = refl
 taken_end old new seen (token _ between _ us t before takes) = (token_leaves between new t takes).2 ∙ taken_end old between us before
 
-some≢none : {A : Type 0} {x : A} → Some x ≡ None → ⊥
-some≢none e = cc
-
 -- a token has a byte
 pub has_bytes : (old new : Rest) (t : Lexeme) → TakesToken old t new → 1 ≤ length t.bytes
 has_bytes old new t takes = at (length t.bytes) takes.token_at.lexeme.lexeme
   where
     at : (n : ℕ) → kind_of (take n (drop takes.gap old.bytes)) ≡ Some t.kind → 1 ≤ n
-    at zero e = absurd (some≢none (sym e))
+    at zero e = absurd (some≢none e refl)
     at (suc n) e = omega arith
 
 -- a token leaves less than there was

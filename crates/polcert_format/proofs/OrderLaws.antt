@@ -17,7 +17,7 @@ use Rattle.polcert_format.specs.Text as texts
 use Rattle.polcert_format.specs.Text.{Known, IsInPreamble, HasLines, IsComplete, IsRight}
 use Rattle.polcert_format.specs.Order.{has_entries, has_all_lines, count_or, count_in, pairs_are_too_many, preamble_fault, is_unobserved, fault_behind, word_fault}
 use Rattle.polcert_format.specs.Reading.{IsWrong}
-use Rattle.polcert_cells.proofs.Basics.{or_false}
+use Rattle.polcert_cells.proofs.Basics.{or_false, some≢none}
 
 -- ---- a complete preamble has no fault
 
@@ -51,11 +51,8 @@ fault_of lines many = cond lines (cond many (Some TooManyCells) None) (Some Miss
 pub complete_fault : (k : Known) (p : Preamble) → IsComplete k p → preamble_fault k ≡ None
 complete_fault k p c = λ i. fault_of (all_lines k p c.lines i) ((same_counts k p c.lines ∙ not_too_many _ c.pairs) i)
 
-none≢some : {A : Type 0} {o : Option A} {x : A} → o ≡ None → o ≡ Some x → ⊥
-none≢some e f = cc
-
 pub not_complete : (k : Known) (p : Preamble) (fault : ItemFault) → preamble_fault k ≡ Some fault → IsComplete k p → ⊥
-not_complete k p fault e c = none≢some (complete_fault k p c) e
+not_complete k p fault e c = some≢none e (complete_fault k p c)
 
 -- ---- a preamble without a fault is complete
 
@@ -132,7 +129,7 @@ no_word_fault k next t body (texts.start {p = p} i c a) = start_stands k p i c
 no_word_fault k next t body (texts.entry {p = p} {table = table} c g a f) = cells_stand k p table c g
 
 pub wrong_at_word : (k : Known) (t : Topic) (fault : ItemFault) (body : List Lexeme) → word_fault k t ≡ Some fault → IsWrong k t body
-wrong_at_word k t fault body e after taken = none≢some (no_word_fault k after t body taken) e
+wrong_at_word k t fault body e after taken = some≢none e (no_word_fault k after t body taken)
 
 -- ---- a topic without a fault at its word may stand
 

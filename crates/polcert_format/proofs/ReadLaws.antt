@@ -10,7 +10,7 @@ use Rattle.polcert_cells.specs.Preamble.{Preamble}
 use Rattle.polcert_format.specs.Text.{Known, nothing_known, IsComplete, IsRight, AreRight, none, more, IsRightText}
 use Rattle.polcert_format.specs.Reading.{AreRightItems, IsWithinItem, CannotGoOn, IsWrong}
 use Rattle.polcert_format.specs.FirstWrong.{TextTokens, tokens_of, IsFirstWrong, wrong_front, wrong_fault, wrong_item, wrong_last, wrong_end}
-use Rattle.polcert_cells.proofs.Basics.{one_some, or_false_from, cons≢nil, same_head, same_tail}
+use Rattle.polcert_cells.proofs.Basics.{one_some, some≢none, or_false_from, cons≢nil, same_head, same_tail}
 use Rattle.polcert_format.proofs.ItemLaws.{one_division, has_division}
 use Rattle.polcert_format.proofs.TextLaws.{one_right, one_known}
 use Rattle.polcert_format.proofs.Dividing.{begins, append_division, next_division, empty_division}
@@ -81,20 +81,17 @@ pub wrong_behind_items : (seen : List Lexeme) (k : Known) (r : AreRightItems see
     → IsFirstWrong (tokens_of seen None stop) (length r.items + 1)
 wrong_behind_items seen k r lacking stop = wrong_end r.items k r.divided r.right refl lacking refl
 
-none≢some : {A : Type 0} {o : Option A} {x : A} → o ≡ None → o ≡ Some x → ⊥
-none≢some e f = cc
-
 nil≢cons : {A : Type 0} {x : A} {xs : List A} → [] ≡ x ∷ xs → ⊥
 nil≢cons e = cc
 
 -- no text with a first wrong item is taken
 pub not_taken : (ts : TextTokens) (n : ℕ) (p : Preamble) (last : Known) → IsFirstWrong ts n → ts.ending ≡ None → IsRightText ts.lexemes p last → ⊥
 not_taken ts n p last (wrong_front l ls items d e) clean text = nil≢cons (one_division ts.lexemes [] (l ∷ ls) text.items items text.divided d).0
-not_taken ts n p last (wrong_fault f empty e z) clean text = none≢some clean e
+not_taken ts n p last (wrong_fault f empty e z) clean text = some≢none e clean
 not_taken ts n p last (wrong_item before wrong after k d right is_wrong e) clean text =
     let items = one_division ts.lexemes [] [] text.items (before ++ wrong ∷ after) text.divided d in
     no_wrong_item nothing_known k last before after wrong is_wrong right (subst (λ x. AreRight nothing_known x last) items.1 text.right)
-not_taken ts n p last (wrong_last before item k f d right e z) clean text = none≢some clean e
+not_taken ts n p last (wrong_last before item k f d right e z) clean text = some≢none e clean
 not_taken ts n p last (wrong_end items k d right e lacking z) clean text =
     let same = one_division ts.lexemes [] [] text.items items text.divided d in
     let known : last ≡ k = one_known nothing_known items last k (subst (λ x. AreRight nothing_known x last) same.1 text.right) right in
@@ -166,7 +163,7 @@ one_number ts m n (wrong_fault f a c p) (wrong_front l ls xs b q) = zeros m n p 
 one_number ts m n (wrong_fault f a c p) (wrong_fault g b d q) = zeros m n p q
 one_number ts m n (wrong_fault f a c p) (wrong_item ys y vs k b t w q) = absurd (item_or_empty ts.lexemes ys y vs b a)
 one_number ts m n (wrong_fault f a c p) (wrong_last ys y k g b t d q) = absurd (item_or_empty ts.lexemes ys y [] b a)
-one_number ts m n (wrong_fault f a c p) (wrong_end ys k b t d i q) = absurd (none≢some d c)
+one_number ts m n (wrong_fault f a c p) (wrong_end ys k b t d i q) = absurd (some≢none c d)
 one_number ts m n (wrong_item xs x us j a s v p) (wrong_front l ls ys b q) = absurd (front_or_none ts.lexemes l ls ys _ b a)
 one_number ts m n (wrong_item xs x us j a s v p) (wrong_fault f b c q) = absurd (item_or_empty ts.lexemes xs x us a b)
 one_number ts m n (wrong_item xs x us j a s v p) (wrong_item ys y vs k b t w q) =
@@ -180,10 +177,10 @@ one_number ts m n (wrong_last xs x j g a s d p) (wrong_item ys y vs k b t w q) =
     sym (numbers n m ys xs q p (place_of_last nothing_known k j ys xs y x vs t s w (one_division ts.lexemes [] [] (ys ++ y ∷ vs) (xs ++ x ∷ []) b a).1))
 one_number ts m n (wrong_last xs x j g a s d p) (wrong_last ys y k f b t c q) =
     numbers m n xs ys p q (last_place xs ys x y (one_division ts.lexemes [] [] (xs ++ x ∷ []) (ys ++ y ∷ []) a b).1)
-one_number ts m n (wrong_last xs x j g a s d p) (wrong_end ys k b t c i q) = absurd (none≢some c d)
+one_number ts m n (wrong_last xs x j g a s d p) (wrong_end ys k b t c i q) = absurd (some≢none d c)
 one_number ts m n (wrong_end xs j a s d i p) (wrong_front l ls ys b q) = absurd (front_or_none ts.lexemes l ls ys _ b a)
-one_number ts m n (wrong_end xs j a s d i p) (wrong_fault f b c q) = absurd (none≢some d c)
+one_number ts m n (wrong_end xs j a s d i p) (wrong_fault f b c q) = absurd (some≢none c d)
 one_number ts m n (wrong_end xs j a s d i p) (wrong_item ys y vs k b t w q) = absurd (item_or_end ts.lexemes ys y vs xs k j b t w a s)
-one_number ts m n (wrong_end xs j a s d i p) (wrong_last ys y k f b t c q) = absurd (none≢some d c)
+one_number ts m n (wrong_end xs j a s d i p) (wrong_last ys y k f b t c q) = absurd (some≢none c d)
 one_number ts m n (wrong_end xs j a s d i p) (wrong_end ys k b t c e q) =
     numbers m n xs ys p q (ap length (one_division ts.lexemes [] [] xs ys a b).1)

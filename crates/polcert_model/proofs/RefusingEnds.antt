@@ -26,7 +26,7 @@ use Rattle.polcert_format.specs.Refusals.{IsItemRefusal, IsOfTokens, IsLastTaken
 use Rattle.polcert_format.specs.Refusals as refusals
 use Rattle.polcert_model.specs.Steps.Texts.{IsNothingRead, IsItemRead, IsTextRead, AreItemsRead, IsRefusedBehind, Refuses, fault_kind, pending_at, tokens_end}
 use Rattle.polcert_model.specs.Steps.Texts as texts
-use Rattle.polcert_cells.proofs.Basics.{or_false_from, cons≢nil, some≢none}
+use Rattle.polcert_cells.proofs.Basics.{one_some, or_false_from, cons≢nil, some≢none}
 use Rattle.polcert_format.proofs.ItemLaws.{has_division, one_division}
 use Rattle.polcert_format.proofs.Dividing.{append_division, empty_division}
 use Rattle.polcert_format.proofs.OrderLaws.{wrong_at_word, not_complete, are_too_many, fault_at}
@@ -77,17 +77,14 @@ order_reason ts n place MissingLine o d = d
 order_reason ts n place TooManyCells o d = inl d
 order_reason ts n place _ o d = absurd o
 
-some_once : {A : Type 0} {x y : A} → Some x ≡ Some y → x ≡ y
-some_once e = cc
-
 -- the reason for an incomplete preamble, of whether all lines came and whether there are too many pairs
 abbrev lacking : Bool → Bool → Option ItemFault
 lacking lines many = cond lines (cond many (Some TooManyCells) None) (Some MissingLine)
 
 lacking_order : (lines many : Bool) (kind : ItemFault) → lacking lines many ≡ Some kind → IsOrderFault kind
-lacking_order true true kind e = subst IsOrderFault (some_once e) tt
+lacking_order true true kind e = subst IsOrderFault (one_some refl e) tt
 lacking_order true false kind e = absurd (none≢some e)
-lacking_order false many kind e = subst IsOrderFault (some_once e) tt
+lacking_order false many kind e = subst IsOrderFault (one_some refl e) tt
 
 preamble_order : (k : Known) (kind : ItemFault) → preamble_fault k ≡ Some kind → IsOrderFault kind
 preamble_order k kind e = lacking_order (has_all_lines k) (are_too_many k) kind e
@@ -97,13 +94,13 @@ behind_order (Some f) k t kind behind e = behind kind e
 behind_order None k t kind behind e = at (is_unobserved k t) e
   where
     at : (b : Bool) → cond b (Some BadShape) None ≡ Some kind → IsOrderFault kind
-    at true f = subst IsOrderFault (some_once f) tt
+    at true f = subst IsOrderFault (one_some refl f) tt
     at false f = absurd (none≢some f)
 
 fault_order : (late came ends : Bool) (fault : Option ItemFault) (kind : ItemFault) → ((f : ItemFault) → fault ≡ Some f → IsOrderFault f)
     → fault_at late came ends fault ≡ Some kind → IsOrderFault kind
-fault_order true came ends fault kind behind e = subst IsOrderFault (some_once e) tt
-fault_order false true ends fault kind behind e = subst IsOrderFault (some_once e) tt
+fault_order true came ends fault kind behind e = subst IsOrderFault (one_some refl e) tt
+fault_order false true ends fault kind behind e = subst IsOrderFault (one_some refl e) tt
 fault_order false false true fault kind behind e = behind kind e
 fault_order false false false fault kind behind e = absurd (none≢some e)
 

@@ -27,7 +27,7 @@ use Rattle.polcert_items.specs.Steps.Wants.{item_wants}
 use Rattle.polcert_items.specs.declared.signed_number.Refusal.{Refusal}
 use Rattle.polcert_format.specs.FirstNumber.{IsLate, states_known}
 use Rattle.polcert_model.specs.Steps.Texts.{Refuses, IsShaped, IsTextRead, IsItemRead, IsBodyRead, AreItemsRead, IsRefusedBehind, IsRefusedAt, IsRefusedWhole, at_word, at_end, nothing, item}
-use Rattle.polcert_cells.proofs.Basics.{one_some}
+use Rattle.polcert_cells.proofs.Basics.{one_some, some≢none}
 use Rattle.polcert_format.proofs.Dividing.{begins, empty_division}
 use Rattle.polcert_format.proofs.ReadLaws.{item_ends}
 use Rattle.polcert_model.proofs.TakenItems.{item_begun, item_goes_on, has_elements}
@@ -35,9 +35,6 @@ use Rattle.polcert_format.proofs.BegunItems.{within_goes_on, item_begins}
 use Rattle.polcert_model.proofs.Refusing.{feed_refused, end_refused, end_refused_before, too_much_refused}
 use Rattle.polcert_model.proofs.Shaped.{shaped_right, shaped_too_much, may_be_learned}
 use Rattle.polcert_model.proofs.RefusingEnds.{before_refused, word_refused, text_end_refused}
-
-none≢some : {A : Type 0} {o : Option A} {x : A} → o ≡ None → o ≡ Some x → ⊥
-none≢some e f = cc
 
 abbrev reader_of : Known → Option ItemReader → ℕ → TextReader
 reader_of known held number = record { known = known; item = held; number = number }
@@ -51,14 +48,14 @@ none_open seen r held (nothing n) e f = record {
   item_is = f;
   number_is = n.number_is;
 }
-none_open seen r held (item w) e f = absurd (none≢some e w.item_is)
+none_open seen r held (item w) e f = absurd (some≢none w.item_is e)
 
 same_item : (seen : List Lexeme) (r : TextReader) (i : ItemReader) → r.item ≡ Some i → (w : IsItemRead seen r) → w.item ≡ i
 same_item seen r i e w = one_some w.item_is e
 
 -- the open item's reader is within its bounds
 pub open_within : (seen : List Lexeme) (r : TextReader) (i : ItemReader) → IsTextRead seen r → r.item ≡ Some i → IsItemWithin r.known i
-open_within seen r i (nothing n) e = absurd (none≢some n.item_is e)
+open_within seen r i (nothing n) e = absurd (some≢none e n.item_is)
 open_within seen r i (item w) e = subst (IsItemWithin r.known) (same_item seen r i e w) w.read.within
 
 -- what the open item says, as it ends
@@ -68,7 +65,7 @@ shaped_end seen r i next w e goes =
 
 pub said_may_be_learned : (seen : List Lexeme) (r : TextReader) (i : ItemReader) (said : ItemContents) → IsTextRead seen r → r.item ≡ Some i → ItemGoes r.known i [] (learned r.known said) → AreContentsOf (topic_in i) said
     → MayBeLearned r.known said
-said_may_be_learned seen r i said (nothing n) e goes about = absurd (none≢some n.item_is e)
+said_may_be_learned seen r i said (nothing n) e goes about = absurd (some≢none e n.item_is)
 said_may_be_learned seen r i said (item w) e goes about =
     let topics : topic_in i ≡ w.t = sym (ap topic_in (same_item seen r i e w)) ∙ w.read.topic_is in
     may_be_learned r.known w.t w.body said w.read.may_stand (subst (λ t. AreContentsOf t said) topics about) (shaped_end seen r i (learned r.known said) w e goes)
@@ -76,7 +73,7 @@ said_may_be_learned seen r i said (item w) e goes about =
 -- the open item ends
 pub item_ended : (seen : List Lexeme) (r : TextReader) (held : Option ItemReader) (i : ItemReader) (known : Known) (said : ItemContents) → IsTextRead seen r → r.item ≡ Some i → held ≡ None
     → ItemGoes r.known i [] (learned r.known said) → known ≡ learned r.known said → HasFewCells (preamble_in r.known) (learned r.known said).entries → AreItemsRead seen (reader_of known held r.number)
-item_ended seen r held i known said (nothing n) e none goes same few = absurd (none≢some n.item_is e)
+item_ended seen r held i known said (nothing n) e none goes same few = absurd (some≢none e n.item_is)
 item_ended seen r held i known said (item w) e none goes same few =
     let after = learned r.known said in
     let taken : IsRight r.known w.t w.body after = shaped_right r.known w.t w.body after (shaped_end seen r i after w e goes) few in
@@ -89,7 +86,7 @@ item_ended seen r held i known said (item w) e none goes same few =
 -- it is an entry that gives too much
 pub item_too_much : (seen : List Lexeme) (r : TextReader) (i : ItemReader) (said : ItemContents) (place : ℕ) → IsTextRead seen r → r.item ≡ Some i → ItemGoes r.known i [] (learned r.known said)
     → (HasFewCells (preamble_in r.known) (learned r.known said).entries → ⊥) → IsRefusedAt seen place (model_faults.Item TooManyCells r.number place)
-item_too_much seen r i said place (nothing n) e goes many = absurd (none≢some n.item_is e)
+item_too_much seen r i said place (nothing n) e goes many = absurd (some≢none e n.item_is)
 item_too_much seen r i said place (item w) e goes many =
     too_much_refused seen r place w (shaped_too_much r.known w.t w.body (learned r.known said) (shaped_end seen r i (learned r.known said) w e goes) many)
 
@@ -109,7 +106,7 @@ pub item_not_ended : (seen : List Lexeme) (r : TextReader) (i : ItemReader) (kin
     → (HasElements r.known (topic_in i) → CannotEnd (ItemGoes r.known) i) → ((body : List Lexeme) → IsSeen (states_known r.known) body i → IsEndReason (topic_in i) kind)
     → (HasElements r.known (topic_in i) → kind ≡ misfit (item_wants r.known i []) None) → pending_in i ≡ None
     → ((body : List Lexeme) (late : Refusal) → IsSeen (states_known r.known) body i → topic_in i ≡ Start → IsLate (states_known r.known) body true late.kind late.place → ⊥) → IsRefusedAt seen place (model_faults.Item kind r.number place)
-item_not_ended seen r i kind place (nothing n) e stuck reason kinds unheld undue = absurd (none≢some n.item_is e)
+item_not_ended seen r i kind place (nothing n) e stuck reason kinds unheld undue = absurd (some≢none e n.item_is)
 item_not_ended seen r i kind place (item w) e stuck reason kinds unheld undue =
     let same = same_item seen r i e w in
     end_refused seen r kind place w (cannot_end seen r i w e stuck) (subst (λ j. IsEndReason (topic_in j) kind) (sym same) (reason w.body (subst (IsSeen (states_known r.known) w.body) same w.read.seen)))
@@ -122,7 +119,7 @@ pub item_not_ended_before : (seen : List Lexeme) (r : TextReader) (i : ItemReade
     → ((body : List Lexeme) → IsSeen (states_known r.known) body i → (topic_in i ≡ Start) × IsStartReason body kind at × IsLate (states_known r.known) body true kind at)
     → ((body : List Lexeme) (late : Refusal) → IsSeen (states_known r.known) body i → topic_in i ≡ Start → IsLate (states_known r.known) body true late.kind late.place → (kind ≡ late.kind) × (at ≡ late.place))
     → IsRefusedAt seen place (model_faults.Item kind r.number at)
-item_not_ended_before seen r i kind at place (nothing n) e stuck reason due = absurd (none≢some n.item_is e)
+item_not_ended_before seen r i kind at place (nothing n) e stuck reason due = absurd (some≢none e n.item_is)
 item_not_ended_before seen r i kind at place (item w) e stuck reason due =
     let same = same_item seen r i e w in
     let read = subst (IsSeen (states_known r.known) w.body) same w.read.seen in
@@ -135,12 +132,12 @@ item_not_ended_before seen r i kind at place (item w) e stuck reason due =
 pub not_begun : (seen : List Lexeme) (r : TextReader) (l : Lexeme) → IsTextRead seen r → r.item ≡ None → begins_item l ≡ false
     → IsRefusedBehind (seen ++ l ∷ []) (model_faults.Item BeforeFirstItem r.number l.place)
 not_begun seen r l (nothing n) e inside = before_refused seen r l n inside
-not_begun seen r l (item w) e inside = absurd (none≢some e w.item_is)
+not_begun seen r l (item w) e inside = absurd (some≢none w.item_is e)
 
 -- the open item takes it
 pub item_takes : (seen : List Lexeme) (r : TextReader) (l : Lexeme) (old new : ItemReader) → IsTextRead seen r → r.item ≡ Some old → begins_item l ≡ false
     → topic_in new ≡ topic_in old → IsItemFed r.known old l new → IsTextRead (seen ++ l ∷ []) (reader_of r.known (Some new) r.number)
-item_takes seen r l old new (nothing n) e inside same fed = absurd (none≢some n.item_is e)
+item_takes seen r l old new (nothing n) e inside same fed = absurd (some≢none e n.item_is)
 item_takes seen r l old new (item w) e inside same fed =
     let read : IsBodyRead r.known w.t w.body old = subst (IsBodyRead r.known w.t w.body) (same_item seen r old e w) w.read in
     item (record {
@@ -156,7 +153,7 @@ item_takes seen r l old new (item w) e inside same fed =
 -- it cannot
 pub item_refuses : (seen : List Lexeme) (r : TextReader) (l : Lexeme) (i : ItemReader) (x : Refusal) → IsTextRead seen r → r.item ≡ Some i → begins_item l ≡ false → RefusesInItem r.known i l x
     → IsRefusedBehind (seen ++ l ∷ []) (model_faults.Item x.kind r.number x.place)
-item_refuses seen r l i x (nothing n) e inside refuses = absurd (none≢some n.item_is e)
+item_refuses seen r l i x (nothing n) e inside refuses = absurd (some≢none e n.item_is)
 item_refuses seen r l i x (item w) e inside refuses =
     let here : RefusesInItem r.known w.item l x = subst (λ j. RefusesInItem r.known j l x) (sym (same_item seen r i e w)) refuses in
     feed_refused seen r l x.kind x.place w inside here.stuck (here.reason w.body w.read.seen) here.kind (here.start w.body w.read.seen) here.formless

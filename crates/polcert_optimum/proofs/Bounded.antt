@@ -8,6 +8,8 @@ use Rattle.polcert_check.proofs.Sums.Ring.{linear, products, mul_le, ≤ℤ_tran
 use Rattle.polcert_check.proofs.Sums.SumLaws.{sum_below_same, sum_below_le, sum_over_same, sum_over_scale, sum_over_add, sum_over_le_all}
 use Rattle.polcert_check.proofs.Horizons.Kept.{keeps_algebra, scale_algebra, sum_twice_scale}
 use Rattle.polcert_check.proofs.Horizons.Enumerated.{All-runs}
+use Rattle.polcert_check.proofs.Horizons.Refused.{pow_one}
+use Rattle.polcert_check.proofs.Horizons.Rewards.{part_algebra}
 use Rattle.polcert_optimum.specs.Policy.{History, end_state, Policy, IsPolicyOf, after, step_weight, step_scale, history_weight, discounted_rewards, total_weight, expected_total, expected_rewards}
 use Rattle.polcert_optimum.specs.Bound.{backup, IsBounded}
 use Rattle.polcert_optimum.proofs.Steps.{total_weight_suc, total_weight_zero, expected_total_suc, expected_total_zero, step_weights_total}
@@ -82,9 +84,6 @@ no_step t end policy s =
 abbrev ends_sum : CellTable → (History → ℤ) → Policy → ℕ → ℕ → ℤ
 ends_sum t end policy k s = sum_over (λ history. pos (history_weight t policy s history) *ℤ end history) (runs t k)
 
-part_algebra : (w r h v : ℤ) → w *ℤ (r +ℤ h *ℤ v) ≡ w *ℤ r +ℤ h *ℤ (w *ℤ v)
-part_algebra w r h v = simp products
-
 total_parts : (t : CellTable) (end : History → ℤ) (policy : Policy) (k s : ℕ) → expected_total t end policy k s ≡ expected_rewards t policy k s +ℤ pos (t.discount ^ k) *ℤ ends_sum t end policy k s
 total_parts t end policy k s =
     let h : ℤ = pos (t.discount ^ k) in
@@ -129,9 +128,6 @@ bounded t p end value policy of k s sl total = record {
 one_algebra : (w r g v : ℤ) → w *ℤ ((pos one *ℤ r) *ℤ pos 1 +ℤ g *ℤ v) ≡ w *ℤ (pos one *ℤ r +ℤ g *ℤ v)
 one_algebra w r g v = ap (λ (x : ℤ). w *ℤ (x +ℤ g *ℤ v)) (*ℤ_comm (pos one *ℤ r) (pos 1) ∙ one-*ℤ (pos one *ℤ r))
 
-first_power : (n : ℕ) → n ^ 1 ≡ n
-first_power n = pow-suc n 0 ∙ ap (λ (x : ℕ). x * n) (pow-zero n) ∙ omega arith
-
 one_step : (t : CellTable) (end : History → ℤ) (policy : Policy) (s : ℕ) → expected_total t end policy 1 s ≡ backup t (λ e z. end ((e, z) ∷ [])) (policy []) s
 one_step t end policy s =
     expected_total_suc t end policy 0 s
@@ -141,11 +137,11 @@ one_step t end policy s =
     let r : ℤ = t.r a s e z in
     let v : ℤ = end ((e, z) ∷ []) in
     ap (λ (x : ℤ). w *ℤ ((pos (one ^ 1) *ℤ r) *ℤ pos 1 +ℤ pos t.discount *ℤ x)) (expected_total_zero t (λ rest. end ((e, z) ∷ rest)) (after policy (e, z)) e)
-    ∙ ap (λ (x : ℕ). w *ℤ ((pos x *ℤ r) *ℤ pos 1 +ℤ pos t.discount *ℤ v)) (first_power one)
+    ∙ ap (λ (x : ℕ). w *ℤ ((pos x *ℤ r) *ℤ pos 1 +ℤ pos t.discount *ℤ v)) (pow_one one)
     ∙ one_algebra w r (pos t.discount) v))
 
 -- so a bound on one step is an inequality of the backup
 pub backup_from_one_step : (t : CellTable) (end : History → ℤ) (value : ℤ) (policy : Policy) (s : ℕ) → IsBounded t end value policy 1 s → backup t (λ e z. end ((e, z) ∷ [])) (policy []) s ≤ℤ (pos (step_scale t * one) *ℤ value)
 backup_from_one_step t end value policy s bound =
-    let scale : step_scale t ^ 1 * one ^ 1 ≡ step_scale t * one = rw (first_power (step_scale t), first_power one) refl in
+    let scale : step_scale t ^ 1 * one ^ 1 ≡ step_scale t * one = rw (pow_one (step_scale t), pow_one one) refl in
     ≤ℤ_trans _ _ _ (≤ℤ_from_eq _ _ (sym (one_step t end policy s))) (≤ℤ_trans _ _ _ bound.total (≤ℤ_from_eq _ _ (ap (λ (x : ℕ). pos x *ℤ value) scale)))

@@ -7,7 +7,7 @@ use Rattle.polcert_check.specs.Steps.Ranges.{IsController}
 use Rattle.polcert_check.proofs.Sums.Ring.{products}
 use Rattle.polcert_check.proofs.Sums.SumLaws.{sum_below_same, sum_over_same, sum_over_scale, sum_over_add}
 use Rattle.polcert_check.proofs.Horizons.Runs.{sum_over_uncut, reward_part_cons}
-use Rattle.polcert_check.proofs.Horizons.Kept.{LacksNone, no_weight}
+use Rattle.polcert_check.proofs.Horizons.Kept.{LacksNone, no_weight, worth_algebra}
 use Rattle.polcert_check.proofs.Horizons.Kept as kept
 use Rattle.polcert_optimum.specs.Policy.{History, Policy, as_policy, IsPolicyOf, after, history_weight, discounted_rewards, step_weight, total_weight, expected_total, expected_rewards}
 use Rattle.polcert_optimum.specs.GraphPolicy.{graph_policy, EarnsAsItsPolicy}
@@ -15,9 +15,6 @@ use Rattle.polcert_optimum.proofs.Steps.{expected_total_suc}
 use Rattle.polcert_optimum.proofs.Bounded.{weights_all}
 
 -- ---- the rewards of k + 1 steps, split at the first step
-earned_algebra : (w x a g t : ℤ) → (w *ℤ x) *ℤ (a +ℤ g *ℤ t) ≡ w *ℤ (a *ℤ x +ℤ g *ℤ (x *ℤ t))
-earned_algebra w x a g t = simp products
-
 rewards_after : (c : Controller) (k n s e z : ℕ) → sum_over (λ run. pos (weight c (Some n) s ((e, z) ∷ run)) *ℤ horizon.reward_part c (suc k) (Some n) s ((e, z) ∷ run)) (uncut c k (c.next n z)) ≡ pos (horizon.step_weight c n s e z) *ℤ ((pos (one ^ suc k) *ℤ c.cells.r (c.action n) s e z) *ℤ horizon.weights_sum c k (c.next n z) e +ℤ pos c.cells.discount *ℤ horizon.rewards_sum c k (c.next n z) e)
 rewards_after c k n s e z =
     let at : Option ℕ = c.next n z in
@@ -28,7 +25,7 @@ rewards_after c k n s e z =
     let t = λ (run : History). horizon.reward_part c k at e run in
     let us : List History = uncut c k at in
     sum_over_same _ (λ run. pos w *ℤ (a *ℤ x run +ℤ g *ℤ (x run *ℤ t run))) us
-    (λ run. ap (λ (y : ℤ). (pos w *ℤ x run) *ℤ y) (reward_part_cons c k n s e z run) ∙ earned_algebra (pos w) (x run) a g (t run))
+    (λ run. ap (λ (y : ℤ). (pos w *ℤ x run) *ℤ y) (reward_part_cons c k n s e z run) ∙ worth_algebra (pos w) (x run) a g (t run))
     ∙ sum_over_scale (pos w) (λ run. a *ℤ x run +ℤ g *ℤ (x run *ℤ t run)) us
     ∙ ap (λ (y : ℤ). pos w *ℤ y)
     (sum_over_add (λ run. a *ℤ x run) (λ run. g *ℤ (x run *ℤ t run)) us

@@ -7,10 +7,10 @@ use Rattle.std.proofs.lemmas.Int.{ints, clamps}
 use Rattle.polcert_check.proofs.Sums.Ring.{linear, ≤ℤ_trans, ≤ℤ_from_eq}
 use Rattle.polcert_optimum.specs.Informed.{greatest_below}
 
-max_left : (x y : ℤ) → x ≤ℤ int_max x y
+pub max_left : (x y : ℤ) → x ≤ℤ int_max x y
 max_left x y = omega (arith, ints, clamps)
 
-max_right : (x y : ℤ) → y ≤ℤ int_max x y
+pub max_right : (x y : ℤ) → y ≤ℤ int_max x y
 max_right x y = omega (arith, ints, clamps)
 
 pub greatest_le : (f : ℕ → ℤ) (n i : ℕ) → i < n → f i ≤ℤ greatest_below f n

@@ -7,7 +7,8 @@ use Rattle.polcert_check.specs.Horizon.{one, total_below, sum_over, runs}
 use Rattle.polcert_check.proofs.Sums.Ring.{products, sums, *ℤ_assoc, one-*ℤ}
 use Rattle.polcert_check.proofs.Sums.SumLaws.{sum_below_same, sum_below_scale, sum_below_front, sum_over_same, sum_over_scale, sum_over_add}
 use Rattle.polcert_check.proofs.Sums.RowTotals.{t_rows, o_rows}
-use Rattle.polcert_check.proofs.Horizons.Runs.{sum_over_runs}
+use Rattle.polcert_check.proofs.Horizons.Runs.{sum_over_runs, scale_step, scale_first, total_algebra}
+use Rattle.polcert_check.proofs.Horizons.Kept.{worth_algebra, base_algebra}
 use Rattle.polcert_optimum.specs.Policy.{Policy, after, step_weight, step_scale, history_weight, history_rewards, discounted_rewards, discounted_total, total_weight, expected_total}
 
 pub total_weight_suc : (t : CellTable) (policy : Policy) (k s : ℕ) → total_weight t policy (suc k) s ≡ total_below (λ e. total_below (λ z. pos (step_weight t (policy []) s e z) *ℤ total_weight t (after policy (e, z)) k e) t.observations) t.states
@@ -16,12 +17,6 @@ total_weight_suc t policy k s =
     ∙ sum_below_same _ _ t.states (λ e _. sum_below_same _ _ t.observations (λ z _. sum_over_scale (pos (step_weight t (policy []) s e z)) (λ history. pos (history_weight t (after policy (e, z)) e history)) (runs t k)))
 
 -- the discounted rewards of a history, split at its first step
-scale_step : (g u i m : ℕ) → g ^ suc i * u ^ (suc m - suc i) ≡ g * (g ^ i * u ^ (m - i))
-scale_step g u i m = let e : suc m - suc i ≡ m - i = omega arith in rw (e, pow-suc) (omega arith)
-
-scale_first : (g u m : ℕ) → g ^ 0 * u ^ (m - 0) ≡ u ^ m
-scale_first g u m = let e : m - 0 ≡ m = omega arith in rw (e, pow-zero) (omega arith)
-
 pub discounted_rewards_cons : (t : CellTable) (policy : Policy) (k s e z : ℕ) (history : List (ℕ × ℕ)) → discounted_rewards t policy (suc k) s ((e, z) ∷ history) ≡ pos (one ^ suc k) *ℤ t.r (policy []) s e z +ℤ pos t.discount *ℤ discounted_rewards t (after policy (e, z)) k e history
 discounted_rewards_cons t policy k s e z history =
     let g : ℕ = t.discount in
@@ -35,9 +30,6 @@ discounted_rewards_cons t policy k s e z history =
     ∙ sum_below_scale (pos g) later k)
 
 -- the discounted total of a history, split at its first step
-total_algebra : (g h r p v : ℤ) → (r +ℤ g *ℤ p) +ℤ (g *ℤ h) *ℤ v ≡ r +ℤ g *ℤ (p +ℤ h *ℤ v)
-total_algebra g h r p v = simp (products, sums)
-
 pub discounted_total_cons : (t : CellTable) (end : List (ℕ × ℕ) → ℤ) (policy : Policy) (k s e z : ℕ) (history : List (ℕ × ℕ)) → discounted_total t end policy (suc k) s ((e, z) ∷ history) ≡ pos (one ^ suc k) *ℤ t.r (policy []) s e z +ℤ pos t.discount *ℤ discounted_total t (λ rest. end ((e, z) ∷ rest)) (after policy (e, z)) k e history
 discounted_total_cons t end policy k s e z history =
     let g : ℕ = t.discount in
@@ -48,9 +40,6 @@ discounted_total_cons t end policy k s e z history =
     ap (λ (x : ℤ). x +ℤ pos (g ^ suc k) *ℤ v) (discounted_rewards_cons t policy k s e z history)
     ∙ ap (λ (x : ℕ). (r +ℤ pos g *ℤ p) +ℤ pos x *ℤ v) power
     ∙ total_algebra (pos g) (pos (g ^ k)) r p v
-
-worth_algebra : (w x a g t : ℤ) → (w *ℤ x) *ℤ (a +ℤ g *ℤ t) ≡ w *ℤ (a *ℤ x +ℤ g *ℤ (x *ℤ t))
-worth_algebra w x a g t = simp products
 
 expected_total_after : (t : CellTable) (end : List (ℕ × ℕ) → ℤ) (policy : Policy) (k s e z : ℕ)
     → sum_over (λ history. pos (history_weight t policy s ((e, z) ∷ history)) *ℤ discounted_total t end policy (suc k) s ((e, z) ∷ history)) (runs t k) ≡ pos (step_weight t (policy []) s e z) *ℤ ((pos (one ^ suc k) *ℤ t.r (policy []) s e z) *ℤ total_weight t (after policy (e, z)) k e +ℤ pos t.discount *ℤ expected_total t (λ rest. end ((e, z) ∷ rest)) (after policy (e, z)) k e)
@@ -79,9 +68,6 @@ expected_total_suc t end policy k s =
 -- ---- no step
 pub total_weight_zero : (t : CellTable) (policy : Policy) (s : ℕ) → total_weight t policy 0 s ≡ pos 1
 total_weight_zero t policy s = refl
-
-base_algebra : (v : ℤ) → pos 1 *ℤ (pos 0 +ℤ pos 1 *ℤ v) +ℤ pos 0 ≡ v
-base_algebra v = rw (one-*ℤ v, +ℤ_idl v, one-*ℤ v) (+ℤ_idr v)
 
 pub expected_total_zero : (t : CellTable) (end : List (ℕ × ℕ) → ℤ) (policy : Policy) (s : ℕ) → expected_total t end policy 0 s ≡ end []
 expected_total_zero t end policy s = ap (λ (x : ℕ). pos 1 *ℤ (pos 0 +ℤ pos x *ℤ end []) +ℤ pos 0) (pow-zero t.discount) ∙ base_algebra (end [])

@@ -16,7 +16,7 @@ weights_sum_suc c k n s =
     sum_over_uncut c k n (λ run. pos (weight c (Some n) s run))
     ∙ sum_below_same _ _ c.cells.states (λ e _. sum_below_same _ _ c.cells.observations (λ z _. sum_over_scale (pos (step_weight c n s e z)) (λ run. pos (weight c (c.next n z) e run)) (uncut c k (c.next n z))))
 
-worth_algebra : (w x a g t : ℤ) → (w *ℤ x) *ℤ (a +ℤ g *ℤ t) ≡ w *ℤ (a *ℤ x +ℤ g *ℤ (x *ℤ t))
+pub worth_algebra : (w x a g t : ℤ) → (w *ℤ x) *ℤ (a +ℤ g *ℤ t) ≡ w *ℤ (a *ℤ x +ℤ g *ℤ (x *ℤ t))
 worth_algebra w x a g t = simp products
 
 worth_sum_after : (c : Controller) (k n s e z : ℕ) → sum_over (λ run. pos (weight c (Some n) s ((e, z) ∷ run)) *ℤ total c (suc k) (Some n) s ((e, z) ∷ run)) (uncut c k (c.next n z)) ≡ pos (step_weight c n s e z) *ℤ ((pos (one ^ suc k) *ℤ c.cells.r (c.action n) s e z) *ℤ weights_sum c k (c.next n z) e +ℤ pos c.cells.discount *ℤ worth_sum c k (c.next n z) e)
@@ -137,7 +137,7 @@ scale_algebra q h u t v = simp products
 pub not_short_is : (a b : ℤ) → (a -ℤ b) ≤ℤ pos 0 → a ≤ℤ b
 not_short_is a b h = omega (arith, linear)
 
-base_algebra : (v : ℤ) → pos 1 *ℤ (pos 0 +ℤ pos 1 *ℤ v) +ℤ pos 0 ≡ v
+pub base_algebra : (v : ℤ) → pos 1 *ℤ (pos 0 +ℤ pos 1 *ℤ v) +ℤ pos 0 ≡ v
 base_algebra v = rw (one-*ℤ v, +ℤ_idl v, one-*ℤ v) (+ℤ_idr v)
 
 pub worth_sum_zero : (c : Controller) (n s : ℕ) → worth_sum c 0 (Some n) s ≡ c.value n s

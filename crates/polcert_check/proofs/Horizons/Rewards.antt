@@ -19,7 +19,7 @@ end_value_le c p m most [] n s nl sl f u = most n s nl sl
 end_value_le c p m most (q ∷ run) n s nl sl f u =
     end_after c m run n q.0 q.1 (λ i is. end_value_le c p m most run i q.0 (p.closed.next_in_range n q.1 i nl f.1 is) f.0 f.2) (c.next n q.1) refl u
 
-part_algebra : (w r h v : ℤ) → w *ℤ (r +ℤ h *ℤ v) ≡ w *ℤ r +ℤ h *ℤ (w *ℤ v)
+pub part_algebra : (w r h v : ℤ) → w *ℤ (r +ℤ h *ℤ v) ≡ w *ℤ r +ℤ h *ℤ (w *ℤ v)
 part_algebra w r h v = simp products
 
 values_sum : Controller → ℕ → Option ℕ → ℕ → ℤ

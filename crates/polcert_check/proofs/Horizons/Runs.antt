@@ -31,10 +31,10 @@ pub uncut_none : (c : Controller) (k : ℕ) (f : List (ℕ × ℕ) → ℤ) → 
 uncut_none c k f = sum_over_filter f (λ run. not (is_cut c None run)) (runs c.cells k) ∙ sum_over_zero (runs c.cells k)
 
 -- the reward part of a run, split at its first step
-scale_step : (g u i m : ℕ) → g ^ suc i * u ^ (suc m - suc i) ≡ g * (g ^ i * u ^ (m - i))
+pub scale_step : (g u i m : ℕ) → g ^ suc i * u ^ (suc m - suc i) ≡ g * (g ^ i * u ^ (m - i))
 scale_step g u i m = let e : suc m - suc i ≡ m - i = omega arith in rw (e, pow-suc) (omega arith)
 
-scale_first : (g u m : ℕ) → g ^ 0 * u ^ (m - 0) ≡ u ^ m
+pub scale_first : (g u m : ℕ) → g ^ 0 * u ^ (m - 0) ≡ u ^ m
 scale_first g u m = let e : m - 0 ≡ m = omega arith in rw (e, pow-zero) (omega arith)
 
 pub reward_part_cons : (c : Controller) (k n s e z : ℕ) (run : List (ℕ × ℕ)) → reward_part c (suc k) (Some n) s ((e, z) ∷ run) ≡ pos (one ^ suc k) *ℤ c.cells.r (c.action n) s e z +ℤ pos c.cells.discount *ℤ reward_part c k (c.next n z) e run
@@ -50,7 +50,7 @@ reward_part_cons c k n s e z run =
     ∙ sum_below_scale (pos g) later k)
 
 -- the total of a run, split at its first step
-total_algebra : (g h r p v : ℤ) → (r +ℤ g *ℤ p) +ℤ (g *ℤ h) *ℤ v ≡ r +ℤ g *ℤ (p +ℤ h *ℤ v)
+pub total_algebra : (g h r p v : ℤ) → (r +ℤ g *ℤ p) +ℤ (g *ℤ h) *ℤ v ≡ r +ℤ g *ℤ (p +ℤ h *ℤ v)
 total_algebra g h r p v = simp (products, sums)
 
 pub total_cons : (c : Controller) (k n s e z : ℕ) (run : List (ℕ × ℕ)) → total c (suc k) (Some n) s ((e, z) ∷ run) ≡ pos (one ^ suc k) *ℤ c.cells.r (c.action n) s e z +ℤ pos c.cells.discount *ℤ total c k (c.next n z) e run

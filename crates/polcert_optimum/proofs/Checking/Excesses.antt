@@ -13,12 +13,7 @@ use Rattle.polcert_optimum.specs.Informed.{excess}
 use Rattle.polcert_optimum.specs.InformedCheck.{most_excess}
 use Rattle.polcert_optimum.specs.Steps.Sums.{IsGreatestExcess}
 use Rattle.polcert_optimum.proofs.Checking.Amounts.{excess_le}
-
-max_left : (x y : ℤ) → x ≤ℤ int_max x y
-max_left x y = omega (arith, ints, clamps)
-
-max_right : (x y : ℤ) → y ≤ℤ int_max x y
-max_right x y = omega (arith, ints, clamps)
+use Rattle.polcert_optimum.proofs.Greatest.{max_left, max_right}
 
 max_is_one : (x y : ℤ) → (int_max x y ≡ x) ⊎ (int_max x y ≡ y)
 max_is_one x y = cases_cond (int_lt y x) x y _ refl
