@@ -1,86 +1,126 @@
--- An entry that continues with several lexemes at once.
-use Rattle.std.proofs.Common.{◌≡◌, ◌≢◌, ℕ, ◌+◌, ◌<◌, ◌≤◌, false, None, List, [], ◌∷◌, ◌++◌, length, drop, pos, refl, sym, ap, subst, append-nil, append_assoc, length-append, Result, Ok, Err, IfOk, arith}
+-- A reader that continues with several lexemes at once, and a list of numbers that does.
+use Rattle.std.proofs.Common.{◌≡◌, ◌∙◌, ℕ, ◌+◌, ◌-◌, ◌<◌, ◌≤◌, Bool, true, false, Some, None, List, [], ◌∷◌, ◌++◌, length, drop, refl, sym, ap, subst, append-nil, append_assoc, length-append, Result, Ok, Err, IfOk, arith, if◌then◌else◌}
 use Rattle.std.proofs.lemmas.List.{length-drop}
-use Rattle.polcert_text.specs.Beginning.{BeginWithNumber}
+use Rattle.polcert_text.specs.Beginning.{BeginWith, BeginWithValue, IsNumeralOf, kind_of_sign, unsigned, signed}
 use Rattle.polcert_text.specs.Cut.{Lexeme}
-use Rattle.polcert_text.specs.declared.beginning.FrontNumber.{FrontNumber}
-use Rattle.polcert_text.specs.declared.lexeme.TokenKind.{TokenKind}
-use Rattle.polcert_text.specs.declared.lexeme.TokenKind.TheVariants.{Numeral}
+use Rattle.polcert_text.specs.declared.beginning.FrontValue.{FrontValue}
 use Rattle.polcert_text.proofs.Taken.BeginLaws.{begin_none, begin_then}
-use Rattle.polcert_cells.specs.Numbers.{IsMillionths, one}
-use Rattle.polcert_cells.specs.Words.{begins_item}
-use Rattle.polcert_cells.specs.declared.entry.Table.TheVariants.{Reward}
-use Rattle.polcert_format.specs.KnownPreamble.{preamble_in}
+use Rattle.polcert_cells.specs.Numbers.{IsMillionths}
+use Rattle.polcert_format.specs.Misfits.{begins_number}
 use Rattle.polcert_format.specs.Reasons.{is_sign}
 use Rattle.polcert_format.specs.Text.{Known}
-use Rattle.polcert_items.specs.Steps.Ahead.{IsFed, AreFed, none, more, FedAhead, with_probabilities}
-use Rattle.polcert_items.specs.Steps.Numbers.{of_probabilities, is_negative}
+use Rattle.polcert_format.specs.Wants.{numbers_want}
+use Rattle.polcert_items.specs.Steps.Ahead.{IsFed, IsListFed, AreTaken, none, more, TakesAhead, FedAhead}
+use Rattle.polcert_items.specs.Steps.Numbers.{ListKind, IsInRange, IsSignAt, is_negative}
+use Rattle.polcert_items.specs.Steps.Numbers as numbers
 use Rattle.polcert_items.specs.declared.entry_reader.EntryReader.{EntryReader}
-use Rattle.polcert_items.specs.declared.entry_reader.EntryState.TheVariants as states
 use Rattle.polcert_items.specs.declared.entry_reader.Numbers.{Numbers}
-use Rattle.polcert_items.proofs.ListLaws.{takes_number, one_probability, fraction_in_range}
-use Rattle.polcert_items.proofs.PatternLaws.{list_in, probability_state}
+use Rattle.polcert_items.specs.declared.signed_number.Sign.{Sign}
+use Rattle.polcert_items.proofs.ListLaws.{takes_number, takes_sign}
 use Rattle.polcert_items.proofs.WantLaws.{list_numeral_leads}
 
-fed_both : (k : Known) (a b c : EntryReader) (us vs : List Lexeme) → AreFed k a us b → AreFed k b vs c → AreFed k a (us ++ vs) c
-fed_both k a b c us vs first (none _) = subst (λ xs. AreFed k a xs b) (sym (append-nil us)) first
-fed_both k a b c us vs first (more _ between _ ws l before fed) =
-    subst (λ xs. AreFed k a xs c) (append_assoc us ws (l ∷ [])) (more a between c (us ++ ws) l (fed_both k a b between us ws first before) fed)
+-- ---- some steps, and others after them
 
--- none
+module _ {R : Type 0} (Step : R → Lexeme → R → Type 0) where
+  taken_both : (a b c : R) (us vs : List Lexeme) → AreTaken Step a us b → AreTaken Step b vs c → AreTaken Step a (us ++ vs) c
+  taken_both a b c us vs first (none _) = subst (λ xs. AreTaken Step a xs b) (sym (append-nil us)) first
+  taken_both a b c us vs first (more _ between _ ws l before step) =
+      subst (λ xs. AreTaken Step a xs c) (append_assoc us ws (l ∷ [])) (more a between c (us ++ ws) l (taken_both a b between us ws first before) step)
+
+  -- no bytes
+  pub takes_none : (r : R) (bytes : List ℕ) → TakesAhead Step r bytes 0 r
+  takes_none r bytes = record { within = omega arith; fed = λ place. ([], (begin_none place bytes, none r)) }
+
+  -- some bytes, and others after them
+  pub takes_then : (a b c : R) (bytes : List ℕ) (m n : ℕ) → TakesAhead Step a bytes m b → TakesAhead Step b (drop m bytes) n c → TakesAhead Step a bytes (m + n) c
+  takes_then a b c bytes m n first second = record {
+    within = omega (arith, first.within, second.within, length-drop m bytes);
+    fed = λ place.
+        let u = first.fed place in
+        let v = second.fed (place + m) in
+        (u.0 ++ v.0, (begin_then place bytes m n u.0 v.0 u.1.0 v.1.0, taken_both a b c u.0 v.0 u.1.1 v.1.1));
+  }
+
 pub fed_none : (k : Known) (r : EntryReader) (bytes : List ℕ) → FedAhead k r bytes 0 r
-fed_none k r bytes = record { within = omega arith; fed = λ place. ([], (begin_none place bytes, none r)) }
+fed_none k r bytes = takes_none (IsFed k) r bytes
 
--- some, and others after them
 pub fed_then : (k : Known) (a b c : EntryReader) (bytes : List ℕ) (m n : ℕ) → FedAhead k a bytes m b → FedAhead k b (drop m bytes) n c → FedAhead k a bytes (m + n) c
-fed_then k a b c bytes m n first second = record {
-  within = omega (arith, first.within, second.within, length-drop m bytes);
-  fed = λ place.
-      let u = first.fed place in
-      let v = second.fed (place + m) in
-      (u.0 ++ v.0, (begin_then place bytes m n u.0 v.0 u.1.0 v.1.0, fed_both k a b c u.0 v.0 u.1.1 v.1.1));
-}
-
--- a numeral begins no item
-pub numeral_inside : (l : Lexeme) → l.kind ≡ Numeral → begins_item l ≡ false
-numeral_inside l is = subst (λ (kind : TokenKind). begins_item (record l { kind = kind }) ≡ false) (sym is) refl
-
--- one probability
-pub probability_fed : (k : Known) (r : EntryReader) (old new : Numbers ℕ) (l : Lexeme) (p : ℕ) → (r.table ≢ Reward) → IsMillionths false l (pos p) → p ≤ one
-    → old.sign ≡ None → length old.read < old.needed → new ≡ (record { read = old.read ++ p ∷ []; needed = old.needed; sign = None }) → IsFed k (with_probabilities r old) l (with_probabilities r new)
-probability_fed k r old new l p not_reward v small sign room is = subst (λ n. IsFed k (with_probabilities r old) l (with_probabilities r n)) (sym is) (record {
-  inside = numeral_inside l v.kind;
-  table = refl;
-  within = (not_reward, omega (arith, room, length-append old.read (p ∷ [])));
-  takes = list_in of_probabilities states.Probabilities probability_state (preamble_in k) (with_probabilities r old) old l refl next
-      (takes_number of_probabilities old next l refl p one_probability (subst (λ s. IsMillionths (is_negative s) l (pos p)) (sym sign) v) (fraction_in_range p small) refl refl);
-  sign = ap is_sign v.kind;
-  leads = list_numeral_leads old l (old.read ++ p ∷ []) p v.kind refl;
-})
-  where
-    next : Numbers ℕ
-    next = record { read = old.read ++ p ∷ []; needed = old.needed; sign = None }
-
--- the probability at the front of some bytes
-pub front_fed : (k : Known) (r : EntryReader) (old new : Numbers ℕ) (bytes : List ℕ) (number : FrontNumber) → (r.table ≢ Reward) → ((place : ℕ) → BeginWithNumber place bytes number) → number.value ≤ one
-    → old.sign ≡ None → length old.read < old.needed → new ≡ (record { read = old.read ++ number.value ∷ []; needed = old.needed; sign = None })
-    → FedAhead k (with_probabilities r old) bytes number.len (with_probabilities r new)
-front_fed k r old new bytes number not_reward front small sign room is = record {
-  within = (front 0).front.within;
-  fed = λ place.
-      let f = front place in
-      let v : IsMillionths false f.token (pos number.value) = record { kind = f.kind_is; readable = f.readable; exact = f.exact } in
-      (f.token ∷ [], (f.front, more (with_probabilities r old) (with_probabilities r old) (with_probabilities r new) [] f.token (none (with_probabilities r old)) (probability_fed k r old new f.token number.value not_reward v small sign room is)));
-}
-
--- a number at the front of a rest of some bytes ends within them
-pub number_within : (bytes : List ℕ) (at : ℕ) (number : FrontNumber) → at ≤ length bytes → ((place : ℕ) → BeginWithNumber place (drop at bytes) number) → at + number.len ≤ length bytes
-number_within bytes at number high front = omega (arith, (front 0).front.within, length-drop at bytes)
-
--- a reader whose state is known
-pub same_state : (r : EntryReader) (n : Numbers ℕ) → r.state ≡ states.Probabilities n → r ≡ with_probabilities r n
-same_state r n is = λ i. record { table = r.table; places = r.places; state = is i }
+fed_then k a b c bytes m n first second = takes_then (IsFed k) a b c bytes m n first second
 
 pub if_ok_map : {T E : Type 0} (r : Result T E) (P Q : T → Type 0) → ((v : T) → P v → Q v) → IfOk r P → IfOk r Q
 if_ok_map (Ok v) P Q each p = each v p
 if_ok_map (Err e) P Q each p = tt
+
+-- ---- a number of a list
+
+sign_is : (is_negative : Bool) (s : Lexeme) → s.kind ≡ kind_of_sign is_negative → IsSignAt (record { negative = is_negative; place = s.place }) s
+sign_is true s kind = numbers.minus kind refl refl
+sign_is false s kind = numbers.plus kind refl refl
+
+is_a_sign : (is_negative : Bool) → (is_sign (kind_of_sign is_negative) ≡ true) × (begins_number (kind_of_sign is_negative) ≡ true)
+is_a_sign true = (refl, refl)
+is_a_sign false = (refl, refl)
+
+-- a number at the front of some bytes ends within them
+pub value_within : (place : ℕ) (bytes : List ℕ) (found : FrontValue) → BeginWithValue place bytes found → found.len ≤ length bytes
+value_within place bytes found (unsigned n v front) = front.within
+value_within place bytes found (signed is_negative s n kind v front) = front.within
+
+-- and within all of the bytes
+pub ends_within : (bytes : List ℕ) (at : ℕ) (found : FrontValue) → at ≤ length bytes → ((place : ℕ) → BeginWithValue place (drop at bytes) found) → at + found.len ≤ length bytes
+ends_within bytes at found high front = omega (arith, value_within 0 (drop at bytes) found (front 0), length-drop at bytes)
+
+-- the list with this sign at its end, or with this number
+abbrev with_sign : {T : Type 0} → Numbers T → Sign → Numbers T
+with_sign n s = record { read = n.read; needed = n.needed; sign = Some s }
+
+abbrev with_number : {T : Type 0} → Numbers T → T → Numbers T
+with_number n x = record { read = n.read ++ x ∷ []; needed = n.needed; sign = None }
+
+module _ {T : Type 0} (kind : ListKind T) (old : Numbers T) where
+  sign_fed : (is_negative : Bool) (s : Lexeme) → s.kind ≡ kind_of_sign is_negative → old.sign ≡ None → length old.read < old.needed → IsListFed kind old s (with_sign old (record { negative = is_negative; place = s.place }))
+  sign_fed is_negative s is no_sign room =
+      let sign : Sign = record { negative = is_negative; place = s.place } in
+      let at = sign_is is_negative s is in
+      let a = is_a_sign is_negative in
+      let mark : is_sign s.kind ≡ true = ap is_sign is ∙ a.0 in
+      let left = old.needed - length old.read in
+      record {
+        begins = ap begins_number is ∙ a.1;
+        room = omega (arith, room);
+        takes = takes_sign kind old (with_sign old sign) s refl sign at no_sign refl refl;
+        sign = at;
+        leads = record { same = λ ls i. numbers_want (mark i) (if mark i then left else left - 1) ls };
+      }
+
+  numeral_fed : (x : T) (l : Lexeme) → ((y z : T) → kind.worth y ≡ kind.worth z → y ≡ z) → IsNumeralOf (is_negative old.sign) l (kind.worth x) → IsInRange kind.range (kind.worth x) → length old.read < old.needed
+      → IsListFed kind old l (with_number old x)
+  numeral_fed x l distinct v fits room =
+      let is : IsMillionths (is_negative old.sign) l (kind.worth x) = record { kind = v.kind_is; readable = v.readable; exact = v.exact } in
+      record {
+        begins = ap begins_number v.kind_is;
+        room = omega (arith, room, length-append old.read (x ∷ []));
+        takes = takes_number kind old (with_number old x) l refl x distinct is fits refl refl;
+        sign = ap is_sign v.kind_is;
+        leads = list_numeral_leads old l (old.read ++ x ∷ []) x v.kind_is refl;
+      }
+
+-- the number at the front of some bytes
+module _ {T : Type 0} (kind : ListKind T) (old : Numbers T) (x : T) (bytes : List ℕ) (found : FrontValue) (distinct : (y z : T) → kind.worth y ≡ kind.worth z → y ≡ z) (worth : kind.worth x ≡ found.value)
+    (fits : IsInRange kind.range found.value) (no_sign : old.sign ≡ None) (room : length old.read < old.needed) where
+  numeral_of : (is_negative : Bool) (l : Lexeme) → IsNumeralOf is_negative l found.value → IsNumeralOf is_negative l (kind.worth x)
+  numeral_of is_negative l v = subst (IsNumeralOf is_negative l) (sym worth) v
+
+  taken_at : (place : ℕ) → BeginWithValue place bytes found → (ls : List Lexeme) × (BeginWith place bytes found.len ls × AreTaken (IsListFed kind) old ls (with_number old x))
+  taken_at place (unsigned n v front) =
+      let is = subst (λ s. IsNumeralOf (is_negative s) n (kind.worth x)) (sym no_sign) (numeral_of false n v) in
+      let fed = numeral_fed kind old x n distinct is (subst (IsInRange kind.range) (sym worth) fits) room in
+      (n ∷ [], (front, more old old (with_number old x) [] n (none old) fed))
+  taken_at place (signed is_negative s n sign v front) =
+      let mid = with_sign old (record { negative = is_negative; place = s.place }) in
+      let first = sign_fed kind old is_negative s sign no_sign room in
+      let fed = numeral_fed kind mid x n distinct (numeral_of is_negative n v) (subst (IsInRange kind.range) (sym worth) fits) room in
+      (s ∷ n ∷ [], (front, more old mid (with_number old x) (s ∷ []) n (more old old mid [] s (none old) first) fed))
+
+  pub value_ahead : ((place : ℕ) → BeginWithValue place bytes found) → (new : Numbers T) → new ≡ with_number old x → TakesAhead (IsListFed kind) old bytes found.len new
+  value_ahead front new is = subst (TakesAhead (IsListFed kind) old bytes found.len) (sym is) (record { within = value_within 0 bytes found (front 0); fed = λ place. taken_at place (front place) })

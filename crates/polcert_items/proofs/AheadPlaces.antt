@@ -1,16 +1,16 @@
 -- The places of an entry and the first number after them, taken at once.
-use Rattle.std.proofs.Common.{◌≡◌, ◌∙◌, ⊎_elim, inl, ℕ, zero, suc, ◌+◌, ◌<◌, ◌≤◌, true, false, None, List, [], ◌∷◌, ◌++◌, length, drop, get_or, pos, refl, sym, ap, subst, length-append, arith, Bool, ◌||◌}
+use Rattle.std.proofs.Common.{◌≡◌, ◌∙◌, ⊎_elim, ℕ, zero, suc, ◌+◌, ◌<◌, true, false, List, [], ◌∷◌, ◌++◌, length, drop, get_or, refl, sym, ap, subst, length-append, arith, Bool, ◌||◌}
 use Rattle.std.proofs.lemmas.List.{length-drop}
-use Rattle.polcert_text.specs.Beginning.{BeginWithOne, BeginWithNumber, BeginWithDigits, moved}
+use Rattle.polcert_text.specs.Beginning.{BeginWithOne, BeginWithDigits, moved}
 use Rattle.polcert_text.specs.Cut.{Lexeme}
 use Rattle.polcert_text.specs.declared.beginning.FrontNumber.{FrontNumber}
 use Rattle.polcert_text.specs.declared.lexeme.TokenKind.{TokenKind}
 use Rattle.polcert_text.specs.declared.lexeme.TokenKind.TheVariants.{Colon, Numeral, Star}
 use Rattle.polcert_text.proofs.Taken.BeginLaws.{begin_then}
 use Rattle.polcert_cells.specs.Elements.{count_of, by_number, by_name}
-use Rattle.polcert_cells.specs.Entry.{cells_in, IsPlace}
-use Rattle.polcert_cells.specs.Numbers.{IsMillionths, IsWhole}
-use Rattle.polcert_cells.specs.Preamble.{Preamble, is_mdp}
+use Rattle.polcert_cells.specs.Entry.{IsPlace}
+use Rattle.polcert_cells.specs.Numbers.{IsWhole}
+use Rattle.polcert_cells.specs.Preamble.{Preamble}
 use Rattle.polcert_cells.specs.Words.{begins_item, is_reserved, IsName}
 use Rattle.polcert_cells.specs.declared.elements.Elements.{Elements}
 use Rattle.polcert_cells.specs.declared.elements.Elements.TheVariants.{Count}
@@ -24,23 +24,22 @@ use Rattle.polcert_format.specs.Reasons.{is_sign}
 use Rattle.polcert_format.specs.Text.{Known}
 use Rattle.polcert_format.specs.Wants.{least_written, numbers_want}
 use Rattle.polcert_format.specs.Wants as wants
-use Rattle.polcert_items.specs.Steps.Ahead.{IsFed, none, more, FedAhead, BeginWithPlace, AwaitsColon, AreBegunWith}
-use Rattle.polcert_items.specs.Steps.Entries.{NumberListGoes, StateGoes, IsFirstPlace, IsEntryBehind, IsStateWithin, IsWithinIndices, AreBegun, no_numbers, one_number, entry_sign}
-use Rattle.polcert_items.specs.Steps.Numbers.{IsInRange, ListKind, of_probabilities, of_rewards, SignIs}
-use Rattle.polcert_items.specs.Steps.Lines.{Takes}
-use Rattle.polcert_items.specs.Steps.Wants.{Leads, list_wants, state_wants, entry_wants}
+use Rattle.polcert_items.specs.Steps.Ahead.{IsFed, none, more, FedAhead, BeginWithPlace, AwaitsColon}
+use Rattle.polcert_items.specs.Steps.Entries.{StateGoes, IsFirstPlace, IsEntryBehind, IsStateWithin, IsWithinIndices}
+use Rattle.polcert_items.specs.Steps.Wants.{Leads, state_wants, entry_wants}
 use Rattle.polcert_items.specs.declared.ahead.FrontPlace.{FrontPlace}
 use Rattle.polcert_items.specs.declared.entry_reader.EntryReader.{EntryReader}
-use Rattle.polcert_items.specs.declared.entry_reader.EntryState.{EntryState}
 use Rattle.polcert_items.specs.declared.entry_reader.EntryState.TheVariants as states
-use Rattle.polcert_items.proofs.AheadLaws.{numeral_inside}
-use Rattle.polcert_items.proofs.ListLaws.{takes_number, one_probability, fraction_in_range}
-use Rattle.polcert_items.proofs.PatternLaws.{in_state, colon_takes, numbers_begin, number_not_colon, number_not_name, BeginsNumber}
-use Rattle.polcert_items.proofs.WantLaws.{body_leads, colon_leads, numbers_lead, number_begins, list_numeral_leads, no_numbers_lead}
+use Rattle.polcert_items.proofs.PatternLaws.{in_state, colon_takes}
+use Rattle.polcert_items.proofs.WantLaws.{body_leads, colon_leads}
 
 or_false : (a b : Bool) → (a || b) ≡ false → a ≡ false
 or_false true b e = cc
 or_false false b e = refl
+
+-- a numeral begins no item
+numeral_inside : (l : Lexeme) → l.kind ≡ Numeral → begins_item l ≡ false
+numeral_inside l is = subst (λ (kind : TokenKind). begins_item (record l { kind = kind }) ≡ false) (sym is) refl
 
 -- ---- a colon
 
@@ -157,64 +156,3 @@ digits_place k table written bytes count index inside front are below position =
       place_is = first_place (named_in k table) written d.token (Only index.value) (omega (arith, same_count k table)) (by_number whole (omega (arith, are)));
       front = d.front;
     }
-
--- ---- the body's first number
-
--- all that is said of numbers that were begun
-record Begun (p : Preamble) (ds : List Elements) (places : List Place) (needed : ℕ) (l : Lexeme) (table : Table) (state : EntryState) : Type 0 where
-  begun : AreBegun table needed l state
-  within : IsStateWithin ds table places state
-  sign : SignIs (entry_sign state) l
-  leads : Leads (numbers_want false needed) l (state_wants p table places state)
-
-module _ (p : Preamble) (ds : List Elements) (places : List Place) (needed v : ℕ) (l : Lexeme) (is : IsMillionths false l (pos v)) (room : 0 < needed) where
-  -- a list that this number begins
-  begun_list : (table : Table) {T : Type 0} (kind : ListKind T) (x : T) (state : EntryState) → ((y z : T) → kind.worth y ≡ kind.worth z → y ≡ z) → kind.worth x ≡ pos v → IsInRange kind.range (pos v)
-      → (Takes (NumberListGoes kind) (no_numbers needed) l (one_number needed x) → AreBegun table needed l state) → IsStateWithin ds table places state → entry_sign state ≡ None
-      → ((ls : List Lexeme) → state_wants p table places state ls ≡ list_wants (one_number needed x) ls) → Begun p ds places needed l table state
-  begun_list table {T} kind x state one worth fits begun within no_sign wants = record {
-    begun = begun (takes_number kind (no_numbers needed) (one_number needed x) l refl x one (subst (IsMillionths false l) (sym worth) is) (subst (IsInRange kind.range) (sym worth) fits) refl refl);
-    within = within;
-    sign = subst (λ s. SignIs s l) (sym no_sign) (ap is_sign is.kind);
-    leads = record { same = λ ls. (no_numbers_lead {T = T} (no_numbers needed) needed l _ refl (list_numeral_leads {T = T} (no_numbers needed) l (x ∷ []) x is.kind refl)).same ls ∙ sym (wants ls) };
-  }
-
-  begun_with : (table : Table) (state : EntryState) → AreBegunWith table needed v state → Begun p ds places needed l table state
-  begun_with Transition state b = subst (Begun p ds places needed l Transition) (sym b.0)
-      (begun_list Transition of_probabilities v _ one_probability refl (fraction_in_range v b.1) (λ t. t) (λ e. absurd (cc), omega (arith, room)) refl (λ ls. refl))
-  begun_with Observation state b = subst (Begun p ds places needed l Observation) (sym b.0)
-      (begun_list Observation of_probabilities v _ one_probability refl (fraction_in_range v b.1) (λ t. t) (λ e. absurd (cc), omega (arith, room)) refl (λ ls. refl))
-  begun_with Reward state b = subst (Begun p ds places needed l Reward) (sym b)
-      (begun_list Reward of_rewards (pos v) _ (λ y z e. e) refl tt (λ t. t) (refl, omega (arith, room)) refl (λ ls. refl))
-
-numeral_begins : (l : Lexeme) → l.kind ≡ Numeral → BeginsNumber l.kind
-numeral_begins l is = inl is
-
-begun_fed : (k : Known) (r : EntryReader) (l : Lexeme) (needed v : ℕ) (state : EntryState) → r.state ≡ states.Body → length r.places ≤ length (indices_in k r.table) → least_written (is_mdp (preamble_in k)) r.table ≤ length r.places
-    → needed ≡ cells_in (drop (length r.places) (indices_in k r.table)) → 0 < needed → IsMillionths false l (pos v) → AreBegunWith r.table needed v state → IsFed k r l (record r { state = state })
-begun_fed k r l needed v state is high low cells room number begun =
-    let p = preamble_in k in
-    let b = begun_with p (indices_in k r.table) r.places needed v l number room r.table state begun in
-    let numeral = numeral_begins l number.kind in
-    record {
-      inside = numeral_inside l number.kind;
-      table = refl;
-      within = b.within;
-      takes = in_state p r states.Body state l is (numbers_begin k r.table r.places l state needed (number_not_colon l.kind numeral) (number_not_name l.kind numeral) cells low high b.begun);
-      sign = b.sign;
-      leads = record {
-        same = λ ls. (body_leads p r l _ is (numbers_lead p r.table (length r.places) l _ (number_begins l.kind numeral)
-            (subst (λ m. Leads (numbers_want false m) l (state_wants p r.table r.places state)) cells b.leads))).same ls;
-      };
-    }
-
-pub number_fed : (k : Known) (r : EntryReader) (bytes : List ℕ) (number : FrontNumber) (needed : ℕ) (state : EntryState) → r.state ≡ states.Body → length r.places ≤ length (indices_in k r.table)
-    → least_written (is_mdp (preamble_in k)) r.table ≤ length r.places → needed ≡ cells_in (drop (length r.places) (indices_in k r.table)) → 0 < needed → ((place : ℕ) → BeginWithNumber place bytes number)
-    → AreBegunWith r.table needed number.value state → FedAhead k r bytes number.len (record r { state = state })
-number_fed k r bytes number needed state is high low cells room front begun = record {
-  within = (front 0).front.within;
-  fed = λ place.
-      let f = front place in
-      let v : IsMillionths false f.token (pos number.value) = record { kind = f.kind_is; readable = f.readable; exact = f.exact } in
-      (f.token ∷ [], (f.front, more r r (record r { state = state }) [] f.token (none r) (begun_fed k r f.token needed number.value state is high low cells room v begun)));
-}

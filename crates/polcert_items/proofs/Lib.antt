@@ -1,4 +1,5 @@
 pub mod AheadLaws
+pub mod AheadLists
 pub mod AheadPlaces
 pub mod CountedCells
 pub mod CoveringLaws

@@ -1,29 +1,33 @@
 //! An entry that continues with several tokens at once: numbers that stand whole at the front of the bytes ahead.
-ghost use Rattle.std.specs.Prelude.{◌≡◌, ◌≢◌, ◌+◌, ◌<◌, ◌≤◌, ℕ, length, drop, get_or, IfOk, IfSome, IfNone, IsTrue};
+ghost use Rattle.std.specs.Prelude.{◌≡◌, ◌+◌, ◌<◌, ◌≤◌, ℕ, length, drop, get_or, IfOk, IfSome, IfNone, IsTrue};
 ghost use Rattle.polcert_cells.specs.Elements.{count_of, most_elements};
 ghost use Rattle.polcert_cells.specs.declared.elements.Elements.TheVariants.{Count};
 ghost use Rattle.polcert_format.specs.KnownPreamble.{indices_in, named_in};
-ghost use Rattle.polcert_format.specs.Text.{Known as K};
-ghost use Rattle.polcert_items.specs.Steps.Ahead.{FedAhead, ItemFedAhead, BeginWithPlace, AwaitsColon, AreBegunWith, with_probabilities};
+ghost use Rattle.polcert_items.specs.Steps.Ahead.{FedAhead, TakesAhead, IsListFed, IsListBegun, ItemFedAhead, BeginWithPlace, AwaitsColon};
 ghost use Rattle.polcert_items.specs.Steps.Entries.{IsWithinIndices};
 ghost use Rattle.polcert_items.specs.Steps.Items.{IsItemWithin};
-ghost use Rattle.polcert_items.specs.declared.entry_reader.EntryReader.{EntryReader as R};
 
 use crate::entry_reader::{EntryReader, EntryState, Numbers, indices_of, takes_numbers};
 use crate::item::ItemReader;
 use crate::known::Known;
-use polcert_cells::{ONE, Place, Table};
-use polcert_text::{front_colon, front_digits, front_number, front_token};
+use crate::list_number::ListNumber;
+use crate::signed_number::range_fault;
+use polcert_cells::{Place, Table};
+use polcert_text::{front_colon, front_digits, front_token, front_value};
 use std::alloc::{AllocError, Global};
-
-/// The largest reward, in millionths.
-const LARGEST: u64 = 10_000_000_000_000;
 
 /// A place at the front of some bytes, and how many bytes it takes with the blanks before it.
 #[derive(Clone, Copy)]
 pub struct FrontPlace {
     pub len: usize,
     pub place: Place,
+}
+
+/// A list of numbers that was begun ahead, and how many bytes they are with the blanks before them.
+#[derive(Drop)]
+pub struct ListAhead<T: Copy> {
+    pub numbers: Numbers<T>,
+    pub len: usize,
 }
 
 impl ItemReader {
@@ -60,12 +64,13 @@ impl EntryReader {
     {
         match &mut self.state {
             EntryState::Probabilities(numbers) => numbers.feed_ahead(bytes),
+            EntryState::Rewards(numbers) => numbers.feed_ahead(bytes),
             EntryState::Colon => self.feed_line(alloc, known, bytes),
             _ => Ok(0),
         }
     }
 
-    /// Continues with places, each after a colon, and then with a number, which may be the first of more.
+    /// Continues with places, each after a colon, and then with numbers.
     #[inline(never)]
     fn feed_line(&mut self, alloc: Global, known: &Known, bytes: &[u8]) -> Result<usize, AllocError>
         requires { IsWithinIndices (indices_in known.now self.old.table) self.old }
@@ -181,7 +186,7 @@ impl EntryReader {
         }
     }
 
-    /// Continues with the body's first number.
+    /// Continues with the body's numbers, if the first of them comes next.
     #[inline(always)]
     fn begin_ahead(
         &mut self,
@@ -196,70 +201,61 @@ impl EntryReader {
         if !self.awaits_body() || !takes_numbers(known.is_mdp(), self.table, written) {
             return Ok(0);
         }
-        let Some(number) = front_number(bytes) else {
-            return Ok(0);
-        };
         let needed = known.cells_behind(self.table, written);
-        if needed == 0 {
-            return Ok(0);
-        }
-        match begun_with(alloc, self.table, needed, number.value)? {
-            Some(state) => {
-                self.state = state;
-                Ok(number.len)
+        match self.table {
+            Table::Reward => {
+                let Some(begun) = list_ahead(alloc, needed, bytes)? else {
+                    return Ok(0);
+                };
+                self.state = EntryState::Rewards(begun.numbers);
+                Ok(begun.len)
             }
-            None => Ok(0),
+            Table::Transition | Table::Observation => {
+                let Some(begun) = list_ahead(alloc, needed, bytes)? else {
+                    return Ok(0);
+                };
+                self.state = EntryState::Probabilities(begun.numbers);
+                Ok(begun.len)
+            }
         }
     }
 }
 
-/// The body's numbers after the first, which is so many millionths, if it is in their range.
+/// The list of so many numbers that begins with those at the front of the bytes, if there is a first. An error is out of memory.
 #[inline(always)]
-fn begun_with(
+fn list_ahead<T: ListNumber>(
     alloc: Global,
-    table: Table,
     needed: usize,
-    value: u64,
-) -> Result<Option<EntryState>, AllocError>
-    ensures { IfOk result (λ state. IfSome state (AreBegunWith table needed value)) }
+    bytes: &[u8],
+) -> Result<Option<ListAhead<T>>, AllocError>
+    ensures { IfOk result (λ begun. IfSome begun (IsListBegun T.kind needed bytes.now)) }
 {
-    match table {
-        Table::Reward => {
-            if value > LARGEST {
-                return Ok(None);
-            }
-            let numbers = Numbers::begun(alloc, needed, value as i64)?;
-            Ok(Some(EntryState::Rewards(numbers)))
-        }
-        Table::Transition | Table::Observation => {
-            if value > ONE {
-                return Ok(None);
-            }
-            let numbers = Numbers::begun(alloc, needed, value as u32)?;
-            Ok(Some(EntryState::Probabilities(numbers)))
-        }
+    let mut numbers = Numbers::new(alloc, needed);
+    let len = numbers.feed_ahead(bytes)?;
+    if numbers.read.len() == 0 {
+        return Ok(None);
     }
+    Ok(Some(ListAhead { numbers, len }))
 }
 
-impl Numbers<u32> {
-    /// Continues with the probabilities that the bytes begin with, up to the last that is needed, and answers how many bytes they are.
+impl<T: ListNumber> Numbers<T> {
+    /// Continues with the numbers that the bytes begin with, up to the last that is needed, and answers how many bytes they are.
     #[inline(never)]
     fn feed_ahead(&mut self, bytes: &[u8]) -> Result<usize, AllocError>
-        ensures { IfOk result (λ count. (k : K) (r : R) → (r.table ≢ Table.Reward) →
-            FedAhead k (with_probabilities r self.old) bytes.now count (with_probabilities r self.new)) }
+        ensures { IfOk result (λ count. TakesAhead (IsListFed T.kind) self.old bytes.now count self.new) }
     {
         let mut at: usize = 0;
         if self.sign.is_some() {
             return Ok(at);
         }
         while self.read.len() < self.needed {
-            let Some(number) = front_number(&bytes[at..]) else {
+            let Some(number) = front_value(&bytes[at..]) else {
                 return Ok(at);
             };
-            if number.value > ONE {
-                return Ok(at);
+            match range_fault(T::range(), number.value) {
+                None => self.read.push(T::of_millionths(number.value))?,
+                Some(_) => return Ok(at),
             }
-            self.read.push(number.value as u32)?;
             at += number.len;
         }
         Ok(at)

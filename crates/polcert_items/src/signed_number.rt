@@ -120,7 +120,7 @@ pub fn number_place(sign: Option<Sign>, token: Token<'_>) -> u64
 
 /// Why the number may not stand in such a place, if it may not.
 #[inline(always)]
-fn range_fault(range: Range, value: i64) -> Option<ItemFault>
+pub(crate) fn range_fault(range: Range, value: i64) -> Option<ItemFault>
     ensures { MatchOption result (IsInRange range value)
         (λ kind. (IsInRange range value → ⊥) × IsRangeFault range kind) }
 {

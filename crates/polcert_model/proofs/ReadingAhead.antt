@@ -10,7 +10,7 @@ use Rattle.polcert_text.proofs.Taken.PassedTokens.{passed_taken}
 use Rattle.polcert_cells.specs.declared.words.Topic.TheVariants.{Cells}
 use Rattle.polcert_format.specs.KnownPreamble.{indices_in}
 use Rattle.polcert_format.specs.Text.{Known}
-use Rattle.polcert_items.specs.Steps.Ahead.{IsFed, AreFed, none, more, FedAhead, ItemFedAhead, nothing, entry}
+use Rattle.polcert_items.specs.Steps.Ahead.{IsFed, AreTaken, none, more, FedAhead, ItemFedAhead, nothing, entry}
 use Rattle.polcert_items.specs.Steps.Entries.{IsWithinIndices, entry_sign}
 use Rattle.polcert_items.specs.Steps.Items.{ItemGoes}
 use Rattle.polcert_items.specs.Steps.Lines.{Takes}
@@ -53,7 +53,7 @@ module _ (known : Known) (number : ℕ) where
       })
 
   -- several
-  entries_fed : (seen ls : List Lexeme) (old new : EntryReader) → AreFed known old ls new → IsTextRead seen (within_entry known number old) → IsTextRead (seen ++ ls) (within_entry known number new)
+  entries_fed : (seen ls : List Lexeme) (old new : EntryReader) → AreTaken (IsFed known) old ls new → IsTextRead seen (within_entry known number old) → IsTextRead (seen ++ ls) (within_entry known number new)
   entries_fed seen ls old new (none _) read = subst (λ xs. IsTextRead xs (within_entry known number old)) (sym (append-nil seen)) read
   entries_fed seen ls old new (more _ between _ us l before fed) read =
       subst (λ xs. IsTextRead xs (within_entry known number new)) (append_assoc seen us (l ∷ [])) (entry_fed (seen ++ us) between new l (entries_fed seen us old between before read) fed)

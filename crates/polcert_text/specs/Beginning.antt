@@ -1,5 +1,5 @@
 -- Tokens that stand whole at the front of some bytes.
-use Rattle.std.specs.Prelude.{◌≡◌, ℕ, ◌+◌, ◌≤◌, ◌++◌, ◌∷◌, false, true, Option, List, [], length, drop, pos}
+use Rattle.std.specs.Prelude.{◌≡◌, ℕ, ◌+◌, ◌≤◌, ◌++◌, ◌∷◌, Bool, false, true, if◌then◌else◌, Option, List, [], length, drop, ℤ}
 use Rattle.std.specs.Str.Parse.{digits_value}
 use Rattle.polcert_text.specs.Lexemes.{are_digits}
 use Rattle.polcert_text.specs.Cut.{Lexeme, Rest}
@@ -7,9 +7,10 @@ use Rattle.polcert_text.specs.Numbers.{IsReadable, IsExact}
 use Rattle.polcert_text.specs.Stream.{Stream, skip}
 use Rattle.polcert_text.specs.TakenTokens.{Taken}
 use Rattle.polcert_text.specs.declared.lexeme.TokenKind.{TokenKind}
-use Rattle.polcert_text.specs.declared.lexeme.TokenKind.TheVariants.{Numeral}
+use Rattle.polcert_text.specs.declared.lexeme.TokenKind.TheVariants.{Numeral, Plus, Minus}
 use Rattle.polcert_text.specs.declared.tokens.TokenFault.{TokenFault}
 use Rattle.polcert_text.specs.declared.beginning.FrontNumber.{FrontNumber}
+use Rattle.polcert_text.specs.declared.beginning.FrontValue.{FrontValue}
 
 -- what is still to be cut, from an offset on
 abbrev pub rest_at : ℕ → List ℕ → Option TokenFault → Rest
@@ -35,13 +36,21 @@ pub record BeginWithOne (place : ℕ) (bytes : List ℕ) (count : ℕ) (kind : T
   pub kind_is : token.kind ≡ kind
   pub front : BeginWith place bytes count (token ∷ [])
 
--- the first bytes are a numeral of just so many millionths
-pub record BeginWithNumber (place : ℕ) (bytes : List ℕ) (number : FrontNumber) : Type 0 where
-  pub token : Lexeme
-  pub kind_is : token.kind ≡ Numeral
-  pub front : BeginWith place bytes number.len (token ∷ [])
-  pub readable : IsReadable token.bytes
-  pub exact : IsExact false token.bytes (pos number.value)
+-- the lexeme is a numeral, and after such a sign its value is just h millionths
+pub record IsNumeralOf (is_negative : Bool) (numeral : Lexeme) (h : ℤ) : Type 0 where
+  pub kind_is : numeral.kind ≡ Numeral
+  pub readable : IsReadable numeral.bytes
+  pub exact : IsExact is_negative numeral.bytes h
+
+-- the kind of a sign's token
+abbrev pub kind_of_sign : Bool → TokenKind
+kind_of_sign is_negative = if is_negative then Minus else Plus
+
+-- the first bytes are a number of just so many millionths: a numeral, or a sign and a numeral
+pub data BeginWithValue (place : ℕ) (bytes : List ℕ) (found : FrontValue) : Type 0 where
+  unsigned : (numeral : Lexeme) → IsNumeralOf false numeral found.value → BeginWith place bytes found.len (numeral ∷ []) → BeginWithValue place bytes found
+  signed : (is_negative : Bool) (sign numeral : Lexeme) → sign.kind ≡ kind_of_sign is_negative → IsNumeralOf is_negative numeral found.value
+      → BeginWith place bytes found.len (sign ∷ numeral ∷ []) → BeginWithValue place bytes found
 
 -- the first bytes are digits that spell a number
 pub record BeginWithDigits (place : ℕ) (bytes : List ℕ) (number : FrontNumber) : Type 0 where

@@ -1,13 +1,13 @@
 //! Tokens that stand whole at the front of some bytes, cut without going through a stream.
 ghost use Rattle.std.specs.Prelude.{◌≡◌, ◌≤◌, ◌∷◌, [], ℕ, length, take, IfSome};
 ghost use Rattle.polcert_text.specs.Steps.Scan.{gap_through};
-ghost use Rattle.polcert_text.specs.Beginning.{BeginWith, BeginWithOne, BeginWithNumber, BeginWithDigits, moved};
+ghost use Rattle.polcert_text.specs.Beginning.{BeginWith, BeginWithOne, BeginWithValue, BeginWithDigits, moved};
 ghost use Rattle.polcert_text.specs.Reading.{lexeme_of};
-ghost use Rattle.polcert_text.specs.Steps.ScanOf.{EndsAsNumber, EndsAsDigits};
+ghost use Rattle.polcert_text.specs.Steps.ScanOf.{EndsAsNumber, EndsAsDigits, IsValueFrom};
 
-use crate::bytes::{is_surely_blank, is_surely_colon, is_surely_point};
+use crate::bytes::{is_surely_blank, is_surely_colon, is_surely_point, quick_sign};
 use crate::lexeme::{Gap, LONGEST_TOKEN, TokenKind, ended_name_or_mark};
-use crate::number::{LARGEST, MILLION, digits_behind, with_zeros};
+use crate::number::{MILLION, few_digits, power_of_ten, signed};
 use crate::tokens::Token;
 
 /// A number at the front of some bytes: its value, and how many bytes it takes with the blanks before it.
@@ -15,6 +15,13 @@ use crate::tokens::Token;
 pub struct FrontNumber {
     pub len: usize,
     pub value: u64,
+}
+
+/// A number with its sign at the front of some bytes: its value in millionths, and how many bytes it takes with the blanks before it.
+#[derive(Clone, Copy)]
+pub struct FrontValue {
+    pub len: usize,
+    pub value: i64,
 }
 
 /// The colon at the front of the bytes: how many bytes it takes with the blanks before it. `None` says nothing.
@@ -53,16 +60,31 @@ pub fn front_token(bytes: &[u8]) -> Option<Token<'_>>
 }
 
 /// The number in millionths that the bytes begin with, if a blank or a line end follows its numeral: digits, perhaps with a point
-/// and at most six digits. `None` says nothing.
+/// and at most six digits, and perhaps directly after a sign. `None` says nothing.
 #[inline(always)]
-pub fn front_number(bytes: &[u8]) -> Option<FrontNumber>
-    ensures { IfSome result (λ number. (place : ℕ) → BeginWithNumber place bytes.now number) }
+pub fn front_value(bytes: &[u8]) -> Option<FrontValue>
+    ensures { IfSome result (λ found. (place : ℕ) → BeginWithValue place bytes.now found) }
 {
     let start = blanks(bytes);
-    match ended_number(&bytes[start..]) {
-        Some(number) => Some(FrontNumber {
-            len: start + number.len,
-            value: number.value,
+    if start == bytes.len() {
+        return None;
+    }
+    match quick_sign(bytes[start]) {
+        None => value_from(bytes, start, false),
+        Some(is_negative) => value_from(bytes, start + 1, is_negative),
+    }
+}
+
+/// The number whose numeral begins there, after such a sign. `None` says nothing.
+#[inline(always)]
+fn value_from(bytes: &[u8], from: usize, is_negative: bool) -> Option<FrontValue>
+    requires { from ≤ length bytes.now }
+    ensures { IfSome result (IsValueFrom bytes.now from is_negative) }
+{
+    match ended_number(&bytes[from..]) {
+        Some(number) => Some(FrontValue {
+            len: from + number.len,
+            value: signed(is_negative, number.value),
         }),
         None => None,
     }
@@ -96,35 +118,41 @@ fn blanks(bytes: &[u8]) -> usize
     at
 }
 
-/// More digits are rare, and read the general way.
-const MOST_DIGITS: usize = 9;
+/// Numerals with more digits before the point are rare, and read the general way; and so are those with more after it.
+const MOST_WHOLE: usize = 7;
+
+const MOST_DECIMALS: usize = 6;
+
+/// The longest numeral that is read here, with the blank after it.
+const ROOM: usize = MOST_WHOLE + 1 + MOST_DECIMALS + 1;
 
 #[inline(always)]
 fn ended_digits(bytes: &[u8]) -> Option<FrontNumber>
     ensures { IfSome result (EndsAsDigits bytes.now) }
 {
-    let until = bytes.len().min(MOST_DIGITS);
-    let (value, len) = digits_behind(0, bytes, 0, until);
-    if len == 0 || len == bytes.len() || !is_surely_blank(bytes[len]) {
+    if bytes.len() <= MOST_WHOLE {
+        return None;
+    }
+    let (value, len) = few_digits(0, bytes, 0, MOST_WHOLE);
+    if len == 0 || !is_surely_blank(bytes[len]) {
         return None;
     }
     Some(FrontNumber { len, value })
 }
 
-/// A point, and the decimals of a millionth.
-const DECIMALS: usize = 7;
-
 #[inline(always)]
 fn ended_number(bytes: &[u8]) -> Option<FrontNumber>
     ensures { IfSome result (EndsAsNumber bytes.now) }
 {
-    let until = bytes.len().min(MOST_DIGITS);
-    let (whole, point) = digits_behind(0, bytes, 0, until);
-    if point == 0 || point == bytes.len() {
+    if bytes.len() < ROOM {
         return None;
     }
-    if is_surely_blank(bytes[point]) {
-        if whole >= LARGEST / MILLION {
+    let (whole, point) = few_digits(0, bytes, 0, MOST_WHOLE);
+    if point == 0 {
+        return None;
+    }
+    if !is_surely_point(bytes[point]) {
+        if !is_surely_blank(bytes[point]) {
             return None;
         }
         return Some(FrontNumber {
@@ -132,17 +160,12 @@ fn ended_number(bytes: &[u8]) -> Option<FrontNumber>
             value: whole * MILLION,
         });
     }
-    if !is_surely_point(bytes[point]) {
+    let (number, len) = few_digits(whole, bytes, point + 1, MOST_DECIMALS);
+    if !is_surely_blank(bytes[len]) {
         return None;
     }
-    let last = bytes.len().min(point + DECIMALS);
-    let (number, len) = digits_behind(whole, bytes, point + 1, last);
-    if len == bytes.len() || !is_surely_blank(bytes[len]) || number > LARGEST {
-        return None;
-    }
-    let value = with_zeros(number, point + DECIMALS - len);
-    if value >= LARGEST {
-        return None;
-    }
-    Some(FrontNumber { len, value })
+    Some(FrontNumber {
+        len,
+        value: number * power_of_ten(point + 1 + MOST_DECIMALS - len),
+    })
 }

@@ -19,7 +19,7 @@ mod tokens;
 mod whole;
 mod window;
 
-pub use beginning::{FrontNumber, front_colon, front_digits, front_number, front_token};
+pub use beginning::{FrontNumber, FrontValue, front_colon, front_digits, front_token, front_value};
 pub use buffer::{BUFFER_SIZE, Buffer};
 pub use buffered::BufferedSink;
 pub use lexeme::TokenKind;

@@ -61,7 +61,7 @@ const LARGEST_EXPONENT: usize = 400;
 /// What stands for every exponent that is larger.
 const BEYOND_EXPONENTS: usize = LARGEST_EXPONENT + 1;
 
-pub(crate) const LARGEST: u64 = 10_000_000_000_000;
+const LARGEST: u64 = 10_000_000_000_000;
 
 /// How many millionths make one.
 pub(crate) const MILLION: u64 = 1_000_000;
@@ -154,7 +154,7 @@ pub fn rounded_of(rounding: Rounding, negative: bool, numeral: &[u8]) -> Result<
 }
 
 #[inline(always)]
-fn signed(negative: bool, size: u64) -> i64
+pub(crate) fn signed(negative: bool, size: u64) -> i64
     requires { size ≤ largest }
     ensures { result ≡ signed negative size }
 {
@@ -254,7 +254,7 @@ impl Scaling {
 
 /// The number with so many zeros at its end, or one above the largest.
 #[inline(always)]
-pub(crate) fn with_zeros(number: u64, zeros: usize) -> u64
+fn with_zeros(number: u64, zeros: usize) -> u64
     requires { number ≤ cap }
     ensures { (n : ℕ) → number ≡ min cap n → result ≡ min cap (n * 10 ^ zeros) }
 {
@@ -330,7 +330,7 @@ fn measured(whole: &[u8], fraction: &[u8], kept: usize) -> Size
 /// The number that the digits of `number` and those from `from` up to `until` spell, up to the first byte that is no digit or until
 /// it is too large, and where that is.
 #[inline(always)]
-pub fn digits_behind(number: u64, bytes: &[u8], from: usize, until: usize) -> (u64, usize)
+pub(crate) fn digits_behind(number: u64, bytes: &[u8], from: usize, until: usize) -> (u64, usize)
     requires range { from ≤ until }
     requires within { until ≤ length bytes.now }
     ensures within { (from ≤ result.1) × (result.1 ≤ until) }
@@ -345,6 +345,45 @@ pub fn digits_behind(number: u64, bytes: &[u8], from: usize, until: usize) -> (u
         at += 1;
     }
     (read, at)
+}
+
+/// The number that the digits of `number` and at most so many from `from` on spell, up to the first byte that is no digit, and where
+/// that is.
+#[inline(always)]
+pub(crate) fn few_digits(number: u64, bytes: &[u8], from: usize, most: usize) -> (u64, usize)
+    requires small { number < 10000000 }
+    requires few { most ≤ 7 }
+    requires within { from + most < length bytes.now }
+    ensures within { (from ≤ result.1) × (result.1 ≤ from + most) }
+    ensures digits { (k : ℕ) → from ≤ k → k < result.1 → class_of (get_or bytes.now k 0) ≡ ByteClass.Digit }
+    ensures value { (front : List ℕ) → number ≡ digits_value 10 front
+        → result.0 ≡ digits_value 10 (front ++ take (result.1 - from) (drop from bytes.now)) }
+    ensures small { result.0 < (number + 1) * 10 ^ (result.1 - from) }
+{
+    let mut read = number;
+    let mut count: usize = 0;
+    while count < most && is_surely_digit(bytes[from + count]) {
+        read = read * 10 + u64::from(bytes[from + count] - b'0');
+        count += 1;
+    }
+    (read, from + count)
+}
+
+/// A power of ten up to a million.
+#[inline(always)]
+pub(crate) fn power_of_ten(exponent: usize) -> u64
+    requires { exponent ≤ 6 }
+    ensures { result ≡ 10 ^ exponent }
+{
+    match exponent {
+        0 => 1,
+        1 => 10,
+        2 => 100,
+        3 => 1_000,
+        4 => 10_000,
+        5 => 100_000,
+        _ => MILLION,
+    }
 }
 
 /// Whether a digit isn't 0.

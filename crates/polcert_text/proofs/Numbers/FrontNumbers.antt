@@ -1,6 +1,8 @@
 -- Numerals that end within some bytes, and their values.
 use Rattle.std.proofs.Common.{◌≡◌, ◌∙◌, ◌⊎◌, ⊎_elim, ℕ, suc, ◌+◌, ◌-◌, ◌*◌, ◌^◌, ◌<◌, ◌≤◌, ◌&&◌, min, true, false, List, [], ◌∷◌, ◌++◌, length, take, drop, get_or, pos, refl, sym, ap, arith}
 use Rattle.std.proofs.Math.IntN.{pos-*ℤ-pos}
+use Rattle.std.proofs.Math.Nat.{mul_assoc, suc-mul, mul-le-mul, mul-le-mul_right, pow-le-pow_right}
+use Rattle.std.proofs.lemmas.Nat.{pow-add}
 use Rattle.std.proofs.lemmas.List.{drop-take, drop_all, get_or-take, get_or-drop, length-take-le, length-drop, take-take}
 use Rattle.std.specs.List.{list_all, list_any}
 use Rattle.std.specs.Str.Parse.{digits_value}
@@ -14,6 +16,8 @@ use Rattle.polcert_text.specs.declared.bytes.ByteClass.{ByteClass}
 use Rattle.polcert_text.specs.declared.bytes.ByteClass.TheVariants.{Digit, Point, Blank, LineEnd}
 use Rattle.polcert_text.specs.declared.lexeme.State.TheVariants.{Start, Whole, Fraction}
 use Rattle.polcert_text.specs.declared.lexeme.TokenKind.TheVariants.{Numeral}
+use Rattle.polcert_text.proofs.Numbers.MeasureLaws.{ten_pos}
+use Rattle.polcert_text.proofs.Numbers.NumberLaws.{pow_next}
 use Rattle.polcert_text.proofs.Numbers.Plain.{IsPlain, plain_measures, run}
 use Rattle.polcert_text.proofs.Numbers.PlainWhole.{whole_measures}
 use Rattle.polcert_text.proofs.Scanning.Runs.{begins_whole, at_point}
@@ -81,12 +85,19 @@ whole_exact bs n number some short high digits value small =
     let m = whole_measures (take n bs) (omega (arith, len)) (λ k low below. digits_in_front bs n 0 n (omega arith) digits k low (omega (arith, len))) number (omega (arith, len)) value small in
     (m.0, measured_exactly (take n bs) (number * 1000000) m.1)
 
+-- a number below the limit, with zeros at its end
+unscaled : (number zeros floor : ℕ) → number ≤ largest → floor ≡ number * 10 ^ zeros → floor < largest → (m : ℕ) → number ≡ min cap m → floor ≡ min cap (m * 10 ^ zeros)
+unscaled number zeros floor below is small m capped =
+    let same : m ≡ number = omega arith in
+    let here : floor ≡ min cap (number * 10 ^ zeros) = omega arith in
+    here ∙ ap (λ k. min cap (k * 10 ^ zeros)) (sym same)
+
 -- the number of a numeral of digits, a point and at most six digits
 pub decimal_exact : (bs : List ℕ) (p n number floor : ℕ) → 0 < p → p + 1 ≤ n → n ≤ p + 7 → n ≤ 400 → n ≤ length bs → AreDigitsAt bs 0 p → class_of (get_or bs p 0) ≡ Point → AreDigitsAt bs (p + 1) n
     → number ≡ digits_value 10 (take p bs ++ take (n - (p + 1)) (drop (p + 1) bs)) → number ≤ largest
-    → ((m : ℕ) → number ≡ min cap m → floor ≡ min cap (m * 10 ^ (p + 7 - n))) → floor < largest
+    → floor ≡ number * 10 ^ (p + 7 - n) → floor < largest
     → IsReadable (take n bs) × IsExact false (take n bs) (pos floor)
-decimal_exact bs p n number floor some low few short high first point second value below zeros small =
+decimal_exact bs p n number floor some low few short high first point second value below scaled small =
     let ns : List ℕ = take n bs in
     let len : length ns ≡ n = length-take-le n bs high in
     let plain : IsPlain ns p = record {
@@ -103,5 +114,38 @@ decimal_exact bs p n number floor some low few short high first point second val
     ap (λ m. take rest (drop (p + 1) (take m bs))) (sym all) ∙ ap (take rest) (drop-take (p + 1) rest bs) ∙ take-take rest rest (drop (p + 1) bs) (omega arith) in
     let none : drop n ns ≡ [] = drop_all n ns (omega (arith, len)) in
     let m = plain_measures ns p plain number floor n false (omega (arith, len)) (omega (arith, len))
-    (value ∙ ap (digits_value 10) (λ i. sym front i ++ sym behind i)) below zeros small (sym (ap (list_any is_nonzero) none)) in
+    (value ∙ ap (digits_value 10) (λ i. sym front i ++ sym behind i)) below (unscaled number (p + 7 - n) floor below scaled small) small (sym (ap (list_any is_nonzero) none)) in
     (m.0, measured_exactly ns floor m.1)
+
+-- ---- numbers of few digits
+
+-- one digit more is less than ten times as much
+pub small_step : (read number k d : ℕ) → d ≤ 57 → read < (number + 1) * 10 ^ k → read * 10 + (d - 48) < (number + 1) * 10 ^ (k + 1)
+small_step read number k d digit small =
+    let next : (number + 1) * 10 ^ (k + 1) ≡ (number + 1) * 10 ^ k * 10 = pow_next (number + 1) k in
+    omega (arith, next, small, digit)
+
+-- a number of at most seven digits
+pub small_whole : (whole p : ℕ) → p ≤ 7 → whole < (0 + 1) * 10 ^ (p - 0) → whole < 10000000
+small_whole whole p few small =
+    let high : p - 0 ≤ 7 = omega arith in
+    let powers : 10 ^ (p - 0) ≤ 10 ^ 7 = pow-le-pow_right (omega arith) high in
+    omega (arith, small, powers)
+
+-- and with six digits more
+pub small_read : (read number k : ℕ) → number < 10000000 → k ≤ 6 → read < (number + 1) * 10 ^ k → read < largest
+small_read read number k few high small =
+    let powers : 10 ^ k ≤ 10 ^ 6 = pow-le-pow_right (omega arith) high in
+    let above : number + 1 ≤ 10000000 = omega arith in
+    let all : (number + 1) * 10 ^ k ≤ 10000000 * 10 ^ 6 = mul-le-mul above powers in
+    omega (arith, small, all)
+
+-- a number with its decimals, in millionths
+pub small_scaled : (number whole k j : ℕ) → whole < 10000000 → k + j ≡ 6 → number < (whole + 1) * 10 ^ k → number * 10 ^ j < largest
+small_scaled number whole k j few sum small =
+    let powers : 10 ^ k * 10 ^ j ≡ 10 ^ 6 = sym (pow-add 10 k j) ∙ ap (λ n. 10 ^ n) sum in
+    let parts : (whole + 1) * 10 ^ k * 10 ^ j ≡ (whole + 1) * (10 ^ k * 10 ^ j) = mul_assoc (whole + 1) (10 ^ k) (10 ^ j) in
+    let all : (whole + 1) * 10 ^ k * 10 ^ j ≡ (whole + 1) * 10 ^ 6 = parts ∙ ap (λ n. (whole + 1) * n) powers in
+    let above : suc number ≤ (whole + 1) * 10 ^ k = omega arith in
+    let scaled : suc number * 10 ^ j ≤ (whole + 1) * 10 ^ k * 10 ^ j = mul-le-mul_right (10 ^ j) above in
+    omega (arith, few, all, scaled, suc-mul number (10 ^ j), ten_pos j)

@@ -23,6 +23,14 @@ pub colon_at_58 : class_of 58 ≡ classes.Colon
 unfolding class_of
 colon_at_58 = refl
 
+pub minus_at_45 : class_of 45 ≡ classes.Minus
+unfolding class_of
+minus_at_45 = refl
+
+pub plus_at_43 : class_of 43 ≡ classes.Plus
+unfolding class_of
+plus_at_43 = refl
+
 pub point_at_46 : class_of 46 ≡ classes.Point
 unfolding class_of
 point_at_46 = refl

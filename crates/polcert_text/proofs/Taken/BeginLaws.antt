@@ -1,23 +1,28 @@
 -- Tokens at the front of some bytes: one, and several, one after another.
-use Rattle.std.proofs.Common.{◌≡◌, ◌∙◌, ℕ, ◌+◌, ◌<◌, ◌≤◌, false, Option, List, [], ◌∷◌, ◌++◌, length, take, drop, get_or, refl, sym, ap, subst, append_assoc, append-nil, length-append, arith}
+use Rattle.std.proofs.Common.{◌≡◌, ◌∙◌, ℕ, ◌+◌, ◌*◌, ◌<◌, ◌≤◌, Bool, true, false, Option, Some, None, IfSome, List, [], ◌∷◌, ◌++◌, length, take, drop, get_or, refl, sym, ap, subst, append_assoc, append-nil, length-append, pos, arith}
 use Rattle.std.proofs.Math.ListN.{get_or-append}
+use Rattle.std.proofs.Math.IntN.{pos-*ℤ-pos}
 use Rattle.std.proofs.lemmas.List.{take-append-le, drop-append-le, length-take-le, length-drop, get_or-drop, drop-drop}
-use Rattle.polcert_text.specs.Beginning.{rest_at, BeginWith, BeginWithOne, BeginWithNumber, BeginWithDigits}
-use Rattle.polcert_text.specs.Steps.ScanOf.{EndsAsNumber, EndsAsDigits, EndsWithin, IsNameOrMark}
-use Rattle.polcert_text.specs.Bytes.{class_of}
+use Rattle.polcert_text.specs.Beginning.{rest_at, BeginWith, BeginWithOne, BeginWithValue, BeginWithDigits, IsNumeralOf, kind_of_sign, unsigned}
+use Rattle.polcert_text.specs.Beginning as begin
+use Rattle.polcert_text.specs.Steps.ScanOf.{EndsAsDigits, EndsWithin, IsNameOrMark, IsValueFrom}
+use Rattle.polcert_text.specs.Bytes.{class_of, class_of_sign}
 use Rattle.polcert_text.specs.Cut.{Lexeme, Rest, TakesToken, is_glued}
 use Rattle.polcert_text.specs.Fronts.{IsLongestLexeme}
 use Rattle.polcert_text.specs.Steps.Scan.{gap_after, gap_through, state_after}
+use Rattle.polcert_text.specs.Numbers.{millionth, size_of, signed, IsReadable, IsExact}
 use Rattle.polcert_text.specs.TakenTokens.{Taken, nothing, token}
 use Rattle.polcert_text.specs.declared.beginning.FrontNumber.{FrontNumber}
+use Rattle.polcert_text.specs.declared.beginning.FrontValue.{FrontValue}
 use Rattle.polcert_text.specs.declared.bytes.ByteClass.TheVariants as classes
 use Rattle.polcert_text.specs.declared.lexeme.Front.{Front}
 use Rattle.polcert_text.specs.declared.lexeme.Gap.TheVariants.{Between, Ended}
-use Rattle.polcert_text.specs.declared.lexeme.State.TheVariants.{Start}
+use Rattle.polcert_text.specs.declared.lexeme.State.TheVariants.{Start, Single}
 use Rattle.polcert_text.specs.declared.lexeme.TokenKind.{TokenKind}
 use Rattle.polcert_text.specs.declared.lexeme.TokenKind.TheVariants.{Name, Numeral, Colon}
 use Rattle.polcert_text.specs.declared.tokens.TokenFault.{TokenFault}
-use Rattle.polcert_text.proofs.Scanning.Runs.{longest_seen, ended_mark}
+use Rattle.polcert_text.proofs.Scanning.Runs.{longest_seen, ended_mark, is_mark}
+use Rattle.polcert_text.proofs.Numbers.SignedLaws.{signed-mul}
 
 -- ---- several
 
@@ -98,24 +103,66 @@ module _ (place : ℕ) (bytes : List ℕ) (gap n : ℕ) (kind : TokenKind) (open
 
 -- ---- numbers
 
-module _ (place : ℕ) (bytes : List ℕ) (gap : ℕ) (number : FrontNumber) (open_gap : gap_through Between (take gap bytes) ≡ Between) where
-  pub number_begins : EndsAsNumber (drop gap bytes) number → BeginWithNumber place bytes (record { len = gap + number.len; value = number.value })
-  number_begins e = record {
-    token = front_lexeme place bytes gap Numeral number.len;
-    kind_is = refl;
-    front = begin_one place bytes gap number.len Numeral open_gap (ap (gap_after Between) e.digit) e.ends e.short e.apart;
-    readable = e.readable;
-    exact = e.exact;
+pub if_some_map : {T : Type 0} (o : Option T) (P Q : T → Type 0) → ((v : T) → P v → Q v) → IfSome o P → IfSome o Q
+if_some_map (Some v) P Q each p = each v p
+if_some_map None P Q each p = tt
+
+pub digits_begin : (place : ℕ) (bytes : List ℕ) (gap : ℕ) (number : FrontNumber) → gap_through Between (take gap bytes) ≡ Between → EndsAsDigits (drop gap bytes) number
+    → BeginWithDigits place bytes (record { len = gap + number.len; value = number.value })
+digits_begin place bytes gap number open_gap e = record {
+  token = front_lexeme place bytes gap Numeral number.len;
+  kind_is = refl;
+  front = begin_one place bytes gap number.len Numeral open_gap (ap (gap_after Between) e.digit) e.ends e.short e.apart;
+  digits = e.digits;
+  value = e.value;
+}
+
+-- a numeral without a sign, and after one
+exact_signed : (is_negative : Bool) (bs : List ℕ) (n : ℕ) → IsExact false bs (pos n) → IsExact is_negative bs (signed is_negative n)
+exact_signed is_negative bs n e =
+    let both : pos (n * millionth) ≡ pos (size_of bs) = sym (pos-*ℤ-pos n millionth) ∙ e in
+    let sizes : n * millionth ≡ size_of bs = cc in
+    signed-mul is_negative n millionth ∙ ap (signed is_negative) sizes
+
+single_sign : (is_negative : Bool) → state_after Start (class_of_sign is_negative) ≡ Single (kind_of_sign is_negative)
+single_sign true = refl
+single_sign false = refl
+
+module _ (place : ℕ) (bytes : List ℕ) (gap : ℕ) (found : FrontValue) (open_gap : gap_through Between (take gap bytes) ≡ Between) where
+  numeral_of : (is_negative : Bool) (l : Lexeme) (number : FrontNumber) → l.kind ≡ Numeral → IsReadable l.bytes → IsExact false l.bytes (pos number.value) → found.value ≡ signed is_negative number.value
+      → IsNumeralOf is_negative l found.value
+  numeral_of is_negative l number kind readable exact is = record {
+    kind_is = kind;
+    readable = readable;
+    exact = subst (IsExact is_negative l.bytes) (sym is) (exact_signed is_negative l.bytes number.value exact);
   }
 
-  pub digits_begin : EndsAsDigits (drop gap bytes) number → BeginWithDigits place bytes (record { len = gap + number.len; value = number.value })
-  digits_begin e = record {
-    token = front_lexeme place bytes gap Numeral number.len;
-    kind_is = refl;
-    front = begin_one place bytes gap number.len Numeral open_gap (ap (gap_after Between) e.digit) e.ends e.short e.apart;
-    digits = e.digits;
-    value = e.value;
-  }
+  pub numeral_begins : IsValueFrom bytes gap false found → BeginWithValue place bytes found
+  numeral_begins v =
+      let e = v.ends in
+      let n = v.number.len in
+      let l = front_lexeme place bytes gap Numeral n in
+      unsigned l (numeral_of false l v.number refl e.readable e.exact v.value_is)
+      (subst (λ m. BeginWith place bytes m (l ∷ [])) (sym v.len_is) (begin_one place bytes gap n Numeral open_gap (ap (gap_after Between) e.digit) e.ends e.short e.apart))
+
+  pub sign_begins : (is_negative : Bool) → class_of (get_or bytes gap 0) ≡ class_of_sign is_negative → IsValueFrom bytes (gap + 1) is_negative found → BeginWithValue place bytes found
+  sign_begins is_negative is v =
+      let e = v.ends in
+      let n = v.number.len in
+      let kind = kind_of_sign is_negative in
+      let rest : List ℕ = drop (gap + 1) bytes in
+      let here : gap + 0 ≡ gap = omega arith in
+      let first : class_of (get_or (drop gap bytes) 0 0) ≡ class_of_sign is_negative = ap class_of (get_or-drop gap bytes 0 0 ∙ ap (λ k. get_or bytes k 0) here) ∙ is in
+      let mark : state_after Start (class_of (get_or (drop gap bytes) 0 0)) ≡ Single kind = ap (state_after Start) first ∙ single_sign is_negative in
+      let word = is_mark (drop gap bytes) kind mark in
+      let ends = ended_mark (drop gap bytes) kind (omega (arith, e.ends.within, length-drop gap bytes, length-drop (gap + 1) bytes)) mark in
+      let sign = begin_one place bytes gap 1 kind open_gap word.begins ends (omega arith) (word.apart _) in
+      let s = front_lexeme place bytes gap kind 1 in
+      let l = front_lexeme (place + (gap + 1)) rest 0 Numeral n in
+      let all : 0 + n ≡ n = omega arith in
+      let numeral = subst (λ m. BeginWith (place + (gap + 1)) rest m (l ∷ [])) all (begin_one (place + (gap + 1)) rest 0 n Numeral refl (ap (gap_after Between) e.digit) e.ends e.short e.apart) in
+      begin.signed is_negative s l refl (numeral_of is_negative l v.number refl e.readable e.exact v.value_is)
+      (subst (λ m. BeginWith place bytes m (s ∷ l ∷ [])) (sym v.len_is) (begin_then place bytes (gap + 1) n (s ∷ []) (l ∷ []) sign numeral))
 
 -- ---- a name or a mark
 

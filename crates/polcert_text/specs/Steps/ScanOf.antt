@@ -5,8 +5,9 @@ use Rattle.std.specs.Str.Parse.{digits_value}
 use Rattle.polcert_text.specs.Bytes.{class_of}
 use Rattle.polcert_text.specs.Lexemes.{are_digits}
 use Rattle.polcert_text.specs.Cut.{is_glued}
-use Rattle.polcert_text.specs.Numbers.{IsReadable, IsExact}
+use Rattle.polcert_text.specs.Numbers.{largest, signed, IsReadable, IsExact}
 use Rattle.polcert_text.specs.declared.beginning.FrontNumber.{FrontNumber}
+use Rattle.polcert_text.specs.declared.beginning.FrontValue.{FrontValue}
 use Rattle.polcert_text.specs.declared.bytes.ByteClass.TheVariants.{Digit}
 use Rattle.polcert_text.specs.Fronts.{IsLongestLexeme, NoLexeme}
 use Rattle.polcert_text.specs.Steps.Scan.{gap_after, state_through}
@@ -75,6 +76,14 @@ pub record EndsAsNumber (bytes : List ℕ) (number : FrontNumber) : Type 0 where
   pub apart : is_glued Numeral (drop number.len bytes) ≡ false
   pub readable : IsReadable (take number.len bytes)
   pub exact : IsExact false (take number.len bytes) (pos number.value)
+  pub small : number.value ≤ largest
+
+-- the number whose numeral begins at this byte, after such a sign
+pub record IsValueFrom (bytes : List ℕ) (from : ℕ) (is_negative : Bool) (found : FrontValue) : Type 0 where
+  pub number : FrontNumber
+  pub ends : EndsAsNumber (drop from bytes) number
+  pub len_is : found.len ≡ from + number.len
+  pub value_is : found.value ≡ signed is_negative number.value
 
 -- digits that spell a number end within the bytes
 pub record EndsAsDigits (bytes : List ℕ) (number : FrontNumber) : Type 0 where

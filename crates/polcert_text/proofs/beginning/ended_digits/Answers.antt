@@ -10,8 +10,8 @@ use Rattle.polcert_text.proofs.beginning.ended_digits.Goals as goal
 pub returns : goal.returns
 returns c =
     let bs = c.args.bytes.now in
-    let n = c.digits_behind-value.result.1 in
-    let read = c.digits_behind-value.ensures in
+    let n = c.few_digits-value.result.1 in
+    let read = c.few_digits-value.ensures in
     let blank = c.is_surely_blank.ensures c.if-not-is_surely_blank.false in
     let inside : n < length bs = omega (arith, read.within.1) in
     let all : n - 0 ≡ n = omega arith in
