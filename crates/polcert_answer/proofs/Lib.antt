@@ -9,4 +9,3 @@ pub mod ReadInTurn
 pub mod Answering
 pub mod AnsweringAbove
 pub mod Buffered
-pub mod Parts

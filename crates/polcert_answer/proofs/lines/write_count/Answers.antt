@@ -1,14 +1,13 @@
 use Rattle.std.proofs.Common.{◌≡◌, rules, decimal}
-use Rattle.polcert_text.proofs.Printing.Taking.{front_then, wrote_front, wrote_next}
+use Rattle.polcert_text.proofs.Printing.Written.{and_then, unwritten, stopped}
 use Rattle.polcert_answer.proofs.lines.write_count.Goals as goal
 
 pub returns-in_err-write_all : goal.returns-in_err-write_all
 returns-in_err-write_all g c =
     let number : c.as_bytes.result.now ≡ decimal c.args.count = search rules in
-    wrote_front _ _ (search rules) (front_then c.args.words.now (rw number at c.in_err-write_all.ensures.err)) c.in_err-write_all.ensures.count
+    stopped (search rules) (unwritten _ (rw number at c.in_err-write_all.ensures))
 
 pub returns : goal.returns
 returns g c =
     let number : c.as_bytes.result.now ≡ decimal c.args.count = search rules in
-    wrote_next (decimal c.args.count) c.args.words.now _ (rw number at c.in_ok-write_all.ensures.ok)
-    c.in_ok-write_all.ensures.same_count c.write_all-2.ensures
+    and_then (rw number at c.in_ok-write_all.ensures) c.write_all-2.ensures
