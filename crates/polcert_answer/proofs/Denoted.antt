@@ -1,5 +1,5 @@
 -- What three texts denote: one controller, whatever stands for it.
-use Rattle.std.proofs.Common.{◌≡◌, ℕ, ◌*◌, ◌<◌, ℤ, List, Ok, ap, ap₂, refl, subst}
+use Rattle.std.proofs.Common.{◌≡◌, ℕ, ℤ, List, Ok, ap, refl, subst}
 use Rattle.polcert_text.specs.declared.number.Rounding.{Rounding}
 use Rattle.polcert_cells.specs.Elements.{count_of}
 use Rattle.polcert_cells.specs.Preamble.{Preamble, observed}
@@ -9,31 +9,22 @@ use Rattle.polcert_model.specs.Text.{IsModelText}
 use Rattle.polcert_model.proofs.FilledLaws.{table_rows}
 use Rattle.polcert_model.proofs.LimitLaws.{within_limits}
 use Rattle.polcert_model.proofs.TextLaws as models
-use Rattle.polcert_policy.specs.Graphs.{PolicyGraph, IsProperGraph, nodes}
+use Rattle.polcert_policy.specs.Graphs.{PolicyGraph, IsProperGraph}
 use Rattle.polcert_policy.specs.declared.fault.GraphFault.{GraphFault}
 use Rattle.polcert_policy.specs.declared.fault.VectorFault.{VectorFault}
 use Rattle.polcert_policy.specs.GraphText.{IsGraphText, IsGraphRefusal, IsNoGraphText, IsRefusedGraphText}
 use Rattle.polcert_policy.specs.Vectors.{PolicyVectors, shifted_by}
-use Rattle.polcert_policy.specs.VectorText.{IsVectorsText, IsRoundedVectorsText, IsRoundedVectorsRefusal, IsNoRoundedVectorsText, IsRefusedRoundedVectorsText}
+use Rattle.polcert_policy.specs.VectorText.{IsRoundedVectorsText, IsRoundedVectorsRefusal, IsNoRoundedVectorsText, IsRefusedRoundedVectorsText}
 use Rattle.polcert_policy.specs.FullForm.{vectors_text}
 use Rattle.polcert_policy.proofs.LimitLaws.{graph_proper}
 use Rattle.polcert_policy.proofs.OneText as texts
-use Rattle.polcert_check.specs.declared.verdict.Verdict.{Verdict}
-use Rattle.polcert_check.specs.declared.verdict.Verdict.TheVariants.{Yes, Short, NoSuccessor}
-use Rattle.polcert_check.specs.Horizon.{Controller, controller_of, Fits, MeetsHorizon, Promise, one, step_scale}
-use Rattle.polcert_check.specs.Lower.{IsLeastConstant, IsNotLowered}
-use Rattle.polcert_check.specs.declared.fault.LowerFault.{LowerFault}
-use Rattle.polcert_check.specs.StartWorth.{IsCeilQuotient, IsBestStart, IsStartWorth, StartPromise}
+use Rattle.polcert_check.specs.Horizon.{Controller, controller_of, Fits}
 use Rattle.polcert_check.specs.Steps.Ranges.{IsController}
-use Rattle.polcert_check.specs.Verdict.{IsVerdict}
 use Rattle.polcert_check.proofs.Certificates.{controller_is}
-use Rattle.polcert_check.proofs.Horizons.EveryHorizon.{promised, passes_if_promised}
-use Rattle.polcert_check.proofs.Agreements.SameAnswers as answers
-use Rattle.polcert_check.proofs.Agreements.SameModels as models_same
-use Rattle.polcert_check.proofs.Horizons.StartSums.{start_promise}
-use Rattle.polcert_answer.specs.Headline.{RoundedCertificate, Certificate, controller, IsCertified, AreRewardsCertified}
-use Rattle.polcert_answer.specs.Lines.{IsVerdictLine}
-use Rattle.polcert_answer.specs.Answer.{HasGraph, IsGraphRefused, AreRoundedVectorsRefused, IsAnswer}
+use Rattle.polcert_answer.specs.Headline.{RoundedCertificate, controller}
+use Rattle.polcert_answer.specs.Answer.{HasGraph, IsGraphRefused, AreRoundedVectorsRefused, IsRoundedAnswer}
+use Rattle.polcert_answer.specs.Side.{Side}
+use Rattle.polcert_answer.specs.Steps.Laws.{SideLaws, SaysTheSame}
 
 module _ {m n : Meaning} (same : IsSame m n) where
   pub same_states : states_of m ≡ states_of n
@@ -129,48 +120,6 @@ fits_of vectors m g v has are = record {
   states = are.2.states_are;
 }
 
-module _ {model graph vectors : List ℕ} (m : Meaning) (g : PolicyGraph) (v : PolicyVectors) (has : HasGraph model graph m g)
-    (are : IsVectorsText g (states_of m) vectors v) (verdict : Verdict)
-    (is : IsVerdict (controller_of (table_of m) g v) verdict) where
-  pub verdict_of_each : (c : Certificate model graph vectors) → IsVerdict (controller c) verdict
-  verdict_of_each = of_each m g v has are (λ n h w. IsVerdict (of_parts n h w) verdict)
-      (λ n same. answers.same_verdict (table_of m) (table_of n) g v (models_same.same_cells m n same) (proper_graph m g has) (fits_of vectors m g v has are) verdict is)
-
-  pub horizon_of_each : MeetsHorizon (controller_of (table_of m) g v) verdict → (c : Certificate model graph vectors) → MeetsHorizon (controller c) verdict
-  horizon_of_each meets = of_each m g v has are (λ n h w. MeetsHorizon (of_parts n h w) verdict)
-      (λ n same. answers.same_horizon (table_of m) (table_of n) g v (models_same.same_cells m n same) (proper_graph m g has) (fits_of vectors m g v has are) verdict is meets)
-
--- the line of a verdict on one model is its line on every same one
-line_for : (m n : Meaning) → IsSame m n → (g : PolicyGraph) (v : PolicyVectors) (verdict : Verdict) (line : List ℕ)
-    → IsVerdictLine m (of_parts m g v) v verdict line → IsVerdictLine n (of_parts n g v) v verdict line
-line_for m n same g v Yes line (node, worth, best, is_worth, is) =
-    (node, worth, models_same.same_best_start m n same v node best, models_same.same_worth m n same v node worth is_worth, is)
-line_for m n same g v (Short node s amount) line (by, quotient, is) =
-    let cells = models_same.same_cells m n same in
-    let scales : step_scale (of_parts m g v) ≡ step_scale (of_parts n g v) = ap₂ (λ t o. t * o) cells.t_scale cells.o_scale in
-    (by, subst (λ q. IsCeilQuotient amount (q * one) by) scales quotient, is)
-line_for m n same g v (NoSuccessor node s z) line is = is
-
-module _ {model graph vectors : List ℕ} (m : Meaning) (g : PolicyGraph) (v : PolicyVectors) (has : HasGraph model graph m g)
-    (are : IsVectorsText g (states_of m) vectors v) where
-  pub line_of_each : (verdict : Verdict) (line : List ℕ) → IsVerdictLine m (of_parts m g v) v verdict line
-      → (c : Certificate model graph vectors) → IsVerdictLine c.meaning (controller c) c.values verdict line
-  line_of_each verdict line is = of_each m g v has are (λ n h w. IsVerdictLine n (of_parts n h w) w verdict line) (λ n same. line_for m n same g v verdict line is)
-
-  pub best_of_each : (n : ℕ) → IsBestStart m v n → (c : Certificate model graph vectors) → IsBestStart c.meaning c.values n
-  best_of_each n best = of_each m g v has are (λ o h w. IsBestStart o w n) (λ o same. models_same.same_best_start m o same v n best)
-
-  pub worth_of_each : (n : ℕ) (worth : ℤ) → IsStartWorth m v n worth → (c : Certificate model graph vectors) → IsStartWorth c.meaning c.values n worth
-  worth_of_each n worth is = of_each m g v has are (λ o h w. IsStartWorth o w n worth) (λ o same. models_same.same_worth m o same v n worth is)
-
-  pub constant_of_each : (by : ℤ) → IsLeastConstant (of_parts m g v) v by → (c : Certificate model graph vectors) → IsLeastConstant (controller c) c.values by
-  constant_of_each by least = of_each m g v has are (λ n h w. IsLeastConstant (of_parts n h w) w by)
-      (λ n same. answers.same_least_constant (table_of m) (table_of n) g v (models_same.same_cells m n same) (proper_graph m g has) (fits_of vectors m g v has are) by least)
-
-  pub reason_of_each : (fault : LowerFault) → IsNotLowered (of_parts m g v) v fault → (c : Certificate model graph vectors) → IsNotLowered (controller c) c.values fault
-  reason_of_each fault why = of_each m g v has are (λ n h w. IsNotLowered (of_parts n h w) w fault)
-      (λ n same. answers.same_refused (table_of m) (table_of n) g v (models_same.same_cells m n same) (proper_graph m g has) (fits_of vectors m g v has are) fault why)
-
 pub text_of_each : {rounding : Rounding} {model graph vectors : List ℕ} (m : Meaning) (g : PolicyGraph) (v : PolicyVectors) → HasGraph model graph m g
     → IsRoundedVectorsText rounding g (states_of m) vectors v → (by : ℤ) (c : RoundedCertificate rounding model graph vectors)
     → vectors_text g (shifted_by v by) ≡ vectors_text c.policy (shifted_by c.values by)
@@ -193,30 +142,28 @@ module _ {rounding : Rounding} {model graph vectors : List ℕ} (c : RoundedCert
   pub controller_proper : IsController (controller c)
   controller_proper = controller_is (table_of c.meaning) c.policy c.values fits_is (table_rows c.meaning c.is_model.denotes.rows) (proper_graph c.meaning c.policy graph_is)
 
--- where every pair of whatever the texts denote passes, every horizon is promised
-horizons : {model graph vectors : List ℕ} → ((c : Certificate model graph vectors) → IsVerdict (controller c) Yes) → (c : Certificate model graph vectors) → MeetsHorizon (controller c) Yes
-horizons {model} {graph} {vectors} passes c =
-    promised (table_of c.meaning) c.policy c.values (table_rows c.meaning c.is_model.denotes.rows) (proper_graph c.meaning c.policy (graph_is c)) (fits_is c) (passes c)
+-- ---- what a side says of a model, a graph and vectors is said of whatever the texts denote
+says : {V F : Type 0} {side : Side V F} → SideLaws side → {model graph : List ℕ} (vectors : List ℕ) (m : Meaning) (g : PolicyGraph) (v : PolicyVectors)
+    → HasGraph model graph m g → IsRoundedVectorsText side.rounding g (states_of m) vectors v → (n : Meaning) → IsSame m n → SaysTheSame side m n g v
+says laws vectors m g v has are n same = laws.same m n same g v (proper_graph m g has) (fits_of vectors m g v has are)
 
--- the answer yes certifies the texts
-pub yes_certified : (model graph vectors : List ℕ) → IsAnswer model graph vectors (Ok Yes) → IsCertified model graph vectors
-yes_certified model graph vectors answer = record { certificate = answer.0; promise = λ d k n s nl sl. (horizons answer.1 d k n s nl sl).0 }
+module _ {V F : Type 0} {side : Side V F} (laws : SideLaws side) {model graph vectors : List ℕ} (m : Meaning) (g : PolicyGraph) (v : PolicyVectors)
+    (has : HasGraph model graph m g) (are : IsRoundedVectorsText side.rounding g (states_of m) vectors v) where
+  pub verdict_of_each : (x : V) → side.Is (of_parts m g v) x → (c : RoundedCertificate side.rounding model graph vectors) → side.Is (controller c) x
+  verdict_of_each x is = of_each m g v has are (λ n h w. side.Is (of_parts n h w) x) (λ n same. (says laws vectors m g v has are n same).verdict x is)
 
--- and the rewards alone
-pub yes_rewarded : (model graph vectors : List ℕ) → IsAnswer model graph vectors (Ok Yes) → AreRewardsCertified model graph vectors
-yes_rewarded model graph vectors answer = λ d k n s nl sl. (horizons answer.1 d k n s nl sl).1
+  pub answer_is : (x : V) → side.Is (of_parts m g v) x → IsRoundedAnswer side.rounding side.Is model graph vectors (Ok x)
+  answer_is x is = (certificate_of m g v has are, verdict_of_each x is)
 
--- and from the start no less is expected than a node is worth there
-pub yes_started : (model graph vectors : List ℕ) → IsAnswer model graph vectors (Ok Yes) → (c : Certificate model graph vectors)
-    (k n : ℕ) (worth : ℤ) → n < nodes c.policy → IsStartWorth c.meaning c.values n worth → StartPromise c.meaning (controller c) k n worth
-yes_started model graph vectors answer c k n worth nl is =
-    start_promise c.meaning (controller c) refl (controller_proper c) (answer.1 c) n worth nl is k
+  pub meets_each : (x : V) → side.Is (of_parts m g v) x → (c : RoundedCertificate side.rounding model graph vectors) → side.Meets (controller c) x
+  meets_each x is c = laws.meets (controller c) (controller_proper c) x (verdict_of_each x is c)
 
--- the converse: where the promise of one step holds, the answer is yes
-pub yes_if_one_step : (model graph vectors : List ℕ) → Certificate model graph vectors
-    → ((c : Certificate model graph vectors) (n s : ℕ) → n < nodes c.policy → s < states_of c.meaning → Promise (controller c) 1 n s)
-    → IsAnswer model graph vectors (Ok Yes)
-yes_if_one_step model graph vectors some holds = (some, λ c n s nl sl. passes_if_promised (controller c) n s (holds c n s nl sl))
+  pub line_of_each : (x : V) (line : List ℕ) → side.IsLine m (of_parts m g v) v x line
+      → (c : RoundedCertificate side.rounding model graph vectors) → side.IsLine c.meaning (controller c) c.values x line
+  line_of_each x line is = of_each m g v has are (λ n h w. side.IsLine n (of_parts n h w) w x line) (λ n same. (says laws vectors m g v has are n same).line x line is)
 
-pub yes_if_certified : (model graph vectors : List ℕ) → IsCertified model graph vectors → IsAnswer model graph vectors (Ok Yes)
-yes_if_certified model graph vectors certified = yes_if_one_step model graph vectors certified.certificate (λ c. certified.promise c 1)
+  pub least_of_each : (by : ℤ) → side.IsLeast (of_parts m g v) v by → (c : RoundedCertificate side.rounding model graph vectors) → side.IsLeast (controller c) c.values by
+  least_of_each by least = of_each m g v has are (λ n h w. side.IsLeast (of_parts n h w) w by) (λ n same. (says laws vectors m g v has are n same).least by least)
+
+  pub reason_of_each : (f : F) → side.IsReason (of_parts m g v) v f → (c : RoundedCertificate side.rounding model graph vectors) → side.IsReason (controller c) c.values f
+  reason_of_each f why = of_each m g v has are (λ n h w. side.IsReason (of_parts n h w) w f) (λ n same. (says laws vectors m g v has are n same).reason f why)

@@ -1,11 +1,11 @@
 pub mod Refusing
 pub mod Denoted
-pub mod DenotedAbove
 pub mod OfSources
 pub mod OfTexts
 pub mod OneAnswer
 pub mod Passing
 pub mod ReadInTurn
 pub mod Answering
-pub mod AnsweringAbove
+pub mod Below
+pub mod Above
 pub mod Buffered

@@ -3,16 +3,14 @@ use Rattle.std.proofs.Common.{◌≡◌, ℕ, ℤ, List, Option, Result, Ok, Err
 use Rattle.polcert_text.specs.declared.number.Rounding.{Rounding}
 use Rattle.polcert_text.specs.Sink.{Takes}
 use Rattle.polcert_cells.specs.Meaning.{Meaning}
-use Rattle.polcert_cells.specs.Tables.{CellTable, table_of}
 use Rattle.polcert_policy.specs.Graphs.{PolicyGraph}
 use Rattle.polcert_policy.specs.Vectors.{PolicyVectors}
 use Rattle.polcert_policy.specs.VectorText.{IsRoundedVectorsText}
 use Rattle.polcert_policy.specs.FullForm.{vectors_text}
-use Rattle.polcert_check.specs.Horizon.{Controller, Fits}
 use Rattle.polcert_answer.specs.declared.fault.RunFault.{RunFault}
-use Rattle.polcert_answer.specs.Headline.{RoundedCertificate, controller}
-use Rattle.polcert_answer.specs.Steps.Reading.{AreDenoted, AreMoved}
-use Rattle.polcert_answer.specs.Run.{WritesAnswer, AreRoundedCertified, HasRoundedVerdict}
+use Rattle.polcert_answer.specs.Run.{WritesAnswer, HoldsOfTexts}
+use Rattle.polcert_answer.specs.Side.{Side}
+use Rattle.polcert_answer.specs.Steps.Reading.{AreDenoted, AreMoved, AreWrittenMoved}
 use Rattle.polcert_answer.proofs.Denoted.{certificate_of}
 
 -- what a run wrote of an answer, from what is known of what belongs to it
@@ -39,33 +37,27 @@ module _ {T W : Type 0} {writes : W → Option (List ℕ) → W → Type 0} {sin
   answered_with Q follows (Ok answer) wrote = follows answer wrote.took.0 wrote.took.1
   answered_with Q follows (Err fault) wrote = tt
 
-module _ {rounding : Rounding} (of_model of_graph of_vectors : List ℕ → Type 0) (m : Meaning) (g : PolicyGraph) (v : PolicyVectors)
-    (d : AreDenoted rounding of_model of_graph of_vectors m g v) where
-  abbrev pub texts_of : AreRoundedCertified rounding of_model of_graph of_vectors
-  texts_of = record {
-    model = d.first;
-    graph = d.second;
-    vectors = d.third;
-    model_read = d.model_read;
-    graph_read = d.graph_read;
-    vectors_read = d.vectors_read;
-    certificate = certificate_of m g v d.has_graph d.are_vectors;
-  }
-
-  -- the verdict and its line, where they are those of whatever the texts denote
-  pub rounded_verdict : {V : Type 0} (Is : Controller → V → Type 0) (IsLine : Meaning → Controller → PolicyVectors → V → List ℕ → Type 0) (verdict : V) (line : List ℕ)
-      → ((c : RoundedCertificate rounding d.first d.second d.third) → Is (controller c) verdict)
-      → ((c : RoundedCertificate rounding d.first d.second d.third) → IsLine c.meaning (controller c) c.values verdict line)
-      → HasRoundedVerdict rounding of_model of_graph of_vectors Is IsLine verdict line
-  rounded_verdict Is IsLine verdict line is is_line =
-      record { texts = texts_of; answer = (certificate_of m g v d.has_graph d.are_vectors, is); is_line = is_line }
+-- what holds of the texts that denote a model, a graph and vectors holds of those of the sources
+pub holds_of : {rounding : Rounding} {of_model of_graph of_vectors : List ℕ → Type 0} (m : Meaning) (g : PolicyGraph) (v : PolicyVectors)
+    (d : AreDenoted rounding of_model of_graph of_vectors m g v) (Holds : List ℕ → List ℕ → List ℕ → Type 0) → Holds d.first d.second d.third
+    → HoldsOfTexts rounding of_model of_graph of_vectors Holds
+holds_of m g v d Holds h = record {
+  model = d.first;
+  graph = d.second;
+  vectors = d.third;
+  model_read = d.model_read;
+  graph_read = d.graph_read;
+  vectors_read = d.vectors_read;
+  certificate = certificate_of m g v d.has_graph d.are_vectors;
+  holds = h;
+}
 
 -- what is known of moved vectors and of their full form
-pub are_moved : (rounding : Rounding) (Moves : CellTable → PolicyGraph → PolicyVectors → ℤ × PolicyVectors → Type 0) (m : Meaning) (g : PolicyGraph) (v : PolicyVectors) (by : ℤ) (w : PolicyVectors)
-    → Moves (table_of m) g v (by, w) → Fits (table_of m) g w → IsRoundedVectorsText rounding g w.states (vectors_text g w) w → AreMoved rounding Moves m g v by (vectors_text g w)
-are_moved rounding Moves m g v by w moved fits reads_back = record {
+pub are_written : {V F : Type 0} (side : Side V F) (m : Meaning) (g : PolicyGraph) (v : PolicyVectors) (by : ℤ) (w : PolicyVectors) → AreMoved side m g v (by, w)
+    → IsRoundedVectorsText side.rounding g w.states (vectors_text g w) w → AreWrittenMoved side m g v by (vectors_text g w)
+are_written side m g v by w moved reads_back = record {
   other = w;
   moved = moved;
   text_is = refl;
-  reads_back = subst (λ s. IsRoundedVectorsText rounding g s (vectors_text g w) w) fits.states reads_back;
+  reads_back = subst (λ s. IsRoundedVectorsText side.rounding g s (vectors_text g w) w) moved.fits_still.states reads_back;
 }

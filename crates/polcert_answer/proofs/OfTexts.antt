@@ -8,14 +8,14 @@ use Rattle.polcert_cells.specs.Meaning.{Meaning, states_of}
 use Rattle.polcert_policy.specs.Graphs.{PolicyGraph}
 use Rattle.polcert_policy.specs.Vectors.{PolicyVectors}
 use Rattle.polcert_policy.specs.VectorText.{IsRoundedVectorsText}
-use Rattle.polcert_check.specs.Horizon.{Controller}
 use Rattle.polcert_answer.specs.declared.fault.Fault.{Fault}
 use Rattle.polcert_answer.specs.declared.fault.Fault.TheVariants.{Model, Graph, Vectors}
 use Rattle.polcert_answer.specs.declared.fault.RunFault.{RunFault}
 use Rattle.polcert_answer.specs.declared.fault.RunFault.TheVariants.{Text}
-use Rattle.polcert_answer.specs.Answer.{HasGraph, IsModelFault, IsGraphRefused, AreRoundedVectorsRefused, IsFault, IsRoundedAnswer}
+use Rattle.polcert_answer.specs.Answer.{HasGraph, IsModelFault, IsGraphRefused, AreRoundedVectorsRefused, IsFault}
 use Rattle.polcert_answer.specs.Run.{text_of, RefusesRightly}
-use Rattle.polcert_answer.specs.Steps.Reading.{AreDenoted}
+use Rattle.polcert_answer.specs.Side.{Side}
+use Rattle.polcert_answer.specs.Steps.Reading.{AreDenoted, IsTextAnswer}
 
 -- ---- a slice as a source
 module _ {S : Type 0} (rest : S → List ℕ) (old new : S) where
@@ -72,11 +72,9 @@ module _ {M G V : Type 0} (m_rest : M → List ℕ) (m m' : M) (model : List ℕ
         (λ text. AreRoundedVectorsRefused rounding first text fault vectors) second next
         (of_slice v_rest v v' vectors v_holds (AreRoundedVectorsRefused rounding first second fault) each))
 
--- ---- an answer
-module _ {V : Type 0} (rounding : Rounding) (Is : Controller → V → Type 0) (model graph vectors : List ℕ)
-  where
-    -- a fault that is handed on
-    pub refused_answer : (r : Result V Fault) (given : Fault) → IsErrAnd r (λ fault. fault ≡ given)
-        → IsFault rounding model graph vectors given → IsRoundedAnswer rounding Is model graph vectors r
-    refused_answer (Ok verdict) given is fault = absurd is
-    refused_answer (Err f) given is fault = rw is fault
+-- ---- a fault that is handed on
+pub refused_answer : {V F : Type 0} (side : Side V F) (model graph vectors : List ℕ) (r : Result V Fault) (given : Fault) → IsErrAnd r (λ fault. fault ≡ given)
+    → IsFault side.rounding model graph vectors given → IsTextAnswer side model graph vectors r
+refused_answer side model graph vectors (Ok x) given is fault = absurd is
+refused_answer side model graph vectors (Err f) given is fault =
+    record { answer = rw is fault; promise = λ yes. absurd (cc); horizon = tt }

@@ -3,8 +3,6 @@ use Rattle.std.proofs.Common.{◌≡◌, ◌∙◌, ℕ, List, Option, Result, O
 use Rattle.std.proofs.Math.Path.{subst⁻¹}
 use Rattle.std.specs.Result.{IsErrAnd}
 use Rattle.polcert_text.specs.declared.number.Rounding.{Rounding}
-use Rattle.polcert_check.specs.declared.fault.LowerFault.{LowerFault}
-use Rattle.polcert_check.specs.declared.fault.RaiseFault.{RaiseFault}
 use Rattle.polcert_answer.specs.declared.fault.Fault.TheVariants.{Model, Graph, Vectors}
 use Rattle.polcert_answer.specs.declared.fault.RunFault.{RunFault}
 use Rattle.polcert_answer.specs.declared.fault.RunFault.TheVariants.{Text, ReadModel, ReadGraph, ReadVectors, Write, Lower, Raise}
@@ -18,7 +16,7 @@ is_err (Err f) given is = ap Err is
 same_fault : {T : Type 0} (r : Result T RunFault) (f x : RunFault) → r ≡ Err f → r ≡ Err x → f ≡ x
 same_fault r f x e same = cc
 
-same_err : {T : Type 0} (f x : RunFault) → ◌≡◌ {A = Result T RunFault} (Err f) (Err x) → f ≡ x
+pub same_err : {T : Type 0} (f x : RunFault) → ◌≡◌ {A = Result T RunFault} (Err f) (Err x) → f ≡ x
 same_err f x same = cc
 
 -- ---- the fault of a read
@@ -87,7 +85,7 @@ module _ {T : Type 0} (r : Result T RunFault) (given : RunFault) (e : r ≡ Err 
     }
 
 -- ---- the answer of the call that writes
-no_read_fault : (f : RunFault) → IsReadFault f → IsNoReadFault f → ⊥
+pub no_read_fault : (f : RunFault) → IsReadFault f → IsNoReadFault f → ⊥
 no_read_fault Write of none = of
 no_read_fault _ of none = search (of, none)
 
@@ -115,21 +113,6 @@ read_in_lowering _ of = search (rules, of)
 pub read_in_raise : (f : RunFault) → IsReadFault f → IsRaiseRunFault f
 read_in_raise Write of = tt
 read_in_raise _ of = search (rules, of)
-
--- and so are those of the call that writes
-pub written_in_lowering : {T : Type 0} (r : Result T RunFault) → IfErr r IsNoReadFault
-    → ((fault : RaiseFault) → r ≡ Err (Raise fault) → ⊥)
-    → IfErr r IsLowerRunFault
-written_in_lowering (Ok v) none raises = tt
-written_in_lowering (Err (Raise fault)) none raises = raises fault refl
-written_in_lowering (Err _) none raises = search (rules, none)
-
-pub written_in_raise : {T : Type 0} (r : Result T RunFault) → IfErr r IsNoReadFault
-    → ((fault : LowerFault) → r ≡ Err (Lower fault) → ⊥)
-    → IfErr r IsRaiseRunFault
-written_in_raise (Ok v) none lowers = tt
-written_in_raise (Err (Lower fault)) none lowers = lowers fault refl
-written_in_raise (Err _) none lowers = search (rules, none)
 
 -- all sources were read
 behind_all : {G V : Type 0} (f : RunFault) → IsNoReadFault f → (graph graph' : G) (vectors vectors' : V) → ReadsInOrder f graph graph' vectors vectors'

@@ -5,6 +5,6 @@ pub mod OneAnswer
 pub mod Lines
 pub mod Status
 pub mod Run
-pub mod RunAbove
+pub mod Side
 pub mod Task
 pub mod Steps

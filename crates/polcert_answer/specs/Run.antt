@@ -1,7 +1,6 @@
 -- What runs from sources to sinks promise.
-use Rattle.std.specs.Prelude.{◌≡◌, ◌≢◌, ℕ, ℤ, neg_ℤ, List, Option, Result, Ok, IfOk, IfErr, IsErrOf}
+use Rattle.std.specs.Prelude.{◌≡◌, ◌≢◌, ℕ, ◌<◌, ℤ, List, Option, Result, IfOk, IfErr, IsErrOf}
 use Rattle.polcert_text.specs.declared.number.Rounding.{Rounding}
-use Rattle.polcert_text.specs.declared.number.Rounding.TheVariants.{Down}
 use Rattle.polcert_text.specs.Device.{HasFailed}
 use Rattle.polcert_text.specs.Source.{IsText, EachTextThatFits}
 use Rattle.polcert_text.specs.Sink.{Takes, TakesFront}
@@ -12,23 +11,16 @@ use Rattle.polcert_model.specs.FullForm.{full_form}
 use Rattle.polcert_model.specs.Printable.{IsPrintable}
 use Rattle.polcert_policy.specs.declared.fault.GraphFault.{GraphFault}
 use Rattle.polcert_policy.specs.declared.fault.VectorFault.{VectorFault}
-use Rattle.polcert_policy.specs.Vectors.{PolicyVectors, shifted_by}
-use Rattle.polcert_policy.specs.FullForm.{vectors_text}
-use Rattle.polcert_check.specs.declared.fault.LowerFault.{LowerFault}
-use Rattle.polcert_check.specs.declared.fault.LowerFault.TheVariants.{Memory}
-use Rattle.polcert_check.specs.declared.verdict.Verdict.{Verdict}
-use Rattle.polcert_check.specs.declared.verdict.Verdict.TheVariants.{Yes}
-use Rattle.polcert_check.specs.Horizon.{Controller, MeetsHorizon}
-use Rattle.polcert_check.specs.Lower.{HasLeastConstant, IsLeastConstant, IsNotLowered}
-use Rattle.polcert_check.specs.Verdict.{IsVerdict}
+use Rattle.polcert_policy.specs.Graphs.{nodes}
 use Rattle.polcert_check.specs.StartWorth.{IsBestStart, IsStartWorth, StartPromise}
-use Rattle.polcert_answer.specs.declared.fault.Fault.{Fault}
+use Rattle.polcert_check.specs.StartMost.{IsStartMost, StartPromiseAbove}
 use Rattle.polcert_answer.specs.declared.fault.Fault.TheVariants.{Model, Graph, Vectors}
 use Rattle.polcert_answer.specs.declared.fault.RunFault.{RunFault}
 use Rattle.polcert_answer.specs.declared.fault.RunFault.TheVariants.{Text, ReadModel, ReadGraph, ReadVectors, Write, Lower, Raise, TooLargeToPrint}
-use Rattle.polcert_answer.specs.Answer.{IsModelFault, IsGraphRefused, AreRoundedVectorsRefused, IsRoundedAnswer, IsAnswer, IsButForMemory}
+use Rattle.polcert_answer.specs.Answer.{IsModelFault, IsGraphRefused, AreRoundedVectorsRefused}
 use Rattle.polcert_answer.specs.Headline.{RoundedCertificate, Certificate, controller, IsCertified, AreRewardsCertified}
-use Rattle.polcert_answer.specs.Lines.{summary_line, yes_line, IsVerdictLine}
+use Rattle.polcert_answer.specs.HeadlineAbove.{CertificateAbove, IsCertifiedAbove, AreRewardsCertifiedAbove, BoundLowerVectors}
+use Rattle.polcert_answer.specs.Lines.{summary_line, yes_line, yes_above_line}
 
 -- a fault of a model's text or of its source
 abbrev pub IsModelReadFault : RunFault → Type 0
@@ -117,11 +109,6 @@ IsPrintRunFault _ = ⊥
 
 -- ---- three sources
 
--- why the vectors aren't lowered: a reason of the definition, or out of memory where there is a constant
-abbrev pub IsWhy : Controller → PolicyVectors → LowerFault → Type 0
-IsWhy c v Memory = HasLeastConstant c v
-IsWhy c v fault = IsNotLowered c v fault
-
 -- the text of a source, between two of its states
 abbrev pub text_of : {S : Type 0} → (S → ℕ → Option (List ℕ) → S → Type 0) → S → S → List ℕ → Type 0
 text_of reads before after text = IsText reads before text after
@@ -207,8 +194,8 @@ IsRaiseRunFault TooLargeToPrint = ⊥
 IsRaiseRunFault _ = Unit {0}
 
 module _ (rounding : Rounding) (of_model of_graph of_vectors : List ℕ → Type 0) where
-  -- the texts of the three sources, which denote a controller, where values are rounded this way
-  pub record AreRoundedCertified : Type 0 where
+  -- The texts of the three sources denote a controller, where values are rounded this way, and this holds of the texts.
+  pub record HoldsOfTexts (Holds : List ℕ → List ℕ → List ℕ → Type 0) : Type 0 where
     pub model : List ℕ
     pub graph : List ℕ
     pub vectors : List ℕ
@@ -216,97 +203,32 @@ module _ (rounding : Rounding) (of_model of_graph of_vectors : List ℕ → Type
     pub graph_read : of_graph graph
     pub vectors_read : of_vectors vectors
     pub certificate : RoundedCertificate rounding model graph vectors
+    pub holds : Holds model graph vectors
 
-  -- Where these are the verdicts and these their lines: the answer to the texts of the three sources is this verdict, and this is
-  -- its line.
-  pub record HasRoundedVerdict {V : Type 0} (Is : Controller → V → Type 0) (IsLine : Meaning → Controller → PolicyVectors → V → List ℕ → Type 0)
-      (verdict : V) (line : List ℕ) : Type 0 where
-    pub texts : AreRoundedCertified
-    pub answer : IsRoundedAnswer rounding Is texts.model texts.graph texts.vectors (Ok verdict)
-    pub is_line : (c : RoundedCertificate rounding texts.model texts.graph texts.vectors) → IsLine c.meaning (controller c) c.values verdict line
+-- the headline, with the vectors at the end and for the rewards alone
+abbrev pub HavePromise : List ℕ → List ℕ → List ℕ → Type 0
+HavePromise model graph vectors = IsCertified model graph vectors × AreRewardsCertified model graph vectors
 
-module _ (of_model of_graph of_vectors : List ℕ → Type 0) where
-  -- the texts of the three sources, which denote a controller
-  abbrev pub AreCertified : Type 0
-  AreCertified = AreRoundedCertified Down of_model of_graph of_vectors
+-- the headline from above; and no vectors that pass from below are above these
+abbrev pub HavePromiseAbove : List ℕ → List ℕ → List ℕ → Type 0
+HavePromiseAbove model graph vectors = IsCertifiedAbove model graph vectors × AreRewardsCertifiedAbove model graph vectors × BoundLowerVectors model graph vectors
 
-  -- the answer to the texts of the three sources is this verdict, and this is its line
-  abbrev pub HasVerdict : Verdict → List ℕ → Type 0
-  HasVerdict verdict line = HasRoundedVerdict Down of_model of_graph of_vectors IsVerdict IsVerdictLine verdict line
+-- What the line of a yes says of the start is promised. The line names a node and a worth; and of whatever controller the
+-- texts denote: that node is worth most from the model's start, this is its worth there, rounded down, and for every number
+-- of steps no less is expected from the start.
+pub record HasStartPromise (line model graph vectors : List ℕ) : Type 0 where
+  pub node : ℕ
+  pub worth : ℤ
+  pub is_line : line ≡ yes_line node worth
+  pub best : (c : Certificate model graph vectors) → IsBestStart c.meaning c.values node
+  pub is_worth : (c : Certificate model graph vectors) → IsStartWorth c.meaning c.values node worth
+  pub promise : (c : Certificate model graph vectors) (k : ℕ) → StartPromise c.meaning (controller c) k node worth
 
-  -- The headline holds of the texts of the three sources, with the vectors at the end and for the rewards alone.
-  pub record HavePromise : Type 0 where
-    pub texts : AreCertified
-    pub promise : IsCertified texts.model texts.graph texts.vectors
-    pub rewards : AreRewardsCertified texts.model texts.graph texts.vectors
-
-  -- Whatever controller the texts of the three sources denote, this is what the verdict says of the promise: a yes, that it
-  -- holds for every number of steps; a no, that the promise of one step fails at the pair that it names.
-  pub record HasHorizon (verdict : Verdict) : Type 0 where
-    pub texts : AreCertified
-    pub horizon : (c : Certificate texts.model texts.graph texts.vectors) → MeetsHorizon (controller c) verdict
-
-  -- What the line of a yes says of the start is promised. The line names a node and a worth; and of whatever controller the
-  -- texts of the three sources denote: that node is worth most from the model's start, this is its worth there, rounded
-  -- down, and for every number of steps no less is expected from the start.
-  pub record HasStartPromise (line : List ℕ) : Type 0 where
-    pub texts : AreCertified
-    pub node : ℕ
-    pub worth : ℤ
-    pub is_line : line ≡ yes_line node worth
-    pub best : (c : Certificate texts.model texts.graph texts.vectors) → IsBestStart c.meaning c.values node
-    pub is_worth : (c : Certificate texts.model texts.graph texts.vectors) → IsStartWorth c.meaning c.values node worth
-    pub promise : (c : Certificate texts.model texts.graph texts.vectors) (k : ℕ) → StartPromise c.meaning (controller c) k node worth
-
-  -- This is the least constant by which the vectors of the third source can be lowered to pass, and the text is the full
-  -- form of the vectors lowered by it. The answer to the first two texts and this one is yes, every answer to them is, but for
-  -- out of memory, and the headline holds of them.
-  pub record HasLowered (by : ℤ) (text : List ℕ) : Type 0 where
-    pub texts : AreCertified
-    pub least : (c : Certificate texts.model texts.graph texts.vectors) → IsLeastConstant (controller c) c.values by
-    pub is_text : (c : Certificate texts.model texts.graph texts.vectors) → text ≡ vectors_text c.policy (shifted_by c.values (neg_ℤ by))
-    pub answer : IsAnswer texts.model texts.graph text (Ok Yes)
-    pub only_yes : (result : Result Verdict Fault) → IsAnswer texts.model texts.graph text result → IsButForMemory Yes result
-    pub promise : IsCertified texts.model texts.graph text
-    pub rewards : AreRewardsCertified texts.model texts.graph text
-
-  -- The texts of the three sources denote a controller, and no constant lowers its vectors so that they pass, for this
-  -- reason; or there is such a constant, and memory ran out.
-  pub record IsNotLowerable (fault : LowerFault) : Type 0 where
-    pub texts : AreCertified
-    pub reason : (c : Certificate texts.model texts.graph texts.vectors) → IsWhy (controller c) c.values fault
-
--- ---- a run that tells how far it is
---
--- The three sources and the sink, each with its state before and after the call.
-module _ {M G V W : Type 0}
-    (model_reads : M → ℕ → Option (List ℕ) → M → Type 0) (model_failures : M → ℕ) (model model' : M)
-    (graph_reads : G → ℕ → Option (List ℕ) → G → Type 0) (graph_failures : G → ℕ) (graph graph' : G)
-    (vectors_reads : V → ℕ → Option (List ℕ) → V → Type 0) (vectors_failures : V → ℕ) (vectors vectors' : V)
-    (sink_writes : W → Option (List ℕ) → W → Type 0) (sink_failures : W → ℕ) (sink sink' : W) where
-  -- what a check promises: each field is the clause of `run_check` of that name
-  pub record IsCheckRun (result : Result Verdict RunFault) : Type 0 where
-    pub answered : WritesAnswer sink_writes (HasVerdict (text_of model_reads model model') (text_of graph_reads graph graph')
-        (text_of vectors_reads vectors vectors')) result sink sink'
-    pub promise : result ≡ Ok Yes → HavePromise (text_of model_reads model model') (text_of graph_reads graph graph')
-        (text_of vectors_reads vectors vectors')
-    pub start_promise : result ≡ Ok Yes → (line : List ℕ)
-        × HasStartPromise (text_of model_reads model model') (text_of graph_reads graph graph')
-        (text_of vectors_reads vectors vectors') line
-        × Takes sink_writes sink line sink'
-    pub horizon : IfOk result (HasHorizon (text_of model_reads model model') (text_of graph_reads graph graph')
-        (text_of vectors_reads vectors vectors'))
-    pub stops : StopsRightly Down result model_reads model_failures model model' graph_reads graph_failures graph graph'
-        vectors_reads vectors_failures vectors vectors' sink_failures sink sink'
-    pub of_a_check : IfErr result IsCheckRunFault
-
-  -- what a lowering promises: each field is the clause of `run_lower` of that name
-  pub record IsLowerRun (result : Result ℤ RunFault) : Type 0 where
-    pub lowered : WritesAnswer sink_writes (HasLowered (text_of model_reads model model') (text_of graph_reads graph graph')
-        (text_of vectors_reads vectors vectors')) result sink sink'
-    pub not_lowered : (fault : LowerFault) → IsErrOf result (Lower fault)
-        → IsNotLowerable (text_of model_reads model model') (text_of graph_reads graph graph')
-        (text_of vectors_reads vectors vectors') fault
-    pub stops : StopsRightly Down result model_reads model_failures model model' graph_reads graph_failures graph graph'
-        vectors_reads vectors_failures vectors vectors' sink_failures sink sink'
-    pub of_a_lowering : IfErr result IsLowerRunFault
+-- What the line of a yes from above says of the start is promised. The line names a number; and of whatever controller the texts
+-- denote: no node is worth more from the model's start, rounded up, and from every node and for every number of steps no more is
+-- expected from the start.
+pub record HasStartPromiseAbove (line model graph vectors : List ℕ) : Type 0 where
+  pub most : ℤ
+  pub is_line : line ≡ yes_above_line most
+  pub is_most : (c : CertificateAbove model graph vectors) → IsStartMost c.meaning c.values most
+  pub promise : (c : CertificateAbove model graph vectors) (k n : ℕ) → n < nodes c.policy → StartPromiseAbove c.meaning (controller c) k n most

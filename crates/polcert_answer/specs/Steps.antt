@@ -1,2 +1,3 @@
 -- What nobody has to believe: only contracts of private functions, and of layers below the crates that callers use, cite these.
 pub mod Reading
+pub mod Laws

@@ -6,11 +6,12 @@ ghost use Rattle.polcert_check.specs.declared.verdict.Verdict.TheVariants.{Yes};
 ghost use Rattle.polcert_answer.specs.Answer.{IsAnswer, IsAnswerAbove};
 ghost use Rattle.polcert_answer.specs.Headline.{Certificate, controller, IsCertified, AreRewardsCertified};
 ghost use Rattle.polcert_answer.specs.HeadlineAbove.{CertificateAbove, IsCertifiedAbove, AreRewardsCertifiedAbove, BoundLowerVectors};
+ghost use Rattle.polcert_answer.specs.Steps.Reading.{IsTextAnswer};
 
-use crate::controller::read_texts;
+use crate::bound::{Bound, Lower, Upper};
 use crate::fault::Fault;
-use polcert_check::{AboveVerdict, Verdict, check, check_above};
-use polcert_text::Rounding;
+use crate::inputs::read_texts;
+use polcert_check::{AboveVerdict, Unwatched, Verdict};
 use std::alloc::Global;
 
 /// The answer to the texts of a model, of a policy graph, and of the graph's vectors.
@@ -38,8 +39,7 @@ pub fn check_texts(
     ensures horizon { IfOk result (λ verdict. (c : Certificate model.now graph.now vectors.now)
         → MeetsHorizon (controller c) verdict) }
 {
-    let read = read_texts(alloc, Rounding::Down, model, graph, vectors)?;
-    Ok(check(&read.model, &read.graph, &read.vectors))
+    text_answer::<Lower>(alloc, model, graph, vectors)
 }
 
 /// The answer from above to the texts of a model, of a policy graph, and of the graph's vectors, each value
@@ -73,6 +73,19 @@ pub fn check_texts_above(
     ensures horizon { IfOk result (λ verdict. (c : CertificateAbove model.now graph.now vectors.now)
         → MeetsHorizonAbove (controller c) verdict) }
 {
-    let read = read_texts(alloc, Rounding::Up, model, graph, vectors)?;
-    Ok(check_above(&read.model, &read.graph, &read.vectors))
+    text_answer::<Upper>(alloc, model, graph, vectors)
+}
+
+/// Returns the answer to three texts, for bounds of either kind.
+fn text_answer<B: Bound>(
+    alloc: Global,
+    model: &[u8],
+    graph: &[u8],
+    vectors: &[u8],
+) -> Result<B::Verdict, Fault>
+    ensures { IsTextAnswer B.side model.now graph.now vectors.now result }
+{
+    B::laws();
+    let read = read_texts(alloc, B::rounding(), model, graph, vectors)?;
+    Ok(B::check::<Unwatched>(&read, &mut Unwatched))
 }

@@ -3,9 +3,11 @@
 #![tactic(auto)]
 
 mod answer;
-mod controller;
+mod bound;
+mod bound_runs;
 mod fault;
 mod forms;
+mod inputs;
 mod laws;
 mod lines;
 mod runs;
@@ -14,9 +16,9 @@ mod status;
 mod task;
 
 pub use answer::{check_texts, check_texts_above};
-pub use controller::model_of_run;
 pub use fault::{Fault, RunFault};
 pub use forms::write_full_vectors;
+pub use inputs::model_of_run;
 pub use laws::{
     bounds_of_texts_are_an_interval, certified_texts_above_are_answered_yes,
     certified_texts_are_answered_yes, one_answer, one_answer_above, yes_above_is_a_certificate,

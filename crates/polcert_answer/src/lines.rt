@@ -2,16 +2,10 @@
 ghost use Rattle.std.specs.Prelude.{◌≡◌};
 ghost use Rattle.polcert_text.specs.Sink.{WritesText};
 ghost use Rattle.polcert_model.specs.Contents.{meaning};
-ghost use Rattle.polcert_cells.specs.Tables.{table_of};
-ghost use Rattle.polcert_check.specs.Horizon.{Fits, controller_of};
-ghost use Rattle.polcert_check.specs.Verdict.{IsVerdict, NamesSmallAmount};
-ghost use Rattle.polcert_check.specs.Above.{IsAboveVerdict, NamesSmallAmountAbove};
-ghost use Rattle.polcert_answer.specs.Lines.{counted, gains, kind_word, observations_text, counts_text, values_text, summary_line, pair_text, amount_line, yes_line, yes_above_line, lack_line, line_text, IsVerdictLine, IsAboveVerdictLine};
+ghost use Rattle.polcert_answer.specs.Lines.{counted, gains, kind_word, observations_text, counts_text, values_text, summary_line, pair_text, amount_line, yes_line, yes_above_line, lack_line, line_text};
 
 use itoa::Buffer;
-use polcert_check::{AboveVerdict, Verdict, millionths_short, start_most, start_worth};
 use polcert_model::Model;
-use polcert_policy::{Graph, Vectors};
 use polcert_text::{BufferedSink, Sink, SinkFailed, write_all, write_scaled};
 
 /// Writes the line that sums a model up, through a buffer, so that a sink that takes pieces whole is
@@ -113,88 +107,6 @@ pub enum VerdictLine {
         state: usize,
         observation: usize,
     },
-}
-
-/// What the line of a verdict on the model, the graph and its vectors says.
-pub fn line_of_verdict(
-    model: &Model,
-    graph: &Graph,
-    vectors: &Vectors,
-    verdict: Verdict,
-) -> VerdictLine
-    requires fits { Fits (table_of (meaning model.now)) graph.now vectors.now }
-    requires verdict { IsVerdict
-        (controller_of (table_of (meaning model.now)) graph.now vectors.now) verdict }
-    requires small { NamesSmallAmount
-        (controller_of (table_of (meaning model.now)) graph.now vectors.now) verdict }
-    ensures { IsVerdictLine (meaning model.now)
-        (controller_of (table_of (meaning model.now)) graph.now vectors.now)
-        vectors.now verdict (line_text result) }
-{
-    match verdict {
-        Verdict::Yes => {
-            let (node, worth) = start_worth(model, graph, vectors);
-            VerdictLine::AtLeast { node, worth }
-        }
-        Verdict::Short {
-            node,
-            state,
-            amount,
-        } => {
-            let by = millionths_short(model, amount);
-            VerdictLine::Short { node, state, by }
-        }
-        Verdict::NoSuccessor {
-            node,
-            state,
-            observation,
-        } => VerdictLine::NoSuccessor {
-            node,
-            state,
-            observation,
-        },
-    }
-}
-
-/// What the line of a verdict from above on the model, the graph and its vectors says.
-pub fn line_of_above_verdict(
-    model: &Model,
-    graph: &Graph,
-    vectors: &Vectors,
-    verdict: AboveVerdict,
-) -> VerdictLine
-    requires fits { Fits (table_of (meaning model.now)) graph.now vectors.now }
-    requires verdict { IsAboveVerdict
-        (controller_of (table_of (meaning model.now)) graph.now vectors.now) verdict }
-    requires small { NamesSmallAmountAbove
-        (controller_of (table_of (meaning model.now)) graph.now vectors.now) verdict }
-    ensures { IsAboveVerdictLine (meaning model.now)
-        (controller_of (table_of (meaning model.now)) graph.now vectors.now)
-        vectors.now verdict (line_text result) }
-{
-    match verdict {
-        AboveVerdict::Yes => {
-            let most = start_most(model, graph, vectors);
-            VerdictLine::AtMost { most }
-        }
-        AboveVerdict::Long {
-            node,
-            state,
-            amount,
-        } => {
-            let by = millionths_short(model, amount);
-            VerdictLine::Long { node, state, by }
-        }
-        AboveVerdict::NoSuccessor {
-            node,
-            state,
-            observation,
-        } => VerdictLine::NoSuccessor {
-            node,
-            state,
-            observation,
-        },
-    }
 }
 
 /// Writes the line of a verdict, through a buffer.

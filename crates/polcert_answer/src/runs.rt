@@ -1,25 +1,21 @@
 //! Runs from sources to sinks.
-ghost use Rattle.std.specs.Prelude.{◌≡◌, ◌≢◌, ℕ, ℤ, List, Ok, OnOk, IfOk, IfErr, IsErrOf};
+ghost use Rattle.std.specs.Prelude.{◌≡◌, ◌≢◌, ℕ, List, Ok, OnOk, IfOk, IfErr, IsErrOf};
 ghost use Rattle.polcert_text.specs.Device.{HasFailed};
-ghost use Rattle.polcert_text.specs.Sink.{Takes, TakesFront};
+ghost use Rattle.polcert_text.specs.Sink.{Takes};
 ghost use Rattle.polcert_text.specs.Source.{EachTextThatFits};
-ghost use Rattle.polcert_cells.specs.Tables.{table_of};
-ghost use Rattle.polcert_model.specs.Contents.{meaning};
 ghost use Rattle.polcert_model.specs.Refusals.{SaysOfText};
-ghost use Rattle.polcert_check.specs.declared.verdict.Verdict.{Verdict};
 ghost use Rattle.polcert_check.specs.declared.verdict.Verdict.TheVariants.{Yes};
-ghost use Rattle.polcert_check.specs.Horizon.{Fits, controller_of};
-ghost use Rattle.polcert_check.specs.Verdict.{IsVerdict};
-ghost use Rattle.polcert_answer.specs.Lines.{IsVerdictLine};
 ghost use Rattle.polcert_answer.specs.Answer.{IsRefused, IsModelFault};
-ghost use Rattle.polcert_answer.specs.Steps.Reading.{IsAnswerLine, AreLowered, IsNoReadFault};
-ghost use Rattle.polcert_answer.specs.Run.{WritesAnswer, IsCheckRun, IsLowerRun, SumsUp, BeginsToSumUp, Prints, BeginsToPrint, IsTooLargeToPrint, IsModelRunFault, IsPrintRunFault, IsNamedRightly, StopsRightly, IsCheckRunFault, IsLowerRunFault, text_of, HasVerdict, HavePromise, HasStartPromise, HasHorizon, HasLowered, IsWhy, IsNotLowerable};
+ghost use Rattle.polcert_answer.specs.Run.{WritesAnswer, SumsUp, BeginsToSumUp, Prints, BeginsToPrint, IsTooLargeToPrint, IsModelRunFault, IsPrintRunFault, IsNamedRightly, StopsRightly, IsCheckRunFault, IsLowerRunFault, text_of, HoldsOfTexts, HavePromise, HasStartPromise};
+ghost use Rattle.polcert_answer.specs.Side.{below, HasVerdict, HasHorizon, HasMoved, IsNotMovable, IsCheckRun, IsMoveRun};
 
-use crate::controller::{Controller, model_of_run, read_controller};
+use crate::bound::Lower;
+use crate::bound_runs::{check_run, move_run};
 use crate::fault::{Fault, RunFault};
-use crate::forms::{write_full_form, write_full_vectors};
-use crate::lines::{line_of_verdict, write_summary, write_verdict};
-use polcert_check::{Unwatched, Verdict, Watch, check_watched, lowered_watched};
+use crate::forms::write_full_form;
+use crate::inputs::model_of_run;
+use crate::lines::write_summary;
+use polcert_check::{Unwatched, Verdict, Watch};
 use polcert_text::{Rounding, Sink, Source};
 use std::alloc::Global;
 
@@ -136,25 +132,27 @@ pub fn run_check<M: Source, G: Source, V: Source, W: Sink>(
 ) -> Result<Verdict, RunFault>
     // The sink took exactly the line of the answer to the texts of the three sources; or if a write
     // failed, a beginning of the line.
-    ensures answered { WritesAnswer W.writes (HasVerdict (text_of M.reads model.old model.new)
-        (text_of G.reads graph.old graph.new) (text_of V.reads vectors.old vectors.new))
-        result sink.old sink.new }
+    ensures answered { WritesAnswer W.writes (λ verdict line. HoldsOfTexts Rounding.Down
+        (text_of M.reads model.old model.new) (text_of G.reads graph.old graph.new)
+        (text_of V.reads vectors.old vectors.new) (HasVerdict below verdict line)) result sink.old sink.new }
 
     // The headline: a yes is a certificate of the texts that were read, for every number of steps, every
     // node and every state; and for the rewards alone, without the vectors at the end.
-    ensures promise { result ≡ Ok Yes → HavePromise (text_of M.reads model.old model.new)
-        (text_of G.reads graph.old graph.new) (text_of V.reads vectors.old vectors.new) }
+    ensures promise { result ≡ Ok Yes → HoldsOfTexts Rounding.Down
+        (text_of M.reads model.old model.new) (text_of G.reads graph.old graph.new)
+        (text_of V.reads vectors.old vectors.new) HavePromise }
 
     // And what the written line says of the start is promised, for every number of steps.
-    ensures start_promise { result ≡ Ok Yes → (line : List ℕ)
-        × HasStartPromise (text_of M.reads model.old model.new) (text_of G.reads graph.old graph.new)
-        (text_of V.reads vectors.old vectors.new) line
+    ensures start_promise { result ≡ Ok Yes → (line : List ℕ) × HoldsOfTexts Rounding.Down
+        (text_of M.reads model.old model.new) (text_of G.reads graph.old graph.new)
+        (text_of V.reads vectors.old vectors.new) (HasStartPromise line)
         × Takes W.writes sink.old line sink.new }
 
     // A no refutes the promise of one step at the pair that it names, and a missing successor is reached by a
     // run of one step of positive probability.
-    ensures horizon { IfOk result (HasHorizon (text_of M.reads model.old model.new)
-        (text_of G.reads graph.old graph.new) (text_of V.reads vectors.old vectors.new)) }
+    ensures horizon { IfOk result (λ verdict. HoldsOfTexts Rounding.Down
+        (text_of M.reads model.old model.new) (text_of G.reads graph.old graph.new)
+        (text_of V.reads vectors.old vectors.new) (HasHorizon below verdict)) }
 
     // The first text that is none of its kind is refused, for a right reason. A device is named only where
     // it failed in this call, and no failure of one is passed over. Each source is read to its end before
@@ -168,7 +166,7 @@ pub fn run_check<M: Source, G: Source, V: Source, W: Sink>(
     // Nothing but the faults of a check is answered.
     ensures of_a_check { IfErr result IsCheckRunFault }
 {
-    run_check_watched(alloc, model, graph, vectors, sink, &mut Unwatched)
+    check_run::<Lower, M, G, V, W, Unwatched>(alloc, model, graph, vectors, sink, &mut Unwatched)
 }
 
 /// The same, and `watch` is told how far the check is: of each node when all of its pairs have passed.
@@ -182,35 +180,13 @@ pub fn run_check_watched<M: Source, G: Source, V: Source, W: Sink, O: Watch>(
     sink: &mut W,
     watch: &mut O,
 ) -> Result<Verdict, RunFault>
-    ensures { IsCheckRun
+    ensures { IsCheckRun below
         M.reads M.failures model.old model.new
         G.reads G.failures graph.old graph.new
         V.reads V.failures vectors.old vectors.new
         W.writes W.failures sink.old sink.new result }
 {
-    let read = read_controller(alloc, Rounding::Down, model, graph, vectors)?;
-    write_answer(&read, sink, watch)
-}
-
-/// Checks what three texts denote, writes the line of the verdict, and answers the verdict.
-fn write_answer<W: Sink, O: Watch>(
-    read: &Controller,
-    sink: &mut W,
-    watch: &mut O,
-) -> Result<Verdict, RunFault>
-    requires fits { Fits (table_of (meaning read.now.model)) read.now.graph read.now.vectors }
-    ensures answered { WritesAnswer W.writes (IsAnswerLine IsVerdict IsVerdictLine (meaning read.now.model)
-        read.now.graph read.now.vectors) result sink.old sink.new }
-    ensures write { IsNamedRightly (IsErrOf result RunFault.Write)
-        (W.failures sink.old) (W.failures sink.new) }
-    ensures of_write { IfErr result (λ fault. fault ≡ RunFault.Write) }
-{
-    let verdict = check_watched(&read.model, &read.graph, &read.vectors, watch);
-    let line = line_of_verdict(&read.model, &read.graph, &read.vectors, verdict);
-    match write_verdict(line, sink) {
-        Ok(()) => Ok(verdict),
-        Err(_) => Err(RunFault::Write),
-    }
+    check_run::<Lower, M, G, V, W, O>(alloc, model, graph, vectors, sink, watch)
 }
 
 /// Reads a model, a policy graph and the graph's vectors from three sources, lowers the vectors by the
@@ -232,14 +208,14 @@ pub fn run_lower<M: Source, G: Source, V: Source, W: Sink>(
 ) -> Result<i64, RunFault>
     // The sink took exactly the lowered vectors in full form, or if a write failed, a beginning of them.
     // The answer to the model's text, the graph's text and this text is yes, and the headline holds of them.
-    ensures lowered { WritesAnswer W.writes (HasLowered (text_of M.reads model.old model.new)
-        (text_of G.reads graph.old graph.new) (text_of V.reads vectors.old vectors.new))
-        result sink.old sink.new }
+    ensures lowered { WritesAnswer W.writes (λ by text. HoldsOfTexts Rounding.Down
+        (text_of M.reads model.old model.new) (text_of G.reads graph.old graph.new)
+        (text_of V.reads vectors.old vectors.new) (HasMoved below by text)) result sink.old sink.new }
 
     // Lowering is refused only if all three texts are accepted, for a right reason.
-    ensures not_lowered { (fault : _) → IsErrOf result (RunFault.Lower fault)
-        → IsNotLowerable (text_of M.reads model.old model.new) (text_of G.reads graph.old graph.new)
-        (text_of V.reads vectors.old vectors.new) fault }
+    ensures not_lowered { (fault : _) → IsErrOf result (RunFault.Lower fault) → HoldsOfTexts Rounding.Down
+        (text_of M.reads model.old model.new) (text_of G.reads graph.old graph.new)
+        (text_of V.reads vectors.old vectors.new) (IsNotMovable below fault) }
 
     // The first text that is none of its kind is refused, for a right reason. A device is named only where
     // it failed in this call, and no failure of one is passed over. Each source is read to its end before
@@ -253,7 +229,7 @@ pub fn run_lower<M: Source, G: Source, V: Source, W: Sink>(
     // Nothing but the faults of a lowering is answered.
     ensures of_a_lowering { IfErr result IsLowerRunFault }
 {
-    run_lower_watched(alloc, model, graph, vectors, sink, &mut Unwatched)
+    move_run::<Lower, M, G, V, W, Unwatched>(alloc, model, graph, vectors, sink, &mut Unwatched)
 }
 
 /// The same, and `watch` is told how far it is: of each node once. What it promises is every clause of
@@ -267,43 +243,11 @@ pub fn run_lower_watched<M: Source, G: Source, V: Source, W: Sink, O: Watch>(
     sink: &mut W,
     watch: &mut O,
 ) -> Result<i64, RunFault>
-    ensures { IsLowerRun
+    ensures { IsMoveRun below
         M.reads M.failures model.old model.new
         G.reads G.failures graph.old graph.new
         V.reads V.failures vectors.old vectors.new
         W.writes W.failures sink.old sink.new result }
 {
-    let given = read_controller(alloc, Rounding::Down, model, graph, vectors)?;
-    write_lower_vectors(alloc, &given, sink, watch)
-}
-
-/// Lowers the vectors of what three texts denote, writes them in full form, and answers the constant.
-fn write_lower_vectors<W: Sink, O: Watch>(
-    alloc: Global,
-    given: &Controller,
-    sink: &mut W,
-    watch: &mut O,
-) -> Result<i64, RunFault>
-    requires fits { Fits (table_of (meaning given.now.model)) given.now.graph given.now.vectors }
-    ensures lowered { WritesAnswer W.writes (AreLowered (meaning given.now.model)
-        given.now.graph given.now.vectors) result sink.old sink.new }
-    ensures not_lowered { (fault : _) → IsErrOf result (RunFault.Lower fault)
-        → IsWhy (controller_of (table_of (meaning given.now.model)) given.now.graph given.now.vectors)
-        given.now.vectors fault }
-    ensures write { IsNamedRightly (IsErrOf result RunFault.Write)
-        (W.failures sink.old) (W.failures sink.new) }
-    ensures untouched { (fault : RunFault) → IsErrOf result fault
-        → fault ≢ RunFault.Write → sink.new ≡ sink.old }
-    ensures no_read { IfErr result IsNoReadFault }
-    ensures not_raising { (fault : _) → IsErrOf result (RunFault.Raise fault) → ⊥ }
-{
-    let found = lowered_watched(alloc, &given.model, &given.graph, &given.vectors, watch);
-    let (by, lower) = match found {
-        Ok(found) => found,
-        Err(fault) => return Err(RunFault::Lower(fault)),
-    };
-    match write_full_vectors(&given.graph, &lower, sink) {
-        Ok(()) => Ok(by),
-        Err(_) => Err(RunFault::Write),
-    }
+    move_run::<Lower, M, G, V, W, O>(alloc, model, graph, vectors, sink, watch)
 }

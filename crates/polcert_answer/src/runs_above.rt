@@ -1,20 +1,13 @@
 //! Runs from sources to sinks that bound what a graph earns from above.
-ghost use Rattle.std.specs.Prelude.{◌≡◌, ◌≢◌, ℕ, ℤ, List, Ok, IfOk, IfErr, IsErrOf};
-ghost use Rattle.polcert_text.specs.Sink.{Takes, TakesFront};
-ghost use Rattle.polcert_cells.specs.Tables.{table_of};
-ghost use Rattle.polcert_model.specs.Contents.{meaning};
-ghost use Rattle.polcert_check.specs.Horizon.{Fits, controller_of};
-ghost use Rattle.polcert_check.specs.Above.{IsAboveVerdict};
-ghost use Rattle.polcert_answer.specs.Lines.{IsAboveVerdictLine};
-ghost use Rattle.polcert_answer.specs.Steps.Reading.{IsAnswerLine, AreRaised, IsNoReadFault};
-ghost use Rattle.polcert_answer.specs.Run.{WritesAnswer, IsNamedRightly, StopsRightly, IsCheckRunFault, IsRaiseRunFault, text_of};
-ghost use Rattle.polcert_answer.specs.RunAbove.{IsCheckRunAbove, IsRaiseRun, HasVerdictAbove, HavePromiseAbove, HasStartPromiseAbove, HasHorizonAbove, HasRaised, IsWhyNotRaised, IsNotRaisable};
+ghost use Rattle.std.specs.Prelude.{◌≡◌, ℕ, List, Ok, IfOk, IfErr, IsErrOf};
+ghost use Rattle.polcert_text.specs.Sink.{Takes};
+ghost use Rattle.polcert_answer.specs.Run.{WritesAnswer, StopsRightly, IsCheckRunFault, IsRaiseRunFault, text_of, HoldsOfTexts, HavePromiseAbove, HasStartPromiseAbove};
+ghost use Rattle.polcert_answer.specs.Side.{above, HasVerdict, HasHorizon, HasMoved, IsNotMovable, IsCheckRun, IsMoveRun};
 
-use crate::controller::{Controller, read_controller};
+use crate::bound::Upper;
+use crate::bound_runs::{check_run, move_run};
 use crate::fault::RunFault;
-use crate::forms::write_full_vectors;
-use crate::lines::{line_of_above_verdict, write_verdict};
-use polcert_check::{AboveVerdict, Unwatched, Watch, check_above_watched, raised_watched};
+use polcert_check::{AboveVerdict, Unwatched, Watch};
 use polcert_text::{Rounding, Sink, Source};
 use std::alloc::Global;
 
@@ -36,25 +29,27 @@ pub fn run_check_above<M: Source, G: Source, V: Source, W: Sink>(
 ) -> Result<AboveVerdict, RunFault>
     // The sink took exactly the line of the answer from above to the texts of the three sources; or if a
     // write failed, a beginning of the line.
-    ensures answered { WritesAnswer W.writes (HasVerdictAbove (text_of M.reads model.old model.new)
-        (text_of G.reads graph.old graph.new) (text_of V.reads vectors.old vectors.new))
-        result sink.old sink.new }
+    ensures answered { WritesAnswer W.writes (λ verdict line. HoldsOfTexts Rounding.Up
+        (text_of M.reads model.old model.new) (text_of G.reads graph.old graph.new)
+        (text_of V.reads vectors.old vectors.new) (HasVerdict above verdict line)) result sink.old sink.new }
 
     // The headline from above: a yes bounds what the texts that were read denote, for every number of
     // steps, every node and every state; and for the rewards alone, without the vectors at the end.
-    ensures promise { result ≡ Ok AboveVerdict.Yes → HavePromiseAbove (text_of M.reads model.old model.new)
-        (text_of G.reads graph.old graph.new) (text_of V.reads vectors.old vectors.new) }
+    ensures promise { result ≡ Ok AboveVerdict.Yes → HoldsOfTexts Rounding.Up
+        (text_of M.reads model.old model.new) (text_of G.reads graph.old graph.new)
+        (text_of V.reads vectors.old vectors.new) HavePromiseAbove }
 
     // And what the written line says of the start is promised, from every node and for every number of steps.
-    ensures start_promise { result ≡ Ok AboveVerdict.Yes → (line : List ℕ)
-        × HasStartPromiseAbove (text_of M.reads model.old model.new) (text_of G.reads graph.old graph.new)
-        (text_of V.reads vectors.old vectors.new) line
+    ensures start_promise { result ≡ Ok AboveVerdict.Yes → (line : List ℕ) × HoldsOfTexts Rounding.Up
+        (text_of M.reads model.old model.new) (text_of G.reads graph.old graph.new)
+        (text_of V.reads vectors.old vectors.new) (HasStartPromiseAbove line)
         × Takes W.writes sink.old line sink.new }
 
     // A no refutes the promise of one step at the pair that it names, and a missing successor is reached by a
     // run of one step of positive probability.
-    ensures horizon { IfOk result (HasHorizonAbove (text_of M.reads model.old model.new)
-        (text_of G.reads graph.old graph.new) (text_of V.reads vectors.old vectors.new)) }
+    ensures horizon { IfOk result (λ verdict. HoldsOfTexts Rounding.Up
+        (text_of M.reads model.old model.new) (text_of G.reads graph.old graph.new)
+        (text_of V.reads vectors.old vectors.new) (HasHorizon above verdict)) }
 
     // The first text that is none of its kind is refused, for a right reason. A device is named only where
     // it failed in this call, and no failure of one is passed over. Each source is read to its end before
@@ -68,7 +63,7 @@ pub fn run_check_above<M: Source, G: Source, V: Source, W: Sink>(
     // Nothing but the faults of a check is answered.
     ensures of_a_check { IfErr result IsCheckRunFault }
 {
-    run_check_above_watched(alloc, model, graph, vectors, sink, &mut Unwatched)
+    check_run::<Upper, M, G, V, W, Unwatched>(alloc, model, graph, vectors, sink, &mut Unwatched)
 }
 
 /// The same, and `watch` is told how far the check is: of each node when all of its pairs have passed.
@@ -82,35 +77,13 @@ pub fn run_check_above_watched<M: Source, G: Source, V: Source, W: Sink, O: Watc
     sink: &mut W,
     watch: &mut O,
 ) -> Result<AboveVerdict, RunFault>
-    ensures { IsCheckRunAbove
+    ensures { IsCheckRun above
         M.reads M.failures model.old model.new
         G.reads G.failures graph.old graph.new
         V.reads V.failures vectors.old vectors.new
         W.writes W.failures sink.old sink.new result }
 {
-    let read = read_controller(alloc, Rounding::Up, model, graph, vectors)?;
-    write_answer_above(&read, sink, watch)
-}
-
-/// Checks from above what three texts denote, writes the line of the verdict, and answers the verdict.
-fn write_answer_above<W: Sink, O: Watch>(
-    read: &Controller,
-    sink: &mut W,
-    watch: &mut O,
-) -> Result<AboveVerdict, RunFault>
-    requires fits { Fits (table_of (meaning read.now.model)) read.now.graph read.now.vectors }
-    ensures answered { WritesAnswer W.writes (IsAnswerLine IsAboveVerdict IsAboveVerdictLine
-        (meaning read.now.model) read.now.graph read.now.vectors) result sink.old sink.new }
-    ensures write { IsNamedRightly (IsErrOf result RunFault.Write)
-        (W.failures sink.old) (W.failures sink.new) }
-    ensures of_write { IfErr result (λ fault. fault ≡ RunFault.Write) }
-{
-    let verdict = check_above_watched(&read.model, &read.graph, &read.vectors, watch);
-    let line = line_of_above_verdict(&read.model, &read.graph, &read.vectors, verdict);
-    match write_verdict(line, sink) {
-        Ok(()) => Ok(verdict),
-        Err(_) => Err(RunFault::Write),
-    }
+    check_run::<Upper, M, G, V, W, O>(alloc, model, graph, vectors, sink, watch)
 }
 
 /// Reads a model, a policy graph and the graph's vectors, each value rounded up, from three sources, raises
@@ -133,14 +106,14 @@ pub fn run_raise<M: Source, G: Source, V: Source, W: Sink>(
     // The sink took exactly the raised vectors in full form, or if a write failed, a beginning of them.
     // The answer from above to the model's text, the graph's text and this text is yes, and the headline
     // from above holds of them.
-    ensures raised { WritesAnswer W.writes (HasRaised (text_of M.reads model.old model.new)
-        (text_of G.reads graph.old graph.new) (text_of V.reads vectors.old vectors.new))
-        result sink.old sink.new }
+    ensures raised { WritesAnswer W.writes (λ by text. HoldsOfTexts Rounding.Up
+        (text_of M.reads model.old model.new) (text_of G.reads graph.old graph.new)
+        (text_of V.reads vectors.old vectors.new) (HasMoved above by text)) result sink.old sink.new }
 
     // Raising is refused only if all three texts are accepted, for a right reason.
-    ensures not_raised { (fault : _) → IsErrOf result (RunFault.Raise fault)
-        → IsNotRaisable (text_of M.reads model.old model.new) (text_of G.reads graph.old graph.new)
-        (text_of V.reads vectors.old vectors.new) fault }
+    ensures not_raised { (fault : _) → IsErrOf result (RunFault.Raise fault) → HoldsOfTexts Rounding.Up
+        (text_of M.reads model.old model.new) (text_of G.reads graph.old graph.new)
+        (text_of V.reads vectors.old vectors.new) (IsNotMovable above fault) }
 
     // The first text that is none of its kind is refused, for a right reason. A device is named only where
     // it failed in this call, and no failure of one is passed over. Each source is read to its end before
@@ -154,7 +127,7 @@ pub fn run_raise<M: Source, G: Source, V: Source, W: Sink>(
     // Nothing but the faults of a raise is answered.
     ensures of_a_raise { IfErr result IsRaiseRunFault }
 {
-    run_raise_watched(alloc, model, graph, vectors, sink, &mut Unwatched)
+    move_run::<Upper, M, G, V, W, Unwatched>(alloc, model, graph, vectors, sink, &mut Unwatched)
 }
 
 /// The same, and `watch` is told how far it is: of each node once. What it promises is every clause of
@@ -168,44 +141,11 @@ pub fn run_raise_watched<M: Source, G: Source, V: Source, W: Sink, O: Watch>(
     sink: &mut W,
     watch: &mut O,
 ) -> Result<i64, RunFault>
-    ensures { IsRaiseRun
+    ensures { IsMoveRun above
         M.reads M.failures model.old model.new
         G.reads G.failures graph.old graph.new
         V.reads V.failures vectors.old vectors.new
         W.writes W.failures sink.old sink.new result }
 {
-    let given = read_controller(alloc, Rounding::Up, model, graph, vectors)?;
-    write_raised_vectors(alloc, &given, sink, watch)
-}
-
-/// Raises the vectors of what three texts denote, writes them in full form, and answers the constant.
-fn write_raised_vectors<W: Sink, O: Watch>(
-    alloc: Global,
-    given: &Controller,
-    sink: &mut W,
-    watch: &mut O,
-) -> Result<i64, RunFault>
-    requires fits { Fits (table_of (meaning given.now.model)) given.now.graph given.now.vectors }
-    ensures raised { WritesAnswer W.writes (AreRaised (meaning given.now.model)
-        given.now.graph given.now.vectors) result sink.old sink.new }
-    ensures not_raised { (fault : _) → IsErrOf result (RunFault.Raise fault)
-        → IsWhyNotRaised
-        (controller_of (table_of (meaning given.now.model)) given.now.graph given.now.vectors)
-        given.now.vectors fault }
-    ensures write { IsNamedRightly (IsErrOf result RunFault.Write)
-        (W.failures sink.old) (W.failures sink.new) }
-    ensures untouched { (fault : RunFault) → IsErrOf result fault
-        → fault ≢ RunFault.Write → sink.new ≡ sink.old }
-    ensures no_read { IfErr result IsNoReadFault }
-    ensures not_lowering { (fault : _) → IsErrOf result (RunFault.Lower fault) → ⊥ }
-{
-    let found = raised_watched(alloc, &given.model, &given.graph, &given.vectors, watch);
-    let (by, raise) = match found {
-        Ok(found) => found,
-        Err(fault) => return Err(RunFault::Raise(fault)),
-    };
-    match write_full_vectors(&given.graph, &raise, sink) {
-        Ok(()) => Ok(by),
-        Err(_) => Err(RunFault::Write),
-    }
+    move_run::<Upper, M, G, V, W, O>(alloc, model, graph, vectors, sink, watch)
 }

@@ -1,7 +1,6 @@
 //! Tasks over three texts.
 ghost use Rattle.std.specs.Prelude.{◌≡◌};
-ghost use Rattle.polcert_answer.specs.Run.{IsCheckRun, IsLowerRun};
-ghost use Rattle.polcert_answer.specs.RunAbove.{IsCheckRunAbove, IsRaiseRun};
+ghost use Rattle.polcert_answer.specs.Side.{below, above, IsCheckRun, IsMoveRun};
 ghost use Rattle.polcert_answer.specs.Task.{HasRun, outcome_status};
 
 use crate::fault::RunFault;
@@ -55,22 +54,22 @@ pub fn run_task<M: Source, G: Source, V: Source, W: Sink, O: Watch>(
     sink: &mut W,
     progress: &mut O,
 ) -> Result<Outcome, RunFault>
-    ensures check { task ≡ Task.Check → HasRun Outcome.Checked (IsCheckRun
+    ensures check { task ≡ Task.Check → HasRun Outcome.Checked (IsCheckRun below
         M.reads M.failures model.old model.new
         G.reads G.failures graph.old graph.new
         V.reads V.failures vectors.old vectors.new
         W.writes W.failures sink.old sink.new) result }
-    ensures check_above { task ≡ Task.CheckAbove → HasRun Outcome.CheckedAbove (IsCheckRunAbove
+    ensures check_above { task ≡ Task.CheckAbove → HasRun Outcome.CheckedAbove (IsCheckRun above
         M.reads M.failures model.old model.new
         G.reads G.failures graph.old graph.new
         V.reads V.failures vectors.old vectors.new
         W.writes W.failures sink.old sink.new) result }
-    ensures lower { task ≡ Task.Lower → HasRun Outcome.Lowered (IsLowerRun
+    ensures lower { task ≡ Task.Lower → HasRun Outcome.Lowered (IsMoveRun below
         M.reads M.failures model.old model.new
         G.reads G.failures graph.old graph.new
         V.reads V.failures vectors.old vectors.new
         W.writes W.failures sink.old sink.new) result }
-    ensures raise { task ≡ Task.Raise → HasRun Outcome.Raised (IsRaiseRun
+    ensures raise { task ≡ Task.Raise → HasRun Outcome.Raised (IsMoveRun above
         M.reads M.failures model.old model.new
         G.reads G.failures graph.old graph.new
         V.reads V.failures vectors.old vectors.new

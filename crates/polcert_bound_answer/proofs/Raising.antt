@@ -1,5 +1,5 @@
 -- What the run that raises says, from what its calls say of what the texts of two sources denote.
-use Rattle.std.proofs.Common.{◌≡◌, ◌∙◌, ℕ, ◌*◌, ◌<◌, ◌≤◌, ℤ, ◌+ℤ◌, List, Result, Ok, IfErr, unsigned_abs, refl, sym, ap, ap₂, subst}
+use Rattle.std.proofs.Common.{◌≡◌, ◌∙◌, ℕ, ◌*◌, ◌<◌, ◌≤◌, ℤ, ◌+ℤ◌, List, Result, Ok, Err, IfErr, unsigned_abs, refl, sym, ap, ap₂, subst}
 use Rattle.polcert_text.specs.Numbers.{largest}
 use Rattle.polcert_text.specs.declared.number.Rounding.TheVariants.{Up}
 use Rattle.polcert_cells.specs.Meaning.{Meaning, IsSame, states_of, actions_of}
@@ -137,3 +137,6 @@ written_in_raise _ of = absurd of
 
 pub raised_in_raise : {T : Type 0} (r : Result T RunFault) → IfErr r IsBoundWriteFault → IfErr r IsBoundRaiseFault
 raised_in_raise r of = each_fault IsBoundWriteFault IsBoundRaiseFault written_in_raise r of
+
+pub same_raise : {V : Type 0} (a b : RaiseFault) (r : Result V RunFault) → r ≡ Err (Raise a) → r ≡ Err (Raise b) → a ≡ b
+same_raise a b r e f = cc

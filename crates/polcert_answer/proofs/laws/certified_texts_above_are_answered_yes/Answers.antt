@@ -3,7 +3,7 @@ use Rattle.polcert_check.specs.Above.{IsAboveVerdict}
 use Rattle.polcert_check.specs.declared.above.AboveVerdict.TheVariants.{Yes}
 use Rattle.polcert_check.proofs.Mirrors.OneAbove.{one_above_verdict}
 use Rattle.polcert_answer.proofs.OneAnswer.{but_for_memory}
-use Rattle.polcert_answer.proofs.DenotedAbove.{yes_if_one_step, yes_if_certified}
+use Rattle.polcert_answer.proofs.Above.{yes_if_one_step, yes_if_certified}
 use Rattle.polcert_answer.proofs.laws.certified_texts_above_are_answered_yes.Goals as goal
 
 pub returns : goal.returns

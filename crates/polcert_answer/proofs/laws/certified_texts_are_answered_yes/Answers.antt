@@ -3,7 +3,7 @@ use Rattle.polcert_check.specs.Verdict.{IsVerdict}
 use Rattle.polcert_check.specs.declared.verdict.Verdict.TheVariants.{Yes}
 use Rattle.polcert_check.proofs.Agreements.OneAnswer.{one_verdict}
 use Rattle.polcert_answer.proofs.OneAnswer.{but_for_memory}
-use Rattle.polcert_answer.proofs.Denoted.{yes_if_one_step, yes_if_certified}
+use Rattle.polcert_answer.proofs.Below.{yes_if_one_step, yes_if_certified}
 use Rattle.polcert_answer.proofs.laws.certified_texts_are_answered_yes.Goals as goal
 
 pub returns : goal.returns

@@ -1,4 +1,4 @@
-use Rattle.polcert_answer.proofs.DenotedAbove.{yes_certified, yes_rewarded, yes_started}
+use Rattle.polcert_answer.proofs.Above.{yes_certified, yes_rewarded, yes_started}
 use Rattle.polcert_answer.proofs.laws.yes_above_is_a_certificate.Goals as goal
 
 pub returns : goal.returns

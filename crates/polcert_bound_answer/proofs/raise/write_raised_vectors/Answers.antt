@@ -7,9 +7,8 @@ use Rattle.polcert_policy.specs.Graphs.{PolicyGraph, nodes}
 use Rattle.polcert_policy.specs.Vectors.{PolicyVectors}
 use Rattle.polcert_policy.proofs.ActionGraphs.{node_count}
 use Rattle.polcert_check.specs.declared.fault.RaiseFault.{RaiseFault}
-use Rattle.polcert_answer.proofs.AnsweringAbove.{same_raise}
 use Rattle.polcert_bound_answer.specs.Raise.{IsWhyNotRaised}
-use Rattle.polcert_bound_answer.proofs.Raising.{why_of, raised_text}
+use Rattle.polcert_bound_answer.proofs.Raising.{why_of, same_raise, raised_text}
 use Rattle.polcert_bound_answer.proofs.raise.write_raised_vectors.Goals as goal
 
 pub write_full_vectors-requires : goal.write_full_vectors-requires

@@ -1,0 +1,195 @@
+//! The two kinds of bounds, lower and upper ones, as a run takes them.
+ghost use Rattle.std.specs.Prelude.{◌≡◌, ℤ, IfOk, IfErr};
+ghost use Rattle.polcert_model.specs.Contents.{meaning};
+ghost use Rattle.polcert_check.specs.Horizon.{Controller};
+ghost use Rattle.polcert_check.specs.Verdict.{NamesSmallAmount};
+ghost use Rattle.polcert_check.specs.Above.{NamesSmallAmountAbove};
+ghost use Rattle.polcert_answer.specs.Lines.{line_text};
+ghost use Rattle.polcert_answer.specs.Side.{Side, below, above};
+ghost use Rattle.polcert_answer.specs.Steps.Reading.{AreMoved, FitGiven, controller_given};
+ghost use Rattle.polcert_answer.specs.Steps.Laws.{SideLaws};
+
+use crate::fault::RunFault;
+use crate::inputs::Inputs;
+use crate::lines::VerdictLine;
+use polcert_check::{
+    AboveVerdict, LowerFault, RaiseFault, Verdict, Watch, check_above_watched, check_watched,
+    lowered_watched, millionths_short, raised_watched, start_most, start_worth,
+};
+use polcert_policy::Vectors;
+use polcert_text::Rounding;
+use std::alloc::Global;
+
+/// How vectors are checked and moved that are to bound what a graph earns from one side.
+pub trait Bound {
+    /// What a check finds.
+    type Verdict: Copy;
+
+    /// Why vectors are not moved.
+    type Fault: Copy;
+
+    // What is said from this side.
+    ghost side: { Side Self.Verdict Self.Fault };
+
+    // How large an amount a verdict names.
+    ghost is_small: { Controller → Self.Verdict → Type 0 };
+
+    /// Returns how the vectors' values are rounded.
+    fn rounding() -> Rounding
+        ensures { result ≡ side.rounding };
+
+    /// Checks the vectors.
+    fn check<O: Watch>(given: &Inputs, watch: &mut O) -> Self::Verdict
+        requires { FitGiven given.now }
+        ensures verdict { side.Is (controller_given given.now) result }
+        ensures small { is_small (controller_given given.now) result };
+
+    /// Returns what the line of a verdict says.
+    fn line(given: &Inputs, verdict: Self::Verdict) -> VerdictLine
+        requires fits { FitGiven given.now }
+        requires verdict { side.Is (controller_given given.now) verdict }
+        requires small { is_small (controller_given given.now) verdict }
+        ensures { side.IsLine (meaning given.now.model) (controller_given given.now)
+            given.now.vectors verdict (line_text result) };
+
+    /// Moves the vectors by the least constant by which they pass, and returns both.
+    fn moved<O: Watch>(
+        alloc: Global,
+        given: &Inputs,
+        watch: &mut O,
+    ) -> Result<(i64, Vectors), Self::Fault>
+        requires { FitGiven given.now }
+        ensures moved { IfOk result
+            (AreMoved side (meaning given.now.model) given.now.graph given.now.vectors) }
+        ensures not_moved { IfErr result (side.IsReason (controller_given given.now) given.now.vectors) };
+
+    /// Returns the fault of a run for the reason why vectors are not moved.
+    fn run_fault(fault: Self::Fault) -> RunFault
+        ensures { result ≡ side.run_fault fault };
+
+    /// Does nothing: what holds of a side.
+    fn laws()
+        ensures { SideLaws side };
+}
+
+/// From below.
+pub struct Lower;
+
+/// From above.
+pub struct Upper;
+
+impl Bound for Lower {
+    type Verdict = Verdict;
+
+    type Fault = LowerFault;
+
+    ghost side = { below };
+
+    ghost is_small = { NamesSmallAmount };
+
+    fn rounding() -> Rounding {
+        Rounding::Down
+    }
+
+    fn check<O: Watch>(given: &Inputs, watch: &mut O) -> Verdict {
+        check_watched(&given.model, &given.graph, &given.vectors, watch)
+    }
+
+    fn line(given: &Inputs, verdict: Verdict) -> VerdictLine {
+        match verdict {
+            Verdict::Yes => {
+                let (node, worth) = start_worth(&given.model, &given.graph, &given.vectors);
+                VerdictLine::AtLeast { node, worth }
+            }
+            Verdict::Short {
+                node,
+                state,
+                amount,
+            } => {
+                let by = millionths_short(&given.model, amount);
+                VerdictLine::Short { node, state, by }
+            }
+            Verdict::NoSuccessor {
+                node,
+                state,
+                observation,
+            } => VerdictLine::NoSuccessor {
+                node,
+                state,
+                observation,
+            },
+        }
+    }
+
+    fn moved<O: Watch>(
+        alloc: Global,
+        given: &Inputs,
+        watch: &mut O,
+    ) -> Result<(i64, Vectors), LowerFault> {
+        lowered_watched(alloc, &given.model, &given.graph, &given.vectors, watch)
+    }
+
+    fn run_fault(fault: LowerFault) -> RunFault {
+        RunFault::Lower(fault)
+    }
+
+    fn laws() {}
+}
+
+impl Bound for Upper {
+    type Verdict = AboveVerdict;
+
+    type Fault = RaiseFault;
+
+    ghost side = { above };
+
+    ghost is_small = { NamesSmallAmountAbove };
+
+    fn rounding() -> Rounding {
+        Rounding::Up
+    }
+
+    fn check<O: Watch>(given: &Inputs, watch: &mut O) -> AboveVerdict {
+        check_above_watched(&given.model, &given.graph, &given.vectors, watch)
+    }
+
+    fn line(given: &Inputs, verdict: AboveVerdict) -> VerdictLine {
+        match verdict {
+            AboveVerdict::Yes => {
+                let most = start_most(&given.model, &given.graph, &given.vectors);
+                VerdictLine::AtMost { most }
+            }
+            AboveVerdict::Long {
+                node,
+                state,
+                amount,
+            } => {
+                let by = millionths_short(&given.model, amount);
+                VerdictLine::Long { node, state, by }
+            }
+            AboveVerdict::NoSuccessor {
+                node,
+                state,
+                observation,
+            } => VerdictLine::NoSuccessor {
+                node,
+                state,
+                observation,
+            },
+        }
+    }
+
+    fn moved<O: Watch>(
+        alloc: Global,
+        given: &Inputs,
+        watch: &mut O,
+    ) -> Result<(i64, Vectors), RaiseFault> {
+        raised_watched(alloc, &given.model, &given.graph, &given.vectors, watch)
+    }
+
+    fn run_fault(fault: RaiseFault) -> RunFault {
+        RunFault::Raise(fault)
+    }
+
+    fn laws() {}
+}
