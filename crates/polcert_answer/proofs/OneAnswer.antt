@@ -36,41 +36,41 @@ vectors_memory : (rounding : Rounding) (p : PolicyGraph) (states : ℕ) (text : 
 vectors_memory rounding p states text values.Memory v refused are = refl
 vectors_memory rounding p states text _ v refused are = absurd (refused v are)
 
+-- what is refused as a model, except out of memory, is none
+pub no_model : (model : List ℕ) (f : ModelFault) (m : Meaning) → SaysOfText f → IsModelFault model f → IsModelText model m → ⊥
+no_model model f m says refused is = (refused_of f model says refused).no_model m is
+
+-- what is said of a model's refused text, except out of memory
+refused_text : (model : List ℕ) (f : ModelFault) → SaysOfText f → IsModelFault model f → IsRefusedModelText f model
+refused_text model models.Memory says h = absurd says
+refused_text model (models.Item kind item place) says h = record { no_model = h.no_model; refusal = h.refusal; placed = h.placed }
+refused_text model (models.RowSum table action row) says h = record { no_model = h.no_model; refusal = h.refusal; placed = h.placed }
+
+not_memory : (f : ModelFault) → SaysOfText f → f ≡ models.Memory → ⊥
+not_memory f says same = subst SaysOfText same says
+
+-- a model is refused for one reason, at one place
+pub one_model_refusal : (model : List ℕ) (f g : ModelFault) → SaysOfText f → SaysOfText g → IsModelFault model f → IsModelFault model g → f ≡ g
+one_model_refusal model f g f_says g_says h other =
+    model_refusals.one_refusal model f g (not_memory f f_says) (not_memory g g_says) (refused_text model f f_says h) (refused_text model g g_says other)
+
 -- Where values are rounded this way, these are the verdicts, and a controller has one of them.
 module _ {V : Type 0} (rounding : Rounding) (Is : Controller → V → Type 0) (one : (c : Controller) (x y : V) → Is c x → Is c y → x ≡ y) (model graph vectors : List ℕ) where
   abbrev Answers : Result V Fault → Type 0
   Answers r = IsRoundedAnswer rounding Is model graph vectors r
 
-  -- what is refused as a model, except out of memory, is none
-  no_model : (f : ModelFault) (m : Meaning) → SaysOfText f → IsModelFault model f → IsModelText model m → ⊥
-  no_model f m says refused is = (refused_of f model says refused).no_model m is
-
   pub model_before_graph : (f : ModelFault) (g : GraphFault) → SaysOfText f
       → Answers (Err (Model f)) → Answers (Err (Graph g)) → ⊥
-  model_before_graph f g says h other = no_model f other.meaning says h other.is_model
+  model_before_graph f g says h other = no_model model f other.meaning says h other.is_model
 
   pub model_before_vectors : (f : ModelFault) (g : VectorFault) → SaysOfText f
       → Answers (Err (Model f)) → Answers (Err (Vectors g)) → ⊥
-  model_before_vectors f g says h other = no_model f other.meaning says h other.has_graph.is_model
+  model_before_vectors f g says h other = no_model model f other.meaning says h other.has_graph.is_model
 
   pub graph_before_vectors : (f : GraphFault) (g : VectorFault) → (f ≡ graphs.Memory → ⊥)
       → Answers (Err (Graph f)) → Answers (Err (Vectors g)) → ⊥
   graph_before_vectors f g says h other =
       says (graph_memory _ _ graph f other.policy (h.no_graph other.meaning other.has_graph.is_model) other.has_graph.is_graph)
-
-  -- what is said of a model's refused text, except out of memory
-  refused_text : (f : ModelFault) → SaysOfText f → IsModelFault model f → IsRefusedModelText f model
-  refused_text models.Memory says h = absurd says
-  refused_text (models.Item kind item place) says h = record { no_model = h.no_model; refusal = h.refusal; placed = h.placed }
-  refused_text (models.RowSum table action row) says h = record { no_model = h.no_model; refusal = h.refusal; placed = h.placed }
-
-  not_memory : (f : ModelFault) → SaysOfText f → f ≡ models.Memory → ⊥
-  not_memory f says same = subst SaysOfText same says
-
-  pub one_model_refusal : (f g : ModelFault) → SaysOfText f → SaysOfText g
-      → Answers (Err (Model f)) → Answers (Err (Model g)) → f ≡ g
-  one_model_refusal f g f_says g_says h other =
-      model_refusals.one_refusal model f g (not_memory f f_says) (not_memory g g_says) (refused_text f f_says h) (refused_text g g_says other)
 
   pub one_graph_refusal : (f g : GraphFault) → (f ≡ graphs.Memory → ⊥) → (g ≡ graphs.Memory → ⊥)
       → Answers (Err (Graph f)) → Answers (Err (Graph g)) → f ≡ g
@@ -87,8 +87,8 @@ module _ {V : Type 0} (rounding : Rounding) (Is : Controller → V → Type 0) (
 
   pub no_refusal : (x : V) (fault : Fault) → Answers (Ok x) → Answers (Err fault) → IsWantOfMemory fault
   no_refusal x (Model models.Memory) h refused = tt
-  no_refusal x (Model (models.Item kind item place)) h refused = absurd (no_model (models.Item kind item place) h.0.meaning tt refused h.0.is_model)
-  no_refusal x (Model (models.RowSum table action row)) h refused = absurd (no_model (models.RowSum table action row) h.0.meaning tt refused h.0.is_model)
+  no_refusal x (Model (models.Item kind item place)) h refused = absurd (no_model model (models.Item kind item place) h.0.meaning tt refused h.0.is_model)
+  no_refusal x (Model (models.RowSum table action row)) h refused = absurd (no_model model (models.RowSum table action row) h.0.meaning tt refused h.0.is_model)
   no_refusal x (Graph f) h refused =
       let memory = graph_memory _ _ graph f h.0.policy (refused.no_graph h.0.meaning h.0.is_model) h.0.is_graph in
       subst (λ (g : GraphFault). IsWantOfMemory (Graph g)) (sym memory) tt
@@ -120,4 +120,4 @@ module _ {V : Type 0} (rounding : Rounding) (Is : Controller → V → Type 0)
 
   pub has_one_refusal : HasOneRefusal AllAnswers
   has_one_refusal = record
-      { of_model = one_model_refusal rounding Is one; of_graph = one_graph_refusal rounding Is one; of_vectors = one_vectors_refusal rounding Is one }
+      { of_model = λ model graph vectors f g. one_model_refusal model f g; of_graph = one_graph_refusal rounding Is one; of_vectors = one_vectors_refusal rounding Is one }

@@ -4,9 +4,8 @@ use Rattle.std.specs.Result.{IsErrAnd}
 use Rattle.polcert_text.specs.declared.number.Rounding.TheVariants.{Up}
 use Rattle.polcert_format.specs.declared.fault.ModelFault.{ModelFault}
 use Rattle.polcert_format.specs.declared.fault.ModelFault.TheVariants as models
-use Rattle.polcert_cells.specs.Meaning.{Meaning, states_of, actions_of}
+use Rattle.polcert_cells.specs.Meaning.{states_of, actions_of}
 use Rattle.polcert_cells.specs.Tables.{table_of}
-use Rattle.polcert_model.specs.Text.{IsModelText}
 use Rattle.polcert_model.specs.Refusals.{SaysOfText}
 use Rattle.polcert_policy.specs.declared.fault.VectorFault.{VectorFault}
 use Rattle.polcert_policy.specs.declared.fault.VectorFault.TheVariants as values
@@ -16,8 +15,8 @@ use Rattle.polcert_policy.proofs.OneVectorsRefusal as vectors_refusals
 use Rattle.polcert_optimum.specs.declared.verdict.InformedVerdict.{InformedVerdict}
 use Rattle.polcert_answer.specs.declared.fault.Fault.{Fault}
 use Rattle.polcert_answer.specs.declared.fault.Fault.TheVariants.{Model, Graph, Vectors}
-use Rattle.polcert_answer.specs.Answer.{IsModelFault, IsWantOfMemory, IsButForMemory}
-use Rattle.polcert_answer.proofs.Refusing.{refused_of}
+use Rattle.polcert_answer.specs.Answer.{IsWantOfMemory, IsButForMemory}
+use Rattle.polcert_answer.proofs.OneAnswer.{no_model}
 use Rattle.polcert_bound_answer.specs.Answer.{IsBoundFault, IsBoundAnswer}
 use Rattle.polcert_bound_answer.proofs.OneInformed.{one_informed_verdict}
 
@@ -25,10 +24,6 @@ use Rattle.polcert_bound_answer.proofs.OneInformed.{one_informed_verdict}
 vectors_memory : (actions states : ℕ) (text : List ℕ) (f : VectorFault) (v : PolicyVectors) → IsNoActionVectorsText actions states text f → IsActionVectorsText actions states text v → f ≡ values.Memory
 vectors_memory actions states text values.Memory v refused are = refl
 vectors_memory actions states text _ v refused are = absurd (refused v are)
-
--- what is refused as a model, unless memory ran out, is none
-no_model : (model : List ℕ) (f : ModelFault) (m : Meaning) → SaysOfText f → IsModelFault model f → IsModelText model m → ⊥
-no_model model f m says refused is = (refused_of f model says refused).no_model m is
 
 module _ (model vectors : List ℕ) where
   pub one_verdict : (x y : InformedVerdict) → IsBoundAnswer model vectors (Ok x) → IsBoundAnswer model vectors (Ok y) → x ≡ y
