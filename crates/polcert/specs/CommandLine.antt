@@ -11,7 +11,8 @@ use Rattle.std.specs.Prelude.{List, [], Option, Some, None, option_map, option_a
 use Rattle.std.specs.Option.{option_map_or}
 use Rattle.std.specs.Str.{bytes_eq}
 use Rattle.clap.specs.Words.{App, Rule, Row, Text, new_app, new_rule, with_rule, with_subcommand, first_of}
-use Rattle.clap.specs.declared.builder.action.ArgAction.TheVariants.{Set, SetTrue}
+use Rattle.clap.specs.declared.builder.action.ArgAction.TheVariants.{SetTrue}
+use Rattle.polcert_lines.specs.Command.{file_rule}
 use Rattle.polcert_answer.specs.declared.task.Task.{Task}
 use Rattle.polcert_answer.specs.declared.task.Task.TheVariants as tasks
 use Rattle.polcert.specs.declared.choice.FileNames.{FileNames}
@@ -19,10 +20,6 @@ use Rattle.polcert.specs.declared.choice.Choice.{Choice}
 use Rattle.polcert.specs.declared.choice.Choice.TheVariants.{Model, Print, Check, CheckAbove, Lower, Raise}
 use Rattle.polcert.specs.declared.choice.Job.{Job}
 use Rattle.polcert.specs.declared.choice.Job.TheVariants as jobs
-
--- an argument that takes one value
-abbrev pub file_rule : Text → Rule
-file_rule id = record (new_rule id) { action = Some Set }
 
 abbrev pub one_file : Text → App
 one_file name = with_rule (new_app name) (file_rule (codes "FILE"))

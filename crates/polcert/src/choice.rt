@@ -1,12 +1,13 @@
 //! What the words of the command line ask for.
 ghost use Rattle.std.specs.Prelude.{◌≡◌, ℕ, List, false, IfOk, map, option_map};
-ghost use Rattle.clap.specs.Words.{FailsBy, app_of, fault_of, found_of, first_of, rows_of, rule_of, subcommand_of, subcommand_rows_of};
+ghost use Rattle.clap.specs.Words.{FailsBy, app_of, fault_of, found_of, rows_of, rule_of, subcommand_of, subcommand_rows_of};
 ghost use Rattle.clap.specs.declared.builder.Command.TheViews.{out-Command};
-ghost use Rattle.polcert.specs.CommandLine.{the_app, at_most_rule, check_app, file_rule, one_file, three_files, bounds_above, chosen, chosen_of, names_in, names_view, view_of, job_of, job_view};
+ghost use Rattle.polcert.specs.CommandLine.{the_app, at_most_rule, check_app, one_file, three_files, bounds_above, chosen, chosen_of, names_in, names_view, view_of, job_of, job_view};
 
-use crate::help::{self, HelpTexts};
+use crate::help;
 use clap::{Arg, ArgAction, ArgMatches, Command, Error};
 use polcert_answer::Task;
+use polcert_lines::{HelpTexts, file, value_of};
 use std::alloc::{AllocError, Global};
 
 /// The names of the files of a model, of a policy graph, and of its vectors.
@@ -138,14 +139,6 @@ fn command_with_files<'a>(
         .arg(file(alloc, "ALPHA"))
 }
 
-/// Returns an argument that takes the name of a file. The help's details describe it, so clap lists it nowhere.
-fn file<'a>(alloc: Global, id: &'a str) -> Arg<'a>
-    ensures rule { rule_of result ≡ file_rule id.entry.now }
-    ensures local { result.global ≡ false }
-{
-    Arg::new(alloc, id).action(ArgAction::Set).hide(true)
-}
-
 /// Returns the flag of a check from above.
 fn at_most<'a>(alloc: Global) -> Arg<'a>
     ensures rule { rule_of result ≡ at_most_rule }
@@ -200,11 +193,4 @@ fn file_names_of<'a>(inner: &ArgMatches<'a>) -> Option<FileNames<'a>>
         graph: value_of(inner, "PG")?,
         vectors: value_of(inner, "ALPHA")?,
     })
-}
-
-/// Returns the value of an argument.
-fn value_of<'a>(inner: &ArgMatches<'a>, id: &str) -> Option<&'a str>
-    ensures { option_map (λ text. text.now) result ≡ first_of id.now (rows_of (found_of inner.now)) }
-{
-    inner.get_str(id)
 }

@@ -5,14 +5,10 @@
 use Rattle.std.specs.Prelude.{List, [], Option, Some, None, option_map, option_and_then, codes, true, if◌then◌else◌}
 use Rattle.std.specs.Str.{bytes_eq}
 use Rattle.clap.specs.Words.{App, Rule, Row, Text, new_app, new_rule, with_rule, with_subcommand, first_of}
-use Rattle.clap.specs.declared.builder.action.ArgAction.TheVariants.{Set}
+use Rattle.polcert_lines.specs.Command.{file_rule}
 use Rattle.polcert_bound.specs.declared.choice.FileNames.{FileNames}
 use Rattle.polcert_bound.specs.declared.choice.Choice.{Choice}
 use Rattle.polcert_bound.specs.declared.choice.Choice.TheVariants.{Check, Raise}
-
--- an argument that takes one value
-abbrev pub file_rule : Text → Rule
-file_rule id = record (new_rule id) { action = Some Set }
 
 abbrev pub two_files : Text → App
 two_files name = with_rule (with_rule (new_app name) (file_rule (codes "FILE"))) (file_rule (codes "ALPHA"))

@@ -1,11 +1,12 @@
 //! What the words of the command line ask for.
 ghost use Rattle.std.specs.Prelude.{◌≡◌, List, false, IfOk, map, option_map};
-ghost use Rattle.clap.specs.Words.{FailsBy, app_of, fault_of, found_of, first_of, rows_of, rule_of, subcommand_of, subcommand_rows_of};
+ghost use Rattle.clap.specs.Words.{FailsBy, app_of, fault_of, found_of, rows_of, subcommand_of, subcommand_rows_of};
 ghost use Rattle.clap.specs.declared.builder.Command.TheViews.{out-Command};
-ghost use Rattle.polcert_bound.specs.CommandLine.{the_app, file_rule, two_files, chosen, chosen_of, names_in, names_view, view_of};
+ghost use Rattle.polcert_bound.specs.CommandLine.{the_app, two_files, chosen, chosen_of, names_in, names_view, view_of};
 
-use crate::help::{self, HelpTexts};
-use clap::{Arg, ArgAction, ArgMatches, Command, Error};
+use crate::help;
+use clap::{ArgMatches, Command, Error};
+use polcert_lines::{HelpTexts, file, value_of};
 use std::alloc::{AllocError, Global};
 
 /// The names of the files of a model and of vectors, one for each of its actions.
@@ -74,14 +75,6 @@ fn command_with_files<'a>(
         .arg(file(alloc, "ALPHA"))
 }
 
-/// Returns an argument that takes the name of a file. The help's details describe it, so clap lists it nowhere.
-fn file<'a>(alloc: Global, id: &'a str) -> Arg<'a>
-    ensures rule { rule_of result ≡ file_rule id.entry.now }
-    ensures local { result.global ≡ false }
-{
-    Arg::new(alloc, id).action(ArgAction::Set).hide(true)
-}
-
 /// Returns the choice of a subcommand and its matches.
 fn choice_of<'a>(matches: &ArgMatches<'a>) -> Option<Choice<'a>>
     ensures { option_map view_of result ≡ chosen (subcommand_rows_of matches.now) }
@@ -110,11 +103,4 @@ fn file_names_of<'a>(inner: &ArgMatches<'a>) -> Option<FileNames<'a>>
         model: value_of(inner, "FILE")?,
         vectors: value_of(inner, "ALPHA")?,
     })
-}
-
-/// Returns the value of an argument.
-fn value_of<'a>(inner: &ArgMatches<'a>, id: &str) -> Option<&'a str>
-    ensures { option_map (λ text. text.now) result ≡ first_of id.now (rows_of (found_of inner.now)) }
-{
-    inner.get_str(id)
 }

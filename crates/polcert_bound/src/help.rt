@@ -1,15 +1,6 @@
 //! The texts of the program's help.
 
-/// What the help of a subcommand says.
-#[derive(Clone, Copy, Debug)]
-pub struct HelpTexts<'a> {
-    /// One line, which the list of commands shows too.
-    pub about: &'a str,
-    /// The usage line. clap's own would have brackets around the files: the parser requires none of them.
-    pub usage: &'a str,
-    /// What follows the options: the files, notes and an example.
-    pub details: &'a str,
-}
+use polcert_lines::HelpTexts;
 
 pub const ABOUT: &str =
     "Certify in exact arithmetic what no policy of a POMDP can be worth more than";
