@@ -42,7 +42,8 @@ pub fn one_bound_answer()
 
     // Each text is refused for one reason, at one place.
     ensures model_refusal { (model vectors : List ℕ) (f g : ModelFault) → SaysOfText f → SaysOfText g →
-        IsBoundAnswer model vectors (Err (Fault.Model f)) → IsBoundAnswer model vectors (Err (Fault.Model g)) → f ≡ g }
+        IsBoundAnswer model vectors (Err (Fault.Model f)) →
+        IsBoundAnswer model vectors (Err (Fault.Model g)) → f ≡ g }
     ensures refusal { (model vectors : List ℕ) (f g : VectorFault) → f ≢ values.Memory → g ≢ values.Memory →
         IsBoundAnswer model vectors (Err (Fault.Vectors f)) →
         IsBoundAnswer model vectors (Err (Fault.Vectors g)) → f ≡ g }
