@@ -20,6 +20,8 @@ From a solver's files to a lower bound, and to an upper bound:
 
 polcert-mend repairs a model whose rows do not sum to one exactly.
 polcert-locate shows the place of a refusal in its file, and how to mend it.
+polcert-graph makes a policy graph, and its vectors, of what a solver wrote.
+polcert_bound certifies an upper bound on what every policy earns.
 man polcert lists the refusals; docs/REFUSALS.md explains each of them, and is
 installed as PREFIX/share/doc/polcert/REFUSALS.md.
 
