@@ -3,7 +3,7 @@
 use polcert_lines::HelpTexts;
 
 pub const ABOUT: &str =
-    "Certify in exact arithmetic what no policy of a POMDP can be worth more than";
+    "Certify in exact arithmetic an upper bound on what every policy of a POMDP earns";
 
 pub const DETAILS: &str = "The bound is one vector for each action of the model, in the order of the
 actions: the fast informed bound. A yes means: for every policy that sees the
@@ -11,12 +11,13 @@ observations alone, for every number of steps and from every state, the expected
 discounted reward of these steps, plus the discounted value of the next action's
 vector where they end, is at most the value of the first action's vector.
 
-From vectors to a bound on every policy:
+From a model to a bound on every policy:
+  polcert-bound-vectors stock.POMDP -o bound.alpha
   polcert_bound raise stock.POMDP bound.alpha > bound.raised.alpha
   polcert_bound check stock.POMDP bound.raised.alpha
 
-With a yes of polcert check, both numbers enclose what the best policy is worth.
-man polcert lists the refusals.
+With a yes of polcert check and a discount below 1, both numbers enclose what the
+best policy is worth in the long run. man polcert lists the refusals.
 
 Exit status:
   0  yes, or done
