@@ -16,6 +16,7 @@ use Rattle.polcert_policy.specs.GraphText.{IsGraphText, IsGraphRefusal, IsNoGrap
 use Rattle.polcert_policy.specs.Vectors.{PolicyVectors, shifted_by}
 use Rattle.polcert_policy.specs.VectorText.{IsRoundedVectorsText, IsRoundedVectorsRefusal, IsNoRoundedVectorsText, IsRefusedRoundedVectorsText}
 use Rattle.polcert_policy.specs.FullForm.{vectors_text}
+use Rattle.polcert_policy.proofs.FlatGraphs.{indexed}
 use Rattle.polcert_policy.proofs.LimitLaws.{graph_proper}
 use Rattle.polcert_policy.proofs.OneText as texts
 use Rattle.polcert_check.specs.Horizon.{Controller, controller_of, Fits}
@@ -106,16 +107,17 @@ of_parts n g v = controller_of (table_of n) g v
 
 -- the graph is within its limits
 pub proper_graph : {model graph : List ℕ} (m : Meaning) (g : PolicyGraph) → HasGraph model graph m g → IsProperGraph g
-proper_graph m g has =
+proper_graph {model} {graph} m g has =
     let limits = within_limits has.is_model.lexemes m has.is_model.denotes in
-    graph_proper (actions_of m) (observations_of m) has.is_graph.0 g limits.actions.1 limits.observations.0 limits.observations.1 has.is_graph.2
+    let is = indexed (actions_of m) (observations_of m) graph g has.is_graph in
+    graph_proper (actions_of m) (observations_of m) is.0 g limits.actions.1 limits.observations.0 limits.observations.1 is.2
 
 -- graph and vectors are for the model
 pub fits_of : {rounding : Rounding} {model graph : List ℕ} (vectors : List ℕ) (m : Meaning) (g : PolicyGraph) (v : PolicyVectors) → HasGraph model graph m g
     → IsRoundedVectorsText rounding g (states_of m) vectors v → Fits (table_of m) g v
 fits_of vectors m g v has are = record {
-  actions = has.is_graph.2.loose.actions_are;
-  observations = has.is_graph.2.loose.observations_are;
+  actions = has.is_graph.2.actions_are;
+  observations = has.is_graph.2.observations_are;
   nodes_same = are.2.nodes_are;
   states = are.2.states_are;
 }
