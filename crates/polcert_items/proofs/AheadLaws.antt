@@ -1,9 +1,9 @@
 -- A reader that continues with several lexemes at once, and a list of numbers that does.
 use Rattle.std.proofs.Common.{◌≡◌, ◌∙◌, ℕ, ◌+◌, ◌-◌, ◌<◌, ◌≤◌, Bool, true, false, Some, None, List, [], ◌∷◌, ◌++◌, length, drop, refl, sym, ap, subst, append-nil, append_assoc, length-append, Result, Ok, Err, IfOk, arith, if◌then◌else◌}
 use Rattle.std.proofs.lemmas.List.{length-drop}
-use Rattle.polcert_text.specs.Beginning.{BeginWith, BeginWithValue, IsNumeralOf, kind_of_sign, unsigned, signed}
+use Rattle.polcert_text.specs.Beginning.{BeginWith, BeginWithNumber, IsNumeralOf, kind_of_sign, unsigned, signed}
 use Rattle.polcert_text.specs.Cut.{Lexeme}
-use Rattle.polcert_text.specs.declared.beginning.FrontValue.{FrontValue}
+use Rattle.polcert_text.specs.declared.beginning.FrontNumber.{FrontNumber}
 use Rattle.polcert_text.proofs.Taken.BeginLaws.{begin_none, begin_then}
 use Rattle.polcert_cells.specs.Numbers.{IsMillionths}
 use Rattle.polcert_format.specs.Misfits.{begins_number}
@@ -62,13 +62,13 @@ is_a_sign true = (refl, refl)
 is_a_sign false = (refl, refl)
 
 -- a number at the front of some bytes ends within them
-pub value_within : (place : ℕ) (bytes : List ℕ) (found : FrontValue) → BeginWithValue place bytes found → found.len ≤ length bytes
-value_within place bytes found (unsigned n v front) = front.within
-value_within place bytes found (signed is_negative s n kind v front) = front.within
+pub number_within : (place : ℕ) (bytes : List ℕ) (found : FrontNumber) → BeginWithNumber place bytes found → found.len ≤ length bytes
+number_within place bytes found (unsigned n v front) = front.within
+number_within place bytes found (signed is_negative s n kind v front) = front.within
 
 -- and within all of the bytes
-pub ends_within : (bytes : List ℕ) (at : ℕ) (found : FrontValue) → at ≤ length bytes → ((place : ℕ) → BeginWithValue place (drop at bytes) found) → at + found.len ≤ length bytes
-ends_within bytes at found high front = omega (arith, value_within 0 (drop at bytes) found (front 0), length-drop at bytes)
+pub ends_within : (bytes : List ℕ) (at : ℕ) (found : FrontNumber) → at ≤ length bytes → ((place : ℕ) → BeginWithNumber place (drop at bytes) found) → at + found.len ≤ length bytes
+ends_within bytes at found high front = omega (arith, number_within 0 (drop at bytes) found (front 0), length-drop at bytes)
 
 -- the list with this sign at its end, or with this number
 abbrev with_sign : {T : Type 0} → Numbers T → Sign → Numbers T
@@ -106,12 +106,12 @@ module _ {T : Type 0} (kind : ListKind T) (old : Numbers T) where
       }
 
 -- the number at the front of some bytes
-module _ {T : Type 0} (kind : ListKind T) (old : Numbers T) (x : T) (bytes : List ℕ) (found : FrontValue) (distinct : (y z : T) → kind.worth y ≡ kind.worth z → y ≡ z) (worth : kind.worth x ≡ found.value)
+module _ {T : Type 0} (kind : ListKind T) (old : Numbers T) (x : T) (bytes : List ℕ) (found : FrontNumber) (distinct : (y z : T) → kind.worth y ≡ kind.worth z → y ≡ z) (worth : kind.worth x ≡ found.value)
     (fits : IsInRange kind.range found.value) (no_sign : old.sign ≡ None) (room : length old.read < old.needed) where
   numeral_of : (is_negative : Bool) (l : Lexeme) → IsNumeralOf is_negative l found.value → IsNumeralOf is_negative l (kind.worth x)
   numeral_of is_negative l v = subst (IsNumeralOf is_negative l) (sym worth) v
 
-  taken_at : (place : ℕ) → BeginWithValue place bytes found → (ls : List Lexeme) × (BeginWith place bytes found.len ls × AreTaken (IsListFed kind) old ls (with_number old x))
+  taken_at : (place : ℕ) → BeginWithNumber place bytes found → (ls : List Lexeme) × (BeginWith place bytes found.len ls × AreTaken (IsListFed kind) old ls (with_number old x))
   taken_at place (unsigned n v front) =
       let is = subst (λ s. IsNumeralOf (is_negative s) n (kind.worth x)) (sym no_sign) (numeral_of false n v) in
       let fed = numeral_fed kind old x n distinct is (subst (IsInRange kind.range) (sym worth) fits) room in
@@ -122,5 +122,5 @@ module _ {T : Type 0} (kind : ListKind T) (old : Numbers T) (x : T) (bytes : Lis
       let fed = numeral_fed kind mid x n distinct (numeral_of is_negative n v) (subst (IsInRange kind.range) (sym worth) fits) room in
       (s ∷ n ∷ [], (front, more old mid (with_number old x) (s ∷ []) n (more old old mid [] s (none old) first) fed))
 
-  pub value_ahead : ((place : ℕ) → BeginWithValue place bytes found) → (new : Numbers T) → new ≡ with_number old x → TakesAhead (IsListFed kind) old bytes found.len new
-  value_ahead front new is = subst (TakesAhead (IsListFed kind) old bytes found.len) (sym is) (record { within = value_within 0 bytes found (front 0); fed = λ place. taken_at place (front place) })
+  pub number_ahead : ((place : ℕ) → BeginWithNumber place bytes found) → (new : Numbers T) → new ≡ with_number old x → TakesAhead (IsListFed kind) old bytes found.len new
+  number_ahead front new is = subst (TakesAhead (IsListFed kind) old bytes found.len) (sym is) (record { within = number_within 0 bytes found (front 0); fed = λ place. taken_at place (front place) })

@@ -3,7 +3,7 @@ use Rattle.std.proofs.Common.{◌≡◌, ◌∙◌, ⊎_elim, ℕ, zero, suc, �
 use Rattle.std.proofs.lemmas.List.{length-drop}
 use Rattle.polcert_text.specs.Beginning.{BeginWithOne, BeginWithDigits, moved}
 use Rattle.polcert_text.specs.Cut.{Lexeme}
-use Rattle.polcert_text.specs.declared.beginning.FrontNumber.{FrontNumber}
+use Rattle.polcert_text.specs.declared.beginning.FrontDigits.{FrontDigits}
 use Rattle.polcert_text.specs.declared.lexeme.TokenKind.{TokenKind}
 use Rattle.polcert_text.specs.declared.lexeme.TokenKind.TheVariants.{Colon, Numeral, Star}
 use Rattle.polcert_text.proofs.Taken.BeginLaws.{begin_then}
@@ -145,7 +145,7 @@ colon_place_fed k r bytes colon front new awaits within room first second is = s
 })
 
 -- the digits at the front of some bytes are the number of an element
-pub digits_place : (k : Known) (table : Table) (written : ℕ) (bytes : List ℕ) (count : ℕ) (index : FrontNumber) → written < length (indices_in k table)
+pub digits_place : (k : Known) (table : Table) (written : ℕ) (bytes : List ℕ) (count : ℕ) (index : FrontDigits) → written < length (indices_in k table)
     → ((place : ℕ) → BeginWithDigits place bytes index) → count ≡ count_of (get_or (named_in k table) written (Count 0)) → index.value < count
     → (position : ℕ) → BeginWithPlace (drop written (named_in k table)) position bytes (record { len = index.len; place = Only index.value })
 digits_place k table written bytes count index inside front are below position =

@@ -13,7 +13,7 @@ use crate::known::Known;
 use crate::list_number::ListNumber;
 use crate::signed_number::range_fault;
 use polcert_cells::{Place, Table};
-use polcert_text::{front_colon, front_digits, front_token, front_value};
+use polcert_text::{front_colon, front_digits, front_number, front_token};
 use std::alloc::{AllocError, Global};
 
 /// A place at the front of some bytes, and how many bytes it takes with the blanks before it.
@@ -249,7 +249,7 @@ impl<T: ListNumber> Numbers<T> {
             return Ok(at);
         }
         while self.read.len() < self.needed {
-            let Some(number) = front_value(&bytes[at..]) else {
+            let Some(number) = front_number(&bytes[at..]) else {
                 return Ok(at);
             };
             match range_fault(T::range(), number.value) {

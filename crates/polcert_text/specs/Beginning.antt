@@ -9,8 +9,8 @@ use Rattle.polcert_text.specs.TakenTokens.{Taken}
 use Rattle.polcert_text.specs.declared.lexeme.TokenKind.{TokenKind}
 use Rattle.polcert_text.specs.declared.lexeme.TokenKind.TheVariants.{Numeral, Plus, Minus}
 use Rattle.polcert_text.specs.declared.tokens.TokenFault.{TokenFault}
+use Rattle.polcert_text.specs.declared.beginning.FrontDigits.{FrontDigits}
 use Rattle.polcert_text.specs.declared.beginning.FrontNumber.{FrontNumber}
-use Rattle.polcert_text.specs.declared.beginning.FrontValue.{FrontValue}
 
 -- what is still to be cut, from an offset on
 abbrev pub rest_at : ℕ → List ℕ → Option TokenFault → Rest
@@ -47,13 +47,13 @@ abbrev pub kind_of_sign : Bool → TokenKind
 kind_of_sign is_negative = if is_negative then Minus else Plus
 
 -- the first bytes are a number of just so many millionths: a numeral, or a sign and a numeral
-pub data BeginWithValue (place : ℕ) (bytes : List ℕ) (found : FrontValue) : Type 0 where
-  unsigned : (numeral : Lexeme) → IsNumeralOf false numeral found.value → BeginWith place bytes found.len (numeral ∷ []) → BeginWithValue place bytes found
+pub data BeginWithNumber (place : ℕ) (bytes : List ℕ) (found : FrontNumber) : Type 0 where
+  unsigned : (numeral : Lexeme) → IsNumeralOf false numeral found.value → BeginWith place bytes found.len (numeral ∷ []) → BeginWithNumber place bytes found
   signed : (is_negative : Bool) (sign numeral : Lexeme) → sign.kind ≡ kind_of_sign is_negative → IsNumeralOf is_negative numeral found.value
-      → BeginWith place bytes found.len (sign ∷ numeral ∷ []) → BeginWithValue place bytes found
+      → BeginWith place bytes found.len (sign ∷ numeral ∷ []) → BeginWithNumber place bytes found
 
 -- the first bytes are digits that spell a number
-pub record BeginWithDigits (place : ℕ) (bytes : List ℕ) (number : FrontNumber) : Type 0 where
+pub record BeginWithDigits (place : ℕ) (bytes : List ℕ) (number : FrontDigits) : Type 0 where
   pub token : Lexeme
   pub kind_is : token.kind ≡ Numeral
   pub front : BeginWith place bytes number.len (token ∷ [])

@@ -1,25 +1,25 @@
 //! Tokens that stand whole at the front of some bytes, cut without going through a stream.
 ghost use Rattle.std.specs.Prelude.{◌≡◌, ◌≤◌, ◌∷◌, [], ℕ, length, take, IfSome};
 ghost use Rattle.polcert_text.specs.Steps.Scan.{gap_through};
-ghost use Rattle.polcert_text.specs.Beginning.{BeginWith, BeginWithOne, BeginWithValue, BeginWithDigits, moved};
+ghost use Rattle.polcert_text.specs.Beginning.{BeginWith, BeginWithOne, BeginWithNumber, BeginWithDigits, moved};
 ghost use Rattle.polcert_text.specs.Reading.{lexeme_of};
-ghost use Rattle.polcert_text.specs.Steps.ScanOf.{EndsAsNumber, EndsAsDigits, IsValueFrom};
+ghost use Rattle.polcert_text.specs.Steps.ScanOf.{EndsAsNumber, EndsAsDigits, IsNumberFrom};
 
 use crate::bytes::{is_surely_blank, is_surely_colon, is_surely_point, quick_sign};
 use crate::lexeme::{Gap, LONGEST_TOKEN, TokenKind, ended_name_or_mark};
 use crate::number::{MILLION, few_digits, power_of_ten, signed};
 use crate::tokens::Token;
 
-/// A number at the front of some bytes: its value, and how many bytes it takes with the blanks before it.
+/// An unsigned number at the front of some bytes: its value, and how many bytes it takes with the blanks before it.
 #[derive(Clone, Copy)]
-pub struct FrontNumber {
+pub struct FrontDigits {
     pub len: usize,
     pub value: u64,
 }
 
 /// A number with its sign at the front of some bytes: its value in millionths, and how many bytes it takes with the blanks before it.
 #[derive(Clone, Copy)]
-pub struct FrontValue {
+pub struct FrontNumber {
     pub len: usize,
     pub value: i64,
 }
@@ -62,27 +62,27 @@ pub fn front_token(bytes: &[u8]) -> Option<Token<'_>>
 /// The number in millionths that the bytes begin with, if a blank or a line end follows its numeral: digits, perhaps with a point
 /// and at most six digits, and perhaps directly after a sign. `None` says nothing.
 #[inline(always)]
-pub fn front_value(bytes: &[u8]) -> Option<FrontValue>
-    ensures { IfSome result (λ found. (place : ℕ) → BeginWithValue place bytes.now found) }
+pub fn front_number(bytes: &[u8]) -> Option<FrontNumber>
+    ensures { IfSome result (λ found. (place : ℕ) → BeginWithNumber place bytes.now found) }
 {
     let start = blanks(bytes);
     if start == bytes.len() {
         return None;
     }
     match quick_sign(bytes[start]) {
-        None => value_from(bytes, start, false),
-        Some(is_negative) => value_from(bytes, start + 1, is_negative),
+        None => number_from(bytes, start, false),
+        Some(is_negative) => number_from(bytes, start + 1, is_negative),
     }
 }
 
 /// The number whose numeral begins there, after such a sign. `None` says nothing.
 #[inline(always)]
-fn value_from(bytes: &[u8], from: usize, is_negative: bool) -> Option<FrontValue>
+fn number_from(bytes: &[u8], from: usize, is_negative: bool) -> Option<FrontNumber>
     requires { from ≤ length bytes.now }
-    ensures { IfSome result (IsValueFrom bytes.now from is_negative) }
+    ensures { IfSome result (IsNumberFrom bytes.now from is_negative) }
 {
     match ended_number(&bytes[from..]) {
-        Some(number) => Some(FrontValue {
+        Some(number) => Some(FrontNumber {
             len: from + number.len,
             value: signed(is_negative, number.value),
         }),
@@ -92,12 +92,12 @@ fn value_from(bytes: &[u8], from: usize, is_negative: bool) -> Option<FrontValue
 
 /// The number that the bytes begin with, if it is a few digits and a blank or a line end follows them. `None` says nothing.
 #[inline(always)]
-pub fn front_digits(bytes: &[u8]) -> Option<FrontNumber>
+pub fn front_digits(bytes: &[u8]) -> Option<FrontDigits>
     ensures { IfSome result (λ number. (place : ℕ) → BeginWithDigits place bytes.now number) }
 {
     let start = blanks(bytes);
     match ended_digits(&bytes[start..]) {
-        Some(number) => Some(FrontNumber {
+        Some(number) => Some(FrontDigits {
             len: start + number.len,
             value: number.value,
         }),
@@ -127,7 +127,7 @@ const MOST_DECIMALS: usize = 6;
 const ROOM: usize = MOST_WHOLE + 1 + MOST_DECIMALS + 1;
 
 #[inline(always)]
-fn ended_digits(bytes: &[u8]) -> Option<FrontNumber>
+fn ended_digits(bytes: &[u8]) -> Option<FrontDigits>
     ensures { IfSome result (EndsAsDigits bytes.now) }
 {
     if bytes.len() <= MOST_WHOLE {
@@ -137,11 +137,11 @@ fn ended_digits(bytes: &[u8]) -> Option<FrontNumber>
     if len == 0 || !is_surely_blank(bytes[len]) {
         return None;
     }
-    Some(FrontNumber { len, value })
+    Some(FrontDigits { len, value })
 }
 
 #[inline(always)]
-fn ended_number(bytes: &[u8]) -> Option<FrontNumber>
+fn ended_number(bytes: &[u8]) -> Option<FrontDigits>
     ensures { IfSome result (EndsAsNumber bytes.now) }
 {
     if bytes.len() < ROOM {
@@ -155,7 +155,7 @@ fn ended_number(bytes: &[u8]) -> Option<FrontNumber>
         if !is_surely_blank(bytes[point]) {
             return None;
         }
-        return Some(FrontNumber {
+        return Some(FrontDigits {
             len: point,
             value: whole * MILLION,
         });
@@ -164,7 +164,7 @@ fn ended_number(bytes: &[u8]) -> Option<FrontNumber>
     if !is_surely_blank(bytes[len]) {
         return None;
     }
-    Some(FrontNumber {
+    Some(FrontDigits {
         len,
         value: number * power_of_ten(point + 1 + MOST_DECIMALS - len),
     })

@@ -19,7 +19,9 @@ mod tokens;
 mod whole;
 mod window;
 
-pub use beginning::{FrontNumber, FrontValue, front_colon, front_digits, front_token, front_value};
+pub use beginning::{
+    FrontDigits, FrontNumber, front_colon, front_digits, front_number, front_token,
+};
 pub use buffer::{BUFFER_SIZE, Buffer};
 pub use buffered::BufferedSink;
 pub use lexeme::TokenKind;

@@ -61,7 +61,7 @@ const LARGEST_EXPONENT: usize = 400;
 /// What stands for every exponent that is larger.
 const BEYOND_EXPONENTS: usize = LARGEST_EXPONENT + 1;
 
-const LARGEST: u64 = 10_000_000_000_000;
+pub(crate) const LARGEST: u64 = 10_000_000_000_000;
 
 /// How many millionths make one.
 pub(crate) const MILLION: u64 = 1_000_000;
@@ -254,7 +254,7 @@ impl Scaling {
 
 /// The number with so many zeros at its end, or one above the largest.
 #[inline(always)]
-fn with_zeros(number: u64, zeros: usize) -> u64
+pub(crate) fn with_zeros(number: u64, zeros: usize) -> u64
     requires { number ≤ cap }
     ensures { (n : ℕ) → number ≡ min cap n → result ≡ min cap (n * 10 ^ zeros) }
 {
@@ -330,7 +330,7 @@ fn measured(whole: &[u8], fraction: &[u8], kept: usize) -> Size
 /// The number that the digits of `number` and those from `from` up to `until` spell, up to the first byte that is no digit or until
 /// it is too large, and where that is.
 #[inline(always)]
-pub(crate) fn digits_behind(number: u64, bytes: &[u8], from: usize, until: usize) -> (u64, usize)
+pub fn digits_behind(number: u64, bytes: &[u8], from: usize, until: usize) -> (u64, usize)
     requires range { from ≤ until }
     requires within { until ≤ length bytes.now }
     ensures within { (from ≤ result.1) × (result.1 ≤ until) }

@@ -122,7 +122,7 @@ impl StreamTokens {
     }
 
     /// Skips the first `count` of them. It does not look at them: after a count that ends inside a token, the next token begins
-    /// there. So a caller passes only tokens that it has cut off `ahead` whole, as `front_colon` and `front_value` do.
+    /// there. So a caller passes only tokens that it has cut off `ahead` whole, as `front_colon` and `front_number` do.
     #[inline(always)]
     pub fn pass(&mut self, count: usize)
         requires goes_on { self.old.stop ≡ None }

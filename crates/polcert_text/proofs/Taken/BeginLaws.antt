@@ -3,17 +3,17 @@ use Rattle.std.proofs.Common.{◌≡◌, ◌∙◌, ℕ, ◌+◌, ◌*◌, ◌<�
 use Rattle.std.proofs.Math.ListN.{get_or-append}
 use Rattle.std.proofs.Math.IntN.{pos-*ℤ-pos}
 use Rattle.std.proofs.lemmas.List.{take-append-le, drop-append-le, length-take-le, length-drop, get_or-drop, drop-drop}
-use Rattle.polcert_text.specs.Beginning.{rest_at, BeginWith, BeginWithOne, BeginWithValue, BeginWithDigits, IsNumeralOf, kind_of_sign, unsigned}
+use Rattle.polcert_text.specs.Beginning.{rest_at, BeginWith, BeginWithOne, BeginWithNumber, BeginWithDigits, IsNumeralOf, kind_of_sign, unsigned}
 use Rattle.polcert_text.specs.Beginning as begin
-use Rattle.polcert_text.specs.Steps.ScanOf.{EndsAsDigits, EndsWithin, IsNameOrMark, IsValueFrom}
+use Rattle.polcert_text.specs.Steps.ScanOf.{EndsAsDigits, EndsWithin, IsNameOrMark, IsNumberFrom}
 use Rattle.polcert_text.specs.Bytes.{class_of, class_of_sign}
 use Rattle.polcert_text.specs.Cut.{Lexeme, Rest, TakesToken, is_glued}
 use Rattle.polcert_text.specs.Fronts.{IsLongestLexeme}
 use Rattle.polcert_text.specs.Steps.Scan.{gap_after, gap_through, state_after}
 use Rattle.polcert_text.specs.Numbers.{millionth, size_of, signed, IsReadable, IsExact}
 use Rattle.polcert_text.specs.TakenTokens.{Taken, nothing, token}
+use Rattle.polcert_text.specs.declared.beginning.FrontDigits.{FrontDigits}
 use Rattle.polcert_text.specs.declared.beginning.FrontNumber.{FrontNumber}
-use Rattle.polcert_text.specs.declared.beginning.FrontValue.{FrontValue}
 use Rattle.polcert_text.specs.declared.bytes.ByteClass.TheVariants as classes
 use Rattle.polcert_text.specs.declared.lexeme.Front.{Front}
 use Rattle.polcert_text.specs.declared.lexeme.Gap.TheVariants.{Between, Ended}
@@ -107,7 +107,7 @@ pub if_some_map : {T : Type 0} (o : Option T) (P Q : T → Type 0) → ((v : T) 
 if_some_map (Some v) P Q each p = each v p
 if_some_map None P Q each p = tt
 
-pub digits_begin : (place : ℕ) (bytes : List ℕ) (gap : ℕ) (number : FrontNumber) → gap_through Between (take gap bytes) ≡ Between → EndsAsDigits (drop gap bytes) number
+pub digits_begin : (place : ℕ) (bytes : List ℕ) (gap : ℕ) (number : FrontDigits) → gap_through Between (take gap bytes) ≡ Between → EndsAsDigits (drop gap bytes) number
     → BeginWithDigits place bytes (record { len = gap + number.len; value = number.value })
 digits_begin place bytes gap number open_gap e = record {
   token = front_lexeme place bytes gap Numeral number.len;
@@ -128,8 +128,8 @@ single_sign : (is_negative : Bool) → state_after Start (class_of_sign is_negat
 single_sign true = refl
 single_sign false = refl
 
-module _ (place : ℕ) (bytes : List ℕ) (gap : ℕ) (found : FrontValue) (open_gap : gap_through Between (take gap bytes) ≡ Between) where
-  numeral_of : (is_negative : Bool) (l : Lexeme) (number : FrontNumber) → l.kind ≡ Numeral → IsReadable l.bytes → IsExact false l.bytes (pos number.value) → found.value ≡ signed is_negative number.value
+module _ (place : ℕ) (bytes : List ℕ) (gap : ℕ) (found : FrontNumber) (open_gap : gap_through Between (take gap bytes) ≡ Between) where
+  numeral_of : (is_negative : Bool) (l : Lexeme) (number : FrontDigits) → l.kind ≡ Numeral → IsReadable l.bytes → IsExact false l.bytes (pos number.value) → found.value ≡ signed is_negative number.value
       → IsNumeralOf is_negative l found.value
   numeral_of is_negative l number kind readable exact is = record {
     kind_is = kind;
@@ -137,7 +137,7 @@ module _ (place : ℕ) (bytes : List ℕ) (gap : ℕ) (found : FrontValue) (open
     exact = subst (IsExact is_negative l.bytes) (sym is) (exact_signed is_negative l.bytes number.value exact);
   }
 
-  pub numeral_begins : IsValueFrom bytes gap false found → BeginWithValue place bytes found
+  pub numeral_begins : IsNumberFrom bytes gap false found → BeginWithNumber place bytes found
   numeral_begins v =
       let e = v.ends in
       let n = v.number.len in
@@ -145,7 +145,7 @@ module _ (place : ℕ) (bytes : List ℕ) (gap : ℕ) (found : FrontValue) (open
       unsigned l (numeral_of false l v.number refl e.readable e.exact v.value_is)
       (subst (λ m. BeginWith place bytes m (l ∷ [])) (sym v.len_is) (begin_one place bytes gap n Numeral open_gap (ap (gap_after Between) e.digit) e.ends e.short e.apart))
 
-  pub sign_begins : (is_negative : Bool) → class_of (get_or bytes gap 0) ≡ class_of_sign is_negative → IsValueFrom bytes (gap + 1) is_negative found → BeginWithValue place bytes found
+  pub sign_begins : (is_negative : Bool) → class_of (get_or bytes gap 0) ≡ class_of_sign is_negative → IsNumberFrom bytes (gap + 1) is_negative found → BeginWithNumber place bytes found
   sign_begins is_negative is v =
       let e = v.ends in
       let n = v.number.len in

@@ -6,8 +6,8 @@ use Rattle.polcert_text.specs.Bytes.{class_of}
 use Rattle.polcert_text.specs.Lexemes.{are_digits}
 use Rattle.polcert_text.specs.Cut.{is_glued}
 use Rattle.polcert_text.specs.Numbers.{largest, signed, IsReadable, IsExact}
+use Rattle.polcert_text.specs.declared.beginning.FrontDigits.{FrontDigits}
 use Rattle.polcert_text.specs.declared.beginning.FrontNumber.{FrontNumber}
-use Rattle.polcert_text.specs.declared.beginning.FrontValue.{FrontValue}
 use Rattle.polcert_text.specs.declared.bytes.ByteClass.TheVariants.{Digit}
 use Rattle.polcert_text.specs.Fronts.{IsLongestLexeme, NoLexeme}
 use Rattle.polcert_text.specs.Steps.Scan.{gap_after, state_through}
@@ -69,7 +69,7 @@ pub record IsNameOrMark (bytes : List ℕ) (front : Front) : Type 0 where
   pub apart : (rest : List ℕ) → is_glued front.kind rest ≡ false
 
 -- a numeral of just so many millionths ends within the bytes
-pub record EndsAsNumber (bytes : List ℕ) (number : FrontNumber) : Type 0 where
+pub record EndsAsNumber (bytes : List ℕ) (number : FrontDigits) : Type 0 where
   pub digit : class_of (slice_index bytes 0) ≡ Digit
   pub ends : EndsWithin bytes (record { kind = Numeral; len = number.len })
   pub short : number.len ≤ 400
@@ -79,14 +79,14 @@ pub record EndsAsNumber (bytes : List ℕ) (number : FrontNumber) : Type 0 where
   pub small : number.value ≤ largest
 
 -- the number whose numeral begins at this byte, after such a sign
-pub record IsValueFrom (bytes : List ℕ) (from : ℕ) (is_negative : Bool) (found : FrontValue) : Type 0 where
-  pub number : FrontNumber
+pub record IsNumberFrom (bytes : List ℕ) (from : ℕ) (is_negative : Bool) (found : FrontNumber) : Type 0 where
+  pub number : FrontDigits
   pub ends : EndsAsNumber (drop from bytes) number
   pub len_is : found.len ≡ from + number.len
   pub value_is : found.value ≡ signed is_negative number.value
 
 -- digits that spell a number end within the bytes
-pub record EndsAsDigits (bytes : List ℕ) (number : FrontNumber) : Type 0 where
+pub record EndsAsDigits (bytes : List ℕ) (number : FrontDigits) : Type 0 where
   pub digit : class_of (slice_index bytes 0) ≡ Digit
   pub ends : EndsWithin bytes (record { kind = Numeral; len = number.len })
   pub short : number.len ≤ 400
