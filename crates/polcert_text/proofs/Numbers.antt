@@ -1,6 +1,7 @@
 -- Numerals and their values.
 pub mod DecimalLaws
 pub mod FrontNumbers
+pub mod FrontSizes
 pub mod MeasureLaws
 pub mod NumberLaws
 pub mod Plain

@@ -1,4 +1,5 @@
 -- Tokens that were taken.
 pub mod BeginLaws
+pub mod ValueLaws
 pub mod PassedTokens
 pub mod TakenTokens

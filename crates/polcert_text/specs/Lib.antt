@@ -10,6 +10,7 @@ pub mod Beginning
 pub mod Reading
 pub mod Stream
 pub mod Numbers
+pub mod FrontValues
 pub mod Millionths
 pub mod Lines
 pub mod Device

@@ -107,7 +107,7 @@ pub fn front_digits(bytes: &[u8]) -> Option<FrontDigits>
 
 /// How many blanks and line ends the bytes begin with.
 #[inline(always)]
-fn blanks(bytes: &[u8]) -> usize
+pub(crate) fn blanks(bytes: &[u8]) -> usize
     ensures within { result ≤ length bytes.now }
     ensures gap { gap_through Gap.Between (take result bytes.now) ≡ Gap.Between }
 {

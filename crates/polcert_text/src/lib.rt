@@ -5,6 +5,7 @@ mod beginning;
 mod buffer;
 mod buffered;
 mod bytes;
+mod front_values;
 pub mod laws;
 mod lexeme;
 mod memory;
@@ -24,6 +25,7 @@ pub use beginning::{
 };
 pub use buffer::{BUFFER_SIZE, Buffer};
 pub use buffered::BufferedSink;
+pub use front_values::{FrontValue, front_value};
 pub use lexeme::TokenKind;
 pub use memory::{SliceSink, SliceSource};
 pub use millionths::write_scaled;

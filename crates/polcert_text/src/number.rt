@@ -68,9 +68,9 @@ pub(crate) const MILLION: u64 = 1_000_000;
 
 /// A size in millionths, rounded down, and whether that left something out.
 #[derive(Clone, Copy)]
-struct Size {
-    floor: u64,
-    is_inexact: bool,
+pub(crate) struct Size {
+    pub(crate) floor: u64,
+    pub(crate) is_inexact: bool,
 }
 
 impl Size {
@@ -92,6 +92,16 @@ impl Size {
         ensures { result ≡ rounded up self.floor self.is_inexact }
     {
         if up { self.ceiling() } else { self.floor }
+    }
+
+    /// The size with this sign before it, rounded this way.
+    #[inline(always)]
+    pub(crate) fn value(self, rounding: Rounding, negative: bool) -> i64
+        requires { ceiling self.floor self.is_inexact ≤ largest }
+        ensures { (bs : List ℕ) → Measures bs self.floor self.is_inexact
+            → IsRounded rounding negative bs result }
+    {
+        signed(negative, self.rounded(rounding.is_away(negative)))
     }
 }
 
@@ -150,7 +160,7 @@ pub fn rounded_of(rounding: Rounding, negative: bool, numeral: &[u8]) -> Result<
     ensures fault { IfErr result (IsRefused numeral.now) }
 {
     let size = size_of(numeral)?;
-    Ok(signed(negative, size.rounded(rounding.is_away(negative))))
+    Ok(size.value(rounding, negative))
 }
 
 #[inline(always)]

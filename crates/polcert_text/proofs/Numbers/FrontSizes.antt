@@ -1,0 +1,109 @@
+-- Numerals that end within some bytes, measured: digits, a point, and however many decimals.
+use Rattle.std.proofs.Common.{◌≡◌, ◌∙◌, ⊎_elim, ℕ, suc, ◌+◌, ◌-◌, ◌*◌, ◌^◌, ◌<◌, ◌≤◌, ◌||◌, ◌==◌, min, nat_lt, Bool, true, false, List, ◌++◌, length, take, drop, get_or, refl, sym, ap, arith}
+use Rattle.std.proofs.Math.Nat.{pow-suc, pow-le-pow_right}
+use Rattle.std.proofs.lemmas.List.{drop-take, get_or-take, get_or-drop, length-take-le, length-drop, take-take}
+use Rattle.std.proofs.lemmas.List.Folds.{list_any_at, list_any_more}
+use Rattle.std.proofs.lemmas.Bool.{eqb-true, lt-ltb, le-ltb}
+use Rattle.std.specs.List.{list_any}
+use Rattle.std.specs.Str.Parse.{digits_value}
+use Rattle.polcert_text.specs.Bytes.{class_of}
+use Rattle.polcert_text.specs.Numbers.{largest, IsReadable}
+use Rattle.polcert_text.specs.Steps.FrontSizes.{AreDigitsFrom}
+use Rattle.polcert_text.specs.Steps.Scaling.{cap, is_nonzero, ceiling, Measures}
+use Rattle.polcert_text.specs.declared.bytes.ByteClass.TheVariants.{Point}
+use Rattle.polcert_text.proofs.Numbers.Plain.{IsPlain, plain_measures, at_or_behind}
+use Rattle.polcert_text.proofs.Numbers.PlainWhole.{whole_measures}
+
+in_front : (bs : List ℕ) (n from until : ℕ) → until ≤ n → AreDigitsFrom bs from until → AreDigitsFrom (take n bs) from until
+in_front bs n from until few digits = λ k low below. ap class_of (get_or-take n bs k 0 (omega arith)) ∙ digits k low below
+
+-- the size of a numeral of digits
+pub digits_measure : (bs : List ℕ) (n number : ℕ) → 0 < n → n ≤ 400 → n ≤ length bs → AreDigitsFrom bs 0 n → number ≡ digits_value 10 (take n bs) → number * 1000000 < largest
+    → IsReadable (take n bs) × Measures (take n bs) (number * 1000000) false × (ceiling (number * 1000000) false ≤ largest)
+digits_measure bs n number some short high digits value small =
+    let len : length (take n bs) ≡ n = length-take-le n bs high in
+    whole_measures (take n bs) (omega (arith, len)) (λ k low below. in_front bs n 0 n (omega arith) digits k low (omega (arith, len))) number (omega (arith, len)) value small
+
+-- the size of a numeral of digits, a point and decimals, of which those after the sixth are not kept
+pub decimal_measures : (bs : List ℕ) (p kept n number floor : ℕ) (is_inexact : Bool) → 0 < p → p + 1 ≤ kept → kept ≤ n → kept ≡ min n (p + 7) → n ≤ 400 → n ≤ length bs
+    → AreDigitsFrom bs 0 p → class_of (get_or bs p 0) ≡ Point → AreDigitsFrom bs (p + 1) n
+    → number ≡ digits_value 10 (take p bs ++ take (kept - (p + 1)) (drop (p + 1) bs)) → number ≤ largest
+    → ((m : ℕ) → number ≡ min cap m → floor ≡ min cap (m * 10 ^ (p + 7 - kept))) → floor < largest
+    → is_inexact ≡ list_any is_nonzero (take (n - kept) (drop kept bs))
+    → IsReadable (take n bs) × Measures (take n bs) floor is_inexact × (ceiling floor is_inexact ≤ largest)
+decimal_measures bs p kept n number floor is_inexact some low few kept_is short high first point second value below zeros small inexact =
+    let ns : List ℕ = take n bs in
+    let len : length ns ≡ n = length-take-le n bs high in
+    let plain : IsPlain ns p = record {
+      inside = omega (arith, len);
+      some = some;
+      first = in_front bs n 0 p (omega arith) first;
+      point = ap class_of (get_or-take n bs p 0 (omega arith)) ∙ point;
+      second = λ k l h. in_front bs n (p + 1) n (omega arith) second k l (omega (arith, len));
+    } in
+    let all : p + 1 + (n - (p + 1)) ≡ n = omega arith in
+    let rest : kept + (n - kept) ≡ n = omega arith in
+    let front : take p ns ≡ take p bs = take-take p n bs (omega arith) in
+    let behind : take (kept - (p + 1)) (drop (p + 1) ns) ≡ take (kept - (p + 1)) (drop (p + 1) bs) =
+    ap (λ m. take (kept - (p + 1)) (drop (p + 1) (take m bs))) (sym all) ∙ ap (take (kept - (p + 1))) (drop-take (p + 1) (n - (p + 1)) bs) ∙ take-take (kept - (p + 1)) (n - (p + 1)) (drop (p + 1) bs) (omega arith) in
+    let left : drop kept ns ≡ take (n - kept) (drop kept bs) = ap (λ m. drop kept (take m bs)) (sym rest) ∙ drop-take kept (n - kept) bs in
+    plain_measures ns p plain number floor kept is_inexact (omega (arith, len)) (kept_is ∙ ap (λ m. min m (p + 7)) (sym len))
+    (value ∙ ap (digits_value 10) (λ i. sym front i ++ sym behind i)) below zeros small (inexact ∙ ap (list_any is_nonzero) (sym left))
+
+zero_digit : (b : ℕ) → b ≡ 48 → is_nonzero b ≡ false
+zero_digit b e = ap is_nonzero e
+
+or_both : (x y : Bool) → x ≡ false → y ≡ false → (x || y) ≡ false
+or_both x y a b = (λ i. a i || b i)
+
+-- one more 0
+pub zeros_more : (bs : List ℕ) (from at : ℕ) → from ≤ at → at < length bs → get_or bs at 0 ≡ 48 → list_any is_nonzero (take (at - from) (drop from bs)) ≡ false
+    → list_any is_nonzero (take (at + 1 - from) (drop from bs)) ≡ false
+zeros_more bs from at low inside zero was =
+    let n : ℕ = at - from in
+    let next : at + 1 - from ≡ n + 1 = omega arith in
+    let place : from + n ≡ at = omega arith in
+    let here : get_or (drop from bs) n 0 ≡ 48 = get_or-drop from bs n 0 ∙ ap (λ k. get_or bs k 0) place ∙ zero in
+    ap (λ m. list_any is_nonzero (take m (drop from bs))) next ∙ list_any_more is_nonzero (drop from bs) n 0 (omega (arith, length-drop from bs))
+    ∙ or_both _ _ was (zero_digit _ here)
+
+-- a digit that isn't 0
+pub nonzero_there : (bs : List ℕ) (from at end : ℕ) → from ≤ at → at < end → end ≤ length bs → is_nonzero (get_or bs at 0) ≡ true → list_any is_nonzero (take (end - from) (drop from bs)) ≡ true
+nonzero_there bs from at end low below high nonzero =
+    let n : ℕ = at - from in
+    let place : from + n ≡ at = omega arith in
+    let long : length (take (end - from) (drop from bs)) ≡ end - from = length-take-le (end - from) (drop from bs) (omega (arith, length-drop from bs)) in
+    let here : get_or (take (end - from) (drop from bs)) n 0 ≡ get_or bs at 0 = get_or-take (end - from) (drop from bs) n 0 (omega arith) ∙ get_or-drop from bs n 0 ∙ ap (λ k. get_or bs k 0) place in
+    list_any_at is_nonzero (take (end - from) (drop from bs)) n 0 (omega (arith, long)) (ap is_nonzero here ∙ nonzero)
+
+nonzero_byte : (b : ℕ) → (b ≡ 48 → ⊥) → is_nonzero b ≡ true
+nonzero_byte b not = at (b == 48) refl
+  where
+    at : (t : Bool) → (b == 48) ≡ t → is_nonzero b ≡ true
+    at true e = absurd (not (eqb-true b 48 e))
+    at false e = rw e refl
+
+-- after the zeros all are digits: one that isn't 0 is there if they go on
+pub tail_inexact : (bs : List ℕ) (from zeros end : ℕ) → from ≤ zeros → zeros ≤ end → end ≤ length bs → list_any is_nonzero (take (zeros - from) (drop from bs)) ≡ false
+    → (zeros < end → get_or bs zeros 0 ≡ 48 → ⊥) → nat_lt zeros end ≡ list_any is_nonzero (take (end - from) (drop from bs))
+tail_inexact bs from zeros end low on high none stops = ⊎_elim
+    (λ below. lt-ltb zeros end below ∙ sym (nonzero_there bs from zeros end low below high (nonzero_byte (get_or bs zeros 0) (stops below))))
+    (λ same. let is : zeros ≡ end = omega (arith, on, same) in le-ltb zeros end same ∙ sym none ∙ ap (λ n. list_any is_nonzero (take (n - from) (drop from bs))) is)
+    (at_or_behind zeros end)
+
+-- ---- few digits
+
+-- one more digit
+pub few_more : (read d m from at : ℕ) → from ≤ at → d ≤ 9 → read < 10 ^ (m + (at - from)) → read * 10 + d < 10 ^ (m + (at + 1 - from))
+few_more read d m from at low small was =
+    let next : m + (at + 1 - from) ≡ suc (m + (at - from)) = omega arith in
+    let more : 10 ^ (m + (at + 1 - from)) ≡ 10 ^ (m + (at - from)) * 10 = ap (λ k. 10 ^ k) next ∙ pow-suc 10 (m + (at - from)) in
+    omega (arith, more, small, was)
+
+-- and it fits
+pub few_fit : (read m from at until : ℕ) → m + (until - from) ≤ 18 → from ≤ at → at < until → read < 10 ^ (m + (at - from)) → read < 10 ^ 17
+few_fit read m from at until few low below was =
+    let ten : 0 < 10 = omega arith in
+    let fewer : m + (at - from) ≤ 17 = omega (arith, few, low, below) in
+    let most : 10 ^ (m + (at - from)) ≤ 10 ^ 17 = pow-le-pow_right ten {j = 17} fewer in
+    omega (arith, most, was)

@@ -1,0 +1,63 @@
+-- A value at the front of some bytes: a numeral, perhaps after a `-`.
+use Rattle.std.proofs.Common.{◌≡◌, ℕ, ℤ, ◌+◌, true, false, Option, Some, None, List, [], ◌∷◌, take, drop, get_or, refl, sym, ap, subst, arith}
+use Rattle.std.proofs.lemmas.List.{length-drop, drop-drop}
+use Rattle.polcert_text.specs.Beginning.{BeginWith}
+use Rattle.polcert_text.specs.Bytes.{class_of}
+use Rattle.polcert_text.specs.Cut.{Lexeme}
+use Rattle.polcert_text.specs.FrontValues.{BeginWithValue}
+use Rattle.polcert_text.specs.Numbers.{IsRounded}
+use Rattle.polcert_text.specs.Steps.FrontSizes.{EndsAsSize}
+use Rattle.polcert_text.specs.Steps.Scan.{gap_after, gap_through, state_after}
+use Rattle.polcert_text.specs.declared.bytes.ByteClass.TheVariants as classes
+use Rattle.polcert_text.specs.declared.front_values.FrontSize.{FrontSize}
+use Rattle.polcert_text.specs.declared.lexeme.Gap.TheVariants.{Between}
+use Rattle.polcert_text.specs.declared.lexeme.State.TheVariants.{Start}
+use Rattle.polcert_text.specs.declared.lexeme.TokenKind.{TokenKind}
+use Rattle.polcert_text.specs.declared.lexeme.TokenKind.TheVariants.{Numeral, Minus}
+use Rattle.polcert_text.specs.declared.number.Rounding.{Rounding}
+use Rattle.polcert_text.proofs.Scanning.Runs.{ended_mark}
+use Rattle.polcert_text.proofs.Taken.BeginLaws.{front_lexeme, begin_one, begin_then}
+
+numeral_begins : (place : ℕ) (bytes : List ℕ) (gap : ℕ) (numeral : FrontSize) → gap_through Between (take gap bytes) ≡ Between → EndsAsSize (drop gap bytes) numeral
+    → BeginWith place bytes (gap + numeral.len) (front_lexeme place bytes gap Numeral numeral.len ∷ [])
+numeral_begins place bytes gap numeral open_gap e = begin_one place bytes gap numeral.len Numeral open_gap (ap (gap_after Between) e.digit) e.ends e.short e.apart
+
+abbrev kind_in : Option Lexeme → TokenKind
+kind_in None = Minus
+kind_in (Some s) = s.kind
+
+module _ (rounding : Rounding) (place : ℕ) (bytes : List ℕ) (gap : ℕ) (numeral : FrontSize) (open_gap : gap_through Between (take gap bytes) ≡ Between) (value : ℤ) where
+  -- a numeral
+  pub plain_begins : EndsAsSize (drop gap bytes) numeral → IsRounded rounding false (take numeral.len (drop gap bytes)) value
+      → BeginWithValue rounding place bytes (record { len = gap + numeral.len; value = value })
+  plain_begins e rounded = record {
+    minus = None;
+    token = front_lexeme place bytes gap Numeral numeral.len;
+    minus_is = λ s is. absurd (cc);
+    kind_is = refl;
+    front = numeral_begins place bytes gap numeral open_gap e;
+    readable = e.readable;
+    rounded = rounded;
+  }
+
+  -- a `-`, and directly after it a numeral
+  pub minus_begins : class_of (get_or (drop gap bytes) 0 0) ≡ classes.Minus → EndsAsSize (drop 1 (drop gap bytes)) numeral
+      → IsRounded rounding true (take numeral.len (drop 1 (drop gap bytes))) value → BeginWithValue rounding place bytes (record { len = gap + 1 + numeral.len; value = value })
+  minus_begins minus e rounded =
+      let rest = drop gap bytes in
+      let behind : drop 1 rest ≡ drop (gap + 1) bytes = drop-drop 1 gap bytes in
+      let first : BeginWith place bytes (gap + 1) (front_lexeme place bytes gap Minus 1 ∷ []) =
+      begin_one place bytes gap 1 Minus open_gap (ap (gap_after Between) minus) (ended_mark rest Minus (omega (arith, e.ends.within, length-drop 1 rest)) (ap (state_after Start) minus)) (omega arith) refl in
+      let there : EndsAsSize (drop (gap + 1) bytes) numeral = subst (λ xs. EndsAsSize xs numeral) behind e in
+      let none : 0 + numeral.len ≡ numeral.len = omega arith in
+      let token = front_lexeme (place + (gap + 1)) (drop (gap + 1) bytes) 0 Numeral numeral.len in
+      let second = subst (λ n. BeginWith (place + (gap + 1)) (drop (gap + 1) bytes) n (token ∷ [])) none (numeral_begins (place + (gap + 1)) (drop (gap + 1) bytes) 0 numeral refl there) in
+      record {
+        minus = Some (front_lexeme place bytes gap Minus 1);
+        token = token;
+        minus_is = λ s is. sym (ap kind_in is);
+        kind_is = refl;
+        front = begin_then place bytes (gap + 1) numeral.len _ _ first second;
+        readable = there.readable;
+        rounded = subst (λ xs. IsRounded rounding true (take numeral.len xs) value) behind rounded;
+      }

@@ -1,0 +1,36 @@
+-- A numeral at the front of some bytes, measured.
+-- Nobody has to believe this: only contracts of private functions cite it.
+use Rattle.std.specs.Prelude.{◌≡◌, ℕ, ◌+◌, ◌-◌, ◌<◌, ◌≤◌, false, List, length, take, drop, get_or, slice_index}
+use Rattle.std.specs.List.{list_any}
+use Rattle.polcert_text.specs.Bytes.{class_of}
+use Rattle.polcert_text.specs.Cut.{is_glued}
+use Rattle.polcert_text.specs.Numbers.{largest, IsReadable}
+use Rattle.polcert_text.specs.Steps.Scaling.{is_nonzero, ceiling, Measures}
+use Rattle.polcert_text.specs.Steps.ScanOf.{EndsWithin}
+use Rattle.polcert_text.specs.declared.bytes.ByteClass.TheVariants.{Digit}
+use Rattle.polcert_text.specs.declared.front_values.FrontSize.{FrontSize}
+use Rattle.polcert_text.specs.declared.front_values.Tail.{Tail}
+use Rattle.polcert_text.specs.declared.lexeme.TokenKind.TheVariants.{Numeral}
+
+-- each byte of these is a digit
+abbrev pub AreDigitsFrom : List ℕ → ℕ → ℕ → Type 0
+AreDigitsFrom bytes from until = (k : ℕ) → from ≤ k → k < until → class_of (get_or bytes k 0) ≡ Digit
+
+-- from here on the bytes are digits up to the end of the tail, which has one that isn't 0 or none
+pub record IsTail (bytes : List ℕ) (from full : ℕ) (tail : Tail) : Type 0 where
+  pub low : from ≤ tail.end
+  pub high : tail.end ≤ length bytes
+  pub none : from < full → tail.end ≡ from
+  pub short : tail.end ≤ from + 300
+  pub digits : AreDigitsFrom bytes from tail.end
+  pub is_inexact : tail.is_inexact ≡ list_any is_nonzero (take (tail.end - from) (drop from bytes))
+
+-- a numeral whose size is measured ends within the bytes
+pub record EndsAsSize (bytes : List ℕ) (front : FrontSize) : Type 0 where
+  pub digit : class_of (slice_index bytes 0) ≡ Digit
+  pub ends : EndsWithin bytes (record { kind = Numeral; len = front.len })
+  pub short : front.len ≤ 400
+  pub apart : is_glued Numeral (drop front.len bytes) ≡ false
+  pub readable : IsReadable (take front.len bytes)
+  pub measures : Measures (take front.len bytes) front.size.floor front.size.is_inexact
+  pub top : ceiling front.size.floor front.size.is_inexact ≤ largest
