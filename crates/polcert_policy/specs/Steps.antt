@@ -2,3 +2,4 @@
 pub mod GraphRead
 pub mod Kept
 pub mod VectorsRead
+pub mod VectorsAhead

@@ -15,12 +15,13 @@ use crate::fields::whole_of;
 use crate::graph::Graph;
 use crate::growth::push;
 use crate::vectors::Vectors;
+use crate::vectors_ahead::read_ahead;
 use crate::vectors_reading::{OpenSign, VectorsReading};
 use polcert_text::{
     Rounding, Source, SourceFault, StreamFault, StreamTokens, TEXT_LIMIT, Token, TokenKind, Tokens,
     rounded_of,
 };
-use std::alloc::Global;
+use std::alloc::{AllocError, Global};
 
 impl VectorsReading {
     fn new(alloc: Global, states: usize) -> Self
@@ -70,7 +71,8 @@ impl VectorsReading {
     }
 
     /// Continues to the place of the next value, or to the next vector.
-    fn advance(&mut self)
+    #[inline(always)]
+    pub(crate) fn advance(&mut self)
         requires { 0 < self.old.column }
         ensures { AdvancedValue self.old self.new }
     {
@@ -338,6 +340,9 @@ pub fn read_rounded_vectors_from<S: Source>(
             Ok(Some(token)) => {
                 if let Err(fault) = reading.take(rounding, graph, token) {
                     return Err(SourceFault::Refused(fault));
+                }
+                if let Err(AllocError) = read_ahead(rounding, &mut tokens, &mut reading) {
+                    return Err(SourceFault::Refused(VectorFault::Memory));
                 }
             }
             Ok(None) => {

@@ -204,3 +204,47 @@ fn vectors_cut_anywhere(rt: HostRuntime) {
         }
     }
 }
+
+/// Values that stand whole in the buffer, which are taken together, are read and refused as they are token by token.
+#[test]
+fn values_whole_in_the_buffer(rt: HostRuntime) {
+    let Ok(graph) = read_graph(rt.alloc(), GRAPH, 2, 2) else {
+        panic!(rt; "the graph is right");
+    };
+    for text in [
+        b"1 -12.3456789012345678901 0 0 0 0".as_slice(),
+        b"1 12.3456780000000000000 0 0 0 0",
+        b"1\n12.3456780000000000001\n0\n0 0 0\n",
+        b"1 -0.0000001 0 0 0 0",
+        b"1 -7 0 0 0 0",
+        b"1  2.5 0 0 0 0",
+        b"1 - 2.5 0 0 0 0",
+        b"1 -2.\t0 0 0 0",
+        b"1 +2.5e-3 0 0 0 0",
+        b"1 -9999999.9999999 0 0 0 0",
+        b"1 9999999 0 0 0 0",
+        b"1 10000000 0 0 0 0",
+        b"1 -10000000.0000001 0 0 0 0",
+        b"1 123456789012.5 0 0 0 0",
+        b"1 0.1234567x 0 0 0 0",
+        b"1 0.1.2 0 0 0 0",
+        b"1 --1 0 0 0 0",
+        b"1 1 0 1 0 0",
+        b"1 1 0 0 0 0 0",
+    ] {
+        let down = match read_vectors(rt.alloc(), text, &graph, 2) {
+            Ok(vectors) => Ok(value_of(&vectors)),
+            Err(fault) => Err(SourceFault::Refused(fault)),
+        };
+        let up = match read_vectors_up(rt.alloc(), text, &graph, 2) {
+            Ok(vectors) => Ok(value_of(&vectors)),
+            Err(fault) => Err(SourceFault::Refused(fault)),
+        };
+        for most in [1usize, 7, 4096] {
+            let mut source = Pieces::new(text, most, false);
+            assert_eq!(rt; first_value(rt.alloc(), &mut source), Some(down));
+            let mut source = Pieces::new(text, most, false);
+            assert_eq!(rt; first_value_up(rt.alloc(), &mut source), Some(up));
+        }
+    }
+}

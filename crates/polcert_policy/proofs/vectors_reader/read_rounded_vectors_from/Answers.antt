@@ -1,14 +1,16 @@
-use Rattle.std.proofs.Common.{◌∙◌, ◌++◌, ◌∷◌, [], ap, subst, Ok, Err}
+use Rattle.std.proofs.Common.{◌∙◌, ◌++◌, ◌∷◌, ◌<◌, ◌≤◌, [], ap, subst, Ok, Err, arith}
+use Rattle.polcert_text.specs.Cut.{text_limit}
 use Rattle.polcert_text.specs.Reading.{lexeme_of}
 use Rattle.polcert_text.proofs.Streams.ReadTexts.{value_read, text_refused, read_failed}
-use Rattle.polcert_text.proofs.Streams.StreamTaken.{none_taken, token_taken, each_taken, each_cut}
+use Rattle.polcert_text.proofs.Streams.StreamTaken.{none_taken, token_taken, each_taken, each_cut, place_grows, place_within}
 use Rattle.polcert_policy.specs.Vectors.{IsRoundedVectors, ArePossible}
 use Rattle.polcert_policy.specs.VectorText.{IsRoundedVectorsText, IsRefusedRoundedVectorsText}
 use Rattle.polcert_policy.specs.declared.fault.VectorFault.TheVariants as faults
 use Rattle.polcert_policy.proofs.VectorReadLaws.{possible_seen}
-use Rattle.polcert_policy.proofs.SourceTexts.{less_left, of_its_text, of_each_text}
+use Rattle.polcert_policy.proofs.SourceTexts.{of_its_text, of_each_text}
 use Rattle.polcert_policy.proofs.FlatVectors.{vectors_text}
 use Rattle.polcert_policy.proofs.VectorTextLaws.{part_refusal, refused_text, end_refused}
+use Rattle.polcert_policy.proofs.VectorsAhead.{all_passed}
 use Rattle.polcert_policy.proofs.vectors_reader.read_rounded_vectors_from.Goals as goal
 
 pub loop-token-init : goal.loop-token-init
@@ -20,10 +22,13 @@ loop-token-init g c = record {
 pub loop-token-preserved : goal.loop-token-preserved
 loop-token-preserved g c =
     let was = c.loop-token.invariant.seen in
+    let new = c.next_token.follows.lender-at-none in
     let gives = rw (c.in-Ok-Some.is ∙ ap Ok c.in-Ok-Some.field-0-is) at c.next_token.follows.holds-at-none.answers in
+    let taken = token_taken _ _ _ _ was.0 c.loop-token.tokens c.loop-token.source (lexeme_of c.in-Ok-Some.token) new c.next_token.new.source was.1 gives.0 gives.2 in
+    let ahead = c.in_default-read_ahead.ensures.read in
     record {
-      seen = (was.0 ++ lexeme_of c.in-Ok-Some.token ∷ [], token_taken _ _ _ _ was.0 _ _ _ _ _ was.1 gives.0 gives.2, c.in_default.ensures.takes was.0 was.2);
-      states = c.in_default.ensures.states ∙ c.loop-token.invariant.states;
+      seen = ((was.0 ++ lexeme_of c.in-Ok-Some.token ∷ []) ++ ahead.ts, all_passed _ _ _ _ _ _ _ _ _ _ taken ahead, ahead.reads_on _ _ (c.in_default.ensures.takes was.0 was.2));
+      states = c.in_default-read_ahead.ensures.states ∙ c.in_default.ensures.states ∙ c.loop-token.invariant.states;
     }
 
 pub loop-token-smaller : goal.loop-token-smaller
@@ -31,7 +36,25 @@ loop-token-smaller g c =
     let was = c.loop-token.invariant.seen in
     let new = c.next_token.follows.lender-at-none in
     let gives = rw (c.in-Ok-Some.is ∙ ap Ok c.in-Ok-Some.field-0-is) at c.next_token.follows.holds-at-none.answers in
-    less_left _ _ _ was.0 c.loop-token.tokens c.loop-token.source (lexeme_of c.in-Ok-Some.token) new c.next_token.new.source was.1 gives.0 gives.2
+    let grows : c.loop-token.tokens.ahead.place < new.ahead.place = place_grows c.loop-token.tokens.ahead new.ahead gives.0.given (lexeme_of c.in-Ok-Some.token) gives.0.next in
+    let taken = token_taken _ _ _ _ was.0 c.loop-token.tokens c.loop-token.source (lexeme_of c.in-Ok-Some.token) new c.next_token.new.source was.1 gives.0 gives.2 in
+    let ahead = c.in_default-read_ahead.ensures.read in
+    let place = ap (λ s. s.ahead.place) ahead.tokens_are in
+    let within : c.read_ahead.new.tokens.ahead.place ≤ text_limit = place_within _ _ _ _ _ c.read_ahead.new.tokens c.next_token.new.source (all_passed _ _ _ _ _ _ _ _ _ _ taken ahead) in
+    omega (arith, grows, place, within)
+
+pub returns-in-Err-read_ahead : goal.returns-in-Err-read_ahead
+returns-in-Err-read_ahead g c =
+    let was = c.loop-token.invariant.seen in
+    let new = c.next_token.follows.lender-at-none in
+    let gives = rw (c.in-Ok-Some.is ∙ ap Ok c.in-Ok-Some.field-0-is) at c.next_token.follows.holds-at-none.answers in
+    let taken = token_taken _ _ _ _ was.0 c.loop-token.tokens c.loop-token.source (lexeme_of c.in-Ok-Some.token) new c.next_token.new.source was.1 gives.0 gives.2 in
+    record {
+      read = text_refused faults.Memory
+          (each_taken _ _ _ _ _ new c.next_token.new.source (IsRefusedRoundedVectorsText c.args.rounding c.args.graph.now c.args.states faults.Memory) taken
+          (λ text rest t. refused_text c.args.rounding _ _ text faults.Memory tt))
+          taken.same_count;
+    }
 
 pub returns-in-Err : goal.returns-in-Err
 returns-in-Err g c =
