@@ -1,5 +1,5 @@
 //! What a check asks of a model.
-ghost use Rattle.std.specs.Prelude.{◌≡◌, ℕ, ◌<◌, ◌+◌, length, pos, slice_index_or};
+ghost use Rattle.std.specs.Prelude.{◌≡◌, ℕ, ◌<◌, ◌+◌, IsTrue, length, pos, slice_index_or};
 ghost use Rattle.std.specs.Option.{ForSome};
 ghost use Rattle.polcert_cells.specs.Tables.{CellTable, IsProper, IsWithinLimits};
 ghost use Rattle.polcert_cells.specs.LentRows.{IsRowOf};
@@ -115,6 +115,19 @@ pub trait Cells {
             (table self.now).r a s e z ≡ h) }
     {
         None
+    }
+
+    /// Whether it is known at once that action `a` has the same rewards in state `s` as in state `other`, for every end state and every
+    /// observation. `false`: unknown.
+    fn has_same_rewards(&self, a: usize, s: usize, other: usize) -> bool
+        requires action { a < (table self.now).actions }
+        requires start { s < (table self.now).states }
+        requires other { other < (table self.now).states }
+        ensures { IsTrue result → (e z : ℕ) → e < (table self.now).states →
+            z < (table self.now).observations →
+            (table self.now).r a s e z ≡ (table self.now).r a other e z }
+    {
+        false
     }
 
     // Rows sum to their scale.

@@ -7,4 +7,5 @@ pub mod RewardKeys
 pub mod RewardLists
 pub mod RewardPaid
 pub mod RewardRules
+pub mod RewardStarts
 pub mod RewardValues

@@ -235,6 +235,23 @@ impl Rewards {
         }
     }
 
+    /// Whether it is known at once that an action has the same rewards in two start states: no entry that fits the action
+    /// names one of them, or has numbers for each start state.
+    pub fn has_same(&self, action: usize, start: usize, other: usize) -> bool
+        requires action { action < self.now.shape.actions }
+        requires start { start < self.now.shape.states }
+        requires other { other < self.now.shape.states }
+        ensures { IsTrue result → (p : Preamble) (entries : List E) → AreRewardsOf p entries self.now →
+            (end observation : ℕ) → end < self.now.shape.states → observation < self.now.shape.observations →
+            reward p entries (action ∷ start ∷ end ∷ observation ∷ [])
+            ≡ reward p entries (action ∷ other ∷ end ∷ observation ∷ []) }
+    {
+        if self.rules.names_start(action, start) {
+            return false;
+        }
+        !self.rules.names_start(action, other)
+    }
+
     /// Whether any entry of R is about this action and start state. If none is, all rewards are 0.
     pub fn is_paid(&self, action: usize, start: usize) -> bool
         requires action { action < self.now.shape.actions }

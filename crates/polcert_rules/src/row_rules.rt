@@ -1,11 +1,11 @@
 //! The rules of R, in which those whose first two places are known are found without a search.
-ghost use Rattle.std.specs.Prelude.{◌≡◌, ◌+◌, ◌<◌, ◌≤◌, ◌^◌, ◌↔◌, ◌∷◌, [], Contains, length, IfOk};
+ghost use Rattle.std.specs.Prelude.{◌≡◌, ◌+◌, ◌<◌, ◌≤◌, ◌^◌, ◌↔◌, ◌∷◌, [], Contains, length, IfOk, IsFalse};
 ghost use Rattle.polcert_cells.specs.declared.entry.Table.TheVariants.{Reward};
 ghost use Rattle.polcert_rules.specs.declared.rule.Rule.{Rule as R};
 ghost use Rattle.polcert_rules.specs.Steps.Newest.{IsRising, IsNewest};
 ghost use Rattle.polcert_rules.specs.Keys.{key_base, AreIndices, Fits, most_places, table_key};
 ghost use Rattle.polcert_rules.specs.Steps.Noting.{AreNoted};
-ghost use Rattle.polcert_rules.specs.Steps.RewardSearch.{Begins, IsAnswer};
+ghost use Rattle.polcert_rules.specs.Steps.RewardSearch.{Begins, IsAnswer, NamesStart, NamesStartAfter};
 ghost use Rattle.polcert_rules.specs.Steps.Rewards.{IsSmall};
 
 use crate::Rule;
@@ -199,6 +199,37 @@ impl RowRules {
         let of_only = self.part(digit, start + INDICES, only);
         some_begins(of_every, every, PLACES_LEFT, rest, least)
             || some_begins(of_only, only, PLACES_LEFT, rest, least)
+    }
+
+    /// Whether one of the rules that fit an action has no place for a start state, or names this one.
+    pub(crate) fn names_start(&self, action: usize, start: usize) -> bool
+        requires rising { IsRising self.now.rules.items }
+        requires indices { AreIndices most_places (action ∷ start ∷ []) }
+        ensures { IsFalse result → (r : R) → Contains self.now.rules.items r → NamesStart action start r.key
+            → ⊥ }
+    {
+        let step = span(3);
+        let only = LOW + (action as u64 + 2) * step;
+        if first_at(self.part(NO_PLACE, NO_PLACE, LOW), LOW).is_some() {
+            return true;
+        }
+        self.names_start_after(EVERY, LOW + step, start)
+            || self.names_start_after(action + INDICES, only, start)
+    }
+
+    /// The same after a first place, which has this digit.
+    fn names_start_after(&self, digit: usize, low: u64, start: usize) -> bool
+        requires rising { IsRising self.now.rules.items }
+        requires room { low + key_base ^ 3 < 2 ^ 64 }
+        requires index { start + 2 < key_base }
+        ensures { IsFalse result → (r : R) → Contains self.now.rules.items r → NamesStartAfter low start r.key
+            → ⊥ }
+    {
+        let only = low + (start as u64 + 2) * span(PLACES_LEFT);
+        if first_at(self.part(digit, NO_PLACE, low), low).is_some() {
+            return true;
+        }
+        !self.part(digit, start + INDICES, only).is_empty()
     }
 
     /// The rules whose keys follow `low`, the key of two places with these digits.

@@ -338,6 +338,63 @@ fn rewards_alike(rt: HostRuntime) {
     assert_eq!(rt; alike_at(alloc, &lines, 0, 1, 1), Some(Some(0)));
 }
 
+fn same_at(
+    alloc: Global,
+    lines: &[(&[usize], &[i64])],
+    action: usize,
+    start: usize,
+    other: usize,
+) -> Option<bool>
+    requires action { action < 2 }
+    requires start { start < 2 }
+    requires other { other < 2 }
+{
+    match rewards(alloc, false, lines) {
+        Ok(rewards) => Some(rewards.has_same(action, start, other)),
+        Err(_) => None,
+    }
+}
+
+#[test]
+fn the_same_in_two_states(rt: HostRuntime) {
+    let alloc = rt.alloc();
+    let shared: (&[usize], &[i64]) = (&[ANY, ANY, 1], &[1, 2]);
+    assert_eq!(rt; same_at(alloc, &[], 0, 0, 1), Some(true));
+    assert_eq!(rt; same_at(alloc, &[shared], 0, 0, 1), Some(true));
+    assert_eq!(rt;
+        same_at(alloc, &[shared, (&[0, 1, ANY, 1], &[3])], 0, 0, 1),
+        Some(false)
+    );
+    assert_eq!(rt;
+        same_at(alloc, &[shared, (&[0, 1, ANY, 1], &[3])], 0, 1, 0),
+        Some(false)
+    );
+    assert_eq!(rt;
+        same_at(alloc, &[shared, (&[0, 1, ANY, 1], &[3])], 0, 0, 0),
+        Some(true)
+    );
+    assert_eq!(rt;
+        same_at(alloc, &[shared, (&[0, 1, ANY, 1], &[3])], 1, 0, 1),
+        Some(true)
+    );
+    assert_eq!(rt;
+        same_at(alloc, &[shared, (&[ANY, 0], &[3, 4, 5, 6])], 1, 0, 1),
+        Some(false)
+    );
+    assert_eq!(rt;
+        same_at(alloc, &[(&[0], &[1, 2, 3, 4, 5, 6, 7, 8])], 0, 0, 1),
+        Some(false)
+    );
+    assert_eq!(rt;
+        same_at(alloc, &[(&[0], &[1, 2, 3, 4, 5, 6, 7, 8])], 1, 0, 1),
+        Some(true)
+    );
+    assert_eq!(rt;
+        same_at(alloc, &[(&[ANY], &[1, 2, 3, 4, 5, 6, 7, 8])], 1, 0, 1),
+        Some(false)
+    );
+}
+
 #[test]
 fn what_is_paid(rt: HostRuntime) {
     let lines: [(&[usize], &[i64]); 2] = [(&[1, ANY, 1, 0], &[1]), (&[0, 1, ANY], &[1, 2])];

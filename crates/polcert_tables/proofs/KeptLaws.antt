@@ -149,6 +149,18 @@ module _ (k : Kept) (d : IsDraft k) where
       ∙ ap (λ (p : Preamble). reward d.items.preamble d.items.entries (a ∷ s ∷ e ∷ reward_index p z ∷ [])) (sym d.said.preamble)
       ∙ common d.items.preamble d.items.entries d.said.rewards h is e (reward_index k.preamble z) (subst (λ n. e < n) d.r_counts.states l) (draft_index z m)
 
+  pub draft_same : (a s other : ℕ) → a < count_of k.preamble.actions → s < count_of k.preamble.states → other < count_of k.preamble.states
+      → ((p : Preamble) (entries : List Entry) → AreRewardsOf p entries k.rewards → (e z : ℕ) → e < k.rewards.shape.states → z < k.rewards.shape.observations
+      → reward p entries (a ∷ s ∷ e ∷ z ∷ []) ≡ reward p entries (a ∷ other ∷ e ∷ z ∷ []))
+      → (e z : ℕ) → e < count_of k.preamble.states → z < count_of (observed k.preamble) → (meaning k).r a s e z ≡ (meaning k).r a other e z
+  draft_same a s other i j o same e z l m =
+      let cells = kept_same d.items k (few_in k d) d.said in
+      let index = reward_index d.items.preamble z in
+      let below : index < k.rewards.shape.observations = subst (λ (p : Preamble). reward_index p z < k.rewards.shape.observations) d.said.preamble (draft_index z m) in
+      cells.r a s e z i j l m
+      ∙ same d.items.preamble d.items.entries d.said.rewards e index (subst (λ n. e < n) d.r_counts.states l) below
+      ∙ sym (cells.r a other e z i o l m)
+
   pub draft_unpaid : (a s : ℕ) → a < count_of k.preamble.actions → s < count_of k.preamble.states
       → ((p : Preamble) (entries : List Entry) → AreRewardsOf p entries k.rewards → (e z : ℕ) → reward p entries (a ∷ s ∷ e ∷ z ∷ []) ≡ pos 0)
       → (e z : ℕ) → e < count_of k.preamble.states → z < count_of (observed k.preamble) → (meaning k).r a s e z ≡ pos 0

@@ -1,5 +1,5 @@
 //! A model whose rows aren't tested yet.
-ghost use Rattle.std.specs.Prelude.{◌≡◌, ◌+◌, ◌<◌, false, pos, ℕ, IfOk, length, slice_index_or};
+ghost use Rattle.std.specs.Prelude.{◌≡◌, ◌+◌, ◌<◌, false, pos, ℕ, IfOk, IsTrue, length, slice_index_or};
 ghost use Rattle.std.specs.Option.{ForSome, option_copied};
 ghost use Rattle.polcert_cells.specs.LentRows.{IsRowOf};
 ghost use Rattle.polcert_cells.specs.Rows.{IsWeighted};
@@ -257,6 +257,19 @@ impl Draft {
             (meaning self.now).r a s e z ≡ h) }
     {
         self.rewards.common(a, s)
+    }
+
+    /// Whether it is known at once that action `a` has the same rewards in state `s` as in state `other`, for every end state and
+    /// every observation. `false`: unknown.
+    pub fn has_same_rewards(&self, a: usize, s: usize, other: usize) -> bool
+        requires action { a < actions_of (meaning self.now) }
+        requires start { s < states_of (meaning self.now) }
+        requires other { other < states_of (meaning self.now) }
+        ensures { IsTrue result → (e z : ℕ) → e < states_of (meaning self.now) →
+            z < observations_of (meaning self.now) →
+            (meaning self.now).r a s e z ≡ (meaning self.now).r a other e z }
+    {
+        self.rewards.has_same(a, s, other)
     }
 
     /// Fills in the rewards of observation `first` and of those after it, in millionths, when action `a` is

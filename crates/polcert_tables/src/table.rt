@@ -77,4 +77,8 @@ impl Cells for Model {
     fn r_common(&self, a: usize, s: usize) -> Option<i64> {
         self.draft().r_common(a, s)
     }
+
+    fn has_same_rewards(&self, a: usize, s: usize, other: usize) -> bool {
+        self.draft().has_same_rewards(a, s, other)
+    }
 }

@@ -1,6 +1,6 @@
 -- Rules that begin with places that fit, and what the newest rule of R gives.
 -- Nobody has to believe this file: only private functions cite it.
-use Rattle.std.specs.Prelude.{◌≡◌, ℕ, ◌+◌, ◌-◌, ◌^◌, ◌<◌, ◌≤◌, Bool, true, false, ◌⊎◌, List, [], ◌∷◌, length, Option, Some, None, Contains, slice_get, slice_index_or, ℤ, pos}
+use Rattle.std.specs.Prelude.{◌≡◌, ℕ, ◌+◌, ◌-◌, ◌*◌, ◌^◌, ◌<◌, ◌≤◌, Bool, true, false, ◌⊎◌, List, [], ◌∷◌, length, Option, Some, None, Contains, slice_get, slice_index_or, ℤ, pos}
 use Rattle.polcert_cells.specs.declared.entry.Table.TheVariants.{Reward}
 use Rattle.polcert_cells.specs.declared.entry.Place.{Place}
 use Rattle.polcert_cells.specs.declared.entry.Entry.{Entry}
@@ -9,7 +9,7 @@ use Rattle.polcert_cells.specs.Preamble.{Preamble}
 use Rattle.polcert_rules.specs.declared.rule.Rule.{Rule}
 use Rattle.polcert_rules.specs.declared.reward_parts.Outcome.{Outcome}
 use Rattle.polcert_rules.specs.declared.reward_parts.RewardBody.{RewardBody}
-use Rattle.polcert_rules.specs.Keys.{key_base, key_in}
+use Rattle.polcert_rules.specs.Keys.{key_base, key_in, table_key}
 use Rattle.polcert_rules.specs.Steps.Newest.{IsLastNumber}
 use Rattle.polcert_rules.specs.Steps.Rewards.{AreRewardsOf, IsBodyOf}
 use Rattle.polcert_rules.specs.RewardAt.{RewardRules}
@@ -26,6 +26,16 @@ pub record Begins (levels low : ℕ) (indices : List ℕ) (least key : ℕ) : Ty
 abbrev pub IsAnswer : List Rule → (ℕ → Type 0) → Bool → Type 0
 IsAnswer rules P true = (r : Rule) × Contains rules r × P r.key
 IsAnswer rules P false = (r : Rule) → Contains rules r → P r.key → ⊥
+
+-- After the key `low` the key has no place for a start state, or names this one.
+abbrev pub NamesStartAfter : ℕ → ℕ → ℕ → Type 0
+NamesStartAfter low s key = (key ≡ low) ⊎ ((low + (s + 2) * key_base ^ 2 ≤ key) × (key < low + (s + 2) * key_base ^ 2 + key_base ^ 2))
+
+-- The key, if it fits the action, has no place for a start state, or names this one.
+abbrev pub NamesStart : ℕ → ℕ → ℕ → Type 0
+NamesStart a s key =
+    (key ≡ table_key Reward)
+    ⊎ (NamesStartAfter (table_key Reward + key_base ^ 3) s key ⊎ NamesStartAfter (table_key Reward + (a + 2) * key_base ^ 3) s key)
 
 -- the rewards of so many observations from this one on are filled in
 abbrev pub AreFilled : RewardRules → Outcome → ℕ → ℕ → List ℤ → Type 0

@@ -1,0 +1,10 @@
+use Rattle.std.proofs.Common.{refl, rules, subst}
+use Rattle.polcert_rules.specs.RewardAt.{RewardRules}
+use Rattle.polcert_rules.proofs.RewardLaws.RewardStarts.{NoneNames, same_rewards, false_of}
+use Rattle.polcert_rules.proofs.rewards.Rewards.has_same.Goals as goal
+
+pub returns : goal.returns
+returns c unseen p entries are end observation l m =
+    let here = subst (λ (rewards : RewardRules). NoneNames rewards c.args.action c.args.start) c.self.view_is (c.if-names_start.ensures refl) in
+    let there = subst (λ (rewards : RewardRules). NoneNames rewards c.args.action c.args.other) c.self.view_is (c.names_start-2.ensures (false_of c.names_start-2.result unseen)) in
+    same_rewards p entries c.args.self.now are c.args.action c.args.start c.args.other end observation here there (search rules)
