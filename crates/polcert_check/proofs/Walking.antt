@@ -6,6 +6,7 @@ pub mod Found
 pub mod Marking
 pub mod Missing
 pub mod Outcomes
+pub mod Sharing
 pub mod Verdicts
 pub mod Walked
 pub mod Weighed

@@ -76,7 +76,7 @@ fn sum_rewards<C: Cells>(cells: &C, a: usize, s: usize, e: usize, buffer: &mut R
 }
 
 /// Returns the reward that action `a` expects at start state `s` and end state `e`, without the weight of reaching `e`.
-fn reward_at_end<C: Cells>(
+pub(crate) fn reward_at_end<C: Cells>(
     cells: &C,
     a: usize,
     s: usize,

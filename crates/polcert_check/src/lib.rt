@@ -22,6 +22,7 @@ mod raises;
 mod reached_states;
 mod reward_buffer;
 mod rounded;
+mod shared_rewards;
 mod shortfall;
 mod side;
 mod start;

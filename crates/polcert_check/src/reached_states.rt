@@ -32,16 +32,11 @@ impl ReachedStates {
         self.is_known = false;
     }
 
-    /// Marks the end states that action `a` reaches, unless they are known.
+    /// Marks the end states that action `a` reaches.
     pub(crate) fn find<C: Cells>(&mut self, cells: &C, a: usize)
         requires action { a < (C.table cells.now).actions }
-        requires marks { self.old.is_known ≡ true → AreMarked (C.table cells.now) a
-            (C.table cells.now).states self.old.marks }
         ensures { AreMarked (C.table cells.now) a (C.table cells.now).states self.new.marks }
     {
-        if self.is_known {
-            return;
-        }
         // (A mark too many would cost time alone.)
         for e in 0..cells.states() {
             self.marks[e] = false;

@@ -24,6 +24,25 @@ struct SurveyState {
     findings: Findings,
 }
 
+impl SurveyState {
+    ghost use Rattle.std.specs.Prelude.{◌≡◌, ◌<◌};
+    ghost use Rattle.polcert_check.specs.Steps.Survey.{IsOfAction, IsPrepared};
+
+    /// Computes what all nodes that take action `a` have in common, unless it is computed.
+    fn prepare<C: Cells>(&mut self, cells: &C, a: usize)
+        requires action { a < (C.table cells.now).actions }
+        requires of_action { IsOfAction (C.table cells.now) a self.old }
+        ensures prepared { IsPrepared (C.table cells.now) a self.new }
+        ensures findings { self.new.findings ≡ self.old.findings }
+    {
+        if self.reached.is_known {
+            return;
+        }
+        self.earnings.begin(cells, a, &mut self.ends.values);
+        self.reached.find(cells, a);
+    }
+}
+
 /// Checks the pairs of a node, until none of the rest can be the first that is looked for.
 fn survey_node<C: Cells, W: Watch>(node: &Node<'_, C>, survey: &mut SurveyState, watch: &mut W)
     requires of_action { IsOfAction (around node.now).cells ((around node.now).action node.now.n) survey.old }
@@ -39,7 +58,7 @@ fn survey_node<C: Cells, W: Watch>(node: &Node<'_, C>, survey: &mut SurveyState,
     }
     let cells = node.certificate.cells;
     let a = node.action();
-    survey.reached.find(cells, a);
+    survey.prepare(cells, a);
     survey.ends.fill(node, &survey.reached);
     for s in 0..cells.states() {
         let reward = survey.earnings.reward_at(cells, a, s, watch);
@@ -63,7 +82,6 @@ fn survey_action<C: Cells, W: Watch>(
     ensures found { IsFoundBefore (judged certificate.now) (a + 1) 0 0 survey.new.findings }
     ensures aim { survey.new.findings.aim ≡ survey.old.findings.aim }
 {
-    survey.earnings.clear();
     survey.reached.clear();
     for n in 0..certificate.graph.nodes() {
         if certificate.graph.action(n) == a {

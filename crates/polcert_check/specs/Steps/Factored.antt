@@ -5,6 +5,7 @@ use Rattle.polcert_cells.specs.Tables.{CellTable}
 use Rattle.polcert_check.specs.Horizon.{Controller, total_below}
 use Rattle.polcert_check.specs.Shortfall.{at_node, short, PairPasses}
 use Rattle.polcert_check.specs.Verdict.{IsLeastLacking}
+use Rattle.polcert_check.specs.declared.shared_rewards.TheConstants.{UNKNOWN}
 use Rattle.polcert_check.specs.declared.verdict.Verdict.{Verdict}
 use Rattle.polcert_check.specs.declared.verdict.Verdict.TheVariants.{Yes, Short, NoSuccessor}
 
@@ -18,9 +19,13 @@ reward_at_end m a s e = total_below (λ z. pos (m.o a e z) *ℤ m.r a s e z) m.o
 abbrev pub expected_reward : CellTable → ℕ → ℕ → ℤ
 expected_reward m a s = total_below (λ e. pos (m.t a s e) *ℤ reward_at_end m a s e) m.states
 
--- the list begins with the rewards that action a expects at the first states
-pub record AreRewards (m : CellTable) (a : ℕ) (rewards : List ℤ) (count : ℕ) : Type 0 where
-  pub each : (s : ℕ) → s < count → slice_index_or rewards s (pos 0) ≡ expected_reward m a s
+-- the first numbers of the list are those of f, except those that are not computed yet
+pub record AreKnown (f : ℕ → ℤ) (count : ℕ) (numbers : List ℤ) : Type 0 where
+  pub each : (i : ℕ) → i < count → (slice_index_or numbers i (pos 0) ≡ UNKNOWN) ⊎ (slice_index_or numbers i (pos 0) ≡ f i)
+
+-- at each end state that follows state s, the reward is in the list
+pub record AreAtEnds (m : CellTable) (a s : ℕ) (at_ends : List ℤ) : Type 0 where
+  pub each : (e : ℕ) → e < m.states → 0 < m.t a s e → slice_index_or at_ends e (pos 0) ≡ reward_at_end m a s e
 
 -- every end state that action a reaches from one of the first states is marked
 pub record AreMarked (m : CellTable) (a count : ℕ) (marks : List Bool) : Type 0 where

@@ -9,7 +9,7 @@ use Rattle.polcert_check.proofs.survey.survey_action.Goals as goal
 
 pub loop-n-init : goal.loop-n-init
 loop-n-init g c = record {
-  of_action = record { rewards = record { each = λ s l. absurd (omega (arith, l, c.clear.ensures)) }; marks = λ known. absurd (cc) };
+  of_action = λ known. absurd (cc);
   found = c.requires.found;
   aim = refl;
 }

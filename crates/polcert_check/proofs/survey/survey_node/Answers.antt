@@ -12,8 +12,7 @@ pub loop-s-preserved : goal.loop-s-preserved
 loop-s-preserved g c =
     let j : Controller = judged c.args.node.now.certificate in
     record {
-      before = omega (arith, c.reward_at-reward.ensures.here);
-      of_action = record { rewards = rw c.action-a.ensures.value at c.reward_at-reward.ensures.rewards; marks = c.loop-s.invariant.of_action.marks };
+      prepared = record { rewards = rw c.action-a.ensures.value at c.reward_at-reward.ensures.known; marks = c.loop-s.invariant.prepared.marks };
       ends = c.loop-s.invariant.ends;
       found = c.note.ensures.found j c.loop-s.s (c.args.node.now.within, omega (arith, c.loop-s-test.true, c.states-s-end.ensures)) c.pair_verdict-verdict.ensures c.loop-s.invariant.found;
       aim = c.note.ensures.aim ∙ c.loop-s.invariant.aim;
