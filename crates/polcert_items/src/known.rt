@@ -1,6 +1,6 @@
 //! What the items of a text have said so far.
 ghost use Rattle.std.specs.Prelude.{◌≡◌, ◌<◌, ◌≤◌, ◌++◌, ◌∷◌, [], length, drop, get_or, List, Some, None};
-ghost use Rattle.std.specs.Prelude.{unwrap_or, OnOk, OnErr, IfOk, IsErrOf, if◌then◌else◌};
+ghost use Rattle.std.specs.Prelude.{unwrap_or, OnOk, OnErr, IfOk, MatchResult, IsErrOf, if◌then◌else◌};
 ghost use Rattle.std.specs.Option.{option_copied};
 ghost use Rattle.polcert_cells.specs.declared.elements.Elements.{Elements};
 ghost use Rattle.polcert_cells.specs.declared.elements.Elements.TheVariants.{Count};
@@ -13,7 +13,10 @@ ghost use Rattle.polcert_format.specs.Wants.{least_written};
 ghost use Rattle.polcert_format.specs.Limits.{HasFewCells};
 ghost use Rattle.polcert_items.specs.Steps.Covering.{AreSizesOf};
 ghost use Rattle.polcert_items.specs.Steps.Known.{learned, AreContentsWithin, MayBeLearned, IsWholeRead, said};
-ghost use Rattle.polcert_cells.specs.Meaning.{IsCount};
+ghost use Rattle.polcert_cells.specs.Meaning.{IsCount, HasProperRows};
+ghost use Rattle.polcert_cells.specs.Rows.{IsFirstWrongRow};
+ghost use Rattle.polcert_cells.specs.Steps.Drafts as drafts;
+ghost use Rattle.polcert_tables.specs.Kept.{meaning};
 ghost use Rattle.polcert_tables.specs.Steps.KeptOf.{IsKeptOf};
 ghost use Rattle.polcert_format.specs.Order.{word_fault, count_in, preamble_fault, is_late, came_before, is_unobserved};
 ghost use Rattle.polcert_format.specs.Order.{pairs_are_too_many};
@@ -25,7 +28,7 @@ use crate::item::ItemContents;
 use crate::stop::Unlearned;
 use polcert_cells::{Elements, Entries, Entry, Shares, Table, Topic};
 use polcert_format::ItemFault;
-use polcert_tables::{Draft, Preamble, count_or};
+use polcert_tables::{Draft, Preamble, WrongRow, count_or};
 use std::alloc::{AllocError, Global};
 use std::marker::Model;
 
@@ -133,10 +136,12 @@ impl Known {
         }
     }
 
-    /// The draft of a complete preamble, start item and entries.
-    pub fn into_draft(self, alloc: Global) -> Result<Draft, AllocError>
+    /// The draft of a complete preamble, start item and entries, or else the first row that does not sum to its scale.
+    pub fn into_draft(self, alloc: Global) -> Result<Result<Draft, WrongRow>, AllocError>
         requires { (seen : List Lexeme) × IsWholeRead seen self }
-        ensures { IfOk result (IsKeptOf (said self)) }
+        ensures { IfOk result (λ found. MatchResult found
+            (λ draft. IsKeptOf (said self) draft × HasProperRows (meaning draft))
+            (λ w. IsFirstWrongRow (drafts.meaning (said self)) w.table w.action w.row)) }
     {
         let Known {
             discount,

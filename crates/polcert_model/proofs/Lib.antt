@@ -3,7 +3,6 @@ pub mod ModelStreams
 pub mod ReadingAhead
 pub mod Refusing
 pub mod RefusingEnds
-pub mod SameRows
 pub mod Shaped
 pub mod TakenItems
 pub mod TextReading

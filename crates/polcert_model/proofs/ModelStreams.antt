@@ -1,6 +1,6 @@
 -- A model's text that comes from a source.
-use Rattle.std.proofs.Common.{◌≡◌, ◌+◌, ◌∙◌, ℕ, Bool, true, false, cond, Option, Some, None, Result, Ok, Err, IfOk, IfErr, MatchResult, List, [], ◌∷◌, length, drop, nat_lt, refl, sym, ap, arith}
-use Rattle.polcert_text.specs.Cut.{Lexeme, Rest, IsCut, text_rest, end_place, text_limit}
+use Rattle.std.proofs.Common.{◌≡◌, ◌∙◌, ℕ, Bool, true, false, cond, Option, Some, None, Result, Ok, Err, IfOk, IfErr, MatchResult, List, length, nat_lt, refl, sym, arith}
+use Rattle.polcert_text.specs.Cut.{Lexeme, IsCut, text_rest, end_place, text_limit}
 use Rattle.polcert_text.proofs.Scanning.CleanCut.{ends_cleanly}
 use Rattle.polcert_text.specs.Source.{IsText, EachTextThatFits}
 use Rattle.polcert_text.specs.Stream.{Ahead, Stream, GivesEnd}
@@ -10,13 +10,12 @@ use Rattle.polcert_text.proofs.Streams.StreamTaken.{each_taken, each_cut, text_t
 use Rattle.polcert_cells.specs.declared.entry.Table.{Table}
 use Rattle.polcert_cells.proofs.Basics.{some≢none}
 use Rattle.polcert_cells.specs.Rows.{IsFirstWrongRow}
+use Rattle.polcert_cells.specs.Steps.Drafts as drafts
 use Rattle.polcert_format.specs.declared.fault.ModelFault.{ModelFault}
 use Rattle.polcert_format.specs.declared.fault.ModelFault.TheVariants.{RowSum}
 use Rattle.polcert_model.specs.declared.reader.TextReader.{TextReader}
 use Rattle.polcert_format.specs.Text.{Known}
 use Rattle.polcert_format.specs.FirstWrong.{TextTokens, AreTokensOf}
-use Rattle.polcert_tables.specs.Kept.{Kept, meaning}
-use Rattle.polcert_tables.specs.Steps.KeptOf.{IsKeptOf}
 use Rattle.polcert_format.specs.Refusals.{IsRefusal, IsPlacedRight, IsNoModel}
 use Rattle.polcert_format.specs.RefusedTexts.{IsRefusedModelText}
 use Rattle.polcert_items.specs.Steps.Known.{IsWholeRead, said}
@@ -42,10 +41,10 @@ said_of text P (Ok v) is = (is, is, tt, tt)
 said_of text P (Err fault) refused = (refused.no_model, tt, refused.refusal, refused.placed)
 
 -- where the items are right, the first row that is wrong is refused
-pub row_sum_refused : (seen : List Lexeme) (k : Known) → IsWholeRead seen k → (m : Kept) → IsKeptOf (said k) m → (text : List ℕ) (table : Table) (a s : ℕ)
-    → IsCut (text_rest text text_limit) seen None → IsFirstWrongRow (meaning m) table a s → IsRefusedModelText (RowSum table a s) text
-row_sum_refused seen k read m kept text table a s cut wrong =
-    refused_text (RowSum table a s) text (λ ts tokens. record { refusal = row_refused seen k read m kept text table a s cut wrong ts tokens; placed = tt })
+pub row_sum_refused : (seen : List Lexeme) (k : Known) → IsWholeRead seen k → (text : List ℕ) (table : Table) (a s : ℕ)
+    → IsCut (text_rest text text_limit) seen None → IsFirstWrongRow (drafts.meaning (said k)) table a s → IsRefusedModelText (RowSum table a s) text
+row_sum_refused seen k read text table a s cut wrong =
+    refused_text (RowSum table a s) text (λ ts tokens. record { refusal = row_refused seen k read text table a s cut wrong ts tokens; placed = tt })
 
 -- a text whose tokens end cleanly ends where they do
 clean_end : (text : List ℕ) (ls : List Lexeme) → IsCut (text_rest text text_limit) ls None → end_place (text_rest text text_limit) ≡ length text

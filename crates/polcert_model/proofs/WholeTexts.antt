@@ -7,6 +7,7 @@ use Rattle.polcert_format.specs.declared.fault.ModelFault.{ModelFault}
 use Rattle.polcert_format.specs.declared.fault.ModelFault.TheVariants as model_faults
 use Rattle.polcert_cells.specs.Meaning.{HasProperRows, HasLimitedNumbers}
 use Rattle.polcert_cells.specs.Rows.{IsFirstWrongRow}
+use Rattle.polcert_cells.specs.Steps.Drafts as drafts
 use Rattle.polcert_format.specs.Text.{Known, IsRightText, Denotes, IsModelText}
 use Rattle.polcert_format.specs.FirstWrong.{TextTokens, AreTokensOf}
 use Rattle.polcert_format.specs.Refusals.{IsRefusal}
@@ -19,7 +20,6 @@ use Rattle.polcert_format.proofs.LimitLaws.{within_limits}
 use Rattle.polcert_format.proofs.FrontLaws.{these_tokens}
 use Rattle.polcert_items.proofs.WholeItems.{whole_right, whole_sound}
 use Rattle.polcert_tables.proofs.KeptLaws.{AreFew, kept_same}
-use Rattle.polcert_model.proofs.SameRows.{same_first_wrong}
 
 -- where its rows are proper, it denotes this model, which is within the limits
 module _ (seen : List Lexeme) (k : Known) (w : IsWholeRead seen k) (m : Kept) (kept : IsKeptOf (said k) m) where
@@ -42,13 +42,12 @@ module _ (seen : List Lexeme) (k : Known) (w : IsWholeRead seen k) (m : Kept) (k
   pub whole_accepted : (text : List ℕ) → IsCut (text_rest text text_limit) seen None → HasProperRows (meaning m) → IsModelText text (meaning m)
   whole_accepted text cut rows = record { lexemes = seen; tokens = clean_tokens text seen cut; denotes = whole_denotes rows }
 
-  -- and otherwise the first row that isn't is refused
-  pub row_refused : (text : List ℕ) (table : Table) (a s : ℕ) → IsCut (text_rest text text_limit) seen None
-      → IsFirstWrongRow (meaning m) table a s → (ts : TextTokens) → AreTokensOf text ts → IsRefusal ts (model_faults.RowSum table a s)
-  row_refused text table a s cut wrong ts tokens =
-      let these = these_tokens text seen None ts cut tokens in
-      let as_said = same_first_wrong (meaning m) _ (kept_same (said k) m few kept) table a s wrong in
-      (these.1, (preamble_in k, k, subst (λ ls. IsRightText ls (preamble_in k) k) (sym these.0) (whole_right seen k w), as_said))
+-- where a row isn't, the first such row is refused
+pub row_refused : (seen : List Lexeme) (k : Known) → IsWholeRead seen k → (text : List ℕ) (table : Table) (a s : ℕ) → IsCut (text_rest text text_limit) seen None
+    → IsFirstWrongRow (drafts.meaning (said k)) table a s → (ts : TextTokens) → AreTokensOf text ts → IsRefusal ts (model_faults.RowSum table a s)
+row_refused seen k w text table a s cut wrong ts tokens =
+    let these = these_tokens text seen None ts cut tokens in
+    (these.1, (preamble_in k, k, subst (λ ls. IsRightText ls (preamble_in k) k) (sym these.0) (whole_right seen k w), wrong))
 
 -- ---- what the end of the text gives
 

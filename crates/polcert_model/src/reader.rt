@@ -16,7 +16,7 @@ ghost use Rattle.polcert_model.specs.Steps.Texts.{IsTextRead, IsReadAhead, IsPas
 use polcert_cells::{Topic, begun_topic};
 use polcert_format::{ItemFault, ModelFault};
 use polcert_items::{ItemEnd, ItemReader, Known, Stop, Unlearned};
-use polcert_tables::{Model, WrongRow, first_wrong_row};
+use polcert_tables::{Model, WrongRow};
 use polcert_text::{
     Source, SourceFault, StreamFault, StreamTokens, TEXT_LIMIT, Token, TokenFault, Tokens,
 };
@@ -296,10 +296,9 @@ fn model_of(alloc: Global, known: Known) -> Result<Model, ModelFault>
         (λ m. IsModelText text (meaning m))
         (λ fault. IsRefusedModelText fault text) }
 {
-    let draft = known.into_draft(alloc)?;
-    match first_wrong_row(&draft) {
-        None => Ok(Model::of(draft)),
-        Some(WrongRow { table, action, row }) => Err(ModelFault::RowSum { table, action, row }),
+    match known.into_draft(alloc)? {
+        Ok(draft) => Ok(Model::of(draft)),
+        Err(WrongRow { table, action, row }) => Err(ModelFault::RowSum { table, action, row }),
     }
 }
 

@@ -3,6 +3,7 @@ pub mod Building
 pub mod BuiltLaws
 pub mod Greatest
 pub mod KeptLaws
+pub mod ListLaws
 pub mod Matching
 pub mod Newer
 pub mod NextPlaces

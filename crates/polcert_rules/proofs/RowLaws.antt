@@ -9,7 +9,6 @@ pub mod HiddenCells
 pub mod MergeLaws
 pub mod NewerCells
 pub mod RepeatLaws
-pub mod RepeatRows
 pub mod RowNumbers
 pub mod RowWeights
 pub mod SingleEntries

@@ -1,5 +1,6 @@
 -- What nobody has to believe: only contracts of private functions, and of layers below the crates that callers use, cite these.
 pub mod Given
+pub mod Lists
 pub mod Meeting
 pub mod Merging
 pub mod Newest

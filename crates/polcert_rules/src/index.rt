@@ -1,5 +1,5 @@
 //! The index of a list of entries.
-ghost use Rattle.std.specs.Prelude.{◌≡◌, ℕ, ◌+◌, ◌-◌, ◌*◌, ◌^◌, ◌<◌, ◌≤◌, ◌↔◌, List, [], ◌∷◌, All, Contains, IfOk, IsTrue};
+ghost use Rattle.std.specs.Prelude.{◌≡◌, ℕ, ◌+◌, ◌*◌, ◌^◌, ◌<◌, ◌≤◌, ◌↔◌, List, [], ◌∷◌, All, Contains, IfOk, IsTrue};
 ghost use Rattle.polcert_rules.specs.declared.rule.Rule.{Rule as R};
 ghost use Rattle.polcert_rules.specs.Steps.Rows.{HaveColumns, IsSingleEntry, no_column, number_in};
 ghost use Rattle.polcert_cells.specs.declared.entry.Entry.{Entry as E};
@@ -11,7 +11,7 @@ ghost use Rattle.polcert_rules.specs.Steps.Repeats.{NamesNoAction};
 
 use crate::Rule;
 use crate::build::{newest_of_each, numbered, table_digit};
-use crate::keys::{ACTION, COLUMN_KEYS, MOST_PLACES};
+use crate::keys::{ACTION, MOST_PLACES};
 use crate::newest::{newest, span};
 use crate::part::{between, from, none_below};
 use polcert_cells::{Entries, Table};
@@ -68,15 +68,6 @@ impl Index {
     {
         let low = table_digit(table) * span(4);
         between(self.rules.as_slice(), low, low + span(4))
-    }
-
-    /// Whether there is no rule from this key on, as far as keys of columns go.
-    pub(crate) fn has_no_columns(&self, start: u64) -> bool
-        requires { start + (key_base - 2) * key_base < 2 ^ 64 }
-        ensures { IsTrue result → (r : R) → Contains self.now r → start ≤ r.key →
-            start + (key_base - 2) * key_base ≤ r.key }
-    {
-        none_below(from(self.rules.as_slice(), start), start + COLUMN_KEYS)
     }
 
     /// Whether no rule of this table begins with this action.

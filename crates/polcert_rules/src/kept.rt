@@ -1,26 +1,28 @@
 //! Rows that are kept once for many actions and states.
-ghost use Rattle.std.specs.Prelude.{◌≡◌, ℕ, [], ◌*◌, ◌<◌, ◌≤◌, ◌^◌, ◌↔◌, All, IfOk, OnOk, IfSome, IsTrue, Contains, length};
-ghost use Rattle.std.specs.Option.{ForSome};
+ghost use Rattle.std.specs.Prelude.{◌≡◌, ℕ, [], ◌*◌, ◌<◌, ◌≤◌, ◌^◌, ◌↔◌, All, IfOk, OnOk, IfSome, IsTrue, List, length, slice_get, Some};
 ghost use Rattle.polcert_cells.specs.Numbers.{one};
 ghost use Rattle.polcert_cells.specs.Elements.{most_elements};
 ghost use Rattle.polcert_cells.specs.EntryRefs.{entry_of};
+ghost use Rattle.polcert_cells.specs.Meaning.{sum_below};
 ghost use Rattle.polcert_cells.specs.declared.entry.Table.{Table as T};
+ghost use Rattle.polcert_cells.specs.declared.entry.Entry.{Entry as E};
 ghost use Rattle.polcert_rules.specs.declared.shape.Shape.{Shape as S};
 ghost use Rattle.polcert_rules.specs.Steps.Given.{IsWithin};
 ghost use Rattle.polcert_cells.specs.Sparse.{weight_at, IsRow, IsSparse};
 ghost use Rattle.polcert_rules.specs.Steps.Merging.{given_at, weight_in};
-ghost use Rattle.polcert_rules.specs.Steps.Sources.{source_of, source_in, IsWhole, IsFrom, AreKept, AreNumbersOf, IsKeptRow, IsMadeOf, HasCells, IsBehind, Stays, total};
+ghost use Rattle.polcert_rules.specs.Steps.Sources.{source_of, source_in, IsWhole, IsFrom, AreKept, AreNumbersOf, IsKeptRow, IsShared, IsBehind, Stays, AreNear, total};
 
 use crate::Shape;
 use crate::body::body_row;
 use crate::hiding::row_cells;
+use crate::lists::Lists;
 use crate::row::Row;
 use crate::single::newer_cells;
 use crate::slots::Slots;
-use polcert_cells::{BodyRef, Cell, Entries, EntryRef, Table};
+use polcert_cells::{BodyRef, Cell, Entries, EntryRef, ONE, Table};
 use std::alloc::{AllocError, Global};
 
-/// What a row is made of.
+/// What a row is made of that one entry gives alone.
 #[derive(Clone, Copy)]
 pub(crate) enum Source {
     /// No entry.
@@ -31,16 +33,13 @@ pub(crate) enum Source {
     Diagonal { state: usize },
     /// A line of the numbers of one entry, by its number.
     Line { entry: usize, line: usize },
-    /// Single cells, over one of these.
-    Cells,
 }
 
-/// A row that is kept, what it is made of, and the sum of its weights.
-#[derive(Drop)]
-pub(crate) struct Kept {
+/// A row that one entry gives alone: what it is made of, and the number under which it is kept.
+#[derive(Clone, Copy)]
+pub(crate) struct SharedRow {
     pub source: Source,
-    pub sum: u64,
-    pub cells: Vec<Cell>,
+    pub number: usize,
 }
 
 /// The entries whose bodies give rows, and the shape of the table that has these rows.
@@ -50,11 +49,21 @@ pub(crate) struct Bodies<'a> {
     pub shape: Shape,
 }
 
+/// The numbers of the rows of an action so far, and of those of the action before, if there is one.
+#[derive(Clone, Copy)]
+pub(crate) struct Near<'a> {
+    pub here: &'a [usize],
+    pub before: &'a [usize],
+}
+
 /// Rows that are kept once for many actions and states. A row that one entry gives alone is made once and kept once. A row of
 /// single cells is kept once where it is that of a neighbour.
 #[derive(Drop)]
 pub(crate) struct Keeper {
-    pub kept: Vec<Kept>,
+    pub rows: Lists<Cell>,
+    /// Of each row whether it sums to its scale.
+    pub proper: Vec<bool>,
+    pub shared: Vec<SharedRow>,
     slots: Slots,
 }
 
@@ -66,48 +75,61 @@ impl Keeper {
         table: Table,
         states: usize,
     ) -> Result<Keeper, AllocError>
-        ensures { IfOk result (λ keeper. keeper.kept.items ≡ []) }
+        ensures { IfOk result (λ keeper. (columns : ℕ) → AreKept columns entries.now keeper) }
     {
         let slots = Slots::of(alloc, entries, table, states)?;
         Ok(Keeper {
-            kept: Vec::new(alloc),
+            rows: Lists::new(alloc),
+            proper: Vec::new(alloc),
+            shared: Vec::new(alloc),
             slots,
         })
     }
 
-    /// The number under which the row of these entries is kept, of this action and state. The numbers are those of the rows
-    /// before it.
+    /// Whether the row of this number sums to its scale.
+    pub(crate) fn is_proper(&self, number: usize) -> bool
+        requires number { number < length self.now.rows }
+        ensures { (columns : ℕ) (entries : List E) (weights : ℕ → ℕ) → AreKept columns entries self.now →
+            IsKeptRow columns weights self.now.rows number →
+            (IsTrue result ↔ (sum_below weights columns ≡ one * columns)) }
+    {
+        match self.proper.get(number) {
+            Some(proper) => *proper,
+            None => false,
+        }
+    }
+
+    /// The number under which the row of these entries is kept, of this action and state.
     pub(crate) fn row_number(
         &mut self,
         alloc: Global,
         bodies: Bodies<'_>,
-        numbers: &[usize],
+        near: Near<'_>,
         row: &Row<'_>,
         state: usize,
     ) -> Result<usize, AllocError>
         requires within { IsWithin bodies.shape }
         requires state { state < bodies.shape.states }
-        requires numbers { All (λ n. n < length self.old.kept.items) numbers.now }
-        requires kept { AreKept bodies.shape.columns bodies.entries.now self.old.kept.items }
+        requires near { AreNear self.old.rows near }
+        requires kept { AreKept bodies.shape.columns bodies.entries.now self.old }
         requires row { (table : T) × (a : ℕ) ×
             AreNumbersOf bodies.shape bodies.entries.now table a state row.now }
-        ensures stays { OnOk result (Stays self.old.kept.items self.new.kept.items) }
+        ensures stays { OnOk result (Stays self.old.rows self.new.rows) }
         ensures kept { OnOk result
-            (AreKept bodies.entry.shape.columns bodies.entry.entries.now self.new.kept.items) }
+            (AreKept bodies.entry.shape.columns bodies.entry.entries.now self.new) }
         ensures row { IfOk result (λ n. (table : T) (a : ℕ) →
             AreNumbersOf bodies.entry.shape bodies.entry.entries.now table a state row.now →
             IsKeptRow bodies.entry.shape.columns
             (weight_in bodies.entry.shape.columns bodies.entry.entries.now table a state)
-            self.new.kept.items n) }
+            self.new.rows n) }
     {
         let base = self.shared_row(alloc, bodies, row.whole, state)?;
         let newer = newer_cells(alloc, bodies.entries, row, bodies.shape.columns)?;
         if row.zeros.is_none() && newer.is_empty() {
             return Ok(base);
         }
-        let below = cells_of(self.kept.as_slice(), base);
-        let cells = row_cells(alloc, row, below, newer.as_slice())?;
-        Ok(self.own_row(bodies, numbers, cells)?)
+        let cells = row_cells(alloc, row, self.rows.at(base), newer.as_slice())?;
+        Ok(self.own_row(bodies, near, cells.as_slice())?)
     }
 
     /// The number of the row that the entry of this number gives alone, which is made where it is not yet kept.
@@ -120,22 +142,23 @@ impl Keeper {
     ) -> Result<usize, AllocError>
         requires within { IsWithin bodies.shape }
         requires state { state < bodies.shape.states }
-        requires kept { AreKept bodies.shape.columns bodies.entries.now self.old.kept.items }
+        requires kept { AreKept bodies.shape.columns bodies.entries.now self.old }
         requires whole { IsWhole bodies.shape bodies.entries.now whole }
-        ensures stays { OnOk result (Stays self.old.kept.items self.new.kept.items) }
+        ensures stays { OnOk result (Stays self.old.rows self.new.rows) }
         ensures kept { OnOk result
-            (AreKept bodies.entry.shape.columns bodies.entry.entries.now self.new.kept.items) }
+            (AreKept bodies.entry.shape.columns bodies.entry.entries.now self.new) }
         ensures row { IfOk result (IsKeptRow bodies.entry.shape.columns
-            (given_at bodies.entry.shape.columns bodies.entry.entries.now whole state) self.new.kept.items) }
+            (given_at bodies.entry.shape.columns bodies.entry.entries.now whole state) self.new.rows) }
     {
         let source = source_of(bodies.entries, whole, state);
-        let noted = self.slots.number_of(source);
-        if is_made_of(self.kept.as_slice(), noted, source) {
-            return Ok(noted);
+        let place = self.slots.place_of(source);
+        if let Some(number) = number_at(self.shared.as_slice(), place, source) {
+            return Ok(number);
         }
         let cells = whole_row(alloc, bodies.entries, whole, state, bodies.shape)?;
-        let number = keep(&mut self.kept, source, cells, bodies.shape.columns)?;
-        self.slots.note(source, number);
+        let number = self.keep(cells.as_slice(), bodies.shape.columns)?;
+        self.slots.note(source, self.shared.len());
+        self.shared.push(SharedRow { source, number })?;
         Ok(number)
     }
 
@@ -143,31 +166,38 @@ impl Keeper {
     fn own_row(
         &mut self,
         bodies: Bodies<'_>,
-        numbers: &[usize],
-        cells: Vec<Cell>,
+        near: Near<'_>,
+        cells: &[Cell],
     ) -> Result<usize, AllocError>
         requires within { IsWithin bodies.shape }
-        requires numbers { All (λ n. n < length self.old.kept.items) numbers.now }
-        requires kept { AreKept bodies.shape.columns bodies.entries.now self.old.kept.items }
-        requires sparse { IsSparse bodies.shape.columns cells.items }
+        requires near { AreNear self.old.rows near }
+        requires kept { AreKept bodies.shape.columns bodies.entries.now self.old }
+        requires sparse { IsSparse bodies.shape.columns cells.now }
         requires small { (c : ℕ) → c < bodies.shape.columns →
-            weight_at cells.items c ≤ one * bodies.shape.columns }
-        ensures stays { OnOk result (Stays self.old.kept.items self.new.kept.items) }
+            weight_at cells.now c ≤ one * bodies.shape.columns }
+        ensures stays { OnOk result (Stays self.old.rows self.new.rows) }
         ensures kept { OnOk result
-            (AreKept bodies.entry.shape.columns bodies.entry.entries.now self.new.kept.items) }
-        ensures row { IfOk result
-            (IsKeptRow bodies.entry.shape.columns (weight_at cells.items) self.new.kept.items) }
+            (AreKept bodies.entry.shape.columns bodies.entry.entries.now self.new) }
+        ensures row { IfOk result (λ n. slice_get self.new.rows n ≡ Some cells.now) }
     {
-        let shape = bodies.shape;
-        if let Some(number) = alike(
-            self.kept.as_slice(),
-            numbers,
-            shape.states,
-            cells.as_slice(),
-        ) {
+        if let Some(number) = last_same(&self.rows, near, cells) {
             return Ok(number);
         }
-        Ok(keep(&mut self.kept, Source::Cells, cells, shape.columns)?)
+        Ok(self.keep(cells, bodies.shape.columns)?)
+    }
+
+    /// Keeps a row after the others, and gives its number.
+    fn keep(&mut self, cells: &[Cell], columns: usize) -> Result<usize, AllocError>
+        requires few { columns ≤ most_elements }
+        requires sparse { IsSparse columns cells.now }
+        requires small { (c : ℕ) → c < columns → weight_at cells.now c ≤ one * columns }
+        ensures number { IfOk result (λ n. n ≡ length self.old.rows) }
+        ensures kept { OnOk result (IsBehind columns cells.now self.old self.new) }
+    {
+        let number = self.rows.len();
+        self.rows.push(cells)?;
+        self.proper.push(row_sum(cells) == ONE * columns as u64)?;
+        Ok(number)
     }
 }
 
@@ -217,60 +247,43 @@ fn source_in(entry: EntryRef<'_>, number: usize, state: usize) -> Source
     }
 }
 
-/// The number of a row before this one that has these cells: of the state before, or of the action before.
-fn alike(kept: &[Kept], numbers: &[usize], states: usize, cells: &[Cell]) -> Option<usize>
-    requires some { 0 < states }
-    requires numbers { All (λ n. n < length kept.now) numbers.now }
-    ensures { IfSome result (λ n. HasCells kept.now n cells.now) }
+/// The number of a row next to this one that has these cells: of the state before, or of the action before.
+fn last_same(rows: &Lists<Cell>, near: Near<'_>, cells: &[Cell]) -> Option<usize>
+    requires near { AreNear rows.now near }
+    ensures { IfSome result (λ n. slice_get rows.now n ≡ Some cells.now) }
 {
-    if let Some(number) = neighbour(numbers, 1) {
-        if has_cells(kept, number, cells) {
-            return Some(number);
+    if let Some(number) = near.here.last() {
+        if has_cells(rows, *number, cells) {
+            return Some(*number);
         }
     }
-    if let Some(number) = neighbour(numbers, states) {
-        if has_cells(kept, number, cells) {
-            return Some(number);
+    if let Some(number) = near.before.get(near.here.len()) {
+        if has_cells(rows, *number, cells) {
+            return Some(*number);
         }
     }
     None
 }
 
-/// The cells of the row of this number.
-fn cells_of(kept: &[Kept], number: usize) -> &[Cell]
-    requires { number < length kept.now }
-    ensures { HasCells kept.now number result.now }
-{
-    kept[number].cells.as_slice()
-}
-
 /// Whether the row of this number has these cells.
-fn has_cells(kept: &[Kept], number: usize, cells: &[Cell]) -> bool
-    requires { number < length kept.now }
-    ensures { IsTrue result → HasCells kept.now number cells.now }
+fn has_cells(rows: &Lists<Cell>, number: usize, cells: &[Cell]) -> bool
+    requires { number < length rows.now }
+    ensures { IsTrue result → slice_get rows.now number ≡ Some cells.now }
 {
-    kept[number].cells.as_slice() == cells
+    rows.at(number) == cells
 }
 
-/// The number of the row so many before the one that comes next, if there is one.
-fn neighbour(numbers: &[usize], back: usize) -> Option<usize>
-    requires { 0 < back }
-    ensures { ForSome result (Contains numbers.now) }
+/// The number of the row at this place of the list, if it is made of this.
+fn number_at(shared: &[SharedRow], place: usize, source: Source) -> Option<usize>
+    ensures { IfSome result (IsShared shared.now source) }
 {
-    if back <= numbers.len() {
-        Some(numbers[numbers.len() - back])
-    } else {
-        None
-    }
-}
-
-/// Whether the row of this number is made of this.
-fn is_made_of(kept: &[Kept], number: usize, source: Source) -> bool
-    ensures { IsTrue result → IsMadeOf kept.now number source }
-{
-    match kept.get(number) {
-        Some(row) => is_same(row.source, source),
-        None => false,
+    match shared.get(place) {
+        Some(row) => if is_same(row.source, source) {
+            Some(row.number)
+        } else {
+            None
+        },
+        None => None,
     }
 }
 
@@ -281,7 +294,6 @@ fn is_same(one: Source, other: Source) -> bool
     match (one, other) {
         (Source::Nothing, Source::Nothing) => true,
         (Source::Even, Source::Even) => true,
-        (Source::Cells, Source::Cells) => true,
         (Source::Diagonal { state }, Source::Diagonal { state: place }) => state == place,
         (
             Source::Line { entry, line },
@@ -292,25 +304,6 @@ fn is_same(one: Source, other: Source) -> bool
         ) => { entry == number && line == place }
         _ => false,
     }
-}
-
-/// Keeps a row after the others, and gives its number.
-fn keep(
-    kept: &mut Vec<Kept>,
-    source: Source,
-    cells: Vec<Cell>,
-    columns: usize,
-) -> Result<usize, AllocError>
-    requires few { columns ≤ most_elements }
-    requires sparse { IsSparse columns cells.items }
-    requires small { (c : ℕ) → c < columns → weight_at cells.items c ≤ one * columns }
-    ensures number { IfOk result (λ n. n ≡ length kept.old.items) }
-    ensures kept { OnOk result (IsBehind columns source cells.items kept.old.items kept.new.items) }
-{
-    let number = kept.len();
-    let sum = row_sum(cells.as_slice());
-    kept.push(Kept { source, sum, cells })?;
-    Ok(number)
 }
 
 /// The sum of the weights of a row.

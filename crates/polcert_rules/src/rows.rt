@@ -1,39 +1,47 @@
 //! The rows of T or O.
-ghost use Rattle.std.specs.Prelude.{◌≡◌, ℕ, ◌<◌, IfOk, IsTrue, Some, slice_get};
+ghost use Rattle.std.specs.Prelude.{◌≡◌, ℕ, ◌+◌, ◌<◌, All, IfOk, OnOk, MatchResult, IsTrue, Some, length, slice_get};
 ghost use Rattle.polcert_cells.specs.Preamble.{Preamble};
 ghost use Rattle.polcert_cells.specs.Rows.{IsWeighted};
-ghost use Rattle.polcert_cells.specs.Meaning.{sum_below};
 ghost use Rattle.polcert_cells.specs.declared.cell.Cell.{Cell as C};
+ghost use Rattle.polcert_rules.specs.Keys.{key_base};
 ghost use Rattle.polcert_rules.specs.Steps.Newest.{IsIndexOf};
 ghost use Rattle.polcert_rules.specs.Steps.Shapes.{IsShapeOf, AreSound};
+ghost use Rattle.polcert_rules.specs.Steps.Repeats.{IsAsBefore};
 ghost use Rattle.polcert_cells.specs.Sparse.{weight_at, IsSparse};
 ghost use Rattle.polcert_rules.specs.Steps.Merging.{from as cells_from};
-ghost use Rattle.polcert_rules.specs.RowTables.{AreRowsOf, row_at};
-ghost use Rattle.polcert_rules.specs.Steps.Sources.{IsKept};
+ghost use Rattle.polcert_rules.specs.RowTables.{AreRowsOf, AreProperRows, IsFirstWrong, row_at};
+ghost use Rattle.polcert_rules.specs.Steps.Sources.{AreKept, AreGiven, AreLine, IsFirstWrongIn, Stays};
 
-use crate::kept::{Bodies, Keeper, Kept};
-use crate::repeats::{Repeats, is_as_before};
+use crate::kept::{Bodies, Keeper, Near};
+use crate::keys::KEY_BASE;
+use crate::lists::Lists;
 use crate::row::Row;
 use crate::split::SplitRules;
+use crate::wrong_row::WrongRow;
 use crate::{Index, Shape};
 use polcert_cells::{Cell, Entries, Table};
 use std::alloc::{AllocError, Global};
 use std::marker::Model;
 
+/// A column that no row has: the last that has a digit.
+const NO_COLUMN: usize = KEY_BASE as usize - 3;
+
 /// The rows of T or O: of each action and state the columns with a weight above 0, in order, with their weights. In a
 /// table of n columns the scale is 1,000,000 * n. What the body of an entry gives is kept once; a row of single cells is kept once
-/// where it is that of the state before, or of the same state under the action before, and is not even built where no entry tells
-/// it from a row of before.
+/// where it is that of the state before, or of the same state under the action before. The rows of an action that no entry names are
+/// those of the action before it, if none names that one either.
 #[derive(Drop)]
 pub struct Rows {
     shape: Shape,
-    numbers: Vec<usize>,
-    kept: Vec<Kept>,
+    /// Of each action the number of the row of each state.
+    numbers: Lists<usize>,
+    rows: Lists<Cell>,
 }
 
 impl Model for Rows {
-    ghost use Rattle.std.specs.Prelude.{◌≡◌, ◌*◌, ◌<◌, All, length, map};
-    ghost use Rattle.polcert_rules.specs.Steps.Sources.{IsKept};
+    ghost use Rattle.std.specs.Prelude.{◌≡◌, ◌*◌, ◌<◌, All, length};
+    ghost use Rattle.polcert_cells.specs.Sparse.{IsSparse};
+    ghost use Rattle.polcert_rules.specs.Steps.Sources.{HasRows};
     ghost use Rattle.polcert_rules.specs.RowTables.{RowTable};
 
     ghost Value = { RowTable };
@@ -42,60 +50,64 @@ impl Model for Rows {
       actions = r.shape.actions;
       states = r.shape.states;
       columns = r.shape.columns;
-      numbers = r.numbers.items;
-      rows = map (λ k. k.cells.items) r.kept.items;
+      numbers = r.numbers;
+      rows = r.rows;
     } };
 
-    ghost invariant = { λ r. (length r.numbers.items ≡ r.shape.actions * r.shape.states)
-        × All (λ n. n < length r.kept.items) r.numbers.items × All (IsKept r.shape.columns) r.kept.items };
+    ghost invariant = { λ r. (length r.numbers ≡ r.shape.actions)
+        × All (HasRows r.shape.states (length r.rows)) r.numbers × All (IsSparse r.shape.columns) r.rows };
+}
+
+/// The entries of a table of weights, and what is found among them.
+#[derive(Clone, Copy)]
+pub(crate) struct TableEntries<'a> {
+    pub bodies: Bodies<'a>,
+    pub table: Table,
+    pub index: &'a Index,
+    pub split: &'a SplitRules<'a>,
 }
 
 impl Rows {
-    /// The rows of a table of weights, from the index of its entries. An error is out of memory.
+    /// The rows of a table of weights, from the index of its entries, if each sums to its scale, or else the first that does not.
+    /// An error is out of memory.
     pub fn of(
         alloc: Global,
         shape: Shape,
         table: Table,
         entries: &Entries,
         index: &Index,
-    ) -> Result<Rows, AllocError>
+    ) -> Result<Result<Rows, WrongRow>, AllocError>
         requires weighted { IsWeighted table }
         requires sound { (p : Preamble) × IsShapeOf p table shape × AreSound p entries.now }
         requires index { IsIndexOf entries.now index.now }
-        ensures { IfOk result (λ rows. (p : Preamble) → IsShapeOf p table shape
-            → AreRowsOf p entries.now table rows) }
+        ensures { IfOk result (λ found. (p : Preamble) → IsShapeOf p table shape →
+            MatchResult found (λ rows. AreRowsOf p entries.now table rows × AreProperRows p entries.now table)
+            (IsFirstWrong p entries.now table)) }
     {
         let split = SplitRules::of(alloc, index.of_table(table), entries)?;
-        let mut numbers = Vec::with_capacity(alloc, shape.actions * shape.states)?;
+        let mut numbers = Lists::new(alloc);
         let mut keeper = Keeper::of(alloc, entries, table, shape.states)?;
-        let mut repeats = Repeats::of(alloc, index.of_table(table), shape.states)?;
-        let bodies = Bodies { entries, shape };
+        let given = TableEntries {
+            bodies: Bodies { entries, shape },
+            table,
+            index,
+            split: &split,
+        };
         for action in 0..shape.actions {
-            let as_before = is_as_before(index, table, action);
-            for state in 0..shape.states {
-                if as_before {
-                    let number = numbers[numbers.len() - shape.states];
-                    numbers.push(number)?;
-                    continue;
-                }
-                let outline = repeats.outline(index, table, action, state);
-                if let Some(number) = repeats.number_of(bodies, outline) {
-                    repeats.note(outline, number);
-                    numbers.push(number)?;
-                    continue;
-                }
-                let row = Row::of(alloc, outline.whole, &split, table, action, state)?;
-                let before = numbers.as_slice();
-                let number = keeper.row_number(alloc, bodies, before, &row, state)?;
-                repeats.note(outline, number);
-                numbers.push(number)?;
+            if is_as_before(index, table, action) {
+                numbers.repeat_last()?;
+                continue;
+            }
+            match action_rows(alloc, &mut keeper, given, last(&numbers), action)? {
+                Ok(line) => numbers.push(line.as_slice())?,
+                Err(wrong) => return Ok(Err(wrong)),
             }
         }
-        Ok(Rows {
+        Ok(Ok(Rows {
             shape,
             numbers,
-            kept: keeper.kept,
-        })
+            rows: keeper.rows,
+        }))
     }
 
     /// The columns with a weight above 0, in order, with their weights.
@@ -105,7 +117,7 @@ impl Rows {
         ensures row { result.now ≡ row_at self.now action state }
         ensures sparse { IsSparse self.now.columns result.now }
     {
-        self.kept_row(action, state).cells.as_slice()
+        self.rows.at(self.numbers.at(action)[state])
     }
 
     /// The weight of a column, 0 too.
@@ -123,25 +135,70 @@ impl Rows {
             None => 0,
         }
     }
+}
 
-    /// The sum of the weights of a row.
-    pub fn sum(&self, action: usize, state: usize) -> u64
-        requires action { action < self.now.actions }
-        requires state { state < self.now.states }
-        ensures { result ≡ sum_below (weight_at (row_at self.now action state)) self.now.columns }
-    {
-        self.kept_row(action, state).sum
+/// The last list of numbers, or an empty one.
+fn last(numbers: &Lists<usize>) -> &[usize]
+    ensures { (size : ℕ) → All (All (λ n. n < size)) numbers.now → All (λ n. n < size) result.now }
+{
+    if numbers.len() == 0 {
+        return &[];
     }
+    numbers.at(numbers.len() - 1)
+}
 
-    /// The row as it is kept.
-    fn kept_row(&self, action: usize, state: usize) -> &Kept
-        requires action { action < self.now.actions }
-        requires state { state < self.now.states }
-        ensures cells { result.now.cells.items ≡ row_at self.now action state }
-        ensures kept { IsKept self.now.columns result.now }
-    {
-        &self.kept[self.numbers[action * self.shape.states + state]]
+/// The numbers of the rows of an action, which are kept, if each sums to its scale, or else the first that does not. `before` are
+/// those of the action before.
+fn action_rows(
+    alloc: Global,
+    keeper: &mut Keeper,
+    given: TableEntries<'_>,
+    before: &[usize],
+    action: usize,
+) -> Result<Result<Vec<usize>, WrongRow>, AllocError>
+    requires given { AreGiven given }
+    requires action { action < given.bodies.shape.actions }
+    requires before { All (λ n. n < length keeper.old.rows) before.now }
+    requires kept { AreKept given.bodies.shape.columns given.bodies.entries.now keeper.old }
+    ensures stays { OnOk result (Stays keeper.old.rows keeper.new.rows) }
+    ensures kept { OnOk result
+        (AreKept given.entry.bodies.shape.columns given.entry.bodies.entries.now keeper.new) }
+    ensures rows { IfOk result (λ found. MatchResult found
+        (λ line. AreLine given.entry action given.entry.bodies.shape.states keeper.new.rows line.items)
+        (IsFirstWrongIn given.entry action)) }
+{
+    let mut numbers = Vec::with_capacity(alloc, given.bodies.shape.states)?;
+    for state in 0..given.bodies.shape.states {
+        let whole = given
+            .index
+            .newest_rule(given.table, &[action, state, NO_COLUMN]);
+        let row = Row::of(alloc, whole, given.split, given.table, action, state)?;
+        let near = Near {
+            here: numbers.as_slice(),
+            before,
+        };
+        let number = keeper.row_number(alloc, given.bodies, near, &row, state)?;
+        if !keeper.is_proper(number) {
+            return Ok(Err(WrongRow {
+                table: given.table,
+                action,
+                row: state,
+            }));
+        }
+        numbers.extend_from_slice(&[number])?;
     }
+    Ok(Ok(numbers))
+}
+
+/// Whether the rows of this action are known to be those of the action before it: no entry names one of the two.
+fn is_as_before(index: &Index, table: Table, action: usize) -> bool
+    requires { action + 2 < key_base }
+    ensures { IsTrue result → IsAsBefore index.now table action }
+{
+    if action > 0 && index.names_no_action(table, action) {
+        return index.names_no_action(table, action - 1);
+    }
+    false
 }
 
 /// The cells of a row from a column on. In a row without zeros a column stands at its own number.

@@ -1,5 +1,5 @@
-//! Where the rows may be kept that one entry gives alone. Nothing is promised of these numbers: whoever reads one looks
-//! whether the row of this number is the one that is asked for.
+//! Where the rows that one entry gives alone may stand among those that are kept. Nothing is promised of these places: each use
+//! tests whether the row there is the one that is asked for.
 use crate::kept::Source;
 use crate::part::in_half;
 use polcert_cells::{BodyRef, Entries, EntryRef, Place, Table};
@@ -19,8 +19,8 @@ const FIRST_DIAGONAL: usize = 2;
 pub(crate) struct Slots {
     /// Of each entry the slot of the first line of its body.
     starts: Vec<u32>,
-    /// In each slot the number of a row.
-    numbers: Vec<u32>,
+    /// In each slot the place of a row.
+    places: Vec<u32>,
 }
 
 impl Slots {
@@ -37,23 +37,23 @@ impl Slots {
             starts.push(in_half(end))?;
             end = end.saturating_add(lines_of(entries.at(number), table, states));
         }
-        let numbers = vec![in alloc; 0; in_half(end) as usize]?;
-        Ok(Slots { starts, numbers })
+        let places = vec![in alloc; 0; in_half(end) as usize]?;
+        Ok(Slots { starts, places })
     }
 
-    /// The number of the row that is made of this, if it was noted, and else any number.
-    pub(crate) fn number_of(&self, source: Source) -> usize {
+    /// The place of the row that is made of this, if it was noted, and else any place.
+    pub(crate) fn place_of(&self, source: Source) -> usize {
         match self.slot_of(source) {
-            Some(slot) => self.numbers.get(slot).copied().unwrap_or(0) as usize,
+            Some(slot) => self.places.get(slot).copied().unwrap_or(0) as usize,
             None => 0,
         }
     }
 
-    /// Notes the number of the row that is made of this.
-    pub(crate) fn note(&mut self, source: Source, number: usize) {
+    /// Notes the place of the row that is made of this.
+    pub(crate) fn note(&mut self, source: Source, place: usize) {
         if let Some(slot) = self.slot_of(source) {
-            if slot < self.numbers.len() {
-                self.numbers[slot] = in_half(number);
+            if slot < self.places.len() {
+                self.places[slot] = in_half(place);
             }
         }
     }
@@ -68,7 +68,6 @@ impl Slots {
                 Some(start) => (*start as usize).checked_add(line),
                 None => None,
             },
-            Source::Cells => None,
         }
     }
 }

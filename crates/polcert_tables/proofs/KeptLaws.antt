@@ -81,7 +81,7 @@ sum_of_none (suc n) k e l =
     omega (arith, before, here)
 
 -- a row whose whole weight stands in one column
-sum_of_one : (n k e : ℕ) → e < n → sum_below (λ z. cond (e == z) k 0) n ≡ k
+pub sum_of_one : (n k e : ℕ) → e < n → sum_below (λ z. cond (e == z) k 0) n ≡ k
 sum_of_one zero k e l = absurd (omega (arith, l))
 sum_of_one (suc n) k e l = ⊎_elim
     (λ (less : e < n).
@@ -100,20 +100,12 @@ sum_of_one (suc n) k e l = ⊎_elim
     before_or_last i n l = grind arith
 
 -- in an MDP as many elements are observed as there are states
-states_seen : (p : Preamble) → is_mdp p ≡ true → count_of p.states ≡ count_of (observed p)
+pub states_seen : (p : Preamble) → is_mdp p ≡ true → count_of p.states ≡ count_of (observed p)
 states_seen p = at p.observations
   where
     at : (o : Option Elements) → is_none o ≡ true → count_of p.states ≡ count_of (unwrap_or o p.states)
     at None e = refl
     at (Some elements) e = absurd (true≢false e refl)
-
--- the row of an end state that is observed sums to the scale
-pub end_sum : (k : Kept) → IsDraft k → (a e : ℕ) → k.observations ≡ None → e < count_of k.preamble.states → o_scale (meaning k) ≡ sum_below ((meaning k).o a e) (observations_of (meaning k))
-end_sum k d a e none l =
-    let mdp : is_mdp k.preamble ≡ true = sym d.mdp ∙ ap (λ (o : Option RowTable). is_none o) none in
-    let seen = states_seen k.preamble mdp in
-    subst (λ (o : Option RowTable). one * count_of (observed k.preamble) ≡ sum_below (observed_at k.preamble o a e) (count_of (observed k.preamble))) (sym none)
-    (ap (λ n. one * n) (sym seen) ∙ sym (sum_of_one (count_of (observed k.preamble)) (one * count_of k.preamble.states) e (subst (λ n. e < n) seen l)))
 
 -- ---- of a draft
 few_in : (k : Kept) → IsDraft k → AreFew k.preamble

@@ -1,45 +1,75 @@
--- The test of the row sums.
-use Rattle.std.proofs.Common.{◌≡◌, ◌∙◌, ℕ, ◌+◌, ◌<◌, ◌≤◌, ◌⊎◌, ⊎_elim, ◌↔◌, Option, Some, None, MatchOption, IsTrue, nat_eq, sym, subst, arith, rules, tests}
+-- Row sums: those of all tables, by what is known of each table.
+use Rattle.std.proofs.Common.{◌≡◌, ◌∙◌, ℕ, ◌*◌, ◌<◌, ◌==◌, Bool, true, false, cond, List, [], ◌∷◌, sym, ap, subst}
+use Rattle.polcert_cells.specs.declared.entry.Entry.{Entry}
 use Rattle.polcert_cells.specs.declared.entry.Table.{Table}
-use Rattle.polcert_cells.specs.declared.entry.Table.TheVariants.{Transition, Observation, Reward}
-use Rattle.polcert_cells.specs.Meaning.{Meaning, HasProperRows, states_of, observations_of, t_scale, o_scale, sum_below}
+use Rattle.polcert_cells.specs.declared.entry.Table.TheVariants.{Transition, Observation}
+use Rattle.polcert_cells.specs.Numbers.{one}
+use Rattle.polcert_cells.specs.Elements.{count_of}
+use Rattle.polcert_cells.specs.Preamble.{Preamble, is_mdp, observed}
+use Rattle.polcert_cells.specs.Cells.{weight}
+use Rattle.polcert_cells.specs.Meaning.{HasProperRows, states_of, observations_of, sum_below}
+use Rattle.polcert_cells.specs.Rows.{IsFirstWrongRow}
+use Rattle.polcert_cells.specs.Steps.Drafts as drafts
+use Rattle.polcert_rules.specs.declared.wrong_row.WrongRow.{WrongRow}
+use Rattle.polcert_rules.specs.RowTables.{AreProperRows, IsFirstWrong}
+use Rattle.polcert_rules.proofs.RowLaws.SumLaws.{sum_same}
 use Rattle.polcert_tables.specs.Kept.{Kept, meaning}
-use Rattle.polcert_cells.specs.Rows.{IsProperRow, AreProperBefore, IsFirstWrongRow}
-use Rattle.polcert_tables.specs.declared.row_sums.WrongRow.{WrongRow}
-use Rattle.polcert_tables.specs.Steps.RowSums.{AreProper, IsFirstWrongIn}
+use Rattle.polcert_tables.specs.Steps.KeptOf.{IsKeptOf}
+use Rattle.polcert_tables.specs.Steps.RowSums.{AreProperObservations}
+use Rattle.polcert_tables.proofs.KeptLaws.{AreFew, kept_same, sum_of_one, states_seen}
 
-equal_test : (x y a b : ℕ) → x ≡ a → y ≡ b → IsTrue (nat_eq x y) ↔ (a ≡ b)
-equal_test x y a b e f = (λ t. let same : x ≡ y = search (rules, tests) in sym e ∙ same ∙ f, λ same. let same : x ≡ y = e ∙ same ∙ sym f in search (rules, tests))
+-- ---- the rows of O
+pub of_observations : (p : Preamble) (entries : List Entry) → is_mdp p ≡ false → AreProperRows p entries Observation → AreProperObservations p entries
+of_observations p entries pomdp h a e i j =
+    subst (λ b. sum_below (λ z. cond b (cond (e == z) (one * count_of p.states) 0) (weight p entries Observation (a ∷ e ∷ z ∷ []))) (count_of (observed p)) ≡ one * count_of (observed p)) (sym pomdp) (h a e i j)
 
-pub transition_test : (k : Kept) (table : Table) (a s x y : ℕ) → table ≡ Transition → x ≡ sum_below ((meaning k).t a s) (states_of (meaning k)) → y ≡ t_scale (meaning k)
-    → IsTrue (nat_eq x y) ↔ IsProperRow (meaning k) table a s
-transition_test k Transition a s x y t e f = equal_test x y _ _ e f
-transition_test k Observation a s x y t e f = absurd (cc)
-transition_test k Reward a s x y t e f = absurd (cc)
+pub of_end_states : (p : Preamble) (entries : List Entry) → is_mdp p ≡ true → AreProperObservations p entries
+of_end_states p entries mdp a e i j =
+    let seen = states_seen p mdp in
+    subst (λ b. sum_below (λ z. cond b (cond (e == z) (one * count_of p.states) 0) (weight p entries Observation (a ∷ e ∷ z ∷ []))) (count_of (observed p)) ≡ one * count_of (observed p)) (sym mdp)
+    (sum_of_one (count_of (observed p)) (one * count_of p.states) e (subst (λ n. e < n) seen j) ∙ ap (λ n. one * n) seen)
 
-pub observation_test : (k : Kept) (table : Table) (a s x y : ℕ) → table ≡ Observation → x ≡ sum_below ((meaning k).o a s) (observations_of (meaning k)) → y ≡ o_scale (meaning k)
-    → IsTrue (nat_eq x y) ↔ IsProperRow (meaning k) table a s
-observation_test k Transition a s x y t e f = absurd (cc)
-observation_test k Observation a s x y t e f = equal_test x y _ _ e f
-observation_test k Reward a s x y t e f = absurd (cc)
+-- ---- the rows of all tables
+abbrev O_sums : drafts.Draft → ℕ → ℕ → Bool → Type 0
+O_sums d a e b =
+    sum_below (λ z. cond b (cond (e == z) (one * count_of d.preamble.states) 0) (weight d.preamble d.entries Observation (a ∷ e ∷ z ∷ []))) (count_of (observed d.preamble)) ≡ one * count_of (observed d.preamble)
 
-before_or_same : (x a : ℕ) → x < a + 1 → (x < a) ⊎ (x ≡ a)
-before_or_same x a l = grind arith
+module _ (d : drafts.Draft) where
+  pub kept_proper : (k : Kept) → AreFew k.preamble → IsKeptOf d k → AreProperRows d.preamble d.entries Transition → AreProperObservations d.preamble d.entries → HasProperRows (meaning k)
+  kept_proper k few kept t o =
+      let same = kept_same d k few kept in
+      record {
+        transitions = λ a s i j.
+            sum_same _ _ (states_of (meaning k)) (λ c l. same.t a s c i j l)
+            ∙ ap (sum_below ((drafts.meaning d).t a s)) (ap (λ (p : Preamble). count_of p.states) same.preamble)
+            ∙ t a s (subst (λ (p : Preamble). a < count_of p.actions) same.preamble i) (subst (λ (p : Preamble). s < count_of p.states) same.preamble j)
+            ∙ sym (ap (λ (p : Preamble). one * count_of p.states) same.preamble);
+        observations = λ a e i j.
+            sum_same _ _ (observations_of (meaning k)) (λ c l. same.o a e c i j l)
+            ∙ ap (sum_below ((drafts.meaning d).o a e)) (ap (λ (p : Preamble). count_of (observed p)) same.preamble)
+            ∙ o a e (subst (λ (p : Preamble). a < count_of p.actions) same.preamble i) (subst (λ (p : Preamble). e < count_of p.states) same.preamble j)
+            ∙ sym (ap (λ (p : Preamble). one * count_of (observed p)) same.preamble);
+      }
 
--- after all rows of an action the next action begins
-pub next_action : (m : Meaning) (table : Table) (a s : ℕ) → AreProperBefore m table a s → states_of m ≤ s → AreProperBefore m table (a + 1) 0
-next_action m table a s b all = record {
-  earlier_actions = λ x r i j. ⊎_elim (λ less. b.earlier_actions x r less j)
-      (λ same. subst (λ y. IsProperRow m table y r) (sym same) (b.same_action r (omega (arith, j, all)))) (before_or_same x a i);
-  same_action = λ r i. absurd (omega (arith, i));
-}
+  -- ---- the first row that is wrong
+  pub wrong_transition : (w : WrongRow) → IsFirstWrong d.preamble d.entries Transition w → IsFirstWrongRow (drafts.meaning d) w.table w.action w.row
+  wrong_transition w h = subst (λ (u : Table). IsFirstWrongRow (drafts.meaning d) u w.action w.row) (sym h.table_is) (record {
+    action = h.action;
+    state = h.state;
+    wrong = h.wrong;
+    before = record { earlier_actions = h.earlier_actions; same_action = h.same_action };
+    behind_transitions = tt;
+  })
 
--- after all rows of T those of O
-pub then_observations : (m : Meaning) (result : Option WrongRow) → AreProper m Transition
-    → MatchOption result (AreProper m Observation) (λ w. (w.table ≡ Observation) × IsFirstWrongIn m Observation w.action w.row)
-    → MatchOption result (HasProperRows m) (λ w. IsFirstWrongRow m w.table w.action w.row)
-then_observations m None t o = record { transitions = t; observations = o }
-then_observations m (Some w) t h =
-    let first = h.1 in
-    subst (λ u. IsFirstWrongRow m u w.action w.row) (sym h.0)
-    (record { action = first.action; state = first.state; wrong = first.wrong; before = first.before; behind_transitions = t })
+  pub wrong_observation : (w : WrongRow) → AreProperRows d.preamble d.entries Transition → is_mdp d.preamble ≡ false → IsFirstWrong d.preamble d.entries Observation w
+      → IsFirstWrongRow (drafts.meaning d) w.table w.action w.row
+  wrong_observation w t pomdp h = subst (λ (u : Table). IsFirstWrongRow (drafts.meaning d) u w.action w.row) (sym h.table_is) (record {
+    action = h.action;
+    state = h.state;
+    wrong = λ p. h.wrong (subst (O_sums d w.action w.row) pomdp p);
+    before = record {
+      earlier_actions = λ b r i j. subst (O_sums d b r) (sym pomdp) (h.earlier_actions b r i j);
+      same_action = λ r i. subst (O_sums d w.action r) (sym pomdp) (h.same_action r i);
+    };
+    behind_transitions = t;
+  })

@@ -1,23 +1,25 @@
 //! A model whose rows aren't tested yet.
-ghost use Rattle.std.specs.Prelude.{◌≡◌, ◌+◌, ◌<◌, false, pos, ℕ, IfOk, IsTrue, length, slice_index_or};
+ghost use Rattle.std.specs.Prelude.{◌≡◌, ◌+◌, ◌<◌, false, pos, ℕ, IfOk, IsTrue, MatchResult, length, slice_index_or};
 ghost use Rattle.std.specs.Option.{ForSome, option_copied};
 ghost use Rattle.polcert_cells.specs.LentRows.{IsRowOf};
-ghost use Rattle.polcert_cells.specs.Rows.{IsWeighted};
+ghost use Rattle.polcert_cells.specs.Rows.{IsWeighted, IsFirstWrongRow};
 ghost use Rattle.polcert_cells.specs.Elements.{most_states, most_actions, most_observations, most_elements, count_of};
-ghost use Rattle.polcert_cells.specs.declared.entry.Table.TheVariants.{Transition};
+ghost use Rattle.polcert_cells.specs.declared.entry.Table.TheVariants.{Transition, Observation};
 ghost use Rattle.polcert_cells.specs.Preamble.{Preamble as P, is_mdp, rewarded, columns as columns_in};
 ghost use Rattle.polcert_cells.specs.Meaning.{IsCount, reward_index, states_of, actions_of, observations_of};
-ghost use Rattle.polcert_cells.specs.Meaning.{t_scale, o_scale, start_weight, start_total, elements_of, sum_below};
+ghost use Rattle.polcert_cells.specs.Meaning.{t_scale, o_scale, start_weight, start_total, elements_of, HasProperRows};
+ghost use Rattle.polcert_cells.specs.Steps.Drafts as drafts;
 ghost use Rattle.polcert_tables.specs.Kept.{meaning};
 ghost use Rattle.polcert_tables.specs.Steps.KeptOf.{IsKeptOf, AreObservationsOf};
 ghost use Rattle.polcert_format.specs.Order.{count_or};
 ghost use Rattle.polcert_rules.specs.Steps.Newest.{IsIndexOf};
 ghost use Rattle.polcert_rules.specs.Steps.Shapes.{IsShapeOf, AreSound};
-ghost use Rattle.polcert_tables.specs.Steps.RowSums.{row_of};
+ghost use Rattle.polcert_rules.specs.RowTables.{IsFirstWrong};
+ghost use Rattle.polcert_tables.specs.Steps.RowSums.{row_of, AreProperObservations};
 
 use crate::Preamble;
 use polcert_cells::{Cell, Elements, Entries, Kind, ONE, Row, Shares, Table};
-use polcert_rules::{Index, RewardShape, Rewards, Rows, Shape};
+use polcert_rules::{Index, RewardShape, Rewards, Rows, Shape, WrongRow};
 use std::alloc::{AllocError, Global};
 use std::marker;
 
@@ -53,15 +55,20 @@ impl Draft {
     ghost use Rattle.polcert_cells.specs.Steps.Sound.{IsSound};
     ghost use Rattle.polcert_tables.specs.Steps.DraftView.{draft_with, preamble_of};
 
-    /// The draft of a text that has this preamble, this start item or none, and these entries.
+    /// The draft of a text that has this preamble, this start item or none, and these entries, if each row of its tables sums to
+    /// its scale, or else the first row that does not: those of T come before those of O, and go by action and then by state. An
+    /// error is out of memory.
     pub fn of(
         alloc: Global,
         preamble: Preamble,
         start: Option<Shares>,
         entries: Entries,
-    ) -> Result<Draft, AllocError>
+    ) -> Result<Result<Draft, WrongRow>, AllocError>
         requires { IsSound (draft_with preamble start entries) }
-        ensures { IfOk result (IsKeptOf (draft_with preamble start entries)) }
+        ensures { IfOk result (λ found. MatchResult found
+            (λ draft. IsKeptOf (draft_with preamble start entries) draft × HasProperRows (meaning draft))
+            (λ w. IsFirstWrongRow (drafts.meaning (draft_with preamble start entries))
+            w.table w.action w.row)) }
     {
         let entries = &entries;
         let index = Index::of(alloc, entries)?;
@@ -70,21 +77,28 @@ impl Draft {
             states: preamble.states.count(),
             columns: preamble.states.count(),
         };
-        let transitions = Rows::of(alloc, shape, Table::Transition, entries, &index)?;
-        let observed = observed_rows(alloc, shape, &preamble.observations, entries, &index)?;
+        let transitions = match Rows::of(alloc, shape, Table::Transition, entries, &index)? {
+            Ok(rows) => rows,
+            Err(wrong) => return Ok(Err(wrong)),
+        };
+        let observations = &preamble.observations;
+        let observed = match observed_rows(alloc, shape, observations, entries, &index)? {
+            Ok(rows) => rows,
+            Err(wrong) => return Ok(Err(wrong)),
+        };
         let shape = RewardShape {
             actions: preamble.actions.count(),
             states: preamble.states.count(),
             observations: count_or(ONE_THING, &preamble.observations),
         };
         let rewards = Rewards::of(alloc, shape, preamble.costs, entries, index)?;
-        Ok(Draft {
+        Ok(Ok(Draft {
             preamble,
             start,
             transitions,
             observed,
             rewards,
-        })
+        }))
     }
 
     /// How many states there are: 1 to 10,000.
@@ -350,27 +364,6 @@ impl Draft {
         }
     }
 
-    /// What the weights of all end states sum to where action `a` is taken in state `s`.
-    pub fn t_sum(&self, a: usize, s: usize) -> u64
-        requires action { a < actions_of (meaning self.now) }
-        requires start { s < states_of (meaning self.now) }
-        ensures { result ≡ sum_below ((meaning self.now).t a s) (states_of (meaning self.now)) }
-    {
-        self.transitions.sum(a, s)
-    }
-
-    /// What the weights of all observations sum to where action `a` ends in state `e`.
-    pub fn o_sum(&self, a: usize, e: usize) -> u64
-        requires action { a < actions_of (meaning self.now) }
-        requires end { e < states_of (meaning self.now) }
-        ensures { result ≡ sum_below ((meaning self.now).o a e) (observations_of (meaning self.now)) }
-    {
-        match &self.observed {
-            Some(rows) => rows.sum(a, e),
-            None => self.o_scale(),
-        }
-    }
-
     /// How many columns a row of the table has: those of R have one.
     pub fn columns(&self, table: Table) -> usize
         ensures columns { result ≡ columns_in self.now.preamble table }
@@ -394,29 +387,32 @@ pub fn count_or(count: usize, elements: &Option<Elements>) -> usize
     }
 }
 
-/// The rows of O, if there are observations.
+/// The rows of O, if there are observations, or else the first that does not sum to its scale.
 fn observed_rows(
     alloc: Global,
     shape: Shape,
     observations: &Option<Elements>,
     entries: &Entries,
     index: &Index,
-) -> Result<Option<Rows>, AllocError>
+) -> Result<Result<Option<Rows>, WrongRow>, AllocError>
     requires sound { (p : P) × (p.observations ≡ observations.now) × IsShapeOf p Transition shape
         × AreSound p entries.now }
     requires index { IsIndexOf entries.now index.now }
-    ensures rows { IfOk result
-        (λ rows. (p : P) → p.observations ≡ observations.now → IsShapeOf p Transition shape →
-        AreObservationsOf p entries.now rows) }
+    ensures { IfOk result
+        (λ found. (p : P) → p.observations ≡ observations.now → IsShapeOf p Transition shape →
+        MatchResult found (λ rows. AreObservationsOf p entries.now rows × AreProperObservations p entries.now)
+        (λ w. (is_mdp p ≡ false) × IsFirstWrong p entries.now Observation w)) }
 {
     let Some(elements) = observations else {
-        return Ok(None);
+        return Ok(Ok(None));
     };
     let shape = Shape {
         actions: shape.actions,
         states: shape.states,
         columns: elements.count(),
     };
-    let rows = Rows::of(alloc, shape, Table::Observation, entries, index)?;
-    Ok(Some(rows))
+    match Rows::of(alloc, shape, Table::Observation, entries, index)? {
+        Ok(rows) => Ok(Ok(Some(rows))),
+        Err(wrong) => Ok(Err(wrong)),
+    }
 }

@@ -1,83 +1,207 @@
 -- Rows as they are built, action by action and state by state.
-use Rattle.std.proofs.Common.{◌≡◌, ◌∙◌, ℕ, ◌+◌, ◌*◌, ◌<◌, ⊎_elim, Some, List, [], ◌∷◌, ◌++◌, length, get_or, map, All, sym, ap, subst, arith}
+use Rattle.std.proofs.Common.{◌≡◌, ◌∙◌, ℕ, ◌+◌, ◌-◌, ◌*◌, ◌^◌, ◌<◌, ◌≤◌, ◌↔◌, Contains, ⊎_elim, Some, List, [], ◌∷◌, ◌++◌, length, get_or, slice_index, slice_index_or, All, sym, ap, subst, arith}
 use Rattle.std.specs.List.{slice_get}
-use Rattle.std.specs.Option.{option_map}
 use Rattle.std.proofs.lemmas.Bool.{cases_lt}
-use Rattle.std.proofs.lemmas.List.{length-append, get_or_append_left}
+use Rattle.std.proofs.lemmas.List.{length-append, get_or_append_left, get_or_default}
 use Rattle.std.proofs.Math.Seq.{get_or-append_seam}
 use Rattle.std.proofs.lemmas.List.Elements.{All-nil, All-push}
-use Rattle.std.proofs.lemmas.Option.{slice_get-get_or, slice_get_within, get_or_from_slice_get, slice_get-map}
-use Rattle.polcert_cells.specs.declared.entry.Table.{Table}
-use Rattle.polcert_cells.specs.declared.entry.Entry.{Entry}
+use Rattle.std.proofs.lemmas.Option.{slice_get_within, get_or_from_slice_get}
 use Rattle.polcert_cells.specs.declared.cell.Cell.{Cell}
-use Rattle.polcert_rules.specs.declared.kept.Kept.{Kept}
-use Rattle.polcert_cells.specs.Sparse.{IsRow}
-use Rattle.polcert_rules.specs.Steps.Merging.{weight_in}
-use Rattle.polcert_rules.specs.Steps.Sources.{IsKept, AreKept, IsFrom, IsKeptRow, Stays, AreBuilt}
-use Rattle.polcert_rules.proofs.RowLaws.BodyLaws.{line_within}
-use Rattle.polcert_rules.proofs.Indexes.KeptLaws.{at_number}
+use Rattle.polcert_cells.specs.Preamble.{Preamble}
+use Rattle.polcert_cells.specs.Meaning.{sum_below}
+use Rattle.polcert_cells.specs.Numbers.{one}
+use Rattle.polcert_cells.specs.Cells.{weight}
+use Rattle.polcert_cells.specs.Sparse.{IsSparse, IsRow}
+use Rattle.polcert_cells.proofs.SparseLaws.{row_same}
+use Rattle.polcert_rules.specs.declared.rows.TableEntries.{TableEntries}
+use Rattle.polcert_rules.specs.declared.wrong_row.WrongRow.{WrongRow}
+use Rattle.polcert_rules.specs.Keys.{key_base, table_key, most_places}
+use Rattle.polcert_rules.specs.declared.rule.Rule.{Rule}
+use Rattle.polcert_rules.specs.Steps.Newest.{IsRising, IsIndexOf}
+use Rattle.polcert_rules.specs.Steps.Zeros.{zeros_of, others_of, others_in}
+use Rattle.polcert_cells.specs.Rows.{IsWeighted}
+use Rattle.polcert_rules.specs.RowTables.{IsProperRow, AreProperRows, IsFirstWrong}
+use Rattle.polcert_rules.specs.Steps.Shapes.{IsShapeOf, AreSound}
+use Rattle.polcert_rules.specs.Steps.Repeats.{IsAsBefore}
+use Rattle.polcert_rules.specs.Steps.Sources.{IsKeptRow, Stays, AreGiven, weights_at, HasScale, HasRows, AreLine, AreLines, IsFirstWrongIn}
+use Rattle.polcert_rules.proofs.RowLaws.SumLaws.{sum_same}
+use Rattle.polcert_rules.proofs.RowLaws.SplitLaws.{split_is}
+use Rattle.polcert_rules.proofs.RowLaws.RepeatLaws.{as_named}
+use Rattle.polcert_rules.proofs.RowLaws.SoundRows.{sound_keyed, sound_within, weight_is}
+use Rattle.polcert_rules.proofs.Indexes.KeptLaws.{at_number, numbers_stay, row_within}
 
--- a place in rows of the same length has one row and one column
-pub one_place : (n a s b t : ℕ) → s < n → t < n → a * n + s ≡ b * n + t → (a ≡ b) × (s ≡ t)
-one_place n a s b t l m e = ⊎_elim
-    (λ less. let more = line_within a b n less in absurd (omega arith))
-    (λ ge. ⊎_elim
-    (λ less. let more = line_within b a n less in absurd (omega arith))
-    (λ le. let same : a ≡ b = omega arith in (same, let rows : a * n ≡ b * n = ap (λ k. k * n) same in omega arith))
-    (cases_lt b a))
-    (cases_lt a b)
+module _ (given : TableEntries) where
+  abbrev width : ℕ
+  width = given.bodies.shape.columns
 
-module _ (columns states : ℕ) (entries : List Entry) (table : Table) where
-  pub built_none : (count : ℕ) (numbers : List ℕ) (kept : List Kept) → count ≡ 0 → numbers ≡ [] → kept ≡ [] → AreBuilt columns states entries table count numbers kept
-  built_none count numbers kept e f g = record {
-    size = ap length f ∙ sym e;
-    within = subst (λ (xs : List ℕ). All (λ n. n < length kept) xs) (sym f) (All-nil (λ n. n < length kept));
-    rows = subst (λ (xs : List Kept). AreKept columns entries xs) (sym g) (All-nil (IsKept columns), All-nil (λ (k : Kept). IsFrom columns entries k.source k.cells.items));
-    each = λ a s l m. absurd (omega arith);
-  }
-
-  pub built_same : (count other : ℕ) (numbers : List ℕ) (kept : List Kept) → count ≡ other → AreBuilt columns states entries table count numbers kept → AreBuilt columns states entries table other numbers kept
-  built_same count other numbers kept e h = subst (λ n. AreBuilt columns states entries table n numbers kept) e h
-
-  kept_stays : (f : ℕ → ℕ) (old new : List Kept) (n : ℕ) → Stays old new → IsKeptRow columns f old n → IsKeptRow columns f new n
+  kept_stays : (f : ℕ → ℕ) (old new : List (List Cell)) (n : ℕ) → Stays old new → IsKeptRow width f old n → IsKeptRow width f new n
   kept_stays f old new n stays k = record { row = k.row; is = stays n k.row k.is; each = k.each }
 
-  pub built_more : (a s n : ℕ) (numbers longer : List ℕ) (old new : List Kept) → s < states → AreBuilt columns states entries table (a * states + s) numbers old → Stays old new → AreKept columns entries new
-      → IsKeptRow columns (weight_in columns entries table a s) new n → longer ≡ numbers ++ n ∷ [] → AreBuilt columns states entries table (a * states + s + 1) longer new
-  built_more a s n numbers longer old new l h stays rows here e = record {
-    size = ap length e ∙ length-append numbers (n ∷ []) ∙ ap (λ k. k + 1) h.size;
-    within = subst (λ (xs : List ℕ). All (λ n. n < length new) xs) (sym e)
-        (All-push (λ n. n < length new) numbers n (λ k d m. still (get_or numbers k d) (h.within k d m)) (slice_get_within new n here.row here.is));
-    rows = rows;
-    each = λ b t m less. ⊎_elim (old_row b t m) (λ ge. new_row b t m (omega arith)) (cases_lt (b * states + t) (a * states + s));
+  -- ---- the rows of an action
+  pub line_none : (a : ℕ) (rows : List (List Cell)) (numbers : List ℕ) → numbers ≡ [] → AreLine given a 0 rows numbers
+  line_none a rows numbers e = record {
+    size = ap length e;
+    within = subst (λ (xs : List ℕ). All (λ n. n < length rows) xs) (sym e) (All-nil (λ n. n < length rows));
+    each = λ s l. absurd (omega arith);
+    proper = λ s l. absurd (omega arith);
+  }
+
+  pub line_stays : (a count : ℕ) (old new : List (List Cell)) (numbers : List ℕ) → Stays old new → AreLine given a count old numbers → AreLine given a count new numbers
+  line_stays a count old new numbers stays h = record {
+    size = h.size;
+    within = numbers_stay numbers old new stays h.within;
+    each = λ s l. kept_stays (weights_at given a s) old new _ stays (h.each s l);
+    proper = h.proper;
+  }
+
+  pub line_more : (a s n : ℕ) (old new : List (List Cell)) (numbers longer : List ℕ) → AreLine given a s old numbers → Stays old new → IsKeptRow width (weights_at given a s) new n → HasScale given a s
+      → longer ≡ numbers ++ n ∷ [] → AreLine given a (s + 1) new longer
+  line_more a s n old new numbers longer h stays here scale e =
+      let now = line_stays a s old new numbers stays h in
+      record {
+        size = ap length e ∙ length-append numbers (n ∷ []) ∙ ap (λ k. k + 1) h.size;
+        within = subst (λ (xs : List ℕ). All (λ n. n < length new) xs) (sym e) (All-push (λ n. n < length new) numbers n now.within (row_within width (weights_at given a s) new n here));
+        each = λ t l. ⊎_elim (λ less. old_row now.each t less) (λ ge. new_row t (omega arith)) (cases_lt t s);
+        proper = λ t l. ⊎_elim (λ less. h.proper t less) (λ ge. let same : s ≡ t = omega arith in subst (HasScale given a) same scale) (cases_lt t s);
+      }
+    where
+      old_row : ((t : ℕ) → t < s → IsKeptRow width (weights_at given a t) new (slice_index numbers t)) → (t : ℕ) → t < s → IsKeptRow width (weights_at given a t) new (slice_index longer t)
+      old_row each t less =
+          let size = h.size in
+          let same : slice_index numbers t ≡ slice_index longer t = sym (ap (λ (xs : List ℕ). get_or xs t 0) e ∙ get_or_append_left numbers (n ∷ []) 0 t (omega arith)) in
+          subst (IsKeptRow width (weights_at given a t) new) same (each t less)
+
+      new_row : (t : ℕ) → t ≡ s → IsKeptRow width (weights_at given a t) new (slice_index longer t)
+      new_row t at =
+          let number : n ≡ slice_index longer t =
+          sym (ap (λ (xs : List ℕ). get_or xs t 0) e ∙ ap (λ k. get_or (numbers ++ n ∷ []) k 0) (at ∙ sym h.size) ∙ get_or-append_seam numbers n [] 0) in
+          subst (IsKeptRow width (weights_at given a t) new) number (subst (λ k. IsKeptRow width (weights_at given a k) new n) (sym at) here)
+
+  -- the row of a state, as callers see it
+  pub line_row : (a s count : ℕ) (rows : List (List Cell)) (numbers : List ℕ) → AreLine given a count rows numbers → All (IsSparse width) rows → s < count
+      → IsRow width (weights_at given a s) (slice_index_or rows (slice_index numbers s) [])
+  line_row a s count rows numbers h sparse l =
+      let k = h.each s l in
+      let found : slice_index_or rows (slice_index numbers s) [] ≡ k.row = get_or_from_slice_get rows (slice_index numbers s) k.row [] k.is in
+      subst (λ (xs : List Cell). IsRow width (weights_at given a s) xs) (sym found) (record { sparse = at_number (IsSparse width) rows _ k.row sparse k.is; each = k.each })
+
+  -- ---- the rows of the first actions
+  pub lines_none : (rows : List (List Cell)) (numbers : List (List ℕ)) → numbers ≡ [] → AreLines given 0 rows numbers
+  lines_none rows numbers e = record { size = ap length e; each = λ a l. absurd (omega arith) }
+
+  pub lines_more : (a : ℕ) (old new : List (List Cell)) (numbers longer : List (List ℕ)) (line : List ℕ) → AreLines given a old numbers → Stays old new → AreLine given a given.bodies.shape.states new line
+      → longer ≡ numbers ++ line ∷ [] → AreLines given (a + 1) new longer
+  lines_more a old new numbers longer line h stays here e = record {
+    size = ap length e ∙ length-append numbers (line ∷ []) ∙ ap (λ k. k + 1) h.size;
+    each = λ b l. ⊎_elim (λ less. old_line b less) (λ ge. new_line b (omega arith)) (cases_lt b a);
   }
     where
-      still : (k : ℕ) → k < length old → k < length new
-      still k m = slice_get_within new k (get_or old k here.row) (stays k (get_or old k here.row) (slice_get-get_or old k here.row m))
-
-      old_row : (b t : ℕ) → t < states → b * states + t < a * states + s → IsKeptRow columns (weight_in columns entries table b t) new (get_or longer (b * states + t) 0)
-      old_row b t m less =
+      old_line : (b : ℕ) → b < a → AreLine given b given.bodies.shape.states new (slice_index_or longer b [])
+      old_line b less =
           let size = h.size in
-          let same : get_or numbers (b * states + t) 0 ≡ get_or longer (b * states + t) 0 =
-          sym (ap (λ (xs : List ℕ). get_or xs (b * states + t) 0) e ∙ get_or_append_left numbers (n ∷ []) 0 (b * states + t) (omega arith)) in
-          subst (IsKeptRow columns (weight_in columns entries table b t) new) same
-          (kept_stays (weight_in columns entries table b t) old new _ stays (h.each b t m less))
+          let same : slice_index_or numbers b [] ≡ slice_index_or longer b [] = sym (ap (λ (xs : List (List ℕ)). get_or xs b []) e ∙ get_or_append_left numbers (line ∷ []) [] b (omega arith)) in
+          subst (AreLine given b given.bodies.shape.states new) same (line_stays b _ old new _ stays (h.each b less))
 
-      new_row : (b t : ℕ) → t < states → b * states + t ≡ a * states + s → IsKeptRow columns (weight_in columns entries table b t) new (get_or longer (b * states + t) 0)
-      new_row b t m at =
-          let same = one_place states a s b t l m (sym at) in
-          let number : n ≡ get_or longer (b * states + t) 0 =
-          sym (ap (λ (xs : List ℕ). get_or xs (b * states + t) 0) e ∙ ap (λ k. get_or (numbers ++ n ∷ []) k 0) (at ∙ sym h.size) ∙ get_or-append_seam numbers n [] 0) in
-          subst (IsKeptRow columns (weight_in columns entries table b t) new) number
-          (subst (λ k. IsKeptRow columns (weight_in columns entries table k t) new n) same.0 (subst (λ k. IsKeptRow columns (weight_in columns entries table a k) new n) same.1 here))
+      new_line : (b : ℕ) → b ≡ a → AreLine given b given.bodies.shape.states new (slice_index_or longer b [])
+      new_line b at =
+          let last : line ≡ slice_index_or longer b [] =
+          sym (ap (λ (xs : List (List ℕ)). get_or xs b []) e ∙ ap (λ k. get_or (numbers ++ line ∷ []) k []) (at ∙ sym h.size) ∙ get_or-append_seam numbers line [] []) in
+          subst (AreLine given b given.bodies.shape.states new) last (subst (λ k. AreLine given k given.bodies.shape.states new line) (sym at) here)
 
-  -- the row of an action and a state, as callers see it
-  pub built_row : (count a s : ℕ) (numbers : List ℕ) (kept : List Kept) → AreBuilt columns states entries table count numbers kept → s < states → a * states + s < count
-      → IsRow columns (weight_in columns entries table a s) (get_or (map (λ (k : Kept). k.cells.items) kept) (get_or numbers (a * states + s) 0) [])
-  built_row count a s numbers kept h l m =
-      let k = h.each a s l m in
-      let n = get_or numbers (a * states + s) 0 in
-      let cells : slice_get (map (λ (x : Kept). x.cells.items) kept) n ≡ Some k.row.cells.items = slice_get-map (λ (x : Kept). x.cells.items) kept n ∙ ap (option_map (λ (x : Kept). x.cells.items)) k.is in
-      let found : get_or (map (λ (x : Kept). x.cells.items) kept) n [] ≡ k.row.cells.items = get_or_from_slice_get (map (λ (x : Kept). x.cells.items) kept) n k.row.cells.items [] cells in
-      let right = at_number (IsKept columns) kept n k.row h.rows.0 k.is in
-      subst (λ (xs : List Cell). IsRow columns (weight_in columns entries table a s) xs) (sym found) (record { sparse = right.sparse; each = k.each })
+  pub all_within : (count : ℕ) (rows : List (List Cell)) (numbers : List (List ℕ)) → AreLines given count rows numbers → All (HasRows given.bodies.shape.states (length rows)) numbers
+  all_within count rows numbers h k d l =
+      let size = h.size in
+      let line = h.each k (omega arith) in
+      let same : slice_index_or numbers k [] ≡ get_or numbers k d = get_or_default numbers k [] d l in
+      subst (HasRows given.bodies.shape.states (length rows)) same (line.size, line.within)
+
+  -- ---- an action that no entry tells from the one before
+  module _ (sound : AreGiven given) where
+    pub line_before : (a : ℕ) (rows : List (List Cell)) (numbers : List ℕ) → IsAsBefore given.index.now given.table a → a + 2 < key_base
+        → AreLine given (a - 1) given.bodies.shape.states rows numbers → AreLine given a given.bodies.shape.states rows numbers
+    line_before a rows numbers same la h = record {
+      size = h.size;
+      within = h.within;
+      each = λ s l. let k = h.each s l in record { row = k.row; is = k.is; each = λ c m. k.each c m ∙ as_before s c l m };
+      proper = λ s l. sym (sum_same _ _ width (λ c m. as_before s c l m)) ∙ h.proper s l;
+    }
+      where
+        as_before : (s c : ℕ) → s < given.bodies.shape.states → c < width → weights_at given (a - 1) s c ≡ weights_at given a s c
+        as_before s c l m =
+            let entries = given.bodies.entries.now in
+            let within = sound_within sound.preamble given.table given.bodies.shape entries sound.weighted sound.shape sound.sound in
+            let columns = within.columns.1 in
+            let states = within.states.1 in
+            let some = same.some in
+            as_named entries given.index.now given.table (sound_keyed sound.preamble entries sound.sound) sound.index
+            (a - 1) a s width c same.before same.here (omega (arith, la, some)) la (omega (arith, states, l)) (omega (arith, columns, m))
+
+    pub lines_before : (a : ℕ) (rows : List (List Cell)) (numbers longer : List (List ℕ)) → IsAsBefore given.index.now given.table a → a + 2 < key_base → AreLines given a rows numbers
+        → longer ≡ numbers ++ slice_index_or numbers (length numbers - 1) [] ∷ [] → AreLines given (a + 1) rows longer
+    lines_before a rows numbers longer same la h e =
+        let some = same.some in
+        let size = h.size in
+        let last = subst (λ n. AreLine given (a - 1) given.bodies.shape.states rows (slice_index_or numbers (n - 1) [])) (sym size) (h.each (a - 1) (omega (arith, some))) in
+        lines_more a rows rows numbers longer (slice_index_or numbers (length numbers - 1) []) h (λ n row i. i) (line_before a rows _ same la last) e
+
+    -- ---- sums, under any preamble of the shape
+    module _ (p : Preamble) (is : IsShapeOf p given.table given.bodies.shape) where
+      pub same_weights : (a s c : ℕ) → weights_at given a s c ≡ weight p given.bodies.entries.now given.table (a ∷ s ∷ c ∷ [])
+      same_weights a s c = weight_is sound.preamble given.table given.bodies.shape given.bodies.entries.now sound.weighted sound.shape sound.sound.each p a s c is
+
+      pub to_proper : (a s : ℕ) → HasScale given a s → IsProperRow p given.bodies.entries.now given.table a s
+      to_proper a s h =
+          subst (λ n. sum_below (λ c. weight p given.bodies.entries.now given.table (a ∷ s ∷ c ∷ [])) n ≡ one * n) is.columns (sym (sum_same _ _ width (λ c l. same_weights a s c)) ∙ h)
+
+      of_proper : (a s : ℕ) → IsProperRow p given.bodies.entries.now given.table a s → HasScale given a s
+      of_proper a s h =
+          sum_same _ _ width (λ c l. same_weights a s c)
+          ∙ subst (λ n. sum_below (λ c. weight p given.bodies.entries.now given.table (a ∷ s ∷ c ∷ [])) n ≡ one * n) (sym is.columns) h
+
+      pub wrong_row : (a : ℕ) (rows : List (List Cell)) (numbers : List (List ℕ)) (x : WrongRow) → AreLines given a rows numbers → a < given.bodies.shape.actions → IsFirstWrongIn given a x
+          → IsFirstWrong p given.bodies.entries.now given.table x
+      wrong_row a rows numbers x h l w =
+          let actions = is.actions in
+          let states = is.states in
+          let here = w.action_is in
+          let room = w.state in
+          record {
+            table_is = w.table_is;
+            action = omega (arith, l, here, actions);
+            state = omega (arith, room, states);
+            wrong = λ proper. w.wrong (of_proper a x.row (subst (λ b. IsProperRow p given.bodies.entries.now given.table b x.row) here proper));
+            earlier_actions = λ b r less m. to_proper b r ((h.each b (omega (arith, less, here))).proper r (omega (arith, m, states)));
+            same_action = λ r less. subst (λ b. IsProperRow p given.bodies.entries.now given.table b r) (sym here) (to_proper a r (w.before r less));
+          }
+
+      -- each row of all actions is that of the entries, and proper
+      pub lines_rows : (count : ℕ) (rows : List (List Cell)) (numbers : List (List ℕ)) → count ≡ given.bodies.shape.actions → AreLines given count rows numbers → All (IsSparse width) rows
+          → (a s : ℕ) → a < given.bodies.shape.actions → s < given.bodies.shape.states
+          → IsRow width (λ c. weight p given.bodies.entries.now given.table (a ∷ s ∷ c ∷ [])) (slice_index_or rows (slice_index (slice_index_or numbers a []) s) [])
+      lines_rows count rows numbers e h sparse a s l m =
+          row_same width _ _ _ (λ c n. same_weights a s c) (line_row a s given.bodies.shape.states rows (slice_index_or numbers a []) (h.each a (omega (arith, e, l))) sparse m)
+
+      pub lines_proper : (count : ℕ) (rows : List (List Cell)) (numbers : List (List ℕ)) → count ≡ given.bodies.shape.actions → AreLines given count rows numbers
+          → AreProperRows p given.bodies.entries.now given.table
+      lines_proper count rows numbers e h a s l m =
+          let actions = is.actions in
+          let states = is.states in
+          to_proper a s ((h.each a (omega (arith, e, l, actions))).proper s (omega (arith, m, states)))
+
+-- sound entries, and what is found among them
+pub given_is : (given : TableEntries) (part : List Rule) → IsWeighted given.table → (p : Preamble) × IsShapeOf p given.table given.bodies.shape × AreSound p given.bodies.entries.now
+    → IsIndexOf given.bodies.entries.now given.index.now → IsRising part
+    → ((r : Rule) → Contains part r ↔ (Contains given.index.now r × (table_key given.table ≤ r.key) × (r.key < table_key given.table + key_base ^ most_places)))
+    → given.split.now.zeros.items ≡ zeros_of given.bodies.entries.now part → others_in given.split.now.others ≡ others_of given.bodies.entries.now part → AreGiven given
+given_is given part weighted sound index rising kept zeros others = record {
+  weighted = weighted;
+  preamble = sound.0;
+  shape = sound.1;
+  sound = sound.2;
+  index = index;
+  split = split_is given.bodies.entries.now given.table given.index.now part given.split.now rising kept zeros others;
+}
+
+-- the numbers of the rows so far are those of rows
+pub all_below : (given : TableEntries) (count : ℕ) (rows : List (List Cell)) (numbers : List (List ℕ)) → AreLines given count rows numbers → All (All (λ n. n < length rows)) numbers
+all_below given count rows numbers h k d l = (all_within given count rows numbers h k d l).1

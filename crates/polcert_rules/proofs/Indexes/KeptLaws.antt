@@ -1,11 +1,14 @@
 -- Rows that are kept, and what they are made of.
-use Rattle.std.proofs.Common.{◌≡◌, ◌∙◌, ℕ, zero, suc, ◌*◌, ◌<◌, ◌≤◌, ⊎_elim, Bool, true, false, cond, eqb, Option, Some, None, List, [], ◌∷◌, ◌++◌, length, get_or, slice_index, All, refl, sym, ap, subst, arith}
+use Rattle.std.proofs.Common.{◌≡◌, ◌∙◌, ℕ, zero, suc, ◌*◌, ◌<◌, ◌≤◌, ◌==◌, ◌↔◌, ⊎_elim, Bool, true, false, cond, eqb, IsTrue, Option, Some, None, List, [], ◌∷◌, ◌++◌, length, map, get_or, slice_index, All, refl, sym, ap, subst, arith, rules, tests}
+use Rattle.std.specs.Option.{option_map}
+use Rattle.std.proofs.lemmas.List.{map-append}
+use Rattle.polcert_cells.proofs.Basics.{some≢none}
 use Rattle.std.specs.List.{slice_get}
 use Rattle.std.proofs.Math.Nat.{mul-le-mul_left, mul_comm}
 use Rattle.std.proofs.lemmas.Bool.{cases_lt}
 use Rattle.std.proofs.lemmas.List.{get_or_past}
-use Rattle.std.proofs.lemmas.List.Elements.{All-push}
-use Rattle.std.proofs.lemmas.Option.{slice_get_within, slice_get-get_or, get_or_from_slice_get, same_Some}
+use Rattle.std.proofs.lemmas.List.Elements.{All-push, All-weaker}
+use Rattle.std.proofs.lemmas.Option.{slice_get_within, slice_get-get_or, slice_get-map, get_or_from_slice_get, same_Some}
 use Rattle.polcert_cells.specs.declared.entry.Place.{Place}
 use Rattle.polcert_cells.specs.declared.entry.Body.{Body}
 use Rattle.polcert_cells.specs.declared.entry.Body.TheVariants.{Probabilities, Rewards, Uniform, Identity}
@@ -16,12 +19,15 @@ use Rattle.polcert_cells.specs.Steps.Sound.{Fills}
 use Rattle.polcert_cells.specs.declared.cell.Cell.{Cell}
 use Rattle.polcert_rules.specs.declared.shape.Shape.{Shape}
 use Rattle.polcert_rules.specs.declared.kept.Source.{Source}
-use Rattle.polcert_rules.specs.declared.kept.Source.TheVariants.{Nothing, Even, Diagonal, Line, Cells}
-use Rattle.polcert_rules.specs.declared.kept.Kept.{Kept}
+use Rattle.polcert_rules.specs.declared.kept.Source.TheVariants.{Nothing, Even, Diagonal, Line}
+use Rattle.polcert_rules.specs.declared.kept.SharedRow.{SharedRow}
+use Rattle.polcert_rules.specs.declared.kept.Keeper.{Keeper}
 use Rattle.polcert_rules.specs.Steps.Given.{IsWithin, FitsShape, number_for, given_by, given}
-use Rattle.polcert_cells.specs.Sparse.{weight_at, IsRow}
+use Rattle.polcert_cells.specs.Meaning.{sum_below}
+use Rattle.polcert_cells.specs.Sparse.{weight_at, IsSparse, IsRow}
 use Rattle.polcert_rules.specs.Steps.Merging.{given_at}
-use Rattle.polcert_rules.specs.Steps.Sources.{source_in, source_of, IsFrom, IsWhole, IsKept, AreKept, IsKeptRow, IsMadeOf, HasCells, IsBehind, Stays}
+use Rattle.polcert_rules.specs.Steps.Sources.{source_in, source_of, IsFrom, IsWhole, AreKept, IsKeptRow, IsShared, IsSharedRow, IsBehind, Stays, is_proper}
+use Rattle.polcert_rules.proofs.RowLaws.SumLaws.{sum_is, sum_same}
 
 -- ---- lists
 pub at_number : {X : Type 0} (P : X → Type 0) (xs : List X) (n : ℕ) (x : X) → All P xs → slice_get xs n ≡ Some x → P x
@@ -36,6 +42,9 @@ get_last : {X : Type 0} (xs : List X) (x : X) → slice_get (xs ++ x ∷ []) (le
 get_last [] x = refl
 get_last (y ∷ xs) x = get_last xs x
 
+equal_test : (x a b : ℕ) → x ≡ a → IsTrue (x == b) ↔ (a ≡ b)
+equal_test x a b e = (λ t. let same : x ≡ b = search (rules, tests) in sym e ∙ same, λ same. let same : x ≡ b = e ∙ same in search (rules, tests))
+
 -- ---- rows that are made of the same
 module _ (columns : ℕ) (entries : List Entry) where
   -- what a row that is made of this has in a column
@@ -44,7 +53,6 @@ module _ (columns : ℕ) (entries : List Entry) where
   made_of Even c = one
   made_of (Diagonal s) c = cond (eqb s c) (one * columns) 0
   made_of (Line n l) c = given_at columns entries (Some n) l c
-  made_of Cells c = 0
 
   of_body : (n : ℕ) (places : List Place) (body : Body) (s c : ℕ) → ((l : ℕ) → given_by columns places body l c ≡ given_at columns entries (Some n) l c)
       → given_by columns places body s c ≡ made_of (source_in n places body s) c
@@ -67,79 +75,76 @@ module _ (columns : ℕ) (entries : List Entry) where
   same_source : (one other : Option ℕ) (s t c : ℕ) → source_of entries one s ≡ source_of entries other t → given_at columns entries one s c ≡ given_at columns entries other t c
   same_source one other s t c e = by_source one s c ∙ ap (λ (x : Source). made_of x c) e ∙ sym (by_source other t c)
 
-  -- an entry alone gives no single cells over others
-  no_cells : (n : ℕ) (places : List Place) (body : Body) (s : ℕ) → source_in n places body s ≡ Cells → ⊥
-  no_cells n [] (Probabilities ps) s e = cc
-  no_cells n (p ∷ []) (Probabilities ps) s e = cc
-  no_cells n (p ∷ q ∷ rest) (Probabilities ps) s e = cc
-  no_cells n places Uniform s e = cc
-  no_cells n places Identity s e = cc
-  no_cells n places (Rewards hs) s e = cc
-
-  none_of_cells : (n s : ℕ) (o : Option Entry) → value_or Nothing (λ e. source_in n e.places e.body s) o ≡ Cells → ⊥
-  none_of_cells n s None e = cc
-  none_of_cells n s (Some x) e = no_cells n x.places x.body s e
-
   pub from_row : (whole : Option ℕ) (s : ℕ) (cells : List Cell) → IsRow columns (given_at columns entries whole s) cells → IsFrom columns entries (source_of entries whole s) cells
   from_row whole s cells r other t e c l = r.each c l ∙ sym (same_source other whole t s c e)
 
-  pub from_cells : (cells : List Cell) → IsFrom columns entries Cells cells
-  from_cells cells None t e c l = cc
-  from_cells cells (Some n) t e c l = absurd (none_of_cells n t (slice_get entries n) e)
-
   -- ---- a row that is kept already, and one more
-  pub known_row : (whole : Option ℕ) (s n : ℕ) (kept : List Kept) → AreKept columns entries kept → IsMadeOf kept n (source_of entries whole s) → IsKeptRow columns (given_at columns entries whole s) kept n
-  known_row whole s n kept all m = record {
-    row = m.row;
-    is = m.is;
-    each = at_number (λ (k : Kept). IsFrom columns entries k.source k.cells.items) kept n m.row all.1 m.is whole s (sym m.made);
-  }
-
-  pub alike_row : (cells : List Cell) (kept : List Kept) (n : ℕ) → HasCells kept n cells → IsKeptRow columns (weight_at cells) kept n
-  alike_row cells kept n h = record {
-    row = h.row;
-    is = h.is;
-    each = λ c l. ap (λ (xs : List Cell). weight_at xs c) h.same;
-  }
+  pub known_row : (whole : Option ℕ) (s n : ℕ) (k : Keeper) → AreKept columns entries k → IsShared k.shared.items (source_of entries whole s) n → IsKeptRow columns (given_at columns entries whole s) k.rows n
+  known_row whole s n k all m =
+      let x = at_number (IsSharedRow columns entries k.rows) k.shared.items m.place (record { source = source_of entries whole s; number = n }) all.common m.is in
+      record { row = x.row; is = x.is; each = x.made whole s refl }
 
   -- the cells of a row that is kept
-  pub cells_row : (cells : List Cell) (kept : List Kept) (f : ℕ → ℕ) (n : ℕ) → AreKept columns entries kept → IsKeptRow columns f kept n → HasCells kept n cells → IsRow columns f cells
-  cells_row cells kept f n all k h =
-      let same : k.row ≡ h.row = same_Some k.row h.row (sym k.is ∙ h.is) in
-      let whole = at_number (IsKept columns) kept n k.row all.0 k.is in
-      let cells_are : k.row.cells.items ≡ cells = ap (λ (x : Kept). x.cells.items) same ∙ h.same in
-      subst (λ (xs : List Cell). IsRow columns f xs) cells_are (record { sparse = whole.sparse; each = k.each })
+  pub cells_row : (cells : List Cell) (k : Keeper) (f : ℕ → ℕ) (n : ℕ) → AreKept columns entries k → IsKeptRow columns f k.rows n → slice_get k.rows n ≡ Some cells → IsRow columns f cells
+  cells_row cells k f n all h is =
+      let same : h.row ≡ cells = same_Some h.row cells (sym h.is ∙ is) in
+      subst (λ (xs : List Cell). IsRow columns f xs) same (record { sparse = at_number (IsSparse columns) k.rows n h.row all.sparse h.is; each = h.each })
 
   -- a row with these cells, where they are a row of these weights
-  pub weighed_row : (cells : List Cell) (kept : List Kept) (f : ℕ → ℕ) (n : ℕ) → IsKeptRow columns (weight_at cells) kept n → IsRow columns f cells → IsKeptRow columns f kept n
-  weighed_row cells kept f n k r = record { row = k.row; is = k.is; each = λ c l. k.each c l ∙ r.each c l }
+  pub weighed_row : (cells : List Cell) (rows : List (List Cell)) (f : ℕ → ℕ) (n : ℕ) → slice_get rows n ≡ Some cells → IsRow columns f cells → IsKeptRow columns f rows n
+  weighed_row cells rows f n is r = record { row = cells; is = is; each = r.each }
 
-  pub behind_stays : (source : Source) (cells : List Cell) (old new : List Kept) → IsBehind columns source cells old new → Stays old new
-  behind_stays source cells old new b n k e = subst (λ (xs : List Kept). slice_get xs n ≡ Some k) (sym b.is) (get_front old (b.row ∷ []) n k e)
+  pub behind_stays : (cells : List Cell) (old new : Keeper) → IsBehind columns cells old new → Stays old.rows new.rows
+  behind_stays cells old new b n row e = subst (λ (xs : List (List Cell)). slice_get xs n ≡ Some row) (sym b.rows_are) (get_front old.rows (cells ∷ []) n row e)
 
-  pub behind_kept : (source : Source) (cells : List Cell) (old new : List Kept) → IsBehind columns source cells old new → IsFrom columns entries source cells → AreKept columns entries old → AreKept columns entries new
-  behind_kept source cells old new b f all =
-      let made = subst (λ (xs : List Cell). IsFrom columns entries source xs) (sym b.same) f in
-      let here = subst (λ (x : Source). IsFrom columns entries x b.row.cells.items) (sym b.made) made in
-      subst (λ (xs : List Kept). AreKept columns entries xs) (sym b.is)
-      (All-push (IsKept columns) old b.row all.0 b.right, All-push (λ (k : Kept). IsFrom columns entries k.source k.cells.items) old b.row all.1 here)
+  common_stays : (old new : List (List Cell)) → Stays old new → (x : SharedRow) → IsSharedRow columns entries old x → IsSharedRow columns entries new x
+  common_stays old new stays x h = record { row = h.row; is = stays x.number h.row h.is; made = h.made }
 
-  pub behind_row : (source : Source) (cells : List Cell) (old new : List Kept) (f : ℕ → ℕ) (n : ℕ) → IsBehind columns source cells old new → n ≡ length old → IsRow columns f cells → IsKeptRow columns f new n
-  behind_row source cells old new f n b e r = record {
-    row = b.row;
-    is = subst (λ (xs : List Kept). slice_get xs n ≡ Some b.row) (sym b.is) (subst (λ k. slice_get (old ++ b.row ∷ []) k ≡ Some b.row) (sym e) (get_last old b.row));
-    each = λ c l. ap (λ (xs : List Cell). weight_at xs c) b.same ∙ r.each c l;
+  pub behind_kept : (cells : List Cell) (old new : Keeper) → IsBehind columns cells old new → IsSparse columns cells → AreKept columns entries old → AreKept columns entries new
+  behind_kept cells old new b sparse all = record {
+    sparse = subst (λ (xs : List (List Cell)). All (IsSparse columns) xs) (sym b.rows_are) (All-push (IsSparse columns) old.rows cells all.sparse sparse);
+    tested =
+        b.tests_are ∙ ap (λ (bs : List Bool). bs ++ is_proper columns cells ∷ []) all.tested ∙ sym (map-append (is_proper columns) old.rows (cells ∷ []))
+        ∙ sym (ap (map (is_proper columns)) b.rows_are);
+    common = subst (λ (xs : List SharedRow). All (IsSharedRow columns entries new.rows) xs) (sym b.common_are)
+        (All-weaker (IsSharedRow columns entries old.rows) (IsSharedRow columns entries new.rows) (common_stays old.rows new.rows (behind_stays cells old new b)) old.shared.items all.common);
   }
 
+  pub behind_row : (cells : List Cell) (old new : Keeper) (n : ℕ) → IsBehind columns cells old new → n ≡ length old.rows → slice_get new.rows n ≡ Some cells
+  behind_row cells old new n b e =
+      subst (λ (xs : List (List Cell)). slice_get xs n ≡ Some cells) (sym b.rows_are) (subst (λ k. slice_get (old.rows ++ cells ∷ []) k ≡ Some cells) (sym e) (get_last old.rows cells))
+
+  -- one more row that one entry gives alone
+  pub one_more_common : (old new : Keeper) (x : SharedRow) → new.rows ≡ old.rows → new.proper.items ≡ old.proper.items → new.shared.items ≡ old.shared.items ++ x ∷ []
+      → IsSharedRow columns entries old.rows x → AreKept columns entries old → AreKept columns entries new
+  one_more_common old new x rows tests more here all = record {
+    sparse = subst (λ (xs : List (List Cell)). All (IsSparse columns) xs) (sym rows) all.sparse;
+    tested = tests ∙ all.tested ∙ sym (ap (map (is_proper columns)) rows);
+    common = subst (λ (xs : List (List Cell)). All (IsSharedRow columns entries xs) new.shared.items) (sym rows)
+        (subst (λ (xs : List SharedRow). All (IsSharedRow columns entries old.rows) xs) (sym more) (All-push (IsSharedRow columns entries old.rows) old.shared.items x all.common here));
+  }
+
+  -- what is known of the sum of a row
+  pub proper_is : (k : Keeper) (f : ℕ → ℕ) (n : ℕ) (b : Bool) → AreKept columns entries k → IsKeptRow columns f k.rows n → slice_get k.proper.items n ≡ Some b → IsTrue b ↔ (sum_below f columns ≡ one * columns)
+  proper_is k f n b all h is =
+      let at : slice_get (map (is_proper columns) k.rows) n ≡ Some (is_proper columns h.row) = slice_get-map (is_proper columns) k.rows n ∙ ap (option_map (is_proper columns)) h.is in
+      let same : is_proper columns h.row ≡ b = same_Some (is_proper columns h.row) b (sym at ∙ ap (λ (bs : List Bool). slice_get bs n) (sym all.tested) ∙ is) in
+      let sum = sum_is columns h.row (at_number (IsSparse columns) k.rows n h.row all.sparse h.is) ∙ sum_same _ _ columns h.each in
+      subst (λ t. IsTrue t ↔ (sum_below f columns ≡ one * columns)) same (equal_test _ _ _ sum)
+
+  pub tested_row : (k : Keeper) (f : ℕ → ℕ) (n : ℕ) → AreKept columns entries k → IsKeptRow columns f k.rows n → slice_get k.proper.items n ≡ None → ⊥
+  tested_row k f n all h is =
+      let at : slice_get (map (is_proper columns) k.rows) n ≡ Some (is_proper columns h.row) = slice_get-map (is_proper columns) k.rows n ∙ ap (option_map (is_proper columns)) h.is in
+      some≢none refl (sym at ∙ ap (λ (bs : List Bool). slice_get bs n) (sym all.tested) ∙ is)
+
 -- ---- rows that stay
-pub row_within : (columns : ℕ) (f : ℕ → ℕ) (kept : List Kept) (n : ℕ) → IsKeptRow columns f kept n → n < length kept
-row_within columns f kept n k = slice_get_within kept n k.row k.is
+pub row_within : (columns : ℕ) (f : ℕ → ℕ) (rows : List (List Cell)) (n : ℕ) → IsKeptRow columns f rows n → n < length rows
+row_within columns f rows n k = slice_get_within rows n k.row k.is
 
-pub number_stays : (old new : List Kept) (n : ℕ) → Stays old new → n < length old → n < length new
-number_stays [] new n stays l = absurd (omega arith)
-number_stays (x ∷ xs) new n stays l = let k = get_or (x ∷ xs) n x in slice_get_within new n k (stays n k (slice_get-get_or (x ∷ xs) n x l))
+pub number_stays : (old new : List (List Cell)) (n : ℕ) → Stays old new → n < length old → n < length new
+number_stays old new n stays l = slice_get_within new n _ (stays n _ (slice_get-get_or old n [] l))
 
-pub numbers_stay : (numbers : List ℕ) (old new : List Kept) → Stays old new → All (λ n. n < length old) numbers → All (λ n. n < length new) numbers
+pub numbers_stay : (numbers : List ℕ) (old new : List (List Cell)) → Stays old new → All (λ n. n < length old) numbers → All (λ n. n < length new) numbers
 numbers_stay numbers old new stays all k d l = number_stays old new (get_or numbers k d) stays (all k d l)
 
 -- ---- how large weights are

@@ -11,7 +11,6 @@ use Rattle.polcert_cells.proofs.SparseLaws.{row_same}
 use Rattle.polcert_rules.specs.declared.zeros.RowZeros.{RowZeros}
 use Rattle.polcert_rules.specs.declared.row.Row.{Row}
 use Rattle.polcert_rules.specs.declared.shape.Shape.{Shape}
-use Rattle.polcert_rules.specs.declared.kept.Kept.{Kept}
 use Rattle.polcert_rules.specs.Steps.Given.{given}
 use Rattle.polcert_rules.specs.Steps.Merging.{given_at, weight_in, newer_cells, weight_over, merged, Rises}
 use Rattle.polcert_rules.specs.Steps.Zeros.{number_under, under, shown_under}
@@ -55,7 +54,7 @@ module _ (shape : Shape) (entries : List Entry) (table : Table) (a s : ℕ) (row
   finished_small cells r c l = subst (λ k. k ≤ one * shape.columns) (sym (r.each c l)) (h.small c l)
 
   -- without newer cells and zeros it is what covers the whole row
-  pub shared_weights : (kept : List Kept) (n : ℕ) → row.zeros ≡ None → (length newer == 0) ≡ true → IsKeptRow shape.columns (given_at shape.columns entries row.whole s) kept n
+  pub shared_weights : (kept : List (List Cell)) (n : ℕ) → row.zeros ≡ None → (length newer == 0) ≡ true → IsKeptRow shape.columns (given_at shape.columns entries row.whole s) kept n
       → IsKeptRow shape.columns (weight_in shape.columns entries table a s) kept n
   shared_weights kept n zeros none k = record {
     row = k.row;

@@ -48,3 +48,10 @@ sum_small f b (suc n) h =
     let here : f n ≤ b = h n (omega arith) in
     let product : b * suc n ≡ b * n + b = mul-suc b n in
     omega (arith, before, here, product)
+
+pub sum_same : (f g : ℕ → ℕ) (n : ℕ) → ((c : ℕ) → c < n → f c ≡ g c) → sum_below f n ≡ sum_below g n
+sum_same f g zero h = refl
+sum_same f g (suc n) h =
+    let before : sum_below f n ≡ sum_below g n = sum_same f g n (λ c l. h c (omega arith)) in
+    let here : f n ≡ g n = h n (omega arith) in
+    omega (arith, before, here)

@@ -1,5 +1,5 @@
 -- Rows that are kept once for many actions and states. Nobody has to believe this file: only private functions cite it.
-use Rattle.std.specs.Prelude.{◌≡◌, ℕ, ◌+◌, ◌*◌, ◌<◌, ◌≤◌, All, IfSome, true, List, [], ◌∷◌, ◌++◌, Option, Some, None, length, slice_get, slice_index}
+use Rattle.std.specs.Prelude.{◌≡◌, ℕ, ◌+◌, ◌*◌, ◌<◌, ◌≤◌, ◌==◌, All, Bool, IfSome, true, List, [], ◌∷◌, ◌++◌, Option, Some, None, length, map, slice_get, slice_index, slice_index_or}
 use Rattle.polcert_cells.specs.declared.entry.Table.{Table}
 use Rattle.polcert_cells.specs.declared.entry.Place.{Place}
 use Rattle.polcert_cells.specs.declared.entry.Body.{Body}
@@ -7,17 +7,24 @@ use Rattle.polcert_cells.specs.declared.entry.Body.TheVariants.{Probabilities, R
 use Rattle.polcert_cells.specs.declared.entry.Entry.{Entry}
 use Rattle.polcert_cells.specs.Cells.{value_or, last_covering}
 use Rattle.polcert_cells.specs.Numbers.{one}
+use Rattle.polcert_cells.specs.Preamble.{Preamble}
+use Rattle.polcert_cells.specs.Rows.{IsWeighted}
 use Rattle.polcert_cells.specs.Meaning.{sum_below}
 use Rattle.polcert_cells.specs.declared.cell.Cell.{Cell}
 use Rattle.polcert_rules.specs.declared.rule.Rule.{Rule}
 use Rattle.polcert_rules.specs.declared.shape.Shape.{Shape}
 use Rattle.polcert_rules.specs.declared.kept.Source.{Source}
 use Rattle.polcert_rules.specs.declared.kept.Source.TheVariants.{Nothing, Even, Diagonal, Line}
-use Rattle.polcert_rules.specs.declared.kept.Kept.{Kept}
-use Rattle.polcert_rules.specs.Steps.Newest.{IsRising, entry_at}
+use Rattle.polcert_rules.specs.declared.kept.SharedRow.{SharedRow}
+use Rattle.polcert_rules.specs.declared.kept.Keeper.{Keeper}
+use Rattle.polcert_rules.specs.declared.kept.Near.{Near}
+use Rattle.polcert_rules.specs.declared.rows.TableEntries.{TableEntries}
+use Rattle.polcert_rules.specs.declared.wrong_row.WrongRow.{WrongRow}
+use Rattle.polcert_rules.specs.Steps.Newest.{IsRising, IsIndexOf, entry_at}
+use Rattle.polcert_rules.specs.Steps.Shapes.{IsShapeOf, AreSound}
 use Rattle.polcert_rules.specs.Steps.Rows.{number_in}
 use Rattle.polcert_rules.specs.declared.row.Row.{Row}
-use Rattle.polcert_rules.specs.Steps.Zeros.{AreOrdered, is_zero, zero_of, under}
+use Rattle.polcert_rules.specs.Steps.Zeros.{AreOrdered, IsSplit, is_zero, zero_of, under}
 use Rattle.polcert_rules.specs.Steps.Given.{FitsShape}
 use Rattle.polcert_cells.specs.Sparse.{weight_at, IsSparse}
 use Rattle.polcert_rules.specs.Steps.Merging.{given_at, weight_in}
@@ -76,48 +83,85 @@ abbrev pub total : List Cell → ℕ
 total [] = 0
 total (x ∷ xs) = x.weight + total xs
 
--- the cells are sparse, and the sum is theirs
-pub record IsKept (columns : ℕ) (k : Kept) : Type 0 where
-  pub sparse : IsSparse columns k.cells.items
-  pub sum_is : k.sum ≡ sum_below (weight_at k.cells.items) columns
-
--- each row is kept rightly, and is what its source says
-abbrev pub AreKept : ℕ → List Entry → List Kept → Type 0
-AreKept columns entries kept = All (IsKept columns) kept × All (λ (k : Kept). IsFrom columns entries k.source k.cells.items) kept
+-- the cells of a row of so many columns sum to its scale
+abbrev pub is_proper : ℕ → List Cell → Bool
+is_proper columns cells = total cells == one * columns
 
 -- the row of this number has these weights
-pub record IsKeptRow (columns : ℕ) (weights : ℕ → ℕ) (kept : List Kept) (number : ℕ) : Type 0 where
-  pub row : Kept
-  pub is : slice_get kept number ≡ Some row
-  pub each : (c : ℕ) → c < columns → weight_at row.cells.items c ≡ weights c
+pub record IsKeptRow (columns : ℕ) (weights : ℕ → ℕ) (rows : List (List Cell)) (number : ℕ) : Type 0 where
+  pub row : List Cell
+  pub is : slice_get rows number ≡ Some row
+  pub each : (c : ℕ) → c < columns → weight_at row c ≡ weights c
 
--- the row of this number is made of this
-pub record IsMadeOf (kept : List Kept) (number : ℕ) (source : Source) : Type 0 where
-  pub row : Kept
-  pub is : slice_get kept number ≡ Some row
-  pub made : row.source ≡ source
+-- a row is kept that is made of this
+pub record IsSharedRow (columns : ℕ) (entries : List Entry) (rows : List (List Cell)) (x : SharedRow) : Type 0 where
+  pub row : List Cell
+  pub is : slice_get rows x.number ≡ Some row
+  pub made : IsFrom columns entries x.source row
 
--- the row of this number has these cells
-pub record HasCells (kept : List Kept) (number : ℕ) (cells : List Cell) : Type 0 where
-  pub row : Kept
-  pub is : slice_get kept number ≡ Some row
-  pub same : row.cells.items ≡ cells
+-- rows are sparse, it is known of each whether it is proper, and what one entry gives alone is kept
+pub record AreKept (columns : ℕ) (entries : List Entry) (k : Keeper) : Type 0 where
+  pub sparse : All (IsSparse columns) k.rows
+  pub tested : k.proper.items ≡ map (is_proper columns) k.rows
+  pub common : All (IsSharedRow columns entries k.rows) k.shared.items
+
+-- the row that is made of this has this number
+pub record IsShared (shared : List SharedRow) (source : Source) (number : ℕ) : Type 0 where
+  pub place : ℕ
+  pub is : slice_get shared place ≡ Some (record { source = source; number = number })
 
 -- one row more is kept, after the others
-pub record IsBehind (columns : ℕ) (source : Source) (cells : List Cell) (old new : List Kept) : Type 0 where
-  pub row : Kept
-  pub is : new ≡ old ++ row ∷ []
-  pub made : row.source ≡ source
-  pub same : row.cells.items ≡ cells
-  pub right : IsKept columns row
+pub record IsBehind (columns : ℕ) (cells : List Cell) (old new : Keeper) : Type 0 where
+  pub rows_are : new.rows ≡ old.rows ++ cells ∷ []
+  pub tests_are : new.proper.items ≡ old.proper.items ++ is_proper columns cells ∷ []
+  pub common_are : new.shared.items ≡ old.shared.items
 
 -- each row stays where it is
-abbrev pub Stays : List Kept → List Kept → Type 0
-Stays old new = (n : ℕ) (k : Kept) → slice_get old n ≡ Some k → slice_get new n ≡ Some k
+abbrev pub Stays : List (List Cell) → List (List Cell) → Type 0
+Stays old new = (n : ℕ) (row : List Cell) → slice_get old n ≡ Some row → slice_get new n ≡ Some row
 
--- the rows so far, action by action and state by state
-pub record AreBuilt (columns states : ℕ) (entries : List Entry) (table : Table) (count : ℕ) (numbers : List ℕ) (kept : List Kept) : Type 0 where
+-- the numbers of neighbours are those of rows
+abbrev pub AreNear : List (List Cell) → Near → Type 0
+AreNear rows near = All (λ n. n < length rows) near.here.now × All (λ n. n < length rows) near.before.now
+
+-- a number of a row for each state
+abbrev pub HasRows : ℕ → ℕ → List ℕ → Type 0
+HasRows states size numbers = (length numbers ≡ states) × All (λ n. n < size) numbers
+
+-- ---- the rows of a table
+-- sound entries, and what their index finds
+pub record AreGiven (given : TableEntries) : Type 0 where
+  pub weighted : IsWeighted given.table
+  pub preamble : Preamble
+  pub shape : IsShapeOf preamble given.table given.bodies.shape
+  pub sound : AreSound preamble given.bodies.entries.now
+  pub index : IsIndexOf given.bodies.entries.now given.index.now
+  pub split : IsSplit given.bodies.entries.now given.table given.index.now given.split.now
+
+-- the weights of a row
+abbrev pub weights_at : TableEntries → ℕ → ℕ → ℕ → ℕ
+weights_at given a s c = weight_in given.bodies.shape.columns given.bodies.entries.now given.table a s c
+
+-- they sum to the scale
+abbrev pub HasScale : TableEntries → ℕ → ℕ → Type 0
+HasScale given a s = sum_below (weights_at given a s) given.bodies.shape.columns ≡ one * given.bodies.shape.columns
+
+-- the numbers of the rows of an action's first states
+pub record AreLine (given : TableEntries) (a count : ℕ) (rows : List (List Cell)) (numbers : List ℕ) : Type 0 where
   pub size : length numbers ≡ count
-  pub within : All (λ n. n < length kept) numbers
-  pub rows : AreKept columns entries kept
-  pub each : (a s : ℕ) → s < states → a * states + s < count → IsKeptRow columns (weight_in columns entries table a s) kept (slice_index numbers (a * states + s))
+  pub within : All (λ n. n < length rows) numbers
+  pub each : (s : ℕ) → s < count → IsKeptRow given.bodies.shape.columns (weights_at given a s) rows (slice_index numbers s)
+  pub proper : (s : ℕ) → s < count → HasScale given a s
+
+-- the first row of an action that does not sum to its scale
+pub record IsFirstWrongIn (given : TableEntries) (a : ℕ) (w : WrongRow) : Type 0 where
+  pub table_is : w.table ≡ given.table
+  pub action_is : w.action ≡ a
+  pub state : w.row < given.bodies.shape.states
+  pub wrong : HasScale given a w.row → ⊥
+  pub before : (s : ℕ) → s < w.row → HasScale given a s
+
+-- the numbers of the rows of the first actions
+pub record AreLines (given : TableEntries) (count : ℕ) (rows : List (List Cell)) (numbers : List (List ℕ)) : Type 0 where
+  pub size : length numbers ≡ count
+  pub each : (a : ℕ) → a < count → AreLine given a given.bodies.shape.states rows (slice_index_or numbers a [])

@@ -9,19 +9,23 @@ use Rattle.polcert_model.proofs.reader.model_of.Goals as goal
 pub of-requires-clause-limits : goal.of-requires-clause-limits
 of-requires-clause-limits c =
     let read = c.requires.1 in
-    whole_within read.0 c.args.known read.2 c.in_ok-draft.draft c.in_ok-draft.ensures c.in-None.ensures
+    let found = rw c.in-Ok.is at c.in_ok-draft.ensures in
+    whole_within read.0 c.args.known read.2 c.in-Ok.draft found.0 found.1
 
 pub of-requires-clause-writable : goal.of-requires-clause-writable
 of-requires-clause-writable c =
     let read = c.requires.1 in
-    text_writable c.requires.0 _ (whole_accepted read.0 c.args.known read.2 c.in_ok-draft.draft c.in_ok-draft.ensures c.requires.0 read.1 c.in-None.ensures)
+    let found = rw c.in-Ok.is at c.in_ok-draft.ensures in
+    text_writable c.requires.0 _ (whole_accepted read.0 c.args.known read.2 c.in-Ok.draft found.0 c.requires.0 read.1 found.1)
 
-pub returns-in-None : goal.returns-in-None
-returns-in-None c = λ text read.
+pub returns-in-Ok : goal.returns-in-Ok
+returns-in-Ok c = λ text read.
+    let found = rw c.in-Ok.is at c.in_ok-draft.ensures in
     subst (λ d. IsModelText text (meaning d)) (sym c.of.ensures)
-    (whole_accepted read.0 c.args.known read.2 c.in_ok-draft.draft c.in_ok-draft.ensures text read.1 c.in-None.ensures)
+    (whole_accepted read.0 c.args.known read.2 c.in-Ok.draft found.0 text read.1 found.1)
 
-pub returns-in-Some : goal.returns-in-Some
-returns-in-Some c = λ text read.
-    let row = c.in-Some.field-0 in
-    row_sum_refused read.0 c.args.known read.2 c.in_ok-draft.draft c.in_ok-draft.ensures text row.table row.action row.row read.1 c.in-Some.ensures
+pub returns-in-Err : goal.returns-in-Err
+returns-in-Err c = λ text read.
+    let row = c.in-Err.field-0 in
+    let wrong = rw c.in-Err.is at c.in_ok-draft.ensures in
+    row_sum_refused read.0 c.args.known read.2 text row.table row.action row.row read.1 wrong

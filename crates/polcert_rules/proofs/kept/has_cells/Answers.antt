@@ -1,15 +1,6 @@
-use Rattle.std.proofs.Common.{◌∙◌, Some, ap, sym, rules}
+use Rattle.std.proofs.Common.{◌∙◌, Some, ap, rules}
 use Rattle.std.proofs.lemmas.Slice.Eq.{slice_eq-Decides}
-use Rattle.std.proofs.lemmas.Option.{slice_get-get_or}
-use Rattle.polcert_rules.specs.declared.kept.Kept.{Kept}
 use Rattle.polcert_rules.proofs.kept.has_cells.Goals as goal
 
 pub returns : goal.returns
-returns c t =
-    let row = c.index-kept-number.result in
-    let is = c.index-kept-number.is in
-    record {
-      row = row;
-      is = slice_get-get_or c.args.kept.now c.args.number row c.requires ∙ ap Some (sym is);
-      same = ap (λ (k : Kept). k.cells.items) is ∙ sym c.as_slice.ensures.value ∙ (slice_eq-Decides (λ a b. search rules) _ _ _ c.eq.ensures).0 t;
-    }
+returns c t = c.at.ensures ∙ ap Some ((slice_eq-Decides (λ a b. search rules) _ _ _ c.eq.ensures).0 t)

@@ -5,6 +5,8 @@ use Rattle.polcert_rules.proofs.RowLaws.SoundRows.{sound_keyed}
 use Rattle.polcert_cells.specs.declared.elements.Elements.TheVariants.{Count}
 use Rattle.polcert_format.proofs.OrderLaws.{count_of_line}
 use Rattle.polcert_tables.proofs.DraftLaws.{are_sound, is_kept, is_draft}
+use Rattle.polcert_tables.proofs.KeptLaws.{AreFew}
+use Rattle.polcert_tables.proofs.RowSumLaws.{kept_proper, wrong_transition, wrong_observation}
 use Rattle.polcert_tables.proofs.draft.Draft.of.Goals as goal
 
 pub of-requires : goal.of-requires
@@ -29,24 +31,43 @@ observed_rows-requires-clause-sound c =
       are_sound d c.requires,
     )
 
+pub returns-in-Err : goal.returns-in-Err
+returns-in-Err c =
+    let d : Draft = draft_with c.args.preamble c.args.start c.args.entries in
+    let found = rw c.in-Err.is at c.in_ok-rows.ensures in
+    wrong_transition d c.in-Err.wrong (found d.preamble (record { actions = c.count.ensures; states = c.count-2.ensures; columns = c.count-3.ensures }))
+
+pub returns-in-Err-2 : goal.returns-in-Err-2
+returns-in-Err-2 c =
+    let d : Draft = draft_with c.args.preamble c.args.start c.args.entries in
+    let first = rw c.in-Ok.is at c.in_ok-rows.ensures in
+    let rows = first d.preamble (record { actions = c.count.ensures; states = c.count-2.ensures; columns = c.count-3.ensures }) in
+    let next = rw c.in-Err-2.is at c.in_ok-rows-2.ensures in
+    let found = next d.preamble refl (record { actions = c.count.ensures; states = c.count-2.ensures; columns = c.count-3.ensures }) in
+    wrong_observation d c.in-Err-2.wrong rows.1 found.0 found.1
+
 pub invariant_of-result : goal.invariant_of-result
 invariant_of-result c =
     let d : Draft = draft_with c.args.preamble c.args.start c.args.entries in
     let sound = are_sound d c.requires in
     let keyed = sound_keyed d.preamble c.args.entries sound in
-    is_draft d c.requires c.in_ok-transitions.transitions c.in_ok-observed.observed c.in_ok-rewards.rewards
-    (c.in_ok-transitions.ensures d.preamble (record { actions = c.count.ensures; states = c.count-2.ensures; columns = c.count-3.ensures }))
-    (c.in_ok-observed.ensures.rows d.preamble refl (record { actions = c.count.ensures; states = c.count-2.ensures; columns = c.count-3.ensures }))
-    (c.in_ok-rewards.ensures.rewards d.preamble (record { actions = sym c.count-4.ensures; states = sym c.count-5.ensures; observations = sym (c.count_or.ensures ∙ count_of_line c.args.preamble.observations (Count 1)) }) refl
-    keyed sound.each)
+    let first = rw c.in-Ok.is at c.in_ok-rows.ensures in
+    let rows = first d.preamble (record { actions = c.count.ensures; states = c.count-2.ensures; columns = c.count-3.ensures }) in
+    let next = rw c.in-Ok-2.is at c.in_ok-rows-2.ensures in
+    let seen = next d.preamble refl (record { actions = c.count.ensures; states = c.count-2.ensures; columns = c.count-3.ensures }) in
+    is_draft d c.requires c.in-Ok.rows c.in-Ok-2.rows c.in_ok-rewards.rewards rows.0 seen.0
+    (c.in_ok-rewards.ensures.rewards d.preamble (record { actions = sym c.count-4.ensures; states = sym c.count-5.ensures; observations = sym (c.count_or.ensures ∙ count_of_line c.args.preamble.observations (Count 1)) }) refl keyed sound.each)
 
 pub returns : goal.returns
 returns c =
     let d : Draft = draft_with c.args.preamble c.args.start c.args.entries in
     let sound = are_sound d c.requires in
     let keyed = sound_keyed d.preamble c.args.entries sound in
-    is_kept d c.requires c.in_ok-transitions.transitions c.in_ok-observed.observed c.in_ok-rewards.rewards
-    (c.in_ok-transitions.ensures d.preamble (record { actions = c.count.ensures; states = c.count-2.ensures; columns = c.count-3.ensures }))
-    (c.in_ok-observed.ensures.rows d.preamble refl (record { actions = c.count.ensures; states = c.count-2.ensures; columns = c.count-3.ensures }))
-    (c.in_ok-rewards.ensures.rewards d.preamble (record { actions = sym c.count-4.ensures; states = sym c.count-5.ensures; observations = sym (c.count_or.ensures ∙ count_of_line c.args.preamble.observations (Count 1)) }) refl
-    keyed sound.each)
+    let first = rw c.in-Ok.is at c.in_ok-rows.ensures in
+    let rows = first d.preamble (record { actions = c.count.ensures; states = c.count-2.ensures; columns = c.count-3.ensures }) in
+    let next = rw c.in-Ok-2.is at c.in_ok-rows-2.ensures in
+    let seen = next d.preamble refl (record { actions = c.count.ensures; states = c.count-2.ensures; columns = c.count-3.ensures }) in
+    let kept = is_kept d c.requires c.in-Ok.rows c.in-Ok-2.rows c.in_ok-rewards.rewards rows.0 seen.0
+    (c.in_ok-rewards.ensures.rewards d.preamble (record { actions = sym c.count-4.ensures; states = sym c.count-5.ensures; observations = sym (c.count_or.ensures ∙ count_of_line c.args.preamble.observations (Count 1)) }) refl keyed sound.each) in
+    let few : AreFew d.preamble = (c.requires.actions.1, c.requires.states.1, c.requires.observations.1) in
+    (kept, kept_proper d _ few kept rows.1 seen.1)
