@@ -20,12 +20,12 @@ use polcert_policy::Vectors;
 use polcert_text::Rounding;
 use std::alloc::Global;
 
-/// How vectors are checked and moved that are to bound what a graph earns from one side.
+/// Checks and moves vectors that are to bound what a graph earns from one side.
 pub trait Bound {
-    /// What a check finds.
+    /// Returns what a check finds.
     type Verdict: Copy;
 
-    /// Why vectors are not moved.
+    /// The fault that says why vectors are not moved.
     type Fault: Copy;
 
     // What is said from this side.
@@ -67,7 +67,7 @@ pub trait Bound {
     fn run_fault(fault: Self::Fault) -> RunFault
         ensures { result ≡ side.run_fault fault };
 
-    /// Does nothing: what holds of a side.
+    /// Does nothing. Its contract has the laws of the side.
     fn laws()
         ensures { SideLaws side };
 }

@@ -205,7 +205,7 @@ fn in_a_byte(count: usize) -> Result<u8, AllocError>
     Ok(count as u8)
 }
 
-/// The items of this part.
+/// Returns the items of this part.
 fn part<T>(items: &[T], span: Span) -> &[T]
     requires order { span.start ≤ span.end }
     requires room { span.end ≤ length items.now }

@@ -117,8 +117,8 @@ pub trait Cells {
         None
     }
 
-    /// Whether it is known at once that action `a` has the same rewards in state `s` as in state `other`, for every end state and every
-    /// observation. `false`: unknown.
+    /// Returns whether it is known at once that action `a` has the same rewards in state `s` as in state `other`, for every end state and
+    /// every observation. `false`: unknown.
     fn has_same_rewards(&self, a: usize, s: usize, other: usize) -> bool
         requires action { a < (table self.now).actions }
         requires start { s < (table self.now).states }

@@ -221,7 +221,7 @@ impl EntryReader {
     }
 }
 
-/// The list of so many numbers that begins with those at the front of the bytes, if there is a first. An error is out of memory.
+/// Begins the list of so many numbers that begins with those at the front of the bytes, if there is a first. An error is out of memory.
 #[inline(always)]
 fn list_ahead<T: ListNumber>(
     alloc: Global,

@@ -136,7 +136,7 @@ impl Known {
         }
     }
 
-    /// The draft of a complete preamble, start item and entries, or else the first row that does not sum to its scale.
+    /// Returns the draft of a complete preamble, start item and entries, or else the first row that does not sum to its scale.
     pub fn into_draft(self, alloc: Global) -> Result<Result<Draft, WrongRow>, AllocError>
         requires { (seen : List Lexeme) × IsWholeRead seen self }
         ensures { IfOk result (λ found. MatchResult found

@@ -86,7 +86,7 @@ impl Keeper {
         })
     }
 
-    /// Whether the row of this number sums to its scale.
+    /// Returns whether the row of this number sums to its scale.
     pub(crate) fn is_proper(&self, number: usize) -> bool
         requires number { number < length self.now.rows }
         ensures { (columns : ℕ) (entries : List E) (weights : ℕ → ℕ) → AreKept columns entries self.now →
@@ -99,7 +99,7 @@ impl Keeper {
         }
     }
 
-    /// The number under which the row of these entries is kept, of this action and state.
+    /// Returns the number under which the row of these entries is kept, of this action and state.
     pub(crate) fn row_number(
         &mut self,
         alloc: Global,
@@ -247,7 +247,7 @@ fn source_in(entry: EntryRef<'_>, number: usize, state: usize) -> Source
     }
 }
 
-/// The number of a row next to this one that has these cells: of the state before, or of the action before.
+/// Returns the number of a row next to this one that has these cells: of the state before, or of the action before.
 fn last_same(rows: &Lists<Cell>, near: Near<'_>, cells: &[Cell]) -> Option<usize>
     requires near { AreNear rows.now near }
     ensures { IfSome result (λ n. slice_get rows.now n ≡ Some cells.now) }
@@ -273,7 +273,7 @@ fn has_cells(rows: &Lists<Cell>, number: usize, cells: &[Cell]) -> bool
     rows.at(number) == cells
 }
 
-/// The number of the row at this place of the list, if it is made of this.
+/// Returns the number of the row at this place of the list, if it is made of this.
 fn number_at(shared: &[SharedRow], place: usize, source: Source) -> Option<usize>
     ensures { IfSome result (IsShared shared.now source) }
 {

@@ -31,7 +31,7 @@ impl<T: Drop> Model for Lists<T> {
 }
 
 impl<T: Drop> Lists<T> {
-    /// No lists.
+    /// Makes no lists.
     pub(crate) fn new(alloc: Global) -> Lists<T>
         ensures { result ≡ [] }
     {
@@ -41,14 +41,14 @@ impl<T: Drop> Lists<T> {
         }
     }
 
-    /// How many lists there are.
+    /// Returns how many lists there are.
     pub(crate) fn len(&self) -> usize
         ensures { result ≡ length self.now }
     {
         self.parts.len()
     }
 
-    /// The list of this number, counted from 0.
+    /// Returns the list of this number, counted from 0.
     pub(crate) fn at(&self, number: usize) -> &[T]
         requires { number < length self.now }
         ensures { slice_get self.now number ≡ Some result.now }
@@ -81,7 +81,7 @@ impl<T: Copy + Drop> Lists<T> {
     }
 }
 
-/// The items of this part.
+/// Returns the items of this part.
 fn items_in<T>(items: &[T], part: Part) -> &[T]
     requires order { part.start ≤ part.end }
     requires room { part.end ≤ length items.now }

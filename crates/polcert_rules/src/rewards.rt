@@ -235,7 +235,7 @@ impl Rewards {
         }
     }
 
-    /// Whether it is known at once that an action has the same rewards in two start states: no entry that fits the action
+    /// Returns whether it is known at once that an action has the same rewards in two start states: no entry that fits the action
     /// names one of them, or has numbers for each start state.
     pub fn has_same(&self, action: usize, start: usize, other: usize) -> bool
         requires action { action < self.now.shape.actions }

@@ -94,7 +94,7 @@ impl RowRules {
         later(here, later(of_every, of_only))
     }
 
-    /// The same after a first place, which has this digit.
+    /// Returns the same after a first place, which has this digit.
     fn newest_behind(&self, digit: usize, low: u64, start: usize, rest: &[usize]) -> Option<usize>
         requires rising { IsRising self.now.rules.items }
         requires room { low + key_base ^ 3 < 2 ^ 64 }
@@ -131,7 +131,7 @@ impl RowRules {
         self.note_behind(at.action + INDICES, only, at, first, noted);
     }
 
-    /// The same after a first place, which has this digit.
+    /// Returns the same after a first place, which has this digit.
     fn note_behind(
         &self,
         digit: usize,
@@ -178,7 +178,7 @@ impl RowRules {
             || self.some_begins_behind(action + INDICES, only, start, rest, least)
     }
 
-    /// The same after a first place, which has this digit.
+    /// Returns the same after a first place, which has this digit.
     fn some_begins_behind(
         &self,
         digit: usize,
@@ -201,7 +201,7 @@ impl RowRules {
             || some_begins(of_only, only, PLACES_LEFT, rest, least)
     }
 
-    /// Whether one of the rules that fit an action has no place for a start state, or names this one.
+    /// Returns whether one of the rules that fit an action has no place for a start state, or names this one.
     pub(crate) fn names_start(&self, action: usize, start: usize) -> bool
         requires rising { IsRising self.now.rules.items }
         requires indices { AreIndices most_places (action ∷ start ∷ []) }
@@ -217,7 +217,7 @@ impl RowRules {
             || self.names_start_after(action + INDICES, only, start)
     }
 
-    /// The same after a first place, which has this digit.
+    /// Returns the same after a first place, which has this digit.
     fn names_start_after(&self, digit: usize, low: u64, start: usize) -> bool
         requires rising { IsRising self.now.rules.items }
         requires room { low + key_base ^ 3 < 2 ^ 64 }

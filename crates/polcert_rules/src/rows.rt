@@ -68,7 +68,7 @@ pub(crate) struct TableEntries<'a> {
 }
 
 impl Rows {
-    /// The rows of a table of weights, from the index of its entries, if each sums to its scale, or else the first that does not.
+    /// Builds the rows of a table of weights, from the index of its entries, if each sums to its scale, or else the first that does not.
     /// An error is out of memory.
     pub fn of(
         alloc: Global,
@@ -137,7 +137,7 @@ impl Rows {
     }
 }
 
-/// The last list of numbers, or an empty one.
+/// Returns the last list of numbers, or an empty one.
 fn last(numbers: &Lists<usize>) -> &[usize]
     ensures { (size : ℕ) → All (All (λ n. n < size)) numbers.now → All (λ n. n < size) result.now }
 {
@@ -147,7 +147,7 @@ fn last(numbers: &Lists<usize>) -> &[usize]
     numbers.at(numbers.len() - 1)
 }
 
-/// The numbers of the rows of an action, which are kept, if each sums to its scale, or else the first that does not. `before` are
+/// Returns the numbers of the rows of an action, which are kept, if each sums to its scale, or else the first that does not. `before` are
 /// those of the action before.
 fn action_rows(
     alloc: Global,
@@ -190,7 +190,7 @@ fn action_rows(
     Ok(Ok(numbers))
 }
 
-/// Whether the rows of this action are known to be those of the action before it: no entry names one of the two.
+/// Returns whether the rows of this action are known to be those of the action before it: no entry names one of the two.
 fn is_as_before(index: &Index, table: Table, action: usize) -> bool
     requires { action + 2 < key_base }
     ensures { IsTrue result → IsAsBefore index.now table action }

@@ -41,7 +41,7 @@ impl Slots {
         Ok(Slots { starts, places })
     }
 
-    /// The place of the row that is made of this, if it was noted, and else any place.
+    /// Returns the place of the row that is made of this, if it was noted, and else any place.
     pub(crate) fn place_of(&self, source: Source) -> usize {
         match self.slot_of(source) {
             Some(slot) => self.places.get(slot).copied().unwrap_or(0) as usize,

@@ -55,7 +55,7 @@ impl Draft {
     ghost use Rattle.polcert_cells.specs.Steps.Sound.{IsSound};
     ghost use Rattle.polcert_tables.specs.Steps.DraftView.{draft_with, preamble_of};
 
-    /// The draft of a text that has this preamble, this start item or none, and these entries, if each row of its tables sums to
+    /// Builds the draft of a text that has this preamble, this start item or none, and these entries, if each row of its tables sums to
     /// its scale, or else the first row that does not: those of T come before those of O, and go by action and then by state. An
     /// error is out of memory.
     pub fn of(
@@ -273,7 +273,7 @@ impl Draft {
         self.rewards.common(a, s)
     }
 
-    /// Whether it is known at once that action `a` has the same rewards in state `s` as in state `other`, for every end state and
+    /// Returns whether it is known at once that action `a` has the same rewards in state `s` as in state `other`, for every end state and
     /// every observation. `false`: unknown.
     pub fn has_same_rewards(&self, a: usize, s: usize, other: usize) -> bool
         requires action { a < actions_of (meaning self.now) }
@@ -387,7 +387,7 @@ pub fn count_or(count: usize, elements: &Option<Elements>) -> usize
     }
 }
 
-/// The rows of O, if there are observations, or else the first that does not sum to its scale.
+/// Builds the rows of O, if there are observations, or else returns the first that does not sum to its scale.
 fn observed_rows(
     alloc: Global,
     shape: Shape,

@@ -75,7 +75,7 @@ pub fn front_number(bytes: &[u8]) -> Option<FrontNumber>
     }
 }
 
-/// The number whose numeral begins there, after such a sign. `None` says nothing.
+/// Returns the number whose numeral begins there, after such a sign. `None`: unknown.
 #[inline(always)]
 fn number_from(bytes: &[u8], from: usize, is_negative: bool) -> Option<FrontNumber>
     requires { from ≤ length bytes.now }
